@@ -119,7 +119,7 @@ impl Auditor {
 
     /// Judges the next event of the session, as `feed` does. After `NotAllowed`, `is_modelled` says whether the profile
     /// follows the request with this reply: if not, it was an extension that the profile does not know and that may
-    /// have changed anything. Otherwise `is_modelled` stays.
+    /// have changed anything, or it did what the tree cannot hold. Otherwise `is_modelled` stays.
     ///
     /// # Errors
     ///
@@ -135,7 +135,7 @@ impl Auditor {
         ensures wrong { IfErr result (λ refusal. (start : State) (events : List Event) →
             StandsFor start events self.old
             → IsWrongIn start (recorded_exchanges (events ++ event ∷ [])) self.new.state refusal) }
-        // And it is told whether the profile follows the request.
+        // `is_modelled` says whether the profile follows the request.
         ensures told { IfErr result (λ refusal. (start : State) (events : List Event) →
             StandsFor start events self.old → IsTold start (recorded_exchanges (events ++ event ∷ []))
             is_modelled.old is_modelled.new refusal) }

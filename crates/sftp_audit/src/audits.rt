@@ -137,7 +137,8 @@ pub fn audit_stream<R: Source>(
 
 /// Audits a session whose transcript is read from a stream, under a profile. It keeps as much of the transcript as
 /// `audit_stream` does. `is_modelled` is set to whether the profile follows the session up to where it is refused: if
-/// not, a request was an extension that the profile does not know and that may have changed anything.
+/// not, a request was an extension that the profile does not know and that may have changed anything, or did what the
+/// tree cannot hold.
 ///
 /// # Errors
 ///

@@ -33,7 +33,7 @@ pub(crate) fn settle(
             return Ok(());
         };
         if !judge.accept(&exchange.request, &recorded.reply)? {
-            *is_modelled = judge.is_modelled(&exchange.request, &recorded.reply);
+            *is_modelled = judge.is_modelled(&exchange.request, &recorded.reply)?;
             return Err(Refusal::NotAllowed {
                 record: recorded.number,
             });

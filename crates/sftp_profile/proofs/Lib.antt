@@ -2,5 +2,4 @@ pub mod DirectoryLists
 pub mod Meetings
 pub mod NotesByAsk
 pub mod Permissions
-pub mod Guards
 pub mod Pieces

@@ -1,15 +1,17 @@
--- What the worked examples name: profiles of one departure, and a listing with `.` and `..`.
+-- What the worked examples name: profiles of one departure, trees with little room, and a listing with `.` and `..`.
 use Rattle.std.specs.Prelude.{ℕ, true, List, [], ◌∷◌, map, codes, Some}
 use Rattle.sftp_wire.specs.declared.attributes.Attrs.{Attrs}
 use Rattle.sftp_wire.specs.declared.packets.Answer.{Answer}
 use Rattle.sftp_wire.specs.declared.packets.Answer.TheVariants.{Name}
 use Rattle.sftp_wire.specs.Examples.{no_attributes}
+use Rattle.sftp_treefile.specs.Limits.{usual_limits}
 use Rattle.sftp_tree.specs.declared.nodes.Node.TheVariants.{Dir, Link}
 use Rattle.sftp_tree.specs.Attributes.{said}
+use Rattle.sftp_tree.specs.Picture.{blank}
 use Rattle.sftp_tree.specs.Tree.{Tree}
 use Rattle.sftp_tree.specs.WalkExamples.{tree_of}
 use Rattle.sftp_handles.specs.State.{State}
-use Rattle.sftp_handles.specs.Examples.{item, with_three, with_text}
+use Rattle.sftp_handles.specs.Examples.{closed, item, with_three, with_text}
 use Rattle.sftp_handles.specs.Handles.{kept_flags}
 use Rattle.sftp_handles.specs.declared.opens.Open.TheVariants.{File, Listing}
 use Rattle.sftp_tree.specs.Listings.{listing}
@@ -106,6 +108,17 @@ open_to_read bytes = record {
   tree = record (with_text bytes) { pins = (0, 1) ∷ [] };
   handles = (codes "h", File 0 (kept_flags 1)) ∷ [];
 }
+
+-- the file `/f` with `abc`, open under the handle `h` to be written, in a tree whose files have four bytes at most
+abbrev pub with_room_for_one : State
+with_room_for_one = record {
+  tree = record (with_text (codes "abc")) { pins = (0, 1) ∷ []; limits = record usual_limits { file_bytes = 4 } };
+  handles = (codes "h", File 0 (kept_flags 2)) ∷ [];
+}
+
+-- the blank tree without room for an entry
+abbrev pub with_no_room : State
+with_no_room = closed (record blank { limits = record usual_limits { entries = 0 } })
 
 -- a link to `d/e` of user 7 and group 8, with permissions of its own
 abbrev pub owned_link : Attrs

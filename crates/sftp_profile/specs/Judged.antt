@@ -7,8 +7,8 @@ use Rattle.sftp_handles.specs.Allowed as strictly
 use Rattle.sftp_profile.specs.State.{State}
 use Rattle.sftp_profile.specs.Readings.{asked, followed}
 use Rattle.sftp_profile.specs.Tellings.{told}
-use Rattle.sftp_profile.specs.Permitted.{forgiven, taken, taken_for, read_as, retold, is_handle, set_after}
-use Rattle.sftp_profile.specs.Permitted.{with_followed}
+use Rattle.sftp_profile.specs.Permitted.{forgiven, taken, taken_for, read_as, retold, set_after, with_followed}
+use Rattle.sftp_profile.specs.Refusals.{is_handle}
 use Rattle.sftp_profile.specs.Permitted.{under, permitted, step}
 use Rattle.sftp_profile.specs.Permitted.{met, by_directory, judged, taken_as, listed_as, with_given, with_note}
 use Rattle.sftp_profile.specs.Through.{directory_of, stands_for}

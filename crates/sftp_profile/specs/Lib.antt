@@ -1,4 +1,5 @@
 pub mod Profiles
+pub mod Names
 pub mod Directories
 pub mod State
 pub mod Paths
@@ -11,6 +12,7 @@ pub mod Realpaths
 pub mod Shown
 pub mod Departures
 pub mod Readings
+pub mod Room
 pub mod Tellings
 pub mod Replaced
 pub mod Notes

@@ -1,5 +1,6 @@
 -- Which replies a profile permits, and the state after each.
-use Rattle.std.specs.Prelude.{◌≡◌, ◌==◌, Bool, true, false, if◌then◌else◌, List, [], length, Option, Some, None}
+use Rattle.std.specs.Prelude.{◌≡◌, ◌==◌, ◌&&◌, not, Bool, true, false, if◌then◌else◌, List, [], length}
+use Rattle.std.specs.Prelude.{Option, Some, None}
 use Rattle.std.specs.Prelude.{unwrap_or}
 use Rattle.sftp_wire.specs.declared.names.NameItem.{NameItem}
 use Rattle.sftp_wire.specs.declared.packets.Ask.{Ask}
@@ -12,6 +13,8 @@ use Rattle.sftp_handles.specs.Allowed as strictly
 use Rattle.sftp_profile.specs.declared.profiles.Profile.{Profile}
 use Rattle.sftp_profile.specs.State.{State}
 use Rattle.sftp_profile.specs.Departures.{is_forgiven, is_modelled}
+use Rattle.sftp_profile.specs.Refusals.{is_handle}
+use Rattle.sftp_profile.specs.Room.{is_outgrown}
 use Rattle.sftp_profile.specs.Replaced.{put}
 use Rattle.sftp_profile.specs.Readings.{asked, followed}
 use Rattle.sftp_profile.specs.Tellings.{told}
@@ -42,10 +45,6 @@ retold s ask None = None
 -- the session after this answer to this request, or else after the answer as it would be strictly
 abbrev pub read_as : Profile → sessions.State → Ask → Answer → Option sessions.State
 read_as profile s ask answer = first_of (strictly.step s ask answer) (retold s ask (told profile s ask answer))
-
-abbrev pub is_handle : Answer → Bool
-is_handle (replies.Handle handle) = true
-is_handle other = false
 
 -- the session after a SETSTAT that comes with an OPEN, if the OPEN gave a handle and nothing refuses it
 abbrev pub set_after : sessions.State → Ask → Bool → Option sessions.State
@@ -137,6 +136,9 @@ pub record Permitted (s : State) (request : Request) (reply : Reply) (end : Stat
 
 -- ---- what is not followed
 
--- whether the judge follows a request with this answer; if not, it may have changed anything
+-- whether the judge follows a request with this answer; if not, it may have changed anything, or what the tree cannot
+-- hold
 abbrev pub follows_in : State → Ask → Answer → Bool
-follows_in s ask answer = is_modelled s.profile ask answer
+follows_in s ask answer =
+    is_modelled s.profile ask answer
+    && not (s.profile.limits && is_outgrown s.profile s.session (put s.profile s.session.tree ask) answer)

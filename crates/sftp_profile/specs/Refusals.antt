@@ -1,5 +1,5 @@
--- Answers that say that a request was refused.
-use Rattle.std.specs.Prelude.{◌==◌, ◌||◌, ℕ, Bool, false}
+-- Answers that say that a request was refused, or that it opened something.
+use Rattle.std.specs.Prelude.{◌==◌, ◌||◌, ℕ, Bool, true, false}
 use Rattle.sftp_wire.specs.declared.packets.Answer.{Answer}
 use Rattle.sftp_wire.specs.declared.packets.Answer.TheVariants as replies
 
@@ -10,3 +10,7 @@ is_refusal_code code = code == 2 || (code == 3 || (code == 4 || (code == 5 || co
 abbrev pub is_refusal : Answer → Bool
 is_refusal (replies.Status code message language) = is_refusal_code code
 is_refusal other = false
+
+abbrev pub is_handle : Answer → Bool
+is_handle (replies.Handle handle) = true
+is_handle other = false

@@ -15,7 +15,7 @@ use Rattle.sftp_profile.specs.declared.profiles.Profile.{Profile}
 use Rattle.sftp_profile.specs.declared.directories.Directory.{Directory}
 use Rattle.sftp_profile.specs.Directories.{directory_at}
 use Rattle.sftp_profile.specs.Flags.{mended_flags}
-use Rattle.sftp_profile.specs.Refusals.{is_refusal}
+use Rattle.sftp_profile.specs.Refusals.{is_refusal, is_handle}
 use Rattle.sftp_profile.specs.Tellings.{is_directory}
 
 -- ---- which directory
@@ -57,10 +57,6 @@ refuses_kind profile answer = has_code 4 answer || profile.codes && is_refusal a
 -- flags that ask to read and nothing else, as the profile takes them
 abbrev pub only_reads : Profile → ℕ → Bool
 only_reads profile pflags = not (truncates pflags) && (if profile.flags then mended_flags pflags else pflags) == 1
-
-abbrev pub is_handle : Answer → Bool
-is_handle (replies.Handle handle) = true
-is_handle other = false
 
 abbrev pub are_attributes : Answer → Bool
 are_attributes (replies.Attrs attrs) = true

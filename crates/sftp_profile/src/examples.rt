@@ -1,20 +1,22 @@
 //! Worked examples: what profiles permit, computed by the checker on the definitions that the contracts name. The
 //! functions do nothing; each promise is in the contract.
-#![tactic(auto, unfolding(crate::specs::Permitted::permitted, crate::specs::Permitted::forgiven, crate::specs::Departures::is_forgiven, sftp_handles::specs::Allowed::step, sftp_handles::specs::Requests::causes, sftp_handles::specs::Requests::answers, sftp_handles::specs::Requests::after, sftp_handles::specs::Requests::told_to, sftp_handles::specs::Seen::seen, sftp_handles::specs::Handles::pins_of, sftp_tree::specs::Requests::led, sftp_tree::specs::Causes::no_causes, sftp_tree::specs::Causes::when, sftp_tree::specs::Causes::joined, sftp_tree::specs::Requests::plain_causes, sftp_tree::specs::Requests::causes, sftp_tree::specs::Requests::outcome, sftp_tree::specs::Requests::target_to, sftp_tree::specs::Requests::text_to, sftp_tree::specs::Requests::shown_to, sftp_tree::specs::Listings::children, sftp_tree::specs::Listings::listing, sftp_tree::specs::Walk::meets, sftp_tree::specs::Walk::walk_parts, sftp_tree::specs::Walk::walk, sftp_tree::specs::Walk::reached, sftp_tree::specs::Tree::has_entries, sftp_tree::specs::Tree::fits, sftp_path::specs::Place::components, sftp_path::specs::Place::parts, sftp_path::specs::Place::is_good_path, sftp_path::specs::Table::get, sftp_path::specs::Table::put, sftp_path::specs::Table::without, sftp_path::specs::Table::retain, sftp_path::specs::Table::from_entries))]
+#![tactic(auto, unfolding(crate::specs::Permitted::permitted, crate::specs::Permitted::forgiven, crate::specs::Departures::is_forgiven, crate::specs::Room::is_outgrown, crate::specs::Names::departure_of, sftp_handles::specs::Allowed::step, sftp_handles::specs::Requests::causes, sftp_handles::specs::Requests::answers, sftp_handles::specs::Requests::after, sftp_handles::specs::Requests::told_to, sftp_handles::specs::Seen::seen, sftp_handles::specs::Handles::pins_of, sftp_tree::specs::Requests::led, sftp_tree::specs::Causes::no_causes, sftp_tree::specs::Causes::when, sftp_tree::specs::Causes::joined, sftp_tree::specs::Requests::plain_causes, sftp_tree::specs::Requests::causes, sftp_tree::specs::Requests::outcome, sftp_tree::specs::Requests::target_to, sftp_tree::specs::Requests::text_to, sftp_tree::specs::Requests::shown_to, sftp_tree::specs::Listings::children, sftp_tree::specs::Listings::listing, sftp_tree::specs::Walk::meets, sftp_tree::specs::Walk::walk_parts, sftp_tree::specs::Walk::walk, sftp_tree::specs::Walk::reached, sftp_tree::specs::Tree::has_entries, sftp_tree::specs::Tree::fits, sftp_path::specs::Place::components, sftp_path::specs::Place::parts, sftp_path::specs::Place::is_good_path, sftp_path::specs::Table::get, sftp_path::specs::Table::put, sftp_path::specs::Table::without, sftp_path::specs::Table::retain, sftp_path::specs::Table::from_entries))]
 
 ghost use Rattle.std.specs.Prelude.{◌≡◌, ◌∷◌, [], Some, None, true, false, codes};
 ghost use Rattle.sftp_wire.specs.declared.packets.Ask.TheVariants.{Readdir, Remove, Lstat, Stat, Setstat};
 ghost use Rattle.sftp_wire.specs.declared.packets.Ask.TheVariants.{Open, Mkdir, Symlink, Unknown};
-ghost use Rattle.sftp_wire.specs.declared.packets.Ask.TheVariants.{Hardlink, Read, Realpath};
+ghost use Rattle.sftp_wire.specs.declared.packets.Ask.TheVariants.{Hardlink, Read, Realpath, Write};
 ghost use Rattle.sftp_wire.specs.declared.packets.Answer.TheVariants.{Attrs, Data, Handle, Name};
 ghost use Rattle.sftp_wire.specs.Examples.{no_attributes};
 ghost use Rattle.sftp_tree.specs.Picture.{blank};
 ghost use Rattle.sftp_tree.specs.WalkExamples.{with_link, letters};
 ghost use Rattle.sftp_handles.specs.Examples.{closed, with_text, with_none, code, item, sized, of_directory};
 ghost use Rattle.sftp_profile.specs.Profiles.{strict};
+ghost use Rattle.sftp_profile.specs.Names.{with_name};
 ghost use Rattle.sftp_profile.specs.Departures.{is_modelled};
 ghost use Rattle.sftp_profile.specs.Replaced.{put};
-ghost use Rattle.sftp_profile.specs.Permitted.{permitted};
+ghost use Rattle.sftp_profile.specs.State.{bare};
+ghost use Rattle.sftp_profile.specs.Permitted.{permitted, follows_in};
 ghost use Rattle.sftp_profile.specs.Examples.{any_code, loose_paths, empty_setstats, free_sizes};
 ghost use Rattle.sftp_profile.specs.Examples.{beyond, any_flags, owned_by_user, permitted_directory, given_file};
 ghost use Rattle.sftp_profile.specs.Examples.{permitted_file, permitted_to, owned_as_given, owned_by_group};
@@ -22,9 +24,17 @@ ghost use Rattle.sftp_profile.specs.Examples.{with_other_group};
 ghost use Rattle.sftp_profile.specs.Examples.{large_directory, large_directories, listed_three};
 ghost use Rattle.sftp_profile.specs.Examples.{linked_links, wide_reads, free_bits, free_links, texts_of_paths};
 ghost use Rattle.sftp_profile.specs.Examples.{open_to_read, owned_link, set_group, one_text};
+ghost use Rattle.sftp_profile.specs.Examples.{with_room_for_one, with_no_room};
 ghost use Rattle.sftp_profile.specs.Flags.{empties};
 ghost use Rattle.sftp_profile.specs.Reads.{is_count};
 ghost use Rattle.sftp_treefile.specs.Limits.{usual_limits};
+
+/// The name `hardlink-link` switches the departure of a hardlink of a link, and `hardlink` none.
+pub fn names_of_departures()
+    ensures on { with_name strict (codes "hardlink-link") true ≡ Some linked_links }
+    ensures off { with_name linked_links (codes "hardlink-link") false ≡ Some strict }
+    ensures none { with_name strict (codes "hardlink") true ≡ None }
+{}
 
 /// A file that is not there has the code 2 alone, strictly; with any code it may have 4 too, but never 0.
 pub fn other_codes()
@@ -76,6 +86,44 @@ pub fn other_extensions()
     ensures not_done { permitted beyond (closed blank) (Unknown (codes "x@y") []) (code 0) ≡ None }
     ensures not_followed { is_modelled beyond (Unknown (codes "x@y") []) (code 0) ≡ false }
     ensures followed { is_modelled beyond (Unknown (codes "x@y") []) (code 1) ≡ true }
+{}
+
+/// By `limits` a WRITE that was done beyond the bytes that a file may have, here four, is not followed. One that fits,
+/// is refused, says that the end was reached, or goes through a handle that is not open, is.
+pub fn files_without_room()
+    ensures done { follows_in (bare beyond with_room_for_one) (Write (codes "h") 3 (codes "de")) (code 0) ≡ false }
+    ensures fits { follows_in (bare beyond with_room_for_one) (Write (codes "h") 3 (codes "d")) (code 0) ≡ true }
+    ensures refused { follows_in (bare beyond with_room_for_one) (Write (codes "h") 3 (codes "de")) (code 3) ≡ true }
+    ensures end { follows_in (bare beyond with_room_for_one) (Write (codes "h") 3 (codes "de")) (code 1) ≡ true }
+    ensures closed { follows_in (bare beyond with_room_for_one) (Write (codes "x") 3 (codes "de")) (code 0) ≡ true }
+    ensures strict { follows_in (bare strict with_room_for_one) (Write (codes "h") 3 (codes "de")) (code 0) ≡ true }
+{}
+
+/// A link whose target has a name of 300 bytes, or is empty, was made: by `limits` this is not followed, unless its
+/// place is taken, or its own path is bad, too.
+pub fn targets_without_room()
+    ensures long { follows_in (bare beyond (closed blank)) (Symlink (letters 300) (codes "/l")) (code 0) ≡ false }
+    ensures none { follows_in (bare beyond (closed blank)) (Symlink [] (codes "/l")) (code 0) ≡ false }
+    ensures good { follows_in (bare beyond (closed blank)) (Symlink (letters 255) (codes "/l")) (code 0) ≡ true }
+    ensures refused { follows_in (bare beyond (closed blank)) (Symlink (letters 300) (codes "/l")) (code 2) ≡ true }
+    ensures taken { follows_in (bare beyond (closed with_link)) (Symlink (letters 300) (codes "/l")) (code 0) ≡ true }
+    ensures bad { follows_in (bare beyond (closed blank)) (Symlink (letters 300) (letters 300)) (code 0) ≡ true }
+    ensures strict { follows_in (bare strict (closed blank)) (Symlink (letters 300) (codes "/l")) (code 0) ≡ true }
+{}
+
+/// In a full tree the request that is judged has no room, and the one that `flags` takes it for. A handle says that an
+/// OPEN was done, and OK does not.
+pub fn requests_without_room()
+    ensures made { follows_in (bare beyond with_no_room) (Mkdir (codes "/d") no_attributes) (code 0) ≡ false }
+    ensures opened { follows_in (bare beyond with_no_room) (Open (codes "/f") 0xa no_attributes)
+        (Handle (codes "h")) ≡ false }
+    ensures no_handle { follows_in (bare beyond with_no_room) (Open (codes "/f") 0xa no_attributes) (code 0) ≡ true }
+    ensures bad_flags { follows_in (bare beyond with_no_room) (Open (codes "/f") 8 no_attributes)
+        (Handle (codes "h")) ≡ true }
+    ensures flags { follows_in (bare (record beyond { flags = true }) with_no_room) (Open (codes "/f") 8 no_attributes)
+        (Handle (codes "h")) ≡ false }
+    ensures draft { follows_in (bare (record beyond { symlink_draft = true }) (closed blank))
+        (Symlink (codes "/l") (letters 300)) (code 0) ≡ false }
 {}
 
 /// OPEN with no flags opens a file to read, and with an unknown flag it goes by the others.

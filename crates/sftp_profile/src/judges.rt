@@ -2,9 +2,10 @@
 ghost use Rattle.std.specs.Prelude.{◌≡◌, [], false, IsTrue, IfOk, OnOk, OnErr};
 ghost use Rattle.sftp_tree.specs.Tree.{trim};
 ghost use Rattle.sftp_profile.specs.State.{State, begun};
-ghost use Rattle.sftp_profile.specs.Replaced.{replaced};
+ghost use Rattle.sftp_profile.specs.Replaced.{put, replaced};
 ghost use Rattle.sftp_profile.specs.Departures.{is_forgiven, passes_in, passes_codes, passes_dots};
 ghost use Rattle.sftp_profile.specs.Permitted.{Permitted, follows_in};
+ghost use Rattle.sftp_profile.specs.Room.{is_outgrown};
 ghost use Rattle.sftp_profile.specs.Judged.{IsStrict, IsRetold, IsRead, IsTaken, IsSet, IsFollowed, IsTakenFor};
 ghost use Rattle.sftp_profile.specs.Judged.{IsForgiven, IsPermitted, IsStep};
 
@@ -15,6 +16,7 @@ use crate::profiles::Profile;
 use crate::readings::{asked, followed};
 use crate::refusals::{are_dots, done, is_handle, is_refusal};
 use crate::replaced::replaced;
+use crate::room::is_outgrown;
 use crate::tellings::{is_readdir, told};
 use sftp_handles::{GivenTable, Session};
 use sftp_tree::{NoMemory, Tree};
@@ -133,11 +135,39 @@ impl Judge {
     }
 
     /// Whether the profile follows a request with this reply. It does not follow an extension that it does not know and
-    /// that was neither refused nor at an end, which may have changed anything.
-    pub fn is_modelled(&self, request: &Request, reply: &Reply) -> bool
-        ensures { result ≡ follows_in self.now request.now.ask reply.now.answer }
+    /// that was neither refused nor at an end, which may have changed anything. With `limits` it does not follow a
+    /// request that was done although nothing but the room in the tree refuses it.
+    ///
+    /// # Errors
+    ///
+    /// `NoMemory` if memory runs out.
+    pub fn is_modelled(&self, request: &Request, reply: &Reply) -> Result<bool, NoMemory>
+        ensures { IfOk result (λ ok. ok ≡ follows_in self.now request.now.ask reply.now.answer) }
     {
-        is_modelled(self.profile, &request.ask, &reply.answer)
+        if !is_modelled(self.profile, &request.ask, &reply.answer) {
+            return Ok(false);
+        }
+        if !self.profile.limits {
+            return Ok(true);
+        }
+        Ok(!self.is_outgrown(&request.ask, &reply.answer)?)
+    }
+
+    /// Whether the request that is judged was done, and nothing but the room in the tree refuses it.
+    ///
+    /// # Errors
+    ///
+    /// `NoMemory` if memory runs out.
+    fn is_outgrown(&self, ask: &Ask, answer: &Answer) -> Result<bool, NoMemory>
+        ensures { IfOk result (λ ok. ok ≡ is_outgrown self.now.profile self.now.session
+            (put self.now.profile self.now.session.tree ask.now) answer.now) }
+    {
+        let Some(put) = self.replaced(ask)? else {
+            return is_outgrown(&self.session, self.profile, ask, answer);
+        };
+        let found = is_outgrown(&self.session, self.profile, &put, answer);
+        drop(put);
+        found
     }
 
     /// Whether the profile permits the answer for the request as it stands.

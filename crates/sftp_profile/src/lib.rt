@@ -22,6 +22,7 @@ mod reads;
 mod realpaths;
 mod refusals;
 mod replaced;
+mod room;
 mod shown;
 mod tellings;
 mod through;

@@ -1,5 +1,6 @@
 //! The departures by their names, as the command line of the program has them.
-ghost use Rattle.std.specs.Prelude.{◌≡◌};
+ghost use Rattle.std.specs.Prelude.{◌≡◌, find, bytes_eq};
+ghost use Rattle.sftp_profile.specs.Names as names;
 ghost use Rattle.sftp_profile.specs.Profiles as spec;
 
 use crate::profiles::{NewOwner, Profile};
@@ -54,27 +55,129 @@ impl Profile {
     }
 
     /// The profile with the departure of this name accepted, or not; `None` if no departure has this name.
-    pub fn with(self, name: &str, is_on: bool) -> Option<Profile> {
-        let mut profile = self;
-        match name {
-            "codes" => profile.codes = is_on,
-            "slash" => profile.slash = is_on,
-            "limits" => profile.limits = is_on,
-            "flags" => profile.flags = is_on,
-            "hardlink-link" => profile.hardlink_link = is_on,
-            "realpath" => profile.realpath = is_on,
-            "read" => profile.read = is_on,
-            "empty-setstat" => profile.empty_setstat = is_on,
-            "dots" => profile.dots = is_on,
-            "dir-size" => profile.dir_size = is_on,
-            "set-id" => profile.set_id = is_on,
-            "link-attrs" => profile.link_attrs = is_on,
-            "open-dir" => profile.open_dir = is_on,
-            "listing" => profile.listing = is_on,
-            "made" => profile.made = is_on,
-            "extensions" => profile.extensions = is_on,
-            _ => return None,
+    pub fn with(self, name: &str, is_on: bool) -> Option<Profile>
+        ensures { result ≡ names.with_name self name.now is_on }
+    {
+        match departure_of(name.as_bytes()) {
+            Some(departure) => Some(switched(self, departure, is_on)),
+            None => None,
         }
-        Some(profile)
     }
+}
+
+/// A departure from the strict reading.
+#[derive(Clone, Copy)]
+pub(crate) enum Departure {
+    Codes,
+    Slash,
+    Limits,
+    Flags,
+    HardlinkLink,
+    Realpath,
+    Read,
+    EmptySetstat,
+    Dots,
+    DirSize,
+    SetId,
+    LinkAttrs,
+    OpenDir,
+    Listing,
+    Made,
+    Extensions,
+}
+
+/// Every departure.
+fn every_departure() -> [Departure; 16]
+    ensures { result ≡ names.every_departure }
+{
+    [
+        Departure::Codes,
+        Departure::Slash,
+        Departure::Limits,
+        Departure::Flags,
+        Departure::HardlinkLink,
+        Departure::Realpath,
+        Departure::Read,
+        Departure::EmptySetstat,
+        Departure::Dots,
+        Departure::DirSize,
+        Departure::SetId,
+        Departure::LinkAttrs,
+        Departure::OpenDir,
+        Departure::Listing,
+        Departure::Made,
+        Departure::Extensions,
+    ]
+}
+
+/// The name of a departure.
+fn name_of(departure: Departure) -> &'static [u8]
+    ensures { result.now ≡ names.name_of departure }
+{
+    match departure {
+        Departure::Codes => b"codes".as_slice(),
+        Departure::Slash => b"slash".as_slice(),
+        Departure::Limits => b"limits".as_slice(),
+        Departure::Flags => b"flags".as_slice(),
+        Departure::HardlinkLink => b"hardlink-link".as_slice(),
+        Departure::Realpath => b"realpath".as_slice(),
+        Departure::Read => b"read".as_slice(),
+        Departure::EmptySetstat => b"empty-setstat".as_slice(),
+        Departure::Dots => b"dots".as_slice(),
+        Departure::DirSize => b"dir-size".as_slice(),
+        Departure::SetId => b"set-id".as_slice(),
+        Departure::LinkAttrs => b"link-attrs".as_slice(),
+        Departure::OpenDir => b"open-dir".as_slice(),
+        Departure::Listing => b"listing".as_slice(),
+        Departure::Made => b"made".as_slice(),
+        Departure::Extensions => b"extensions".as_slice(),
+    }
+}
+
+/// The first of these departures that has this name.
+fn first_named(departures: &[Departure], name: &[u8]) -> Option<Departure>
+    ensures { result ≡ find (λ departure. bytes_eq (names.name_of departure) name.now) departures.now }
+{
+    let mut left = departures;
+    'departures: while let Some((departure, rest)) = left.split_first() {
+        if name_of(*departure) == name {
+            return Some(*departure);
+        }
+        left = rest;
+    }
+    None
+}
+
+/// The departure of a name.
+#[tactic(auto, unfolding(crate::specs::Names::departure_of))]
+fn departure_of(name: &[u8]) -> Option<Departure>
+    ensures { result ≡ names.departure_of name.now }
+{
+    first_named(&every_departure(), name)
+}
+
+/// The profile with a departure accepted, or not.
+fn switched(profile: Profile, departure: Departure, is_on: bool) -> Profile
+    ensures { result ≡ names.switched profile departure is_on }
+{
+    let mut profile = profile;
+    match departure {
+        Departure::Codes => profile.codes = is_on,
+        Departure::Slash => profile.slash = is_on,
+        Departure::Limits => profile.limits = is_on,
+        Departure::Flags => profile.flags = is_on,
+        Departure::HardlinkLink => profile.hardlink_link = is_on,
+        Departure::Realpath => profile.realpath = is_on,
+        Departure::Read => profile.read = is_on,
+        Departure::EmptySetstat => profile.empty_setstat = is_on,
+        Departure::Dots => profile.dots = is_on,
+        Departure::DirSize => profile.dir_size = is_on,
+        Departure::SetId => profile.set_id = is_on,
+        Departure::LinkAttrs => profile.link_attrs = is_on,
+        Departure::OpenDir => profile.open_dir = is_on,
+        Departure::Listing => profile.listing = is_on,
+        Departure::Made => profile.made = is_on,
+        Departure::Extensions => profile.extensions = is_on,
+    }
+    profile
 }

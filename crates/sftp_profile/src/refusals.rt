@@ -1,11 +1,11 @@
-//! Statuses that say that a request was refused (draft, section 7).
+//! Answers that say that a request was refused (draft, section 7), or that it opened something.
 ghost use Rattle.std.specs.Prelude.{◌≡◌, ◌&&◌, ◌||◌, nat_lt, length};
 ghost use Rattle.std.specs.List.{list_all};
 ghost use Rattle.sftp_profile.specs.Tellings.{is_dots};
 ghost use Rattle.sftp_handles.specs.Replies.{has_code};
 ghost use Rattle.sftp_profile.specs.Departures as spec;
 ghost use Rattle.sftp_profile.specs.Refusals as words;
-ghost use Rattle.sftp_profile.specs.Permitted.{is_handle, done_status};
+ghost use Rattle.sftp_profile.specs.Permitted.{done_status};
 
 use crate::tellings::is_dots;
 use sftp_wire::{Answer, ByteString, NameItem};
@@ -64,7 +64,7 @@ pub(crate) fn has_code_or(answer: &Answer, wanted: u32, frees: bool) -> bool
 
 /// Whether the answer gives a handle.
 pub(crate) fn is_handle(answer: &Answer) -> bool
-    ensures { result ≡ is_handle answer.now }
+    ensures { result ≡ words.is_handle answer.now }
 {
     match answer {
         Answer::Handle(_) => true,

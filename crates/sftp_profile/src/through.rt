@@ -5,12 +5,13 @@ ghost use Rattle.sftp_handles.specs.Replies.{has_code};
 ghost use Rattle.std.specs.Option.{option_map};
 ghost use Rattle.sftp_wire.specs.Spelling.{asked_handle};
 ghost use Rattle.sftp_wire.specs.declared.packets.Ask.TheVariants as asks;
+ghost use Rattle.sftp_profile.specs.Refusals.{is_handle};
 ghost use Rattle.sftp_profile.specs.Through as spec;
 
 use crate::directories::{Directory, directory_at};
 use crate::flags::{has, mended_flags};
 use crate::profiles::Profile;
-use crate::refusals::{has_code, is_refusal};
+use crate::refusals::{has_code, is_handle, is_refusal};
 use crate::tellings::is_type;
 use sftp_path::absolute;
 use sftp_tree::NoMemory;
@@ -101,16 +102,6 @@ fn only_reads(profile: Profile, pflags: u32) -> bool
     !has(pflags, TRUNC) && flags == READ
 }
 
-/// Whether the answer gives a handle.
-fn is_handle(answer: &Answer) -> bool
-    ensures { result ≡ spec.is_handle answer.now }
-{
-    match answer {
-        Answer::Handle(_) => true,
-        _ => false,
-    }
-}
-
 /// Whether the answer gives attributes.
 fn are_attributes(answer: &Answer) -> bool
     ensures { result ≡ spec.are_attributes answer.now }
@@ -164,7 +155,7 @@ fn opened(
     pflags: u32,
     answer: &Answer,
 ) -> Result<Option<Ask>, NoMemory>
-    ensures { IfOk result (λ other. other ≡ (if spec.is_handle answer.now && spec.only_reads profile pflags
+    ensures { IfOk result (λ other. other ≡ (if is_handle answer.now && spec.only_reads profile pflags
         then Some (asks.Opendir path.now) else None)) }
 {
     if !is_handle(answer) || !only_reads(profile, pflags) {

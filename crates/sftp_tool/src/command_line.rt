@@ -152,15 +152,15 @@ KIND is one of:
   IdInUse       an unanswered request has the id of this request
   Window        the 1,024th request before this one is still unanswered
   NotAllowed    the tree does not allow this reply
-  NotModelled   by a profile: an extension was done that may have changed anything
+  NotModelled   by a profile: an extension was done that may have changed anything, or what the tree cannot hold
   Unanswered    this request has no reply
 
 With --explain, standard error says more of a refusal: the lines of the request and of the reply, as 'show' prints them;
 for UnknownReply, the last request of the id, and its reply; for IdInUse and Window, the unanswered request; and for
 NotAllowed, the causes that refuse the request with the status codes that they allow, the reply that is expected, and
-how the reply found differs; for NotModelled, the name of the extension too. For this the transcript is read again, so
-it cannot be a pipe. If the tree file or the transcript is malformed, a line has the field of the fault, and the place
-of its first byte in the file, from 0.";
+how the reply found differs; for NotModelled, the name of the extension or what the tree lacks, too. For this the
+transcript is read again, so it cannot be a pipe. If the tree file or the transcript is malformed, a line has the field
+of the fault, and the place of its first byte in the file, from 0.";
 
 /// What a command line asks for.
 #[derive(Drop)]

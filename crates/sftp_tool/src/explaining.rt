@@ -3,6 +3,7 @@ use crate::command_line::AuditOptions;
 use crate::messages::{Failure, write_flushed};
 use crate::subcommands::open;
 use sftp_audit::{AuditError, Auditor, NoMemory, Refusal, TreeError, feed_all};
+use sftp_path::good_path;
 use sftp_profile::{NAMES, Profile};
 use sftp_show::{
     ExplainError, Found, Quoted, Record, explain_reply, find_record, last_of_id, number_of_request,
@@ -413,17 +414,50 @@ fn put_causes_by<'a, R: Files + AllocGlobal, E: Write>(
 ) -> Result<(), Unexplained> {
     let is_modelled = refuse_again(rt, files, auditor)?;
     explain_reply(rt.alloc(), auditor.session(), ask, answer, errors)?;
-    match ask {
-        Ask::Unknown { name, .. } if !is_modelled => put_unmodelled(name.as_slice(), errors),
-        _ => Ok(()),
+    if is_modelled {
+        return Ok(());
+    }
+    put_unmodelled(files.profile, ask, errors)
+}
+
+/// Writes what of a request the profile does not follow: an extension that it does not know, or what the tree cannot
+/// hold.
+fn put_unmodelled<E: Write>(
+    profile: Profile,
+    ask: &Ask,
+    errors: &mut E,
+) -> Result<(), Unexplained> {
+    let written = match ask {
+        Ask::Unknown { name, .. } => {
+            let name = Quoted(name.as_slice());
+            writeln!(errors, "not modelled: extension {name}")
+        }
+        other => {
+            let lack = lack(profile, other);
+            writeln!(errors, "not modelled: {lack}")
+        }
+    };
+    match written {
+        Ok(()) => Ok(()),
+        Err(_) => Err(Unexplained::Output),
     }
 }
 
-/// Writes the name of an extension that the profile does not know.
-fn put_unmodelled<E: Write>(name: &[u8], errors: &mut E) -> Result<(), Unexplained> {
-    match writeln!(errors, "not modelled: extension {}", Quoted(name)) {
-        Ok(()) => Ok(()),
-        Err(_) => Err(Unexplained::Output),
+/// What the tree lacks for a request: the target of the link that it makes is a bad path, or there is no room.
+fn lack(profile: Profile, ask: &Ask) -> &'static str {
+    match target_of(profile, ask) {
+        Some(target) if target.is_empty() || !good_path(target) =>
+            "the tree cannot hold the link's target",
+        _ => "the tree has no room for it",
+    }
+}
+
+/// The target of the link that a request makes, by the order of its paths in the profile.
+fn target_of(profile: Profile, ask: &Ask) -> Option<&[u8]> {
+    match ask {
+        Ask::Symlink { linkpath, .. } if profile.symlink_draft => Some(linkpath.as_slice()),
+        Ask::Symlink { targetpath, .. } => Some(targetpath.as_slice()),
+        _ => None,
     }
 }
 
