@@ -1,5 +1,5 @@
 -- Replies that are permitted with a look at the directories that are open.
-use Rattle.std.proofs.Common.{◌≡◌, Bool, true, false, List, [], ◌∷◌, Option, Some, None, refl, sym, ap, subst, ◌∙◌}
+use Rattle.std.proofs.Common.{◌≡◌, Bool, true, false, List, Option, Some, None, refl, sym, ap, ◌∙◌}
 use Rattle.std.specs.Prelude.{if◌then◌else◌, ◌==◌, length}
 use Rattle.sftp_wire.specs.declared.names.NameItem.{NameItem}
 use Rattle.sftp_wire.specs.declared.packets.Ask.{Ask}
@@ -11,10 +11,10 @@ use Rattle.sftp_profile.specs.declared.notes.Note.{Note}
 use Rattle.sftp_profile.specs.State.{State}
 use Rattle.sftp_profile.specs.Profiles.{is_stateless}
 use Rattle.sftp_profile.specs.Notes.{note_of, noted}
-use Rattle.sftp_profile.specs.Through.{directory_of, is_barred, refuses_kind, stands_for}
+use Rattle.sftp_profile.specs.Through.{directory_of, is_barred, refuses_kind}
 use Rattle.sftp_profile.specs.Permitted.{first_of, forgiven_by, permitted, taken_as, with_given, under, with_note}
 use Rattle.sftp_profile.specs.Permitted.{by_directory, met, judged}
-use Rattle.sftp_profile.specs.Judged.{Outcome, IsStrict, IsPermitted, IsJudged, IsNoted, IsMet, IsStanding, IsGiven}
+use Rattle.sftp_profile.specs.Judged.{Outcome, IsStrict, IsPermitted, IsJudged, IsNoted, IsMet, IsGiven}
 use Rattle.sftp_profile.proofs.Permissions.{stateless-judged}
 
 -- ---- what is noted

@@ -11,7 +11,6 @@ use Rattle.std.proofs.lemmas.Option.{none-some, same_Some, slice_get-map, slice_
 use Rattle.sftp_wire.specs.declared.packets.Request.{Request}
 use Rattle.sftp_transcript.specs.Explained.{window}
 use Rattle.sftp_transcript.specs.Ledger.{AreApart}
-use Rattle.sftp_transcript.specs.Ledger as ledgers
 use Rattle.sftp_transcript.proofs.pairing.Standing.{AreApart-asked}
 use Rattle.sftp_audit.specs.declared.exchanges.RecordedReply.{RecordedReply}
 use Rattle.sftp_audit.specs.declared.exchanges.Exchange.{Exchange}

@@ -1,6 +1,5 @@
 -- Worked examples: a session that asks for the limits of the tree.
-use Rattle.std.proofs.Common.{ℕ, List, refl}
-use Rattle.sftp_wire.specs.Spelling.{uint64}
+use Rattle.std.proofs.Common.{refl}
 use Rattle.sftp_wire.specs.Examples.{hex}
 use Rattle.sftp_path.specs.Table.{retain, get}
 use Rattle.sftp_tree.specs.Tree.{raised}
