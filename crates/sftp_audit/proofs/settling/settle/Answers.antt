@@ -39,10 +39,10 @@ returns-then-not-branch-clause-wrong c =
 pub returns-then-not-branch-clause-told : goal.returns-then-not-branch-clause-told
 returns-then-not-branch-clause-told c =
     done-told c.args.judge.now c.settle.judge c.accept.new.self c.args.ledger.now c.settle.ledger
-    c.in-Some.exchange.now c.in-Some-reply.recorded c.args.is_modelled.now c.is_modelled.result
+    c.in-Some.exchange.now c.in-Some-reply.recorded c.args.is_modelled.now c.in_ok-is_modelled.field-0
     c.settle.invariant.done c.in-Some.ensures c.in-Some-reply.is
     (c.in_ok-accept.ensures.refused c.if-not-branch.true) (c.in_ok-accept.ensures.kept c.if-not-branch.true)
-    c.is_modelled.ensures
+    c.in_ok-is_modelled.ensures
 
 pub returns-in_default-reply-clause-kept : goal.returns-in_default-reply-clause-kept
 returns-in_default-reply-clause-kept c =
