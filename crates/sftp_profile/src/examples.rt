@@ -197,7 +197,8 @@ pub fn texts_made_absolute()
 
 /// What is made has the tree's owner and the permissions that the mask leaves, and SYMLINK's paths change places.
 pub fn requests_replaced()
-    ensures directory { put owned_by_user blank (Mkdir (codes "d") no_attributes) ≡ Mkdir (codes "d") permitted_directory }
+    ensures directory { put owned_by_user blank (Mkdir (codes "d") no_attributes)
+        ≡ Mkdir (codes "d") permitted_directory }
     ensures file { put owned_by_user blank (Open (codes "f") 0xa given_file) ≡ Open (codes "f") 0xa permitted_file }
     ensures link { put (record strict { symlink_draft = true }) blank (Symlink (codes "l") (codes "t"))
         ≡ Symlink (codes "t") (codes "l") }
@@ -205,8 +206,8 @@ pub fn requests_replaced()
 {}
 
 /// What is made in `/d`, a directory of group 9, has the tree's user 1 and that group: a directory, and a file that the
-/// link `/l` leads to. With EXCL the link is not followed, and the file would be in the root, which is of group 0. Where
-/// the path leads nowhere, the group is the tree's.
+/// link `/l` leads to. EXCL does not follow the link, and the file would be in the root, which is of group 0. Where the
+/// path leads nowhere, the group is the tree's.
 pub fn groups_of_directories()
     ensures directory { put owned_by_group with_other_group (Mkdir (codes "/d/x") no_attributes)
         ≡ Mkdir (codes "/d/x") (permitted_to 1 9) }

@@ -29,8 +29,8 @@ pub struct Profile {
     /// The size of a directory is free.
     pub dir_size: bool,
     /// A request may be refused with the code 4 if a path or a link's target of it has 1,024 bytes or more, or if it
-    /// reads or writes up to byte 2^31 or further. One that was done is not followed if nothing but the room in the tree
-    /// refuses it.
+    /// reads or writes up to byte 2^31 or further. One that was done is not followed if nothing but the room in the
+    /// tree refuses it.
     pub limits: bool,
     /// An extension that is not known may be refused with any code, and those that only look and are listed in
     /// `extensions.rt` may be answered with any content.
