@@ -26,7 +26,7 @@ class Progress:
 
 
 def text_of(program, name):
-    done = subprocess.run([program, "show", "--full", name], capture_output=True, check=False)
+    done = subprocess.run([program, "show", "--full", "--data", "all", name], capture_output=True, check=False)
     return done.stdout.decode(errors="replace")
 
 

@@ -42,7 +42,7 @@ const ABOUT_SHOW: &str =
     "Prints what a transcript or a tree file holds, a line for each record or entry";
 
 const ABOUT_MAKE: &str =
-    "Writes the transcript or the tree file whose text is on standard input, as 'show --full' prints it";
+    "Writes the transcript or the tree file whose text is on standard input, as 'show --full --data all' prints it";
 
 const AFTER_MAKE: &str = "The text of a transcript has a line for each record, such as
 
@@ -78,8 +78,13 @@ target of a link.
 
 Bytes other than printable ASCII, and \" and \\, are shown as \\x and two hexadecimal digits.
 
-With --full, a line has all that its record or entry holds, and 'make' makes the same file of the lines. A record that
-is no packet of the protocol is shown as raw and its bytes in hexadecimal.
+With --full, a line has each field of its record or entry. A record that is no packet of the protocol is shown as raw
+and its bytes in hexadecimal. Of a text in quotes, and of a raw record, the first 256 bytes are printed, or as many as
+--data says, and then how many more there are:
+
+  S 3 DATA \"abcdef\"...32762 more
+
+With --data all, nothing is cut off, and 'make' makes the same file of the lines.
 
 With --explain, a line on standard error says where a malformed file is so: the field of the fault, and the place of its
 first byte in the file, from 0.";
@@ -178,11 +183,13 @@ pub(crate) enum Request<'a> {
         tree: &'a str,
         file: &'a str,
     },
-    /// Show what a transcript or a tree file holds: all of it, or a line for each record or entry that sums it up. If
-    /// the file is malformed, say on standard error where, if that is asked for.
+    /// Show what a transcript or a tree file holds: each field of it, or a line for each record or entry that sums it
+    /// up. If the file is malformed, say on standard error where, if that is asked for.
     Show {
         file: &'a str,
         full: bool,
+        /// How many bytes of a text the lines have in full, as the option says it.
+        data: Option<&'a str>,
         explains: bool,
     },
     /// Make a transcript or a tree file from its text.
@@ -303,10 +310,12 @@ fn requested<'a>(matches: &ArgMatches<'a>) -> Option<Request<'a>> {
 fn show_request<'a>(given: &ArgMatches<'a>) -> Option<Request<'a>> {
     let file = given.get_str("file")?;
     let full = given.get_flag("full");
+    let data = given.get_str("data");
     let explains = given.get_flag("explain");
     Some(Request::Show {
         file,
         full,
+        data,
         explains,
     })
 }
@@ -441,11 +450,13 @@ fn explain_option<'a>(alloc: Global, help: &'a str) -> Arg<'a> {
         .help(help)
 }
 
+// Slow to prove: the argument `--data` is made, which may fail, while the command is held.
 fn show_command<'a>(alloc: Global) -> Result<Command<'a>, AllocError> {
     Command::new(alloc, "show")
         .about(ABOUT_SHOW)
         .after_help(AFTER_SHOW)
         .arg(full_option(alloc))?
+        .arg(data_option(alloc)?)?
         .arg(explain_option(
             alloc,
             "Print on standard error where a malformed file is so",
@@ -457,7 +468,16 @@ fn full_option<'a>(alloc: Global) -> Arg<'a> {
     Arg::new(alloc, "full")
         .long("full")
         .action(ArgAction::SetTrue)
-        .help("Print all that the file holds, as text that 'make' reads")
+        .help("Print each field that the file holds, as text that 'make' reads")
+}
+
+fn data_option<'a>(alloc: Global) -> Result<Arg<'a>, AllocError> {
+    Arg::new(alloc, "data")
+        .long("data")
+        .value_name("N|all")
+        .action(ArgAction::Set)
+        .help("With --full: cut each text after N bytes, 256 by default, or print all of it")
+        .requires_arg("full")
 }
 
 fn make_command<'a>(alloc: Global) -> Result<Command<'a>, AllocError> {

@@ -6,6 +6,7 @@ ghost use Rattle.std.specs.Prelude.{◌≤◌};
 
 mod archives;
 mod command_line;
+mod cuts;
 mod diffing;
 mod explaining;
 mod messages;
@@ -168,8 +169,9 @@ fn perform_request<'a, R: Files + AllocGlobal, I: Read, O: Write, E: Write>(
         Request::Show {
             file,
             full: true,
+            data,
             ..
-        } => texts::show_full(rt, file, output),
+        } => texts::show_full(rt, file, *data, output),
         Request::Diff { old, new } => diffing::diff(rt, old, new, output),
         Request::Import { file } => archives::import(rt, file, input),
         Request::Export { file } => archives::export(rt, file, output),

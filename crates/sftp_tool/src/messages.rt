@@ -21,6 +21,9 @@ pub(crate) const STANDARD_INPUT: &str = "standard input";
 /// How messages call standard output.
 pub(crate) const STANDARD_OUTPUT: &str = "standard output";
 
+/// What the parser of the command line writes behind a mistake.
+pub(crate) const MORE: &str = "\nFor more information, try '--help'.\n";
+
 /// The outcome of a run that did what was asked, or that has said itself why it did not.
 #[derive(Clone, Copy)]
 pub(crate) enum Ending {

@@ -1,5 +1,5 @@
 //! The options of `audit` that say which departures from the strict reading are accepted.
-use crate::messages::Failure;
+use crate::messages::{Failure, MORE};
 use clap::{Arg, ArgAction, ArgMatches, Command};
 use sftp_profile::{NAMES, NewOwner, Profile};
 use std::alloc::{AllocError, Global};
@@ -15,9 +15,6 @@ const ORDERS: &[&str] = &["draft"];
 
 /// The permissions that nothing new has, if no option says so.
 const UMASK: &str = "022";
-
-/// What the parser writes behind a mistake.
-const MORE: &str = "\nFor more information, try '--help'.\n";
 
 /// The command with the options of a profile.
 pub(crate) fn with_options<'a>(

@@ -1,18 +1,20 @@
-//! The subcommands `show --full` and `make`: a transcript or a tree file as text that gives the same bytes back.
+//! The subcommands `show --full` and `make`: a transcript or a tree file as text, and the file of such a text.
 ghost use Rattle.std.specs.Prelude.{◌≡◌, IfOk};
 ghost use Rattle.sftp_tool.specs.declared.messages.Ending.TheVariants as endings;
 
+use crate::cuts::{is_mark, limit_of, print_lines};
 use crate::messages::{Ending, Failure, STANDARD_INPUT, STANDARD_OUTPUT};
 use crate::saving::write;
 use crate::subcommands::read;
 use sftp_audit::{TranscriptError, TreeError};
 use sftp_show::Quoted;
 use sftp_text::{
-    ShowFault, TextFault, is_blank, put_transcript, put_tree, read_transcript, read_tree, take_line,
+    Expected, ShowFault, TextFault, is_blank, put_transcript, put_tree, read_transcript, read_tree,
+    take_line,
 };
 use sftp_transcript::OPENING;
 use sftp_treefile::read_rows;
-use std::alloc::Global;
+use std::alloc::{AllocError, Global};
 use std::fs::Files;
 use std::io;
 use std::io::{Read, Write};
@@ -20,16 +22,18 @@ use std::io::{Read, Write};
 /// What the text of a tree file begins with, where blank lines and comments are left out.
 const TREE_LABEL: &[u8] = b"home ";
 
-/// Shows a file in full. Its first bytes say which kind it is.
+/// Shows a file in full, with as many bytes of a text as `data` says. Its first bytes say which kind it is.
 pub(crate) fn show_full<'a, R: Files + AllocGlobal, O: Write>(
     rt: &R,
     name: &'a str,
+    data: Option<&str>,
     output: &mut O,
 ) -> Result<Ending, Failure<'a>>
     ensures { IfOk result (λ ending. ending ≡ endings.Done) }
 {
+    let limit = limit_of(rt.alloc(), data)?;
     let bytes = read(rt, name)?;
-    let ending = put_full(rt.alloc(), bytes.as_slice(), output);
+    let ending = put_full(rt.alloc(), bytes.as_slice(), limit, output);
     drop(bytes);
     ending
 }
@@ -37,13 +41,14 @@ pub(crate) fn show_full<'a, R: Files + AllocGlobal, O: Write>(
 fn put_full<'a, O: Write>(
     alloc: Global,
     bytes: &[u8],
+    limit: usize,
     output: &mut O,
 ) -> Result<Ending, Failure<'a>>
     ensures { IfOk result (λ ending. ending ≡ endings.Done) }
 {
     let mut text = Vec::new(alloc);
     let shown = put_text(alloc, bytes, &mut text);
-    let printed = print_bytes(output, text.as_slice());
+    let printed = print_lines(output, limit, text.as_slice());
     drop(text);
     match printed {
         Ok(()) => {
@@ -182,12 +187,30 @@ fn text_failure<'a>(alloc: Global, fault: TextFault, text: &[u8]) -> Failure<'a>
             column,
             expected,
         } => {
-            let word = Quoted(word_at(text, line, column));
-            match format!(in alloc; "line {line}, column {column}: {word} is not {expected}") {
+            let word = word_at(text, line, column);
+            match message_at(alloc, line, column, word, expected) {
                 Ok(message) => Failure::Text(message),
                 Err(_) => Failure::OutOfMemory,
             }
         }
+    }
+}
+
+/// What is wrong with the word at a place: that data is cut off there, or what was expected.
+fn message_at(
+    alloc: Global,
+    line: u64,
+    column: u64,
+    word: &[u8],
+    expected: Expected,
+) -> Result<String, AllocError> {
+    if is_mark(word) {
+        format!(in alloc;
+            "line {line}, column {column}: data is cut off here; `show --full --data all` prints all of it"
+        )
+    } else {
+        let word = Quoted(word);
+        format!(in alloc; "line {line}, column {column}: {word} is not {expected}")
     }
 }
 
