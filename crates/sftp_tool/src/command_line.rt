@@ -175,40 +175,19 @@ pub(crate) enum Request<'a> {
     /// Audit a session.
     Audit(AuditOptions<'a>),
     /// Write the blank tree to a file.
-    Blank {
-        file: &'a str,
-    },
+    Blank { file: &'a str },
     /// Write the tree of a tree file with the highest limits to another.
-    Raise {
-        tree: &'a str,
-        file: &'a str,
-    },
-    /// Show what a transcript or a tree file holds: each field of it, or a line for each record or entry that sums it
-    /// up. If the file is malformed, say on standard error where, if that is asked for.
-    Show {
-        file: &'a str,
-        full: bool,
-        /// How many bytes of a text the lines have in full, as the option says it.
-        data: Option<&'a str>,
-        explains: bool,
-    },
+    Raise { tree: &'a str, file: &'a str },
+    /// Show what a transcript or a tree file holds.
+    Show(ShowOptions<'a>),
     /// Make a transcript or a tree file from its text.
-    Make {
-        file: &'a str,
-    },
+    Make { file: &'a str },
     /// Show how two tree files differ.
-    Diff {
-        old: &'a str,
-        new: &'a str,
-    },
+    Diff { old: &'a str, new: &'a str },
     /// Make a tree file from an archive.
-    Import {
-        file: &'a str,
-    },
+    Import { file: &'a str },
     /// Make an archive from a tree file.
-    Export {
-        file: &'a str,
-    },
+    Export { file: &'a str },
     /// Print this text: help or the version.
     Help(String),
 }
@@ -243,6 +222,19 @@ pub(crate) struct AuditOptions<'a> {
     pub(crate) profile: Profile,
     /// The permissions that nothing new has, as octal digits.
     pub(crate) umask: Option<&'a str>,
+}
+
+/// The options of `show`.
+#[derive(Clone, Copy)]
+pub(crate) struct ShowOptions<'a> {
+    /// The name of the transcript or the tree file.
+    pub(crate) file: &'a str,
+    /// Whether the lines have each field that the file holds.
+    pub(crate) is_full: bool,
+    /// How many bytes of each text are printed then: a number, or `all`.
+    pub(crate) data: Option<&'a str>,
+    /// Whether standard error says where a malformed file is so.
+    pub(crate) explains: bool,
 }
 
 /// Parses the command line, whose first word is the program's name, of the program of this version. Asking for help or
@@ -297,26 +289,29 @@ fn requested<'a>(matches: &ArgMatches<'a>) -> Option<Request<'a>> {
     match name {
         "serve" => serve_options(given).map(Request::Serve),
         "audit" => audit_options(given).map(Request::Audit),
-        "show" => show_request(given),
+        "show" => show_options(given).map(Request::Show),
         "raise" => raise_request(given),
-        "make" => given.get_str("file").map(|file| Request::Make { file }),
         "diff" => diff_request(given),
-        "import" => given.get_str("file").map(|file| Request::Import { file }),
-        "export" => given.get_str("file").map(|file| Request::Export { file }),
-        _ => given.get_str("file").map(|file| Request::Blank { file }),
+        _ => file_request(name, given.get_str("file")?),
     }
 }
 
-fn show_request<'a>(given: &ArgMatches<'a>) -> Option<Request<'a>> {
-    let file = given.get_str("file")?;
-    let full = given.get_flag("full");
-    let data = given.get_str("data");
-    let explains = given.get_flag("explain");
-    Some(Request::Show {
-        file,
-        full,
-        data,
-        explains,
+/// What the subcommand of this name asks for, which takes a file alone.
+fn file_request<'a>(name: &str, file: &'a str) -> Option<Request<'a>> {
+    Some(match name {
+        "make" => Request::Make { file },
+        "import" => Request::Import { file },
+        "export" => Request::Export { file },
+        _ => Request::Blank { file },
+    })
+}
+
+fn show_options<'a>(given: &ArgMatches<'a>) -> Option<ShowOptions<'a>> {
+    Some(ShowOptions {
+        file: given.get_str("file")?,
+        is_full: given.get_flag("full"),
+        data: given.get_str("data"),
+        explains: given.get_flag("explain"),
     })
 }
 
@@ -363,6 +358,11 @@ fn command<'a>(alloc: Global, version: &'a str) -> Result<Command<'a>, AllocErro
     let command = with_subcommand(command, audit_command(alloc))?;
     let command = with_subcommand(command, show_command(alloc))?;
     let command = with_subcommand(command, make_command(alloc))?;
+    with_tree_commands(alloc, command)
+}
+
+/// The command with the subcommands that compare or make trees.
+fn with_tree_commands<'a>(alloc: Global, command: Command<'a>) -> Result<Command<'a>, AllocError> {
     let command = with_subcommand(command, diff_command(alloc))?;
     let command = with_subcommand(command, import_command(alloc))?;
     let command = with_subcommand(command, export_command(alloc))?;

@@ -15,23 +15,32 @@ use sftp_wire::{Answer, Ask, Side};
 use std::alloc::Global;
 use std::fs::Files;
 use std::io::Write;
-use thiserror::Error;
 
 /// How many requests may be asked from an unanswered one on, itself included.
 const WINDOW: u64 = 1_024;
 
 /// Why a refusal is not explained to its end.
-#[derive(Clone, Copy, Debug, Error)]
+#[derive(Clone, Copy)]
 enum Unexplained {
     /// The transcript is not what it was when it was audited. It may be a pipe.
-    #[error("sftpv3: the transcript cannot be read again, so the refusal is not explained")]
     OtherTranscript,
     /// The lines cannot be written.
-    #[error("sftpv3: cannot write the explanation")]
     Output,
     /// Memory ran out.
-    #[error("sftpv3: out of memory")]
     OutOfMemory,
+}
+
+impl Unexplained {
+    /// The line that says it.
+    fn line(self) -> &'static str {
+        match self {
+            Unexplained::OtherTranscript => {
+                "sftpv3: the transcript cannot be read again, so the refusal is not explained\n"
+            }
+            Unexplained::Output => "sftpv3: cannot write the explanation\n",
+            Unexplained::OutOfMemory => "sftpv3: out of memory\n",
+        }
+    }
 }
 
 impl From<TranscriptError> for Unexplained {
@@ -75,7 +84,7 @@ pub(crate) fn explain<'a, R: Files + AllocGlobal, E: Write>(
 ) {
     let _ = match put_explanation(rt, files, tree, refusal, errors) {
         Ok(()) => errors.flush(),
-        Err(error) => write_flushed(errors, format_args!("{error}\n")),
+        Err(error) => write_flushed(errors, error.line()),
     };
 }
 
@@ -133,16 +142,41 @@ fn put_reason<'a, R: Files + AllocGlobal, E: Write>(
         Refusal::UnknownReply { .. } => put_unknown_reply(rt, files, &found.record, errors),
         Refusal::IdInUse { .. } => put_used_id(rt, files, &found.record, errors),
         Refusal::Window { .. } => put_late_request(rt, files, found, errors),
-        Refusal::NotAllowed { .. } => {
-            put_wrong_reply(rt, files, tree, &found.record, errors)?;
-            put_departures(rt, files, tree, refusal, errors)
-        }
-        Refusal::Unanswered { .. } | Refusal::NoMemory => Ok(put_record(
+        Refusal::NotAllowed { .. } => put_unallowed(
+            rt,
+            files,
+            tree,
+            refusal,
+            &found.record,
+            errors,
+        ),
+        Refusal::Unanswered { .. } | Refusal::NoMemory => put_line(
             "request",
             &found.record,
             errors,
-        )?),
+        ),
     }
+}
+
+/// Writes the line of a record.
+fn put_line<E: Write>(label: &str, record: &Record, errors: &mut E) -> Result<(), Unexplained> {
+    match put_record(label, record, errors) {
+        Ok(()) => Ok(()),
+        Err(error) => Err(Unexplained::from(error)),
+    }
+}
+
+/// `NotAllowed`: why a reply is not allowed, and which departures would allow it.
+fn put_unallowed<'a, R: Files + AllocGlobal, E: Write>(
+    rt: &R,
+    files: &AuditOptions<'a>,
+    tree: &[u8],
+    refusal: Refusal,
+    reply: &Record,
+    errors: &mut E,
+) -> Result<(), Unexplained> {
+    put_wrong_reply(rt, files, tree, reply, errors)?;
+    put_departures(rt, files, tree, refusal, errors)
 }
 
 /// A reader of the transcript from its start.
@@ -155,9 +189,23 @@ fn records<'a, R: Files + AllocGlobal>(
     files: &AuditOptions<'a>,
 ) -> Result<Reader<Tally<R::File>>, Unexplained> {
     match open(rt, files.transcript) {
-        Ok(file) => Ok(Reader::new(rt.alloc(), Tally::new(file))?),
-        Err(Failure::OutOfMemory) => Err(Unexplained::OutOfMemory),
-        Err(_) => Err(Unexplained::OtherTranscript),
+        Ok(file) => match Reader::new(rt.alloc(), Tally::new(file)) {
+            Ok(records) => Ok(records),
+            Err(error) => Err(Unexplained::from(error)),
+        },
+        Err(failure) => {
+            let error = unopened(&failure);
+            drop(failure);
+            Err(error)
+        }
+    }
+}
+
+/// What it means that the transcript cannot be opened.
+fn unopened(failure: &Failure<'_>) -> Unexplained {
+    match failure {
+        Failure::OutOfMemory => Unexplained::OutOfMemory,
+        _ => Unexplained::OtherTranscript,
     }
 }
 
@@ -237,7 +285,7 @@ fn put_found<E: Write>(
     errors: &mut E,
 ) -> Result<(), Unexplained> {
     match found {
-        Ok(Some(found)) => Ok(put_record(label, &found.record, errors)?),
+        Ok(Some(found)) => put_line(label, &found.record, errors),
         Ok(None) => Err(Unexplained::OtherTranscript),
         Err(error) => Err(*error),
     }
@@ -269,7 +317,7 @@ fn put_unknown_reply<'a, R: Files + AllocGlobal, E: Write>(
     reply: &Record,
     errors: &mut E,
 ) -> Result<(), Unexplained> {
-    put_record("reply", reply, errors)?;
+    put_line("reply", reply, errors)?;
     match earlier(rt, files, Side::Client, reply)? {
         Some(request) => put_answered(rt, files, request, reply, errors),
         None => put_unasked(errors),
@@ -303,7 +351,7 @@ fn put_used_id<'a, R: Files + AllocGlobal, E: Write>(
     request: &Record,
     errors: &mut E,
 ) -> Result<(), Unexplained> {
-    put_record("request", request, errors)?;
+    put_line("request", request, errors)?;
     put_earlier(rt, files, "unanswered", Side::Client, request, errors)
 }
 
@@ -314,7 +362,7 @@ fn put_late_request<'a, R: Files + AllocGlobal, E: Write>(
     found: &Found,
     errors: &mut E,
 ) -> Result<(), Unexplained> {
-    put_record("request", &found.record, errors)?;
+    put_line("request", &found.record, errors)?;
     match oldest(rt, files, found)? {
         Some(number) => put_numbered(rt, files, "unanswered", number, errors),
         None => Err(Unexplained::OtherTranscript),
@@ -334,7 +382,7 @@ fn oldest<'a, R: Files + AllocGlobal>(
     Ok(oldest?)
 }
 
-/// `NotAllowed`: the request, its reply, why that is not allowed, and what is.
+/// The request, its reply, why that is not allowed, and what is.
 fn put_wrong_reply<'a, R: Files + AllocGlobal, E: Write>(
     rt: &R,
     files: &AuditOptions<'a>,
@@ -373,7 +421,7 @@ fn put_exchange<'a, R: Files + AllocGlobal, E: Write>(
     errors: &mut E,
 ) -> Result<(), Unexplained> {
     put_found("request", found, errors)?;
-    put_record("reply", reply, errors)?;
+    put_line("reply", reply, errors)?;
     match (ask_of(found), reply.answer()) {
         (Some(ask), Some(answer)) => put_causes(rt, files, tree, ask, answer, errors),
         _ => Err(Unexplained::OtherTranscript),
@@ -500,7 +548,18 @@ fn goes_on_with<'a, R: Files + AllocGlobal>(
     let mut is_modelled = true;
     let fed = fed(rt, files, &mut auditor, &mut is_modelled);
     drop(auditor);
-    Ok(fed? != Some(refusal))
+    differs(fed, refusal)
+}
+
+/// Whether a session was fed that is not refused, or refused otherwise.
+fn differs(
+    fed: Result<Option<Refusal>, Unexplained>,
+    refusal: Refusal,
+) -> Result<bool, Unexplained> {
+    match fed {
+        Ok(other) => Ok(other != Some(refusal)),
+        Err(error) => Err(error),
+    }
 }
 
 /// Feeds the session to an auditor that has seen nothing of it, and returns the refusal, if it is refused before it
@@ -518,6 +577,11 @@ fn fed<'a, R: Files + AllocGlobal>(
     let mut records = records(rt, files)?;
     let fed = feed_all(auditor, &mut records, is_modelled);
     drop(records);
+    refusal_of(fed)
+}
+
+/// The refusal in which feeding a session ended, if it is one.
+fn refusal_of(fed: Result<u64, AuditError>) -> Result<Option<Refusal>, Unexplained> {
     match fed {
         Err(AuditError::Refused(refusal)) => Ok(Some(refusal)),
         Err(AuditError::NoMemory) => Err(Unexplained::OutOfMemory),

@@ -21,7 +21,7 @@ mod summaries;
 mod texts;
 mod watching;
 
-use command_line::Request;
+use command_line::{Request, ShowOptions};
 use messages::{Ending, Failure};
 use sftp_faults::Spot;
 use spotting::spot_of;
@@ -139,12 +139,21 @@ fn spot_of_request<R: Files + AllocGlobal>(
 fn explained_files<'a>(request: &Request<'a>) -> Option<(&'a str, &'a str)> {
     match request {
         Request::Audit(files) if files.explains => Some((files.tree, files.transcript)),
-        Request::Show {
-            file,
-            explains: true,
-            ..
-        } => Some((*file, *file)),
+        Request::Show(options) if options.explains => Some((options.file, options.file)),
         _ => None,
+    }
+}
+
+/// Shows each field that a file holds, or a line for each record or entry that sums it up.
+fn show<'a, R: Files + AllocGlobal, O: Write>(
+    rt: &R,
+    options: &ShowOptions<'a>,
+    output: &mut O,
+) -> Result<Ending, Failure<'a>> {
+    if options.is_full {
+        texts::show_full(rt, options.file, options.data, output)
+    } else {
+        showing::show(rt, options.file, output)
     }
 }
 
@@ -160,18 +169,8 @@ fn perform_request<'a, R: Files + AllocGlobal, I: Read, O: Write, E: Write>(
         Request::Audit(files) => subcommands::audit(rt, files, output, errors),
         Request::Blank { file } => subcommands::blank(rt, file),
         Request::Raise { tree, file } => subcommands::raise(rt, tree, file),
+        Request::Show(options) => show(rt, options, output),
         Request::Make { file } => texts::make(rt, file, input),
-        Request::Show {
-            file,
-            full: false,
-            ..
-        } => showing::show(rt, file, output),
-        Request::Show {
-            file,
-            full: true,
-            data,
-            ..
-        } => texts::show_full(rt, file, *data, output),
         Request::Diff { old, new } => diffing::diff(rt, old, new, output),
         Request::Import { file } => archives::import(rt, file, input),
         Request::Export { file } => archives::export(rt, file, output),

@@ -11,9 +11,8 @@ use sftp_server::SessionFault;
 use sftp_tree::NoMemory;
 use std::alloc::AllocError;
 use std::fmt::Display;
-use std::io;
 use std::io::Write;
-use thiserror::Error;
+use std::{fmt, io};
 
 /// How messages call standard input.
 pub(crate) const STANDARD_INPUT: &str = "standard input";
@@ -38,42 +37,71 @@ pub(crate) enum Ending {
 }
 
 /// Why a run did not do what was asked.
-#[derive(Debug, Drop, Error)]
+#[derive(Drop)]
 pub(crate) enum Failure<'a> {
     /// Bad usage. The text is the parser's, and ends in a line feed.
-    #[error("{0}")]
     Usage(String),
     /// The tree file is malformed.
-    #[error("sftpv3: tree: {0}")]
     Tree(TreeError),
     /// The tree file with this name is malformed.
-    #[error("sftpv3: tree {0}: {1}")]
     TreeOf(&'a str, TreeError),
     /// The transcript is malformed.
-    #[error("sftpv3: transcript: {0}")]
     Transcript(TranscriptError),
     /// The text of a file is malformed, or an archive. This says where, and why.
-    #[error("sftpv3: {0}")]
     Text(String),
     /// The file is neither a transcript nor a tree file.
-    #[error("sftpv3: unknown file")]
     UnknownFile,
     /// The client broke the protocol.
-    #[error("sftpv3: session fault: {0}")]
     Session(SessionFault),
     /// The file or stream with this name cannot be read. The number is the system's for the error, if it gave one.
-    #[error("sftpv3: cannot read {0}")]
     CannotRead(&'a str, Option<i32>),
     /// The file or stream with this name cannot be written. The number is the system's for the error, if it gave one.
-    #[error("sftpv3: cannot write {0}")]
     CannotWrite(&'a str, Option<i32>),
     /// The file with this name cannot be replaced, and is unchanged. The number is the system's for the error, if it
     /// gave one.
-    #[error("sftpv3: cannot write {0}")]
     CannotReplace(&'a str, Option<i32>),
     /// Memory ran out.
-    #[error("sftpv3: out of memory")]
     OutOfMemory,
+}
+
+impl Failure<'_> {
+    /// How its line begins, and the text or the name that follows.
+    fn beginning(&self) -> (&str, &str) {
+        match self {
+            Failure::Usage(text) => ("", text.as_str()),
+            Failure::Text(text) => ("sftpv3: ", text.as_str()),
+            Failure::Tree(_) => ("sftpv3: tree: ", ""),
+            Failure::TreeOf(name, _) => ("sftpv3: tree ", name),
+            Failure::Transcript(_) => ("sftpv3: transcript: ", ""),
+            Failure::Session(_) => ("sftpv3: session fault: ", ""),
+            Failure::UnknownFile => ("sftpv3: unknown file", ""),
+            Failure::CannotRead(name, _) => ("sftpv3: cannot read ", name),
+            Failure::CannotWrite(name, _) => ("sftpv3: cannot write ", name),
+            Failure::CannotReplace(name, _) => ("sftpv3: cannot write ", name),
+            Failure::OutOfMemory => ("sftpv3: out of memory", ""),
+        }
+    }
+
+    /// Writes the fault of a file or a session, if it is one.
+    fn put_fault<W: fmt::Write>(&self, f: &mut fmt::Formatter<W>) -> fmt::Result {
+        match self {
+            Failure::Tree(fault) => write!(f, "{fault}"),
+            Failure::TreeOf(_, fault) => write!(f, ": {fault}"),
+            Failure::Transcript(fault) => write!(f, "{fault}"),
+            Failure::Session(fault) => write!(f, "{fault}"),
+            _ => Ok(()),
+        }
+    }
+}
+
+// `thiserror` would write each text by itself, which is slow to prove.
+impl fmt::Display for Failure<'_> {
+    fn fmt<W: fmt::Write>(&self, f: &mut fmt::Formatter<W>) -> fmt::Result {
+        let (start, rest) = self.beginning();
+        f.write_str(start)?;
+        f.write_str(rest)?;
+        self.put_fault(f)
+    }
 }
 
 impl Ending {

@@ -21,12 +21,18 @@ pub(crate) fn with_options<'a>(
     alloc: Global,
     command: Command<'a>,
 ) -> Result<Command<'a>, AllocError> {
-    command
+    let command = command
         .arg(choice(alloc, "profile", "NAME", PROFILES).help(
             "Accept what servers with real file systems do differently",
         ))?
         .arg(names(alloc, "allow").help("Departures to accept besides"))?
-        .arg(names(alloc, "except").help("Departures not to accept"))?
+        .arg(names(alloc, "except").help("Departures not to accept"))?;
+    with_more_options(alloc, command)
+}
+
+/// The command with the options of single departures.
+fn with_more_options<'a>(alloc: Global, command: Command<'a>) -> Result<Command<'a>, AllocError> {
+    command
         .arg(umask(alloc))?
         .arg(choice(alloc, "new-owner", "RULE", NEW_OWNERS).help(
             "With the departure 'made': who owns what is made",

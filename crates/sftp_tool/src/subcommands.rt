@@ -60,13 +60,26 @@ fn audit_from<'a, R: Files + AllocGlobal, O: Write, E: Write>(
         }
         Err(error) => {
             let refusal = refusal_or_failure(error, files.transcript)?;
-            let ending = refuse(refusal, is_modelled, output)?;
-            if files.explains {
-                explain(rt, files, tree, refusal, errors);
-            }
-            Ok(ending)
+            report_refusal(rt, files, tree, refusal, is_modelled, output, errors)
         }
     }
+}
+
+/// Says why a session of these files is refused, and explains it if that is asked for.
+fn report_refusal<'a, R: Files + AllocGlobal, O: Write, E: Write>(
+    rt: &R,
+    files: &AuditOptions<'a>,
+    tree: &[u8],
+    refusal: Refusal,
+    is_modelled: bool,
+    output: &mut O,
+    errors: &mut E,
+) -> Result<Ending, Failure<'a>> {
+    let ending = refuse(refusal, is_modelled, output)?;
+    if files.explains {
+        explain(rt, files, tree, refusal, errors);
+    }
+    Ok(ending)
 }
 
 /// Audits the session of a transcript that is read as a stream, and sets `is_modelled` to whether the profile follows
