@@ -548,18 +548,17 @@ fn goes_on_with<'a, R: Files + AllocGlobal>(
     let mut is_modelled = true;
     let fed = fed(rt, files, &mut auditor, &mut is_modelled);
     drop(auditor);
-    differs(fed, refusal)
-}
-
-/// Whether a session was fed that is not refused, or refused otherwise.
-fn differs(
-    fed: Result<Option<Refusal>, Unexplained>,
-    refusal: Refusal,
-) -> Result<bool, Unexplained> {
     match fed {
-        Ok(other) => Ok(other != Some(refusal)),
+        Ok(None) => Ok(true),
+        Ok(Some(other)) => Ok(is_behind(other, refusal, name)),
         Err(error) => Err(error),
     }
+}
+
+/// Whether the refusal under the departure of this name comes behind the one without it. `made` judges another request
+/// than the one that was sent, so with it a session may be refused at an earlier record.
+fn is_behind(other: Refusal, refusal: Refusal, name: &str) -> bool {
+    other != refusal && (name != "made" || record_of(other) > record_of(refusal))
 }
 
 /// Feeds the session to an auditor that has seen nothing of it, and returns the refusal, if it is refused before it
