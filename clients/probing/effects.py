@@ -4,10 +4,10 @@ from probing.model import DIRECTORY, FILE, LINK, Entry
 
 
 class Open:
-    """What is open: `FILE` or `DIRECTORY`, the flags of its OPEN, the number of its file, its place then."""
+    """What is open: `FILE` or `DIRECTORY`, the flags of its OPEN, the number of its file, its entry, its path."""
 
-    def __init__(self, kind, flags, number, place):
-        self.kind, self.flags, self.number, self.place = kind, flags, number, place
+    def __init__(self, flags, entry, path):
+        self.kind, self.flags, self.number, self.entry, self.path = entry.kind, flags, entry.number, entry, path
 
 
 def good_path(path):
@@ -42,13 +42,13 @@ def of_open(planner, model, step, path, flags, _attributes):
         return
     elif flags & sftp3.TRUNC:
         model.sizes[entry.number] = 0
-    planner.opened[step.number] = Open(FILE, flags, model.at(place).number, place)
+    planner.opened[step.number] = Open(flags, model.at(place), path)
 
 
 def of_opendir(planner, model, step, path):
     place = model.walk(path, True)
     if place is not None and model.at(place) and model.at(place).kind == DIRECTORY:
-        planner.opened[step.number] = Open(DIRECTORY, 0, None, place)
+        planner.opened[step.number] = Open(0, model.at(place), path)
 
 
 def of_close(planner, _model, _step, handle):

@@ -1,5 +1,7 @@
 """What the planner believes the server's tree to be, so that most of what it plans makes sense. Nothing is judged by
 it: that is `sftpv3 audit`'s part."""
+import copy
+
 from probing import trees
 
 DIRECTORY, FILE, LINK = "directory", "file", "link"
@@ -10,6 +12,10 @@ class Entry:
 
     def __init__(self, kind, number=None, target=b""):
         self.kind, self.number, self.target = kind, number, target
+
+
+class Ring(Exception):
+    """A path goes round in a ring of links."""
 
 
 class Model:
@@ -34,6 +40,12 @@ class Model:
         self.sizes[len(self.sizes)] = size
         return len(self.sizes) - 1
 
+    def copy(self):
+        """A model that may change, while this one stays. Entries are shared: they never change."""
+        copied = copy.copy(self)
+        copied.places, copied.sizes = dict(self.places), dict(self.sizes)
+        return copied
+
     def at(self, place):
         return self.places.get(place)
 
@@ -44,6 +56,21 @@ class Model:
         return [other for other in self.places if other != place and other[:len(place)] == place]
 
     def walk(self, path, follow):
+        """The place that a path leads to, or None."""
+        try:
+            return self.follow(path, follow)
+        except Ring:
+            return None
+
+    def goes_round(self, path):
+        """Whether a path goes round in a ring."""
+        try:
+            self.follow(path, True)
+            return False
+        except Ring:
+            return True
+
+    def follow(self, path, follow):
         """The place that a path leads to, or None: docs/TREE.md, The walk."""
         parts = [part for part in path.split(b"/") if part]
         parts = parts if path.startswith(b"/") else list(self.home) + parts
@@ -59,12 +86,19 @@ class Model:
             elif entry is not None and entry.kind == LINK and (parts or follow):
                 links += 1
                 if links > 40:
-                    return None
+                    raise Ring
                 place = () if entry.target.startswith(b"/") else place
                 parts = [name for name in entry.target.split(b"/") if name] + parts
             else:
                 return None if parts else place + (part,)
         return place
+
+    def place_of(self, entry):
+        """The place of a directory that is there, or None."""
+        return next((place for place, other in self.places.items() if other is entry), None)
+
+    def names_in(self, directory):
+        return {place[-1] for place in self.places if place and place[:-1] == directory}
 
     def leads_to(self, link, kind):
         """The place that the link there leads to, if that is of this kind."""

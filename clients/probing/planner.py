@@ -2,22 +2,12 @@
 import random
 
 import sftp3
-from probing import effects, refusals, scenes
+from probing import effects, features, refusals, scenes
 from probing.model import DIRECTORY, FILE, LINK, Model
 from probing.spelling import spell
 
 # Names of what is made, few, so that they meet.
 POOL = [b"a", b"b", b"new", b"n", b"x y", b"caf\xc3\xa9", b"-", b"...", b"\xff", b"Z" * 40]
-
-# What `--skip` may name, besides requests and causes.
-FEATURES = {
-    "nul": "paths with a byte of 0",
-    "slash": "paths that end in a slash, or in a dot",
-    "long": "paths of 1,024 bytes or more",
-    "huge": "offsets and sizes of 2^31 or more",
-    "long-read": "READs of more than 32,768 bytes",
-    "owner": "attributes with a user and a group",
-}
 
 
 class Handle:
@@ -32,31 +22,10 @@ class Step(sftp3.Request):
 
     def __init__(self, number, name, fields, cause=None):
         super().__init__(number, name, fields)
-        self.tags = {name} | ({cause} if cause else set()) | features(name, fields)
+        self.tags = {name} | ({cause} if cause else set()) | features.of_request(name, fields)
 
     def opened(self):
         return Handle(self.number)
-
-
-def features(name, fields):
-    """The features that a request has."""
-    found = set()
-    paths = [value for value in fields if isinstance(value, bytes)] if name not in ("WRITE", "EXTENDED") else []
-    if any(b"\0" in path for path in paths):
-        found.add("nul")
-    if any(len(path) >= 1024 for path in paths):
-        found.add("long")
-    if any(path.endswith((b"/", b"/.", b"/..")) and path.strip(b"/") for path in paths):
-        found.add("slash")
-    if any(isinstance(value, dict) and "owner" in value for value in fields):
-        found.add("owner")
-    numbers = [value for value in fields if isinstance(value, int)]
-    numbers += [value.get("size", 0) for value in fields if isinstance(value, dict)]
-    if name != "OPEN" and any(number >= 2 ** 31 for number in numbers):
-        found.add("huge")
-    if name == "READ" and fields[2] > 32768:
-        found.add("long-read")
-    return found
 
 
 class Planner:
@@ -78,6 +47,8 @@ class Planner:
                 playing.append(self.scene())
             scene = self.random.choice(playing)
             step = next(scene, None)
+            if step is not None:
+                step.tags |= features.of_plan(self, step)
             if step is None or step.tags & self.skip:
                 playing.remove(scene)
             else:

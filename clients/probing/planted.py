@@ -131,6 +131,84 @@ class overtaking(Bug):
         return packets
 
 
+class overtaking_elsewhere(Bug):
+    """A READ that came together with the WRITE before it is done first, if both have handles of their own."""
+
+    def requests(self, packets):
+        packets = list(super().requests(packets))
+        for place in range(1, len(packets)):
+            first, second = (sftp3.decode(packet) for packet in packets[place - 1:place + 1])
+            if (first.name, second.name) == ("WRITE", "READ") and first.handle() != second.handle():
+                packets[place - 1], packets[place] = packets[place], packets[place - 1]
+        return packets
+
+
+class append_read(Bug):
+    """A READ through a handle that is open with APPEND finds nothing."""
+
+    def __init__(self):
+        super().__init__()
+        self.opens, self.handles, self.reads = set(), set(), set()
+
+    def requests(self, packets):
+        for asked in map(sftp3.decode, packets):
+            if asked.name == "OPEN" and asked.fields[1] & sftp3.APPEND:
+                self.opens.add(asked.number)
+            if asked.name == "READ" and asked.handle() in self.handles:
+                self.reads.add(asked.number)
+        return super().requests(packets)
+
+    def reply(self, packet):
+        reply = sftp3.Reply(packet)
+        if reply.handle is not None and reply.number in self.opens:
+            self.handles.add(reply.handle)
+        elif reply.handle is not None:
+            self.handles.discard(reply.handle)
+        if reply.number in self.reads and reply.kind == sftp3.DATA:
+            return sftp3.packet(sftp3.STATUS, packet[5:9] + b"\0\0\0\1" + bytes(8))
+        return packet
+
+
+class moved_listing(Bug):
+    """A listing of a directory that was given another name by its own path has ended."""
+
+    def __init__(self):
+        super().__init__()
+        self.paths, self.places, self.moved, self.lost = {}, {}, set(), set()
+
+    def requests(self, packets):
+        for asked in map(sftp3.decode, packets):
+            if asked.name == "OPENDIR":
+                self.paths[asked.number] = asked.fields[0]
+            if asked.name in ("RENAME", "POSIX-RENAME"):
+                self.moved |= {handle for handle, path in self.places.items() if path == asked.fields[0]}
+            if asked.name == "READDIR" and asked.handle() in self.moved:
+                self.lost.add(asked.number)
+        return super().requests(packets)
+
+    def reply(self, packet):
+        reply = sftp3.Reply(packet)
+        if reply.handle is not None:
+            self.moved.discard(reply.handle)
+            self.places[reply.handle] = self.paths.get(reply.number)
+        if reply.number in self.lost and reply.kind == sftp3.NAME:
+            return sftp3.packet(sftp3.STATUS, packet[5:9] + b"\0\0\0\1" + bytes(8))
+        return packet
+
+
+class rename_over(Bug):
+    """RENAME replaces what is at the new place, as posix-rename does."""
+
+    def requests(self, packets):
+        kept = []
+        for packet in super().requests(packets):
+            asked = sftp3.decode(packet)
+            if asked.name == "RENAME":
+                packet = sftp3.encode(sftp3.Request(asked.number, "POSIX-RENAME", asked.fields))
+            kept.append(packet)
+        return kept
+
+
 class further_extension(Bug):
     """No bug: VERSION has an extension more."""
 

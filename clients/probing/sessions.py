@@ -54,6 +54,10 @@ class Session:
     def transcript(self):
         return sftp3.put_records(self.records)
 
+    def silent(self):
+        """Whether it ended since no reply came in time."""
+        return bool(self.end) and "no reply" in self.end
+
 
 class Player:
     """Sends the steps, with up to `in_flight` of them unanswered, and records all that passes. Extensions that VERSION
@@ -180,7 +184,7 @@ def ending(process, session):
     for stream in (process.stdin, process.stdout):
         stream.close()
     try:
-        status = process.wait(0.5 if session.end and "no reply" in session.end else PARTING)
+        status = process.wait(0.5 if session.silent() else PARTING)
     except subprocess.TimeoutExpired:
         stop(process)
         process.wait()

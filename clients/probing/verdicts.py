@@ -57,10 +57,11 @@ class Difference:
 
 
 class Judged:
-    """The differences of a session, and how many of its requests were not judged."""
+    """The differences of a session, how many of its requests were not judged, and the number of the request behind
+    which none was, since nobody knows what it changed."""
 
     def __init__(self):
-        self.differences, self.unjudged = [], 0
+        self.differences, self.unjudged, self.last = [], 0, None
 
 
 def judge(auditor, tree_file, session):
@@ -100,6 +101,7 @@ def without(records, verdict, request, reply, judged):
         return left(records, {reply})
     if request is None or reply is None or not goes_on(records, verdict, request, reply):
         judged.unjudged += sum(side == b"C" for side, _ in records[(request or 2) + 1:])
+        judged.last = judged.differences[-1].number
         return None
     gone = {request, reply}
     asked, packet = request_at(records, request), records[reply][1]

@@ -1,0 +1,122 @@
+"""What `--skip` may name, besides requests and causes: features that a request has by itself, and others that it has
+by what was planned before it."""
+import sftp3
+from probing import effects
+from probing.model import DIRECTORY, FILE, LINK
+
+# Features, and the words of the help.
+FEATURES = {
+    "nul": "paths with a byte of 0",
+    "slash": "paths that end in a slash, or in a dot",
+    "long": "paths of 1,024 bytes or more",
+    "huge": "offsets and sizes of 2^31 or more",
+    "large": "what makes a file larger than 16 MiB",
+    "long-read": "READs of more than 32,768 bytes",
+    "long-target": "targets of links with a name of more than 255 bytes",
+    "owner": "attributes with a user and a group",
+    "sticky": "permissions with 01000, the sticky bit",
+    "new-owner": "OPEN and MKDIR with a user and a group",
+    "new-permissions": "OPEN and MKDIR with permissions",
+    "size-and-more": "SETSTAT and FSETSTAT of a size together with other attributes",
+    "append": "OPEN with APPEND",
+    "append-read": "READ through a handle that is open with APPEND",
+    "gap": "WRITE behind the end of a file",
+    "two-handles": "OPEN of a file that is open already",
+    "excl-dangling": "OPEN with EXCL of a link that leads to nothing, where it might make a file",
+    "rename-over": "RENAME to a place that is taken",
+    "moved-listing": "what moves a directory that is open, or takes its path away",
+    "removed-name": "what takes a name out of a directory that is open",
+    "realpath-ring": "REALPATH of links that lead round in a ring",
+}
+
+# The most bytes of a file, and of a name.
+FILE_LIMIT, NAME_LIMIT = 2 ** 24, 255
+
+
+def of_request(name, fields):
+    """The features that a request has by itself."""
+    paths = [value for value in fields if isinstance(value, bytes)] if name not in ("WRITE", "EXTENDED") else []
+    given = next((value for value in fields if isinstance(value, dict)), {})
+    numbers = [value for value in fields if isinstance(value, int)] + [given.get("size", 0)]
+    found = {
+        "nul": any(b"\0" in path for path in paths),
+        "long": any(len(path) >= 1024 for path in paths),
+        "slash": any(path.endswith((b"/", b"/.", b"/..")) and path.strip(b"/") for path in paths),
+        "owner": "owner" in given,
+        "huge": name != "OPEN" and any(number >= 2 ** 31 for number in numbers),
+        "large": given.get("size", 0) > FILE_LIMIT,
+        "long-read": name == "READ" and fields[2] > 32768,
+        "long-target": name == "SYMLINK" and any(len(part) > NAME_LIMIT for part in fields[0].split(b"/")),
+        "sticky": bool(given.get("permissions", 0) & 0o1000),
+        "new-owner": name in ("OPEN", "MKDIR") and "owner" in given,
+        "new-permissions": name in ("OPEN", "MKDIR") and "permissions" in given,
+        "size-and-more": "size" in given and len(given) > 1,
+        "append": name == "OPEN" and bool(fields[1] & sftp3.APPEND),
+    }
+    return {feature for feature, has in found.items() if has}
+
+
+def of_plan(planner, step):
+    """The features that a step has behind what was planned before it."""
+    test = TESTS.get(step.name)
+    return test(planner, step, *step.fields) if test else set()
+
+
+def opened_by(planner, handle):
+    """What this handle is open for, or None."""
+    return planner.opened.get(getattr(handle, "step", None))
+
+
+def of_open(planner, _step, path, flags, _attributes):
+    model, found = planner.model, set()
+    place, link = model.walk(path, True), model.at(model.walk(path, False))
+    entry = model.at(place)
+    if entry and entry.kind == FILE and entry.number in {opened.number for opened in planner.opened.values()}:
+        found.add("two-handles")
+    if flags & sftp3.EXCL and flags & sftp3.CREAT and link and link.kind == LINK and place and not entry:
+        found.add("excl-dangling")
+    return found
+
+
+def of_read(planner, _step, handle, _offset, _count):
+    opened = opened_by(planner, handle)
+    return {"append-read"} if opened and opened.flags & sftp3.APPEND else set()
+
+
+def of_write(planner, _step, handle, offset, data):
+    opened = opened_by(planner, handle)
+    if not data or not opened or not opened.flags & sftp3.WRITE:
+        return set()
+    size = planner.model.sizes[opened.number]
+    start = size if opened.flags & sftp3.APPEND else offset
+    return ({"large"} if start + len(data) > FILE_LIMIT else set()) | ({"gap"} if start > size else set())
+
+
+def of_realpath(planner, _step, path):
+    return {"realpath-ring"} if planner.model.goes_round(path) else set()
+
+
+def of_rename(planner, step, old, new):
+    found = {"rename-over"} if planner.model.at(planner.model.walk(new, False)) else set()
+    return found | of_move(planner, step, old, new)
+
+
+def of_move(planner, step, *_paths):
+    """Whether behind this step a directory that is open is not where its path leads, or lacks a name."""
+    before, after, found = planner.model, planner.model.copy(), set()
+    effects.EFFECTS[step.name](planner, after, step, *step.fields)
+    for opened in planner.opened.values():
+        old, new = before.place_of(opened.entry), after.place_of(opened.entry)
+        if opened.kind != DIRECTORY or old is None or new is None:
+            continue
+        if after.walk(opened.path, True) != new:
+            found.add("moved-listing")
+        if before.names_in(old) - after.names_in(new):
+            found.add("removed-name")
+    return found
+
+
+TESTS = {
+    "OPEN": of_open, "READ": of_read, "WRITE": of_write, "REALPATH": of_realpath, "RENAME": of_rename,
+    "POSIX-RENAME": of_move, "REMOVE": of_move, "RMDIR": of_move,
+}
