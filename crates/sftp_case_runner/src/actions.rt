@@ -1,12 +1,11 @@
 //! The blocks that run the program once: `serve`, `audit` and `run`.
 use crate::cases::Case;
-use crate::files::{END, TRANSCRIPT, are_same_trees, has_bytes, remove};
+use crate::files::{END, TRANSCRIPT, are_same_trees, has_bytes, is_there, remove};
 use crate::records::{OPENING, put_sides};
-use crate::runs::{Came, Fails, Program, SOUND, run_program, words_of};
-use crate::trouble::Trouble;
+use crate::report::Report;
+use crate::runs::{Came, Fails, Program, SOUND, add_words, run_program};
+use crate::text::Text;
 use crate::wanted::Form;
-use std::alloc::AllocError;
-use std::fs;
 use std::fs::Files;
 
 const SERVE: &str = "sftpv3 serve --tree start.tree --save end.tree --record session.transcript";
@@ -17,39 +16,46 @@ const AUDIT_OF_RECORD: &str =
     "sftpv3 audit --tree start.tree --transcript session.transcript --out audited.tree";
 
 /// Runs the program on the words of a line and some more, with the input of the case.
-fn run_line<R: Files + AllocGlobal, P: Program>(
+pub fn run_line<R: Files + AllocGlobal, P: Program>(
     rt: &R,
     program: &P,
     case: &mut Case,
     line: &str,
     more: &str,
-) -> Result<(), Trouble> {
-    remove(rt, END)?;
-    let words = words_of(rt.alloc(), line, more)?;
+) -> bool {
+    let mut words = Vec::new(rt.alloc());
+    let has_words = add_words(line, &mut words) && add_words(more, &mut words);
+    let ran = has_words && run_words(rt, program, case, words.as_slice());
+    drop(words);
+    if !has_words {
+        case.said.text.has_gap = true;
+    }
+    ran
+}
+
+/// Runs the program on these words, with the input of the case.
+fn run_words<R: Files + AllocGlobal, P: Program>(
+    rt: &R,
+    program: &P,
+    case: &mut Case,
+    words: &[String],
+) -> bool {
+    if !remove(rt, END, &mut case.said) {
+        return false;
+    }
     run_program(
         rt,
         program,
-        words.as_slice(),
+        words,
         case.input.as_slice(),
         case.size,
         case.streams,
         &mut case.came,
     );
-    drop(words);
     case.input.clear();
     case.streams = SOUND;
     case.is_pending = true;
-    Ok(())
-}
-
-/// The run of a `run` block, whose words are the program's name and its arguments.
-pub fn run<R: Files + AllocGlobal, P: Program>(
-    rt: &R,
-    program: &P,
-    case: &mut Case,
-    words: &str,
-) -> Result<(), Trouble> {
-    run_line(rt, program, case, words, "")
+    true
 }
 
 /// What the program says where it cannot write its output.
@@ -62,17 +68,17 @@ pub fn full<R: Files + AllocGlobal, P: Program>(
     program: &P,
     case: &mut Case,
     words: &str,
-) -> Result<(), Trouble> {
-    let Some((number, line)) = words.split_once(' ') else {
-        return Err(Trouble::Form("a number of bytes, and words"));
-    };
+) -> bool {
+    let (number, line) = words.split_once(' ').unwrap_or((words, ""));
     let Ok(most) = number.parse::<usize>() else {
-        return Err(Trouble::Form("a number of bytes"));
+        return case.said.stop("a number of bytes, and words");
     };
     for room in 0..most {
-        run_with_room(rt, program, case, line, room)?;
+        if !run_with_room(rt, program, case, line, room) {
+            return false;
+        }
     }
-    Ok(())
+    true
 }
 
 /// Runs the program on the words of a line, with room for so many bytes on standard output.
@@ -82,23 +88,23 @@ fn run_with_room<R: Files + AllocGlobal, P: Program>(
     case: &mut Case,
     line: &str,
     room: usize,
-) -> Result<(), Trouble> {
+) -> bool {
     case.streams.output = Fails::At(room);
-    run_line(rt, program, case, line, "")?;
+    let ran = run_line(rt, program, case, line, "");
     case.is_pending = false;
-    Ok(expect_unwritten(case, room)?)
+    if ran {
+        expect_unwritten(&case.came, room, &mut case.said);
+    }
+    ran
 }
 
 /// Says that the program did not fail with room for so many bytes, if so.
-fn expect_unwritten(case: &mut Case, room: usize) -> Result<(), AllocError> {
-    if case.came.status == 3 && case.came.errors.as_slice() == UNWRITTEN {
-        return Ok(());
+fn expect_unwritten(came: &Came, room: usize, said: &mut Report) {
+    if came.status != 3 || came.errors.as_slice() != UNWRITTEN {
+        said.say("with room for ");
+        said.text.push_number(room as u64);
+        said.text.push(" bytes it does not fail\n");
     }
-    case.say_line(case.line)?;
-    write!(
-        case.said,
-        "    with room for {room} bytes it does not fail\n"
-    )
 }
 
 /// Audits the transcript with these options. The audit has to print this text, and to write the tree at the end if it
@@ -109,34 +115,39 @@ pub fn audit<R: Files + AllocGlobal, P: Program>(
     case: &mut Case,
     options: &str,
     text: &str,
-) -> Result<(), Trouble> {
-    case.wanted.output.extend_from_slice(text.as_bytes())?;
+) -> bool {
+    case.said.append(text.as_bytes(), &mut case.wanted.output);
     case.wanted.status = if text.starts_with("accepted") { 0 } else { 1 };
-    run_audit(rt, program, case, options)?;
-    let is_there = fs::exists(rt, END)?;
-    expect_none(case, case.line, END, is_there == (case.came.status == 0))
+    let ran = run_line(rt, program, case, AUDIT, options);
+    if ran {
+        expect_there(rt, END, case.came.status == 0, &mut case.said);
+    }
+    ran
 }
 
 /// Says that a file is there or is not, if that is not as wanted.
-pub fn expect_none(case: &mut Case, line: usize, name: &str, holds: bool) -> Result<(), Trouble> {
-    if !holds {
-        case.say_line(line)?;
-        write!(
-            case.said,
-            "    {name} is there in place of absent, or absent\n"
-        )?;
+pub fn expect_there<R: Files + AllocGlobal>(
+    rt: &R,
+    name: &str,
+    is_wanted: bool,
+    said: &mut Report,
+) {
+    if is_there(rt, name, said) != is_wanted {
+        say_there(name, said);
     }
-    Ok(())
 }
 
-/// Runs an audit, whose verdict is in what came.
-pub fn run_audit<R: Files + AllocGlobal, P: Program>(
-    rt: &R,
-    program: &P,
-    case: &mut Case,
-    options: &str,
-) -> Result<(), Trouble> {
-    run_line(rt, program, case, AUDIT, options)
+/// Says that a file is there and should not be, or is not.
+pub fn say_there(name: &str, said: &mut Report) {
+    said.say(name);
+    said.text.push(" is there in place of absent, or absent\n");
+}
+
+/// Runs an audit of a table's line, whose verdict is in what came.
+pub fn run_audit<R: Files + AllocGlobal, P: Program>(rt: &R, program: &P, case: &mut Case) -> bool {
+    let ran = run_line(rt, program, case, AUDIT, "");
+    case.is_pending = false;
+    ran
 }
 
 /// Whether a dialogue begins with its own opening.
@@ -146,18 +157,18 @@ fn is_whole(text: &str) -> bool {
 
 /// Writes the records of a dialogue; and how many requests the audit of its record has to accept, as the audit prints
 /// it, if the dialogue says that in place of replies.
-fn put_dialogue(text: &str, records: &mut String, verdict: &mut String) -> Result<(), AllocError> {
+fn put_dialogue(text: &str, records: &mut Text, verdict: &mut Text) {
     if !is_whole(text) {
-        records.push_str(OPENING)?;
+        records.push(OPENING);
     }
     for line in text.lines() {
         if line.starts_with("accepted ") {
-            verdict.push_str(line)?;
+            verdict.push(line);
         } else {
-            write!(records, "{line}\n")?;
+            records.push(line);
+            records.push("\n");
         }
     }
-    Ok(())
 }
 
 /// Serves the dialogue of the last `serve` block, with these options, and audits what was recorded.
@@ -166,38 +177,34 @@ pub fn serve<R: Files + AllocGlobal, P: Program>(
     program: &P,
     case: &mut Case,
     options: &str,
-) -> Result<(), Trouble> {
-    let mut verdict = String::new(rt.alloc());
-    let served = serve_dialogue(rt, program, case, options, &mut verdict);
-    drop(verdict);
+) -> bool {
+    let mut verdict = Text::new(rt.alloc());
+    let served = take_dialogue(case, &mut verdict)
+        && run_serve(rt, program, case, options)
+        && audit_record(rt, program, case, verdict.as_str());
+    case.said.text.close(verdict);
     served
-}
-
-/// Does that, and writes the verdict of the dialogue.
-fn serve_dialogue<R: Files + AllocGlobal, P: Program>(
-    rt: &R,
-    program: &P,
-    case: &mut Case,
-    options: &str,
-    verdict: &mut String,
-) -> Result<(), Trouble> {
-    take_dialogue(case, verdict)?;
-    run_serve(rt, program, case, options)?;
-    audit_record(rt, program, case, verdict.as_str())
 }
 
 /// Takes the records of the client as input, and those of the server as what is wanted, unless the dialogue has a
 /// verdict in their place.
-fn take_dialogue(case: &mut Case, verdict: &mut String) -> Result<(), Trouble> {
-    let mut records = String::new(*verdict.allocator());
-    put_dialogue(case.served.as_str(), &mut records, verdict)?;
+fn take_dialogue(case: &mut Case, verdict: &mut Text) -> bool {
+    let mut records = Text::new(verdict.allocator());
+    put_dialogue(case.served.as_str(), &mut records, verdict);
     case.input.clear();
-    case.wanted.output_form = if verdict.is_empty() {
+    case.wanted.output_form = if verdict.as_str().is_empty() {
         Form::Packets
     } else {
         Form::Free
     };
-    put_sides(records.as_str(), &mut case.input, &mut case.wanted.output)
+    let taken = put_sides(
+        records.as_str(),
+        &mut case.input,
+        &mut case.wanted.output,
+        &mut case.said,
+    );
+    case.said.text.close(records);
+    taken
 }
 
 /// Serves a session whose input is that of the case.
@@ -206,7 +213,7 @@ pub fn run_serve<R: Files + AllocGlobal, P: Program>(
     program: &P,
     case: &mut Case,
     options: &str,
-) -> Result<(), Trouble> {
+) -> bool {
     run_line(rt, program, case, SERVE, options)
 }
 
@@ -217,66 +224,63 @@ pub fn audit_record<R: Files + AllocGlobal, P: Program>(
     program: &P,
     case: &mut Case,
     verdict: &str,
-) -> Result<(), Trouble> {
-    if !has_bytes(rt, TRANSCRIPT)? && verdict.is_empty() {
-        return Ok(());
+) -> bool {
+    if !has_bytes(rt, TRANSCRIPT, &mut case.said) && verdict.is_empty() {
+        return true;
     }
-    let mut came = Came::new(rt.alloc());
-    let judged = judge_record(rt, program, case, &mut came, verdict);
-    drop(came);
-    judged?;
-    expect_same_trees(rt, case)
+    judge_record(rt, program, verdict, &mut case.said);
+    if !are_same_trees(rt, &mut case.said) {
+        let words = "the tree of the audit is not the one that was saved\n";
+        case.said.say(words);
+    }
+    true
 }
 
 /// Audits what a session has recorded, and says what the audit printed if it did not accept it.
 fn judge_record<R: Files + AllocGlobal, P: Program>(
     rt: &R,
     program: &P,
-    case: &mut Case,
-    came: &mut Came,
     verdict: &str,
-) -> Result<(), Trouble> {
-    run_audit_of_record(rt, program, came)?;
-    Ok(expect_accepted(case, came, verdict)?)
+    said: &mut Report,
+) {
+    let mut came = Came::new(rt.alloc());
+    if !run_audit_of_record(rt, program, &mut came) {
+        said.text.has_gap = true;
+    }
+    expect_accepted(&came, verdict, said);
+    drop(came);
 }
 
-/// Audits what a session has recorded.
+/// Audits what a session has recorded, unless memory runs out.
 fn run_audit_of_record<R: Files + AllocGlobal, P: Program>(
     rt: &R,
     program: &P,
     came: &mut Came,
-) -> Result<(), AllocError> {
-    let words = words_of(rt.alloc(), AUDIT_OF_RECORD, "")?;
+) -> bool {
+    let mut words = Vec::new(rt.alloc());
+    let has_words = add_words(AUDIT_OF_RECORD, &mut words);
     run_program(rt, program, words.as_slice(), b"", usize::MAX, SOUND, came);
     drop(words);
-    Ok(())
+    has_words
+}
+
+/// Whether an audit accepted a session, and printed this verdict if one is given.
+fn is_verdict(came: &Came, verdict: &str) -> bool {
+    let printed = str::from_utf8(came.output.as_slice()).unwrap_or("?");
+    came.status == 0 && (verdict.is_empty() || printed.trim_end() == verdict)
 }
 
 /// Says what an audit printed that did not accept a session, or not so many requests.
-fn expect_accepted(case: &mut Case, came: &Came, verdict: &str) -> Result<(), AllocError> {
-    let printed = str::from_utf8(came.output.as_slice()).unwrap_or("?");
-    let is_right = verdict.is_empty() || printed.trim_end() == verdict;
-    if came.status == 0 && is_right {
-        return Ok(());
+fn expect_accepted(came: &Came, verdict: &str, said: &mut Report) {
+    if !is_verdict(came, verdict) {
+        said.say("the audit of the record: ");
+        put_printed(came, &mut said.text);
     }
-    let errors = str::from_utf8(came.errors.as_slice()).unwrap_or("?");
-    case.say_line(case.line)?;
-    write!(
-        case.said,
-        "    the audit of the record: {printed}{errors}\n"
-    )
 }
 
-/// Says that the tree of the audit is not the one that was saved.
-fn expect_same_trees<R: Files + AllocGlobal>(rt: &R, case: &mut Case) -> Result<(), Trouble> {
-    let are_same = are_same_trees(rt)?;
-    Ok(expect_same(case, are_same)?)
-}
-
-fn expect_same(case: &mut Case, are_same: bool) -> Result<(), AllocError> {
-    if are_same {
-        return Ok(());
-    }
-    case.say_line(case.line)?;
-    case.said.push_str("    the tree of the audit is not the one that was saved\n")
+/// Writes what came of a run, and ends the line.
+pub fn put_printed(came: &Came, out: &mut Text) {
+    out.push(str::from_utf8(came.output.as_slice()).unwrap_or("?"));
+    out.push(str::from_utf8(came.errors.as_slice()).unwrap_or("?"));
+    out.push("\n");
 }

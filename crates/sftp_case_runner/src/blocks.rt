@@ -1,5 +1,4 @@
 //! The blocks of a file of cases: a keyword line, and the lines below it, which are indented.
-use std::alloc::{AllocError, Global};
 use std::ops::Range;
 
 /// The head of a block: the number of its line in the file, from 1, the keyword, and the words behind it.
@@ -22,42 +21,38 @@ fn is_keyword(line: &str) -> bool {
     !line.is_empty() && !line.starts_with(' ') && !line.starts_with('#')
 }
 
-/// The blocks of a file of these lines. Lines above the first keyword are in none.
-pub fn spans_of(alloc: Global, lines: &[&str]) -> Result<Vec<Span>, AllocError> {
-    let mut spans: Vec<Span> = Vec::new(alloc);
+/// Appends the line at this index to the last block, or as a block of its own. Lines above the first keyword are in
+/// none.
+fn add_line(spans: &mut Vec<Span>, index: usize, line: &str) -> bool {
+    let end = index.saturating_add(1);
+    if is_keyword(line) {
+        return spans.push(Span { start: index, end }).is_ok();
+    }
+    if let Some(last) = spans.last_mut() {
+        last.end = end;
+    }
+    true
+}
+
+/// Finds the blocks of a file of these lines, unless memory runs out.
+pub fn add_spans(lines: &[&str], spans: &mut Vec<Span>) -> bool {
     for (index, line) in lines.iter().enumerate() {
-        let next = index.saturating_add(1);
-        if is_keyword(line) {
-            spans.push(Span {
-                start: index,
-                end: next,
-            })?;
-        } else if let Some(last) = spans.last_mut() {
-            last.end = next;
+        if !add_line(spans, index, line) {
+            return false;
         }
     }
-    Ok(spans)
+    true
 }
 
 impl Span {
     /// The head of the block that is here among the lines of its file.
     pub fn block<'t>(self, lines: &[&'t str]) -> Block<'t> {
-        let head = match lines.get(self.start) {
-            Some(head) => *head,
-            None => "",
-        };
-        let number = self.start.saturating_add(1);
-        match head.split_once(' ') {
-            Some((keyword, words)) => Block {
-                number,
-                keyword,
-                words,
-            },
-            None => Block {
-                number,
-                keyword: head,
-                words: "",
-            },
+        let head = lines.get(self.start).copied().unwrap_or("");
+        let (keyword, words) = head.split_once(' ').unwrap_or((head, ""));
+        Block {
+            number: self.start.saturating_add(1),
+            keyword,
+            words,
         }
     }
 

@@ -1,12 +1,11 @@
 //! The block `changes`: a table of changes of a file, each of which is audited.
 use crate::actions::run_audit;
 use crate::cases::Case;
-use crate::files::{END, is_same, write};
+use crate::files::{END, is_same, is_there, read, write};
 use crate::records::put_bytes;
+use crate::report::Report;
 use crate::runs::{Came, Program};
-use crate::tables::{arrow, expect_right};
-use crate::trouble::Trouble;
-use std::fs;
+use crate::tables::{NO_ARROW, expect_right};
 use std::fs::Files;
 
 /// A file that is changed: its name and its bytes, and the name of the file that the tree at the end has to be.
@@ -24,17 +23,33 @@ pub fn changes<R: Files + AllocGlobal, P: Program>(
     case: &mut Case,
     words: &str,
     text: &str,
-) -> Result<(), Trouble> {
-    let Some((name, end)) = words.split_once(' ') else {
-        return Err(Trouble::Form("the names of two files"));
+) -> bool {
+    let (name, end) = words.split_once(' ').unwrap_or((words, ""));
+    let Some(bytes) = read(rt, name, &mut case.said) else {
+        return false;
     };
-    let bytes = fs::read(rt, name)?;
     let file = bytes.as_slice();
     let changed = Changed { name, file, end };
+    let judged = judge_changes(rt, program, case, changed, text)
+        && write(rt, name, file, &mut case.said);
+    drop(bytes);
+    judged
+}
+
+/// Audits the session with the change of each line.
+fn judge_changes<R: Files + AllocGlobal, P: Program>(
+    rt: &R,
+    program: &P,
+    case: &mut Case,
+    changed: Changed<'_>,
+    text: &str,
+) -> bool {
     for line in text.lines() {
-        judge_change(rt, program, case, changed, line)?;
+        if !judge_change(rt, program, case, changed, line) {
+            return false;
+        }
     }
-    write(rt, name, file)
+    true
 }
 
 /// Audits the session with the change of a line.
@@ -44,13 +59,25 @@ fn judge_change<R: Files + AllocGlobal, P: Program>(
     case: &mut Case,
     changed: Changed<'_>,
     line: &str,
-) -> Result<(), Trouble> {
-    let (pieces, verdict) = arrow(line)?;
-    write_change(rt, changed, pieces)?;
-    run_audit(rt, program, case, "")?;
-    case.is_pending = false;
-    let is_right = is_said(&case.came, verdict) && is_end(rt, changed.end, case.came.status == 0)?;
-    expect_right(case, line, is_right)
+) -> bool {
+    let Some((pieces, verdict)) = line.split_once(" => ") else {
+        return case.said.stop(NO_ARROW);
+    };
+    write_change(rt, changed, pieces, &mut case.said)
+        && run_audit(rt, program, case)
+        && expect_change(rt, case, changed.end, line, verdict)
+}
+
+/// Says what an audit of a changed file printed, if this is not its verdict, or the tree at the end is not this file.
+fn expect_change<R: Files + AllocGlobal>(
+    rt: &R,
+    case: &mut Case,
+    end: &str,
+    line: &str,
+    verdict: &str,
+) -> bool {
+    let is_right = is_said(&case.came, verdict) && is_end(rt, end, case);
+    expect_right(&case.came, line, is_right, &mut case.said)
 }
 
 /// Writes a file of these pieces in place of the one that is changed.
@@ -58,35 +85,44 @@ fn write_change<R: Files + AllocGlobal>(
     rt: &R,
     changed: Changed<'_>,
     pieces: &str,
-) -> Result<(), Trouble> {
+    said: &mut Report,
+) -> bool {
     let mut bytes = Vec::new(rt.alloc());
+    let written = put_pieces(changed.file, pieces, &mut bytes, said)
+        && write(rt, changed.name, bytes.as_slice(), said);
+    drop(bytes);
+    written
+}
+
+/// Appends the pieces, which have spaces between.
+fn put_pieces(file: &[u8], pieces: &str, bytes: &mut Vec<u8>, said: &mut Report) -> bool {
     for piece in pieces.split(' ') {
-        put_piece(changed.file, piece, &mut bytes)?;
+        if !put_piece(file, piece, bytes, said) {
+            return false;
+        }
     }
-    write(rt, changed.name, bytes.as_slice())
+    true
 }
 
 /// Appends a piece: the bytes of a file from one place up to another, or bytes in hexadecimal digits.
-fn put_piece(file: &[u8], piece: &str, bytes: &mut Vec<u8>) -> Result<(), Trouble> {
+fn put_piece(file: &[u8], piece: &str, bytes: &mut Vec<u8>, said: &mut Report) -> bool {
     let Some((start, end)) = piece.split_once("..") else {
-        return put_bytes(piece, bytes);
+        return put_bytes(piece, bytes, said);
     };
-    let start = place_of(start, 0)?;
-    let end = place_of(end, file.len())?;
+    let start = place_of(start, 0);
+    let end = place_of(end, file.len());
     match file.get(start..end) {
-        Some(part) => Ok(bytes.extend_from_slice(part)?),
-        None => Err(Trouble::Form("two places of the file")),
+        Some(part) => said.append(part, bytes),
+        None => said.stop("two places of the file"),
     }
 }
 
-/// The place that a word says, or else this one.
-fn place_of(word: &str, otherwise: usize) -> Result<usize, Trouble> {
+/// The place that a word says, or else this one. What says no place is none of a file.
+fn place_of(word: &str, otherwise: usize) -> usize {
     if word.is_empty() {
-        return Ok(otherwise);
-    }
-    match word.parse::<usize>() {
-        Ok(place) => Ok(place),
-        Err(_) => Err(Trouble::Form("a place of the file")),
+        otherwise
+    } else {
+        word.parse::<usize>().unwrap_or(usize::MAX)
     }
 }
 
@@ -124,9 +160,10 @@ fn is_line(bytes: &[u8], wanted: &str) -> bool {
 }
 
 /// Whether the tree at the end is there only if the session was accepted, and is then this file.
-fn is_end<R: Files + AllocGlobal>(rt: &R, name: &str, is_accepted: bool) -> Result<bool, Trouble> {
-    if !fs::exists(rt, END)? {
-        return Ok(!is_accepted);
+fn is_end<R: Files + AllocGlobal>(rt: &R, name: &str, case: &mut Case) -> bool {
+    if is_there(rt, END, &mut case.said) {
+        case.came.status == 0 && is_same(rt, END, name, &mut case.said)
+    } else {
+        case.came.status != 0
     }
-    Ok(is_accepted && is_same(rt, END, name)?)
 }

@@ -1,6 +1,7 @@
 //! The lines of a block as text: repeated lines in full, long lines joined, and what is written short in cases written
 //! out.
-use std::alloc::{AllocError, Global};
+use crate::text::Text;
+use std::alloc::AllocError;
 
 /// A line below a block and those that go on with it, or the lines that a `repeat` line repeats.
 #[derive(Clone, Copy)]
@@ -40,201 +41,226 @@ fn says_nothing(line: &str) -> bool {
 /// A number in front of a text, and what follows it.
 pub fn take_number(text: &str) -> Option<(u64, &str)> {
     let rest = text.trim_start_matches(|c: char| c.is_ascii_digit());
-    let digits = text.strip_suffix(rest)?;
+    let digits = text.strip_suffix(rest).unwrap_or("");
     match digits.parse::<u64>() {
         Ok(number) => Some((number, rest)),
         Err(_) => None,
     }
 }
 
+/// The same, where a character is in front of the number.
+fn take_number_behind(text: &str, mark: char) -> Option<(u64, &str)> {
+    match text.strip_prefix(mark) {
+        Some(more) => take_number(more),
+        None => None,
+    }
+}
+
 /// The number that a text is.
 pub fn number_of(text: &str) -> Option<u64> {
     match take_number(text) {
-        Some((number, "")) => Some(number),
-        Some(_) => None,
-        None => None,
+        Some((number, rest)) if rest.is_empty() => Some(number),
+        _ => None,
     }
 }
 
 /// How many times a line says that the lines below it stand.
 fn count_of(line: &str) -> Option<u64> {
-    number_of(line.strip_prefix("  repeat ")?)
+    match line.strip_prefix("  repeat ") {
+        Some(count) => number_of(count),
+        None => None,
+    }
 }
 
-/// Adds the line at this index.
-fn add_line(groups: &mut Vec<Group>, index: usize, line: &str) -> Result<(), AllocError> {
+/// Adds the line at this index to the last group, or as a group of its own, unless memory runs out.
+fn add_line(groups: &mut Vec<Group>, index: usize, line: &str) -> bool {
     let next = index.saturating_add(1);
-    if let Some(count) = count_of(line) {
-        groups.push(Group {
-            count,
-            repeats: true,
-            start: next,
-            end: next,
-        })?;
-        return Ok(());
+    let (count, repeats, start) = match count_of(line) {
+        Some(count) => (count, true, next),
+        None => (1, false, index),
+    };
+    if !repeats && line.starts_with(FOUR) && lengthen(groups, next) {
+        return true;
     }
-    if line.starts_with(FOUR)
-        && let Some(last) = groups.last_mut()
-    {
-        last.end = next;
-        return Ok(());
-    }
-    groups.push(Group {
-        count: 1,
-        repeats: false,
-        start: index,
+    let group = Group {
+        count,
+        repeats,
+        start,
         end: next,
-    })?;
-    Ok(())
+    };
+    groups.push(group).is_ok()
 }
 
-fn groups_of(alloc: Global, lines: &[&str]) -> Result<Vec<Group>, AllocError> {
-    let mut groups = Vec::new(alloc);
+/// Has the last group end here, if there is one.
+fn lengthen(groups: &mut Vec<Group>, end: usize) -> bool {
+    match groups.last_mut() {
+        Some(last) => {
+            last.end = end;
+            true
+        }
+        None => false,
+    }
+}
+
+/// Adds each line that says something.
+fn add_lines(lines: &[&str], groups: &mut Vec<Group>) -> bool {
     for (index, line) in lines.iter().enumerate() {
-        if !says_nothing(line) {
-            add_line(&mut groups, index, line)?;
+        if !says_nothing(line) && !add_line(groups, index, line) {
+            return false;
         }
     }
-    Ok(groups)
+    true
 }
 
 /// Writes the name of a handle, whose slot and serial are in front of the text, and then the rest. Of one number, both
 /// are that. A text with no number in front is written behind a `#`.
-fn put_handle(text: &str, out: &mut String) -> Result<(), AllocError> {
-    let Some((slot, rest)) = take_number(text) else {
-        out.push('#')?;
-        return out.push_str(text);
-    };
-    let (serial, rest) = match rest.strip_prefix('.') {
-        Some(more) => take_number(more).unwrap_or((slot, rest)),
-        None => (slot, rest),
-    };
-    out.push('"')?;
-    put_octets(&slot.to_be_bytes(), out)?;
-    put_octets(serial.to_be_bytes().get(4..).unwrap_or(&[]), out)?;
-    out.push('"')?;
-    out.push_str(rest)
+fn put_handle(text: &str, out: &mut Text) {
+    match take_number(text) {
+        Some((slot, rest)) => put_name(slot, rest, out),
+        None => {
+            out.push("#");
+            out.push(text);
+        }
+    }
+}
+
+/// Writes the name of a handle of this slot. The serial may be in front of the text, which follows the name.
+fn put_name(slot: u64, text: &str, out: &mut Text) {
+    let (serial, rest) = take_number_behind(text, '.').unwrap_or((slot, text));
+    out.push("\"");
+    put_octets(&slot.to_be_bytes(), out);
+    put_octets(serial.to_be_bytes().get(4..).unwrap_or(&[]), out);
+    out.push("\"");
+    out.push(rest);
 }
 
 /// Writes bytes as `\x` and two hexadecimal digits each.
-fn put_octets(bytes: &[u8], out: &mut String) -> Result<(), AllocError> {
+fn put_octets(bytes: &[u8], out: &mut Text) {
     for byte in bytes {
-        write!(out, "\\x{byte:02x}")?;
+        out.push_octet(*byte);
     }
-    Ok(())
 }
 
 /// Writes a text that has no quotes, with the names of handles in full.
-fn put_handles(text: &str, out: &mut String) -> Result<(), AllocError> {
+fn put_handles(text: &str, out: &mut Text) {
     for (index, part) in text.split('#').enumerate() {
         if index == 0 {
-            out.push_str(part)?;
+            out.push(part);
         } else {
-            put_handle(part, out)?;
+            put_handle(part, out);
         }
     }
-    Ok(())
 }
 
 /// Writes the quote in front of a text. A text right behind another goes on with that one.
-fn put_quote(out: &mut String) -> Result<(), AllocError> {
+fn put_quote(out: &mut Text) {
     if out.as_str().ends_with('"') {
-        let _ = out.pop();
-        return Ok(());
+        out.pop();
+    } else {
+        out.push("\"");
     }
-    out.push('"')
 }
 
 /// Writes what is in quotes, as many times as the text behind the quotes says, and what follows that.
-fn put_quoted(quoted: &str, behind: &str, out: &mut String) -> Result<(), AllocError> {
-    let (count, rest) = match behind.strip_prefix('*') {
-        Some(more) => take_number(more).unwrap_or((1, behind)),
-        None => (1, behind),
-    };
-    put_quote(out)?;
+fn put_quoted(quoted: &str, behind: &str, out: &mut Text) {
+    let (count, rest) = take_number_behind(behind, '*').unwrap_or((1, behind));
+    put_quote(out);
     for _ in 0..count {
-        out.push_str(quoted)?;
+        out.push(quoted);
     }
-    out.push('"')?;
-    put_handles(rest, out)
+    out.push("\"");
+    put_handles(rest, out);
 }
 
 /// Writes a line with the names of handles and repeated texts in full. A quote that is not closed ends the line.
-fn put_in_full(line: &str, out: &mut String) -> Result<(), AllocError> {
-    let parts: Vec<&str> = line.split('"').collect(*out.allocator())?;
+fn put_in_full(line: &str, out: &mut Text) {
+    let parts: Result<Vec<&str>, AllocError> = line.split('"').collect(out.allocator());
+    match parts {
+        Ok(parts) => put_parts(parts.as_slice(), out),
+        Err(_) => out.has_gap = true,
+    }
+}
+
+/// Writes the parts of a line between its quotes.
+fn put_parts(parts: &[&str], out: &mut Text) {
     for (index, part) in parts.iter().enumerate() {
         if index == 0 {
-            put_handles(part, out)?;
+            put_handles(part, out);
         } else if index % 2 == 0 {
             let quoted = parts.get(index.saturating_sub(1)).copied();
-            put_quoted(quoted.unwrap_or(""), part, out)?;
+            put_quoted(quoted.unwrap_or(""), part, out);
         }
     }
-    Ok(())
 }
 
 /// Writes a text with the numbers behind `%` counted up by the turn.
-fn put_counted(text: &str, turn: u64, out: &mut String) -> Result<(), AllocError> {
+fn put_counted(text: &str, turn: u64, out: &mut Text) {
     for (index, part) in text.split('%').enumerate() {
         if index == 0 {
-            out.push_str(part)?;
-        } else if let Some((number, rest)) = take_number(part) {
-            let sum = number.saturating_add(turn);
-            write!(out, "{sum}{rest}")?;
+            out.push(part);
         } else {
-            write!(out, "%{part}")?;
+            put_sum(part, turn, out);
         }
     }
-    Ok(())
+}
+
+/// Writes a text that was behind `%`, with the number in front counted up.
+fn put_sum(text: &str, turn: u64, out: &mut Text) {
+    match take_number(text) {
+        Some((number, rest)) => {
+            out.push_number(number.saturating_add(turn));
+            out.push(rest);
+        }
+        None => {
+            out.push("%");
+            out.push(text);
+        }
+    }
 }
 
 /// Writes the text of a line.
-fn put_text(text: &str, form: Form, out: &mut String) -> Result<(), AllocError> {
+fn put_text(text: &str, form: Form, out: &mut Text) {
     if form.literal {
-        put_counted_or_not(text, form, out)
+        put_counted_or_not(text, form, out);
     } else {
-        let mut counted = String::new(*out.allocator());
-        put_counted_or_not(text, form, &mut counted)?;
-        put_in_full(counted.as_str(), out)
+        let mut counted = Text::new(out.allocator());
+        put_counted_or_not(text, form, &mut counted);
+        put_in_full(counted.as_str(), out);
+        out.close(counted);
     }
 }
 
-fn put_counted_or_not(text: &str, form: Form, out: &mut String) -> Result<(), AllocError> {
+fn put_counted_or_not(text: &str, form: Form, out: &mut Text) {
     if form.repeats {
-        put_counted(text, form.turn, out)
+        put_counted(text, form.turn, out);
     } else {
-        out.push_str(text)
+        out.push(text);
     }
 }
 
 /// Writes a line behind those before it.
-fn put_line(line: &str, form: Form, out: &mut String) -> Result<(), AllocError> {
+fn put_line(line: &str, form: Form, out: &mut Text) {
     if !form.literal && line.starts_with(EIGHT) {
-        out.push(' ')?;
-        return put_text(line.trim(), form, out);
+        out.push(" ");
+        put_text(line.trim(), form, out);
+    } else {
+        if !out.as_str().is_empty() {
+            out.push("\n");
+        }
+        let indent = if form.repeats { FOUR } else { TWO };
+        put_text(line.strip_prefix(indent).unwrap_or(line), form, out);
     }
-    if !out.is_empty() {
-        out.push('\n')?;
-    }
-    let indent = if form.repeats { FOUR } else { TWO };
-    put_text(line.strip_prefix(indent).unwrap_or(line), form, out)
 }
 
-fn put_lines(lines: &[&str], form: Form, out: &mut String) -> Result<(), AllocError> {
+fn put_lines(lines: &[&str], form: Form, out: &mut Text) {
     for line in lines {
         if !says_nothing(line) {
-            put_line(line, form, out)?;
+            put_line(line, form, out);
         }
     }
-    Ok(())
 }
 
-fn put_group(
-    group: Group,
-    lines: &[&str],
-    literal: bool,
-    out: &mut String,
-) -> Result<(), AllocError> {
+fn put_group(group: Group, lines: &[&str], literal: bool, out: &mut Text) {
     let inner = lines.get(group.start..group.end).unwrap_or(&[]);
     for turn in 0..group.count {
         let form = Form {
@@ -242,21 +268,26 @@ fn put_group(
             repeats: group.repeats,
             turn,
         };
-        put_lines(inner, form, out)?;
+        put_lines(inner, form, out);
     }
-    Ok(())
 }
 
-/// The text of a block's lines, each ended by a line feed, without what indents them. Literal lines stay as they are;
-/// of others, long lines are joined, and repeated texts and the names of handles written out.
-pub fn expand(alloc: Global, lines: &[&str], literal: bool) -> Result<String, AllocError> {
-    let groups = groups_of(alloc, lines)?;
-    let mut text = String::new(alloc);
-    for group in groups.as_slice() {
-        put_group(*group, lines, literal, &mut text)?;
+fn put_groups(groups: &[Group], lines: &[&str], literal: bool, out: &mut Text) {
+    for group in groups {
+        put_group(*group, lines, literal, out);
     }
-    if !text.is_empty() {
-        text.push('\n')?;
+    if !out.as_str().is_empty() {
+        out.push("\n");
     }
-    Ok(text)
+}
+
+/// Writes the text of a block's lines, each ended by a line feed, without what indents them. Literal lines stay as they
+/// are; of others, long lines are joined, and repeated texts and the names of handles written out.
+pub fn expand(lines: &[&str], literal: bool, out: &mut Text) {
+    let mut groups = Vec::new(out.allocator());
+    if !add_lines(lines, &mut groups) {
+        out.has_gap = true;
+    }
+    put_groups(groups.as_slice(), lines, literal, out);
+    drop(groups);
 }

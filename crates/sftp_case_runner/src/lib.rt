@@ -10,10 +10,11 @@ mod compare;
 mod expand;
 mod files;
 mod records;
+mod report;
 mod runs;
 mod steps;
 mod tables;
-mod trouble;
+mod text;
 mod wanted;
 
 pub use cases::{Count, run_file};

@@ -1,5 +1,5 @@
 //! Runs of the program.
-use std::alloc::{AllocError, Global};
+use std::alloc::Global;
 use std::fs::Files;
 use std::io;
 use std::io::{ErrorKind, Read, Write};
@@ -130,34 +130,35 @@ pub fn run_program<R: Files + AllocGlobal, P: Program>(
     came.errors = errors.kept;
 }
 
-/// The words of a line and of some more: what is in quotes is one word, and what is outside is cut at spaces.
-pub fn words_of(alloc: Global, line: &str, more: &str) -> Result<Vec<String>, AllocError> {
-    let mut words = Vec::new(alloc);
-    push_both(line, more, &mut words)?;
-    Ok(words)
-}
-
-fn push_both(line: &str, more: &str, words: &mut Vec<String>) -> Result<(), AllocError> {
-    push_line(line, words)?;
-    push_line(more, words)
-}
-
-fn push_line(line: &str, words: &mut Vec<String>) -> Result<(), AllocError> {
-    let alloc = *words.allocator();
+/// Adds the words of a line, unless memory runs out: what is in quotes is one word, and what is outside is cut at
+/// spaces.
+pub fn add_words(line: &str, words: &mut Vec<String>) -> bool {
     for (index, part) in line.split('"').enumerate() {
-        if index % 2 == 1 {
-            words.push(String::from_str(alloc, part)?)?;
+        let added = if index % 2 == 1 {
+            add_word(part, words)
         } else {
-            push_words(part, words)?;
+            add_each(part, words)
+        };
+        if !added {
+            return false;
         }
     }
-    Ok(())
+    true
 }
 
-fn push_words(part: &str, words: &mut Vec<String>) -> Result<(), AllocError> {
-    let alloc = *words.allocator();
-    for word in part.split_whitespace() {
-        words.push(String::from_str(alloc, word)?)?;
+/// Adds each word of a text that is cut at spaces.
+fn add_each(text: &str, words: &mut Vec<String>) -> bool {
+    for word in text.split_whitespace() {
+        if !add_word(word, words) {
+            return false;
+        }
     }
-    Ok(())
+    true
+}
+
+fn add_word(word: &str, words: &mut Vec<String>) -> bool {
+    match String::from_str(*words.allocator(), word) {
+        Ok(word) => words.push(word).is_ok(),
+        Err(_) => false,
+    }
 }

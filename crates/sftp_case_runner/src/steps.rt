@@ -1,59 +1,70 @@
 //! The blocks of a case, one after the other.
-use crate::actions::{audit, expect_none, full, run, serve};
+use crate::actions::{audit, expect_there, full, run_line, say_there, serve};
 use crate::blocks::Block;
 use crate::cases::Case;
 use crate::changes::changes;
 use crate::compare::say_bytes;
 use crate::expand::{expand, number_of};
-use crate::files::{END, START, TRANSCRIPT, remove, write};
+use crate::files::{END, START, TRANSCRIPT, is_there, read, remove, write};
 use crate::records::{put_bytes, put_session, put_sides, put_transcript, put_tree};
+use crate::report::Report;
 use crate::runs::{Fails, Program};
-use crate::tables::{answers, codes, replies};
-use crate::trouble::Trouble;
+use crate::tables::{judge_alone, play_table};
+use crate::text::Text;
 use crate::wanted::Form;
-use std::alloc::{AllocError, Global};
 use std::fs::Files;
-use std::{fs, mem};
 
-/// Takes a block of a case.
+/// Takes a block of a case. Returns false if it cannot be run; then the report says why.
 pub fn take_step<R: Files + AllocGlobal, P: Program>(
     rt: &R,
     program: &P,
     case: &mut Case,
     block: Block<'_>,
     lines: &[&str],
-) -> Result<(), Trouble> {
-    if has_word(MAKES, block.keyword) {
-        make_file(rt, case, block, lines)
-    } else if has_word(PREPARES, block.keyword) {
-        prepare(rt.alloc(), case, block, lines)
-    } else if has_word(ACTS, block.keyword) {
-        act(rt, program, case, block, lines)
-    } else if has_word(WANTS, block.keyword) {
-        want(rt.alloc(), case, block, lines)
-    } else if has_word(COMPARES, block.keyword) {
-        compare_file(rt, case, block, lines)
+) -> bool {
+    let mut text = Text::new(rt.alloc());
+    expand(lines, has_word(LITERAL, block.keyword), &mut text);
+    let taken = take_text(rt, program, case, block, text.as_str());
+    case.said.text.close(text);
+    taken
+}
+
+/// Takes a block with this text.
+fn take_text<R: Files + AllocGlobal, P: Program>(
+    rt: &R,
+    program: &P,
+    case: &mut Case,
+    block: Block<'_>,
+    text: &str,
+) -> bool {
+    if has_word(ACTS, block.keyword) {
+        case.begin_run(block.number);
+        act(rt, program, case, block, text)
+    } else if has_word(FILES, block.keyword) {
+        take_file(rt, case, block, text)
     } else {
-        Err(Trouble::Form("the keyword of a block"))
+        take_words(case, block, text)
     }
 }
 
-/// The keywords of blocks that make or remove a file.
-const MAKES: &[&str] = &["tree", "session", "records", "bytes", "absent"];
-
-/// The keywords of blocks that later runs begin with.
-const PREPARES: &[&str] = &["input", "before", "pieces", "broken"];
+/// The keywords of blocks whose lines are taken as they are.
+const LITERAL: &[&str] = &["output", "errors"];
 
 /// The keywords of blocks that run the program.
 const ACTS: &[&str] = &[
     "serve", "again", "audit", "run", "full", "replies", "codes", "answers", "changes",
 ];
 
+/// The keywords of blocks about a file.
+const FILES: &[&str] = &[
+    "tree", "session", "records", "bytes", "absent", "end", "recorded", "is", "same", "no",
+];
+
+/// The keywords of those that make or remove the file. The others say what is wanted of it.
+const MAKES: &[&str] = &["tree", "session", "records", "bytes", "absent"];
+
 /// The keywords of blocks that say what is wanted of the last run.
 const WANTS: &[&str] = &["status", "output", "errors", "packets"];
-
-/// The keywords of blocks that say what is wanted of a file.
-const COMPARES: &[&str] = &["end", "recorded", "is", "same", "no"];
 
 /// Whether the words have this one.
 fn has_word(words: &[&str], word: &str) -> bool {
@@ -65,32 +76,45 @@ fn has_word(words: &[&str], word: &str) -> bool {
     false
 }
 
+/// Takes a block about a file.
+fn take_file<R: Files + AllocGlobal>(
+    rt: &R,
+    case: &mut Case,
+    block: Block<'_>,
+    text: &str,
+) -> bool {
+    if has_word(MAKES, block.keyword) {
+        make_file(rt, case, block, text)
+    } else {
+        case.settle();
+        compare_file(rt, block, text, &mut case.said)
+    }
+}
+
+/// Takes a block that neither runs the program nor is about a file.
+fn take_words(case: &mut Case, block: Block<'_>, text: &str) -> bool {
+    if !has_word(WANTS, block.keyword) {
+        prepare(case, block, text)
+    } else if case.is_pending {
+        want(case, block, text)
+    } else {
+        case.said.stop("a run before")
+    }
+}
+
 /// The word that a block names a file by, or else this name.
 fn name_or<'a>(words: &'a str, otherwise: &'a str) -> &'a str {
     if words.is_empty() { otherwise } else { words }
 }
 
-/// The bytes that the lines of a block stand for, by the block's keyword.
-fn put_file(
-    alloc: Global,
-    keyword: &str,
-    lines: &[&str],
-    bytes: &mut Vec<u8>,
-) -> Result<(), Trouble> {
-    let text = expand(alloc, lines, false)?;
+/// The bytes that a text stands for, by a block's keyword.
+fn put_text(keyword: &str, text: &str, bytes: &mut Vec<u8>, said: &mut Report) -> bool {
     match keyword {
-        "tree" | "end" => put_tree(text.as_str(), bytes),
-        "session" | "recorded" => put_session(text.as_str(), bytes),
-        "records" => put_transcript(text.as_str(), bytes),
-        _ => put_bytes(text.as_str(), bytes),
+        "tree" | "end" => put_tree(text, bytes, said),
+        "session" | "recorded" => put_session(text, bytes, said),
+        "records" => put_transcript(text, bytes, said),
+        _ => put_bytes(text, bytes, said),
     }
-}
-
-/// Sets a text of the case to that of these lines.
-fn set_text(text: &mut String, lines: &[&str]) -> Result<(), AllocError> {
-    let new = expand(*text.allocator(), lines, false)?;
-    drop(mem::replace(text, new));
-    Ok(())
 }
 
 /// The file that a block with this keyword is about where it names none.
@@ -107,240 +131,233 @@ fn make_file<R: Files + AllocGlobal>(
     rt: &R,
     case: &mut Case,
     block: Block<'_>,
-    lines: &[&str],
-) -> Result<(), Trouble> {
+    text: &str,
+) -> bool {
     let name = name_or(block.words, usual_name(block.keyword));
     if block.keyword == "absent" {
-        return remove(rt, name);
+        return remove(rt, name, &mut case.said);
     }
     if block.keyword == "session" {
-        set_text(&mut case.session, lines)?;
+        case.said.keep(text, &mut case.session);
     }
+    write_file(rt, block.keyword, name, text, &mut case.said)
+}
+
+/// Writes the file that a text stands for.
+fn write_file<R: Files + AllocGlobal>(
+    rt: &R,
+    keyword: &str,
+    name: &str,
+    text: &str,
+    said: &mut Report,
+) -> bool {
     let mut bytes = Vec::new(rt.alloc());
-    put_file(rt.alloc(), block.keyword, lines, &mut bytes)?;
-    write(rt, name, bytes.as_slice())
+    let written = put_text(keyword, text, &mut bytes, said)
+        && write(rt, name, bytes.as_slice(), said);
+    drop(bytes);
+    written
 }
 
 /// Sets what later runs of the case begin with.
-fn prepare(
-    alloc: Global,
-    case: &mut Case,
-    block: Block<'_>,
-    lines: &[&str],
-) -> Result<(), Trouble> {
+fn prepare(case: &mut Case, block: Block<'_>, text: &str) -> bool {
     match block.keyword {
         "input" => {
             case.input.clear();
-            put_file(alloc, "input", lines, &mut case.input)
+            put_bytes(text, &mut case.input, &mut case.said)
         }
-        "before" => Ok(set_text(&mut case.before, lines)?),
+        "before" => case.said.keep(text, &mut case.before),
         "broken" => break_stream(case, block.words),
-        _ => match number_of(block.words) {
-            Some(size) => {
-                case.size = usize::try_from(size).unwrap_or(usize::MAX);
-                Ok(())
-            }
-            None => Err(Trouble::Form("a number of bytes")),
-        },
+        "pieces" => set_size(case, block.words),
+        _ => case.said.stop("the keyword of a block"),
+    }
+}
+
+/// Sets how many bytes of its input a run is given at a time.
+fn set_size(case: &mut Case, words: &str) -> bool {
+    match number_of(words) {
+        Some(size) => {
+            case.size = usize::try_from(size).unwrap_or(usize::MAX);
+            true
+        }
+        None => case.said.stop("a number of bytes"),
     }
 }
 
 /// Has a stream of the next run fail.
-fn break_stream(case: &mut Case, words: &str) -> Result<(), Trouble> {
-    match words.split_once(' ') {
-        Some(("output", "flush")) => case.streams.output = Fails::AtFlush,
-        Some(("output", "memory")) => case.streams.output = Fails::ForMemory,
-        Some(("output", room)) => case.streams.output = fails_at(room)?,
-        Some(("errors", room)) => case.streams.errors = fails_at(room)?,
-        _ => return Err(Trouble::Form("output or errors, and when it fails")),
+fn break_stream(case: &mut Case, words: &str) -> bool {
+    let (stream, when) = words.split_once(' ').unwrap_or((words, ""));
+    let Some(fails) = fails_when(when) else {
+        return case.said.stop("a number of bytes, `flush` or `memory`");
+    };
+    match stream {
+        "output" => case.streams.output = fails,
+        "errors" => case.streams.errors = fails,
+        _ => return case.said.stop("`output` or `errors`"),
     }
-    Ok(())
+    true
 }
 
-fn fails_at(room: &str) -> Result<Fails, Trouble> {
-    match room.parse::<usize>() {
-        Ok(room) => Ok(Fails::At(room)),
-        Err(_) => Err(Trouble::Form("a number of bytes")),
+/// When a stream fails, by the word for it.
+fn fails_when(word: &str) -> Option<Fails> {
+    match word {
+        "flush" => Some(Fails::AtFlush),
+        "memory" => Some(Fails::ForMemory),
+        _ => match word.parse::<usize>() {
+            Ok(room) => Some(Fails::At(room)),
+            Err(_) => None,
+        },
     }
 }
 
-/// Does what a block says, once the run before is settled.
+/// Does what a block says. Its walk is 3.2 MB: each of five blocks is a call.
 fn act<R: Files + AllocGlobal, P: Program>(
     rt: &R,
     program: &P,
     case: &mut Case,
     block: Block<'_>,
-    lines: &[&str],
-) -> Result<(), Trouble> {
-    case.settle()?;
-    case.line = block.number;
-    case.wanted.reset();
-    if block.keyword == "again" {
-        return serve(rt, program, case, block.words);
+    text: &str,
+) -> bool {
+    match block.keyword {
+        "serve" => {
+            case.said.keep(text, &mut case.served);
+            serve(rt, program, case, block.words)
+        }
+        "again" => serve(rt, program, case, block.words),
+        "run" => run_line(rt, program, case, block.words, ""),
+        "full" => full(rt, program, case, block.words),
+        _ => audit_block(rt, program, case, block, text),
     }
-    if block.keyword == "serve" {
-        set_text(&mut case.served, lines)?;
-        return serve(rt, program, case, block.words);
-    }
-    let text = expand(rt.alloc(), lines, false)?;
-    let acted = act_on(rt, program, case, block, text.as_str());
-    drop(text);
-    acted
 }
 
-/// Does what a block with this text says.
-fn act_on<R: Files + AllocGlobal, P: Program>(
+/// Does what a block says that audits sessions, or has a table.
+fn audit_block<R: Files + AllocGlobal, P: Program>(
     rt: &R,
     program: &P,
     case: &mut Case,
     block: Block<'_>,
     text: &str,
-) -> Result<(), Trouble> {
+) -> bool {
     match block.keyword {
         "audit" => audit(rt, program, case, block.words, text),
-        "run" => run(rt, program, case, block.words),
-        "full" => full(rt, program, case, block.words),
-        "replies" => replies(rt, program, case, text),
-        "codes" => codes(rt, program, case, text),
         "changes" => changes(rt, program, case, block.words, text),
-        _ => answers(rt, program, case, text),
+        "codes" if !judge_alone(rt, program, case) => false,
+        _ => play_table(rt, program, case, block.keyword, text),
+    }
+}
+
+/// How the bytes of a stream are compared with the text of a block that has these words.
+fn form_of(words: &str) -> Form {
+    if words.is_empty() {
+        Form::Text
+    } else {
+        Form::Front
     }
 }
 
 /// Sets what is wanted of the last run.
-fn want(alloc: Global, case: &mut Case, block: Block<'_>, lines: &[&str]) -> Result<(), Trouble> {
-    if !case.is_pending {
-        return Err(Trouble::Form("a run before"));
-    }
-    let form = if block.words.is_empty() {
-        Form::Text
-    } else {
-        Form::Front
-    };
+fn want(case: &mut Case, block: Block<'_>, text: &str) -> bool {
     match block.keyword {
         "status" => want_status(case, block.words),
-        "packets" => want_packets(alloc, case, lines),
+        "packets" => want_packets(case, text),
         "output" => {
-            case.wanted.output_form = form;
-            want_text(alloc, lines, &mut case.wanted.output)
+            case.wanted.output_form = form_of(block.words);
+            case.wanted.output.clear();
+            case.said.append(text.as_bytes(), &mut case.wanted.output)
         }
         _ => {
-            case.wanted.errors_form = form;
-            want_text(alloc, lines, &mut case.wanted.errors)
+            case.wanted.errors_form = form_of(block.words);
+            case.wanted.errors.clear();
+            case.said.append(text.as_bytes(), &mut case.wanted.errors)
         }
     }
 }
 
-fn want_status(case: &mut Case, words: &str) -> Result<(), Trouble> {
+fn want_status(case: &mut Case, words: &str) -> bool {
     match words.parse::<u8>() {
         Ok(status) => {
             case.wanted.status = status;
-            Ok(())
+            true
         }
-        Err(_) => Err(Trouble::Form("a status")),
+        Err(_) => case.said.stop("a status"),
     }
 }
 
-fn want_text(alloc: Global, lines: &[&str], wanted: &mut Vec<u8>) -> Result<(), Trouble> {
-    let text = expand(alloc, lines, true)?;
-    wanted.clear();
-    wanted.extend_from_slice(text.as_bytes())?;
-    Ok(())
-}
-
-fn want_packets(alloc: Global, case: &mut Case, lines: &[&str]) -> Result<(), Trouble> {
-    let text = expand(alloc, lines, false)?;
-    let mut client = Vec::new(alloc);
+fn want_packets(case: &mut Case, text: &str) -> bool {
+    let mut client = Vec::new(*case.input.allocator());
     case.wanted.output_form = Form::Packets;
     case.wanted.output.clear();
-    put_sides(text.as_str(), &mut client, &mut case.wanted.output)
+    let put = put_sides(text, &mut client, &mut case.wanted.output, &mut case.said);
+    drop(client);
+    put
 }
 
 /// Compares a file with what is wanted of it.
 fn compare_file<R: Files + AllocGlobal>(
     rt: &R,
-    case: &mut Case,
     block: Block<'_>,
-    lines: &[&str],
-) -> Result<(), Trouble> {
-    case.settle()?;
+    text: &str,
+    said: &mut Report,
+) -> bool {
     let (name, other) = block.words.split_once(' ').unwrap_or((block.words, ""));
     let name = name_or(name, usual_name(block.keyword));
     match block.keyword {
-        "no" => expect_absent(rt, case, block.number, name),
-        "same" => expect_same(rt, case, block.number, name, other),
-        _ => expect_lines(rt, case, block, name, lines),
+        "no" => {
+            expect_there(rt, name, false, said);
+            true
+        }
+        "same" => expect_same(rt, name, other, said),
+        _ => expect_text(rt, block.keyword, name, text, said),
     }
 }
 
-/// Says that a file is there, if it is.
-fn expect_absent<R: Files + AllocGlobal>(
-    rt: &R,
-    case: &mut Case,
-    line: usize,
-    name: &str,
-) -> Result<(), Trouble> {
-    let is_there = fs::exists(rt, name)?;
-    expect_none(case, line, name, !is_there)
-}
-
 /// Says how a file differs from the other one, if it does.
-fn expect_same<R: Files + AllocGlobal>(
-    rt: &R,
-    case: &mut Case,
-    line: usize,
-    name: &str,
-    other: &str,
-) -> Result<(), Trouble> {
-    let wanted = fs::read(rt, other)?;
-    let said = expect_file(rt, case, line, name, wanted.as_slice());
+fn expect_same<R: Files + AllocGlobal>(rt: &R, name: &str, other: &str, said: &mut Report) -> bool {
+    let Some(wanted) = read(rt, other, said) else {
+        return false;
+    };
+    let compared = expect_file(rt, name, wanted.as_slice(), said);
     drop(wanted);
-    said
+    compared
 }
 
-/// Says how a file differs from the bytes that the lines of a block stand for, if it does.
-fn expect_lines<R: Files + AllocGlobal>(
+/// Says how a file differs from the bytes that a text stands for, if it does.
+fn expect_text<R: Files + AllocGlobal>(
     rt: &R,
-    case: &mut Case,
-    block: Block<'_>,
+    keyword: &str,
     name: &str,
-    lines: &[&str],
-) -> Result<(), Trouble> {
+    text: &str,
+    said: &mut Report,
+) -> bool {
     let mut wanted = Vec::new(rt.alloc());
-    put_file(rt.alloc(), block.keyword, lines, &mut wanted)?;
-    let said = expect_file(rt, case, block.number, name, wanted.as_slice());
+    let compared = put_text(keyword, text, &mut wanted, said)
+        && expect_file(rt, name, wanted.as_slice(), said);
     drop(wanted);
-    said
+    compared
 }
 
 /// Says how a file differs from these bytes, if it does.
 fn expect_file<R: Files + AllocGlobal>(
     rt: &R,
-    case: &mut Case,
-    line: usize,
     name: &str,
     wanted: &[u8],
-) -> Result<(), Trouble> {
-    if !fs::exists(rt, name)? {
-        return expect_none(case, line, name, false);
+    said: &mut Report,
+) -> bool {
+    if !is_there(rt, name, said) {
+        say_there(name, said);
+        return true;
     }
-    let came = fs::read(rt, name)?;
-    let said = expect_bytes(case, line, name, wanted, came.as_slice());
+    let Some(came) = read(rt, name, said) else {
+        return false;
+    };
+    expect_bytes(name, wanted, came.as_slice(), said);
     drop(came);
-    Ok(said?)
+    true
 }
 
 /// Says how these bytes differ from those, if they do.
-fn expect_bytes(
-    case: &mut Case,
-    line: usize,
-    name: &str,
-    wanted: &[u8],
-    came: &[u8],
-) -> Result<(), AllocError> {
-    if came == wanted {
-        return Ok(());
+fn expect_bytes(name: &str, wanted: &[u8], came: &[u8], said: &mut Report) {
+    if came != wanted {
+        said.say_line(said.line);
+        say_bytes(name, wanted, came, &mut said.text);
     }
-    case.say_line(line)?;
-    say_bytes(name, wanted, came, &mut case.said)
 }

@@ -1,25 +1,49 @@
 //! The blocks that have a table of requests: `replies` and `codes`, which are audited, and `answers`, which are served.
-use crate::actions::{audit_record, run_audit, run_serve};
+use crate::actions::{audit_record, put_printed, run_audit, run_serve};
 use crate::cases::Case;
+use crate::expand::number_of;
 use crate::files::{ALONE, END, TRANSCRIPT, is_same, write};
-use crate::records::{OPENING, cut, id_of, put_bytes, put_packet, put_session, put_sides};
+use crate::records::{OPENING, cut, id_of, put_bytes, put_packet, put_sides, put_transcript};
+use crate::report::Report;
 use crate::runs::{Came, Program};
-use crate::trouble::Trouble;
-use std::alloc::{AllocError, Global};
+use crate::text::Text;
 use std::fs;
 use std::fs::Files;
 
-/// What a line says: the text in front of the arrow, and the text behind it.
-pub fn arrow(line: &str) -> Result<(&str, &str), Trouble> {
-    match line.split_once(" => ") {
-        Some(parts) => Ok(parts),
-        None => Err(Trouble::Form("` => `")),
+/// What a line of a table should have.
+pub const NO_ARROW: &str = "` => `";
+
+/// Plays each line of a table.
+pub fn play_table<R: Files + AllocGlobal, P: Program>(
+    rt: &R,
+    program: &P,
+    case: &mut Case,
+    keyword: &str,
+    text: &str,
+) -> bool {
+    for line in text.lines() {
+        if !play_line(rt, program, case, keyword, line) {
+            return false;
+        }
     }
+    true
 }
 
-/// How many records a transcript with these behind its opening has.
-fn count_records(text: &str) -> usize {
-    text.lines().count().saturating_add(2)
+fn play_line<R: Files + AllocGlobal, P: Program>(
+    rt: &R,
+    program: &P,
+    case: &mut Case,
+    keyword: &str,
+    line: &str,
+) -> bool {
+    let Some((ask, rest)) = line.split_once(" => ") else {
+        return case.said.stop(NO_ARROW);
+    };
+    match keyword {
+        "replies" => judge_reply(rt, program, case, line, ask, rest),
+        "codes" => judge_codes(rt, program, case, line, ask, rest),
+        _ => serve_line(rt, program, case, line, ask, rest),
+    }
 }
 
 /// Whether an audit accepted a session.
@@ -27,145 +51,131 @@ fn is_accepted(came: &Came) -> bool {
     came.status == 0 && came.output.as_slice().starts_with(b"accepted ") && came.errors.is_empty()
 }
 
-/// Whether an audit refused a session because the reply in its last record is not allowed.
-fn is_refused(came: &Came, records: usize) -> bool {
-    let printed = str::from_utf8(came.output.as_slice()).unwrap_or("");
-    let Some(rest) = printed.strip_prefix("refused record ") else {
-        return false;
-    };
-    let Some(number) = rest.strip_suffix(": NotAllowed\n") else {
-        return false;
-    };
-    came.status == 1 && came.errors.is_empty() && number.parse::<usize>() == Ok(records)
+/// Whether an audit refused a session of these records behind the opening, a request and its reply, because that is not
+/// allowed.
+fn is_refused(came: &Came, session: &str) -> bool {
+    let last = session.lines().count().saturating_add(4);
+    came.status == 1
+        && came.errors.is_empty()
+        && refused_record(came.output.as_slice()) == Some(last as u64)
 }
 
-/// Says what an audit of a line's session printed.
-fn say_verdict(case: &mut Case, line: &str) -> Result<(), AllocError> {
-    case.say_line(case.line)?;
-    let printed = str::from_utf8(case.came.output.as_slice()).unwrap_or("?");
-    let errors = str::from_utf8(case.came.errors.as_slice()).unwrap_or("?");
-    write!(case.said, "    {line}\n    came {printed}{errors}\n")
+/// The record that an audit says is not allowed.
+fn refused_record(output: &[u8]) -> Option<u64> {
+    let printed = str::from_utf8(output).unwrap_or("");
+    let rest = printed.strip_prefix("refused record ").unwrap_or("");
+    number_of(rest.strip_suffix(": NotAllowed\n").unwrap_or(""))
 }
 
-/// Audits the session of the case, with these records behind it, and returns how many records it has.
+/// Says what an audit of a line's session printed, if it is not right.
+pub fn expect_right(came: &Came, line: &str, is_right: bool, said: &mut Report) -> bool {
+    if !is_right {
+        said.say(line);
+        said.text.push("\n    came ");
+        put_printed(came, &mut said.text);
+    }
+    true
+}
+
+/// Audits the session of the case, with a request and a reply behind it, or alone if they are empty.
 fn judge<R: Files + AllocGlobal, P: Program>(
     rt: &R,
     program: &P,
     case: &mut Case,
     ask: &str,
     answer: &str,
-) -> Result<usize, Trouble> {
-    let session = case.session.as_str();
-    let text = format!(in rt.alloc(); "{session}{ask}\n{answer}\n")?;
-    let records = count_records(text.as_str());
-    let judged = judge_session(rt, program, case, text.as_str());
-    drop(text);
-    judged?;
-    Ok(records)
+) -> bool {
+    let mut text = Text::new(rt.alloc());
+    put_asked(case.session.as_str(), ask, answer, &mut text);
+    let written = write_records(rt, text.as_str(), &mut case.said);
+    case.said.text.close(text);
+    written && run_audit(rt, program, case)
 }
 
-/// Audits a session of these records.
-fn judge_session<R: Files + AllocGlobal, P: Program>(
-    rt: &R,
-    program: &P,
-    case: &mut Case,
-    text: &str,
-) -> Result<(), Trouble> {
-    write_session(rt, text)?;
-    run_audit(rt, program, case, "")?;
-    case.is_pending = false;
-    Ok(())
-}
-
-/// Writes the transcript of a session of these records.
-fn write_session<R: Files + AllocGlobal>(rt: &R, text: &str) -> Result<(), Trouble> {
-    let mut bytes = Vec::new(rt.alloc());
-    put_session(text, &mut bytes)?;
-    write(rt, TRANSCRIPT, bytes.as_slice())
-}
-
-/// Judges the reply of each line.
-pub fn replies<R: Files + AllocGlobal, P: Program>(
-    rt: &R,
-    program: &P,
-    case: &mut Case,
-    text: &str,
-) -> Result<(), Trouble> {
-    for line in text.lines() {
-        judge_reply(rt, program, case, line)?;
+/// Writes the records of a session behind the opening, with a request and a reply.
+fn put_asked(session: &str, ask: &str, answer: &str, out: &mut Text) {
+    out.push(OPENING);
+    out.push(session);
+    if !ask.is_empty() {
+        out.push(ask);
+        out.push("\n");
+        out.push(answer);
+        out.push("\n");
     }
-    Ok(())
 }
 
+/// Writes the transcript of these records.
+fn write_records<R: Files + AllocGlobal>(rt: &R, text: &str, said: &mut Report) -> bool {
+    let mut bytes = Vec::new(rt.alloc());
+    let written = put_transcript(text, &mut bytes, said)
+        && write(rt, TRANSCRIPT, bytes.as_slice(), said);
+    drop(bytes);
+    written
+}
+
+/// Judges the reply of a line.
 fn judge_reply<R: Files + AllocGlobal, P: Program>(
     rt: &R,
     program: &P,
     case: &mut Case,
     line: &str,
-) -> Result<(), Trouble> {
-    let (ask, rest) = arrow(line)?;
-    let (answer, verdict) = arrow(rest)?;
-    let records = judge(rt, program, case, ask, answer)?;
+    ask: &str,
+    rest: &str,
+) -> bool {
+    let (answer, verdict) = rest.split_once(" => ").unwrap_or((rest, ""));
+    judge(rt, program, case, ask, answer) && expect_verdict(case, line, verdict)
+}
+
+/// Says what an audit of a line's session printed, if this is not its verdict.
+fn expect_verdict(case: &mut Case, line: &str, verdict: &str) -> bool {
     let is_right = match verdict {
         "allowed" => is_accepted(&case.came),
-        "NotAllowed" => is_refused(&case.came, records),
-        _ => return Err(Trouble::Form("`allowed` or `NotAllowed`")),
+        "NotAllowed" => is_refused(&case.came, case.session.as_str()),
+        _ => return case.said.stop("`allowed` or `NotAllowed`"),
     };
-    expect_right(case, line, is_right)
-}
-
-/// Says what an audit of a line's session printed, if it is not right.
-pub fn expect_right(case: &mut Case, line: &str, is_right: bool) -> Result<(), Trouble> {
-    if !is_right {
-        say_verdict(case, line)?;
-    }
-    Ok(())
-}
-
-/// Judges the STATUS of each code from 0 to 9 for the request of each line.
-pub fn codes<R: Files + AllocGlobal, P: Program>(
-    rt: &R,
-    program: &P,
-    case: &mut Case,
-    text: &str,
-) -> Result<(), Trouble> {
-    judge_alone(rt, program, case)?;
-    for line in text.lines() {
-        judge_codes(rt, program, case, line)?;
-    }
-    Ok(())
+    expect_right(&case.came, line, is_right, &mut case.said)
 }
 
 /// Audits the session of the case alone, and keeps the tree at its end.
-fn judge_alone<R: Files + AllocGlobal, P: Program>(
+pub fn judge_alone<R: Files + AllocGlobal, P: Program>(
     rt: &R,
     program: &P,
     case: &mut Case,
-) -> Result<(), Trouble> {
-    let session = String::from_str(rt.alloc(), case.session.as_str())?;
-    let judged = judge_session(rt, program, case, session.as_str());
-    drop(session);
-    judged?;
-    let is_right = is_accepted(&case.came);
-    if is_right {
-        fs::rename(rt, END, ALONE)?;
+) -> bool {
+    if !judge(rt, program, case, "", "") {
+        return false;
     }
-    expect_right(case, "the session alone", is_right)
+    let is_right = is_accepted(&case.came);
+    expect_right(&case.came, "the session alone", is_right, &mut case.said);
+    !is_right || keep_end(rt, &mut case.said)
 }
 
-/// Judges the codes of a line. Those but 0 leave the tree as the session alone does.
+/// Keeps the tree at the end of a session alone.
+fn keep_end<R: Files + AllocGlobal>(rt: &R, said: &mut Report) -> bool {
+    match fs::rename(rt, END, ALONE) {
+        Ok(()) => true,
+        Err(error) => said.stop_io(error),
+    }
+}
+
+/// Judges the STATUS of each code from 0 to 9 for the request of a line. Those but 0 leave the tree as the session
+/// alone does.
 fn judge_codes<R: Files + AllocGlobal, P: Program>(
     rt: &R,
     program: &P,
     case: &mut Case,
     line: &str,
-) -> Result<(), Trouble> {
-    let (ask, allowed) = arrow(line)?;
+    ask: &str,
+    allowed: &str,
+) -> bool {
     for code in 0..10u32 {
-        let is_right = is_judged(rt, program, case, ask, code, allowed)?;
-        expect_right(case, line, is_right)?;
+        if !judge_code(rt, program, case, ask, code) {
+            return false;
+        }
+        let is_right = is_right_code(rt, case, code, has_code(allowed, code));
+        expect_right(&case.came, line, is_right, &mut case.said);
     }
-    Ok(())
+    true
 }
 
 /// Whether the codes of a line have this one.
@@ -178,65 +188,57 @@ fn has_code(allowed: &str, code: u32) -> bool {
     false
 }
 
-/// Whether a code is judged as it has to be.
-fn is_judged<R: Files + AllocGlobal, P: Program>(
+/// Whether an audit judged a code as it has to.
+fn is_right_code<R: Files + AllocGlobal>(
     rt: &R,
-    program: &P,
     case: &mut Case,
-    ask: &str,
     code: u32,
-    allowed: &str,
-) -> Result<bool, Trouble> {
-    let records = judge_code(rt, program, case, ask, code)?;
-    if !has_code(allowed, code) {
-        Ok(is_refused(&case.came, records))
-    } else if !is_accepted(&case.came) {
-        Ok(false)
-    } else if code == 0 {
-        Ok(true)
+    is_allowed: bool,
+) -> bool {
+    if is_allowed {
+        is_accepted(&case.came) && (code == 0 || is_same(rt, END, ALONE, &mut case.said))
     } else {
-        is_same(rt, END, ALONE)
+        is_refused(&case.came, case.session.as_str())
     }
 }
 
-/// Audits the session of the case with a request and a STATUS of this code, and returns how many records it has.
+/// Audits the session of the case with a request and a STATUS of this code.
 fn judge_code<R: Files + AllocGlobal, P: Program>(
     rt: &R,
     program: &P,
     case: &mut Case,
     ask: &str,
     code: u32,
-) -> Result<usize, Trouble> {
+) -> bool {
     let Some(id) = id_of(ask) else {
-        return Err(Trouble::Form("a request"));
+        return case.said.stop("a request");
     };
-    let answer = format!(in rt.alloc(); "S {id} STATUS {code}")?;
-    judge(rt, program, case, ask, answer.as_str())
+    let mut answer = Text::new(rt.alloc());
+    answer.push("S ");
+    answer.push_number(id);
+    answer.push(" STATUS ");
+    answer.push_number(u64::from(code));
+    let judged = judge(rt, program, case, ask, answer.as_str());
+    case.said.text.close(answer);
+    judged
 }
 
-/// Serves the request of each line.
-pub fn answers<R: Files + AllocGlobal, P: Program>(
-    rt: &R,
-    program: &P,
-    case: &mut Case,
-    text: &str,
-) -> Result<(), Trouble> {
-    for line in text.lines() {
-        serve_line(rt, program, case, line)?;
+/// What follows the first packet.
+fn behind_first(packets: &[u8]) -> &[u8] {
+    match cut(packets) {
+        Some((_, rest)) => rest,
+        None => packets,
     }
-    Ok(())
 }
 
 /// What follows the packets of a session up to the reply to its last request: VERSION, and a reply to each request that
 /// is played first.
 fn behind<'a>(packets: &'a [u8], before: &str) -> &'a [u8] {
-    let requests = before.lines().filter(|line| line.starts_with('C')).count();
-    let mut rest = packets;
-    for _ in 0..requests.saturating_add(1) {
-        rest = match cut(rest) {
-            Some((_, rest)) => rest,
-            None => rest,
-        };
+    let mut rest = behind_first(packets);
+    for line in before.lines() {
+        if line.starts_with('C') {
+            rest = behind_first(rest);
+        }
     }
     rest
 }
@@ -247,42 +249,51 @@ fn serve_line<R: Files + AllocGlobal, P: Program>(
     program: &P,
     case: &mut Case,
     line: &str,
-) -> Result<(), Trouble> {
-    let (ask, answer) = arrow(line)?;
-    prepare_line(rt.alloc(), case, ask, answer)?;
-    run_serve(rt, program, case, "")?;
-    case.is_pending = false;
-    compare_answer(case, line)?;
-    audit_record(rt, program, case, "")
-}
-
-/// Takes the records before and a request as input, and the reply as what is wanted.
-fn prepare_line(alloc: Global, case: &mut Case, ask: &str, answer: &str) -> Result<(), Trouble> {
-    let before = case.before.as_str();
-    let text = format!(in alloc; "{OPENING}{before}{ask}\n")?;
-    put_first(text.as_str(), &mut case.input)?;
+    ask: &str,
+    answer: &str,
+) -> bool {
     case.wanted.output.clear();
-    put_bytes(answer, &mut case.wanted.output)
+    let is_prepared = put_input(case, ask)
+        && put_bytes(answer, &mut case.wanted.output, &mut case.said)
+        && run_serve(rt, program, case, "");
+    case.is_pending = false;
+    if is_prepared {
+        compare_answer(case, line);
+    }
+    is_prepared && audit_record(rt, program, case, "")
 }
 
-/// Takes the records of the client among these as input.
-fn put_first(text: &str, input: &mut Vec<u8>) -> Result<(), Trouble> {
-    let mut replies = Vec::new(*input.allocator());
-    input.clear();
-    put_sides(text, input, &mut replies)
+/// Takes the records before and a request as input.
+fn put_input(case: &mut Case, ask: &str) -> bool {
+    let alloc = *case.input.allocator();
+    let mut text = Text::new(alloc);
+    let mut replies = Vec::new(alloc);
+    text.push(OPENING);
+    text.push(case.before.as_str());
+    text.push(ask);
+    text.push("\n");
+    case.input.clear();
+    let put = put_sides(text.as_str(), &mut case.input, &mut replies, &mut case.said);
+    drop(replies);
+    case.said.text.close(text);
+    put
 }
 
 /// Says what came in place of the answer, if it differs.
-fn compare_answer(case: &mut Case, line: &str) -> Result<(), AllocError> {
+fn compare_answer(case: &mut Case, line: &str) {
     let came = behind(case.came.output.as_slice(), case.before.as_str());
     let is_same = came == case.wanted.output.as_slice();
-    if case.came.status == 0 && case.came.errors.is_empty() && is_same {
-        return Ok(());
+    if case.came.status != 0 || !case.came.errors.is_empty() || !is_same {
+        say_answer(line, case.came.status, came, &mut case.said);
     }
-    case.say_line(case.line)?;
-    let status = case.came.status;
-    write!(case.said, "    {line}\n    came status {status}, ")?;
-    let came = behind(case.came.output.as_slice(), case.before.as_str());
-    put_packet(came, &mut case.said)?;
-    case.said.push('\n')
+}
+
+/// Says which status and which packet came.
+fn say_answer(line: &str, status: u8, packet: &[u8], said: &mut Report) {
+    said.say(line);
+    said.text.push("\n    came status ");
+    said.text.push_number(u64::from(status));
+    said.text.push(", ");
+    put_packet(packet, &mut said.text);
+    said.text.push("\n");
 }

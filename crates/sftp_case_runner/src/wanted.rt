@@ -1,10 +1,11 @@
 //! What is wanted of a run.
 use crate::compare::{say_bytes, say_packets};
 use crate::runs::Came;
-use std::alloc::{AllocError, Global};
+use crate::text::Text;
+use std::alloc::Global;
 
 /// How what came on a stream is compared with what is wanted.
-#[derive(Clone, Copy, PartialEq, Eq)]
+#[derive(Clone, Copy)]
 pub enum Form {
     /// It is the same text.
     Text,
@@ -63,41 +64,52 @@ fn is_as_wanted(form: Form, wanted: &[u8], came: &[u8]) -> bool {
     }
 }
 
+/// Whether all that came of a run is as wanted.
+pub fn is_wanted(wanted: &Wanted, came: &Came) -> bool {
+    let output = came.output.as_slice();
+    let errors = came.errors.as_slice();
+    came.status == wanted.status
+        && is_as_wanted(wanted.output_form, wanted.output.as_slice(), output)
+        && is_as_wanted(wanted.errors_form, wanted.errors.as_slice(), errors)
+}
+
 /// Says how a stream differs from what is wanted, if it does.
-fn compare_stream(
-    name: &str,
-    form: Form,
-    wanted: &[u8],
-    came: &[u8],
-    said: &mut String,
-) -> Result<(), AllocError> {
+fn compare_stream(name: &str, form: Form, wanted: &[u8], came: &[u8], said: &mut Text) {
     if is_as_wanted(form, wanted, came) {
-        Ok(())
-    } else if form == Form::Packets {
-        say_packets(wanted, came, said)
-    } else {
-        say_bytes(name, wanted, came, said)
+        return;
+    }
+    match form {
+        Form::Packets => say_packets(wanted, came, said),
+        _ => say_bytes(name, wanted, came, said),
+    }
+}
+
+/// Says how a status differs from what is wanted, if it does.
+fn compare_status(wanted: u8, came: u8, said: &mut Text) {
+    if came != wanted {
+        said.push("    status: wanted ");
+        said.push_number(u64::from(wanted));
+        said.push(", came ");
+        said.push_number(u64::from(came));
+        said.push("\n");
     }
 }
 
 /// Says how what came of a run differs from what is wanted.
-pub fn compare_run(wanted: &Wanted, came: &Came, said: &mut String) -> Result<(), AllocError> {
-    if came.status != wanted.status {
-        let (status, want) = (came.status, wanted.status);
-        write!(said, "    status: wanted {want}, came {status}\n")?;
-    }
+pub fn compare_run(wanted: &Wanted, came: &Came, said: &mut Text) {
+    compare_status(wanted.status, came.status, said);
     compare_stream(
         "standard output",
         wanted.output_form,
         wanted.output.as_slice(),
         came.output.as_slice(),
         said,
-    )?;
+    );
     compare_stream(
         "standard error",
         wanted.errors_form,
         wanted.errors.as_slice(),
         came.errors.as_slice(),
         said,
-    )
+    );
 }
