@@ -7,8 +7,6 @@ use sftp_wire::Request;
 use std::alloc::Global;
 use std::test::Fail;
 
-mod readiness;
-
 /// A call, and what it gives: why a STAT with this id is not taken, that this request is taken, whether the request at
 /// this position is ready, what comes of work on it, and the id of the reply that is sent for it. Or that STATs with so
 /// many ids are taken, or that all handles are opened.
@@ -138,24 +136,37 @@ const QUEUES: &[(&str, &[Call], bool)] = &[
     ("each request is answered", &[ASK, WORK, SEND], true),
 ];
 
-/// Why a request with this id is not taken.
-fn refusal(
+/// Whether a request with this id is not taken for this reason, or is taken.
+fn is_delivered(
     alloc: Global,
     core: &mut Core,
     id: u32,
     part: &[u8],
-) -> Result<Option<Refuse>, NoMemory> {
-    let request = request(alloc, id, part)?;
-    let delivered = core.deliver(request);
-    let refusal = refusal_of(&delivered);
-    drop(delivered);
-    Ok(refusal)
+    refuse: Option<Refuse>,
+) -> bool {
+    match request(alloc, id, part) {
+        Ok(request) => {
+            let delivered = core.deliver(request);
+            let refusal = refusal_of(&delivered);
+            drop(delivered);
+            refusal == refuse
+        }
+        Err(_) => false,
+    }
 }
 
 fn refusal_of(delivered: &Result<(), (Request, Refuse)>) -> Option<Refuse> {
     match delivered {
         Ok(()) => None,
         Err((_, refuse)) => Some(*refuse),
+    }
+}
+
+/// Whether this comes of work on the request at this position.
+fn works(core: &mut Core, k: usize, did: Did) -> bool {
+    match core.work(k) {
+        Ok(done) => done == did,
+        Err(_) => false,
     }
 }
 
@@ -167,47 +178,49 @@ fn sent(core: &mut Core, k: usize) -> Option<u32> {
     Some(id)
 }
 
-fn gives(alloc: Global, core: &mut Core, call: Call) -> Result<bool, NoMemory> {
+fn gives(alloc: Global, core: &mut Core, call: Call) -> bool {
     match call {
         Call::Fill(count) => takes(alloc, core, count),
         Call::Open => opens(alloc, core),
-        Call::Deliver(id, refuse) => Ok(refusal(alloc, core, id, STAT)? == refuse),
-        Call::Take(id, part) => Ok(refusal(alloc, core, id, part)?.is_none()),
-        Call::Ready(k, ready) => Ok(core.ready(k) == ready),
-        Call::Work(k, did) => Ok(core.work(k)? == did),
-        Call::Send(k, id) => Ok(sent(core, k) == id),
+        Call::Deliver(id, refuse) => is_delivered(alloc, core, id, STAT, refuse),
+        Call::Take(id, part) => is_delivered(alloc, core, id, part, None),
+        Call::Ready(k, ready) => core.ready(k) == ready,
+        Call::Work(k, did) => works(core, k, did),
+        Call::Send(k, id) => sent(core, k) == id,
     }
 }
 
 /// The number of the first call, from 0, that does not give what it has to.
-fn first_wrong(alloc: Global, core: &mut Core, calls: &[Call]) -> Result<Option<usize>, NoMemory> {
+fn first_wrong(alloc: Global, core: &mut Core, calls: &[Call]) -> Option<usize> {
     for (number, call) in calls.iter().enumerate() {
-        if !gives(alloc, core, *call)? {
-            return Ok(Some(number));
+        if !gives(alloc, core, *call) {
+            return Some(number);
         }
     }
-    Ok(None)
+    None
 }
 
 /// Whether so many requests are taken, with the ids from 0 on.
-fn takes(alloc: Global, core: &mut Core, count: u32) -> Result<bool, NoMemory> {
+fn takes(alloc: Global, core: &mut Core, count: u32) -> bool {
     for id in 0..count {
-        if refusal(alloc, core, id, STAT)?.is_some() {
-            return Ok(false);
+        if !is_delivered(alloc, core, id, STAT, None) {
+            return false;
         }
     }
-    Ok(true)
+    true
 }
 
 /// Whether each request is taken, done and answered before the next one.
-fn opens(alloc: Global, core: &mut Core) -> Result<bool, NoMemory> {
+fn opens(alloc: Global, core: &mut Core) -> bool {
     for part in OPENS {
-        let refusal = refusal(alloc, core, 0, part)?;
-        if refusal.is_some() || core.work(0)? != Did::Done || sent(core, 0) != Some(0) {
-            return Ok(false);
+        if !is_delivered(alloc, core, 0, part, None)
+            || !works(core, 0, Did::Done)
+            || sent(core, 0) != Some(0)
+        {
+            return false;
         }
     }
-    Ok(true)
+    true
 }
 
 /// The first wrong call on a core with the blank tree, and whether the core finishes then.
@@ -217,7 +230,7 @@ fn run(alloc: Global, calls: &[Call]) -> Result<(Option<usize>, bool), NoMemory>
     let end = core.finish();
     let finished = end.is_ok();
     drop(end);
-    Ok((wrong?, finished))
+    Ok((wrong, finished))
 }
 
 #[test]

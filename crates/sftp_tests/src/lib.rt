@@ -18,8 +18,6 @@ mod handles;
 #[cfg(test)]
 mod memory;
 #[cfg(test)]
-mod path;
-#[cfg(test)]
 mod scripts;
 #[cfg(test)]
 mod serving;

@@ -56,8 +56,8 @@ fn opens_first(alloc: Global, session: &mut Session<SlabTable>) -> Result<bool, 
 
 /// Whether the tree has the file alone, under number 0.
 fn has_one_file(tree: &mut Tree) -> Result<bool, Refused> {
-    let written = tree.write()?;
     let number = tree.open_file(b"f", 1, &attributes(None))?;
+    let written = tree.write()?;
     Ok(written.as_slice() == WITH_F && number == FileNo::new(0))
 }
 

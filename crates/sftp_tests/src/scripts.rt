@@ -6,8 +6,7 @@ use sftp_server::{Act, Core, run_script};
 use sftp_transcript::Event;
 use sftp_tree::Tree;
 use sftp_wire::{Packet, Request, Side, front};
-use std::alloc::{AllocError, Global};
-use std::test::Fail;
+use std::alloc::Global;
 
 /// An act. Of a request there are its id, and the byte of its type with what follows the id.
 #[derive(Clone, Copy)]
@@ -16,10 +15,6 @@ enum Step<'a> {
     Work(usize),
     Send(usize),
 }
-
-/// What a script shows, its acts, its events as packets, and whether each request is answered in the end. Then the tree
-/// is blank.
-type Row<'a> = (&'a str, &'a [Step<'a>], &'a [(u32, &'a [u8])], bool);
 
 const MKDIR: &[u8] = b"\x0e\0\0\0\x02/a\0\0\0\0";
 
@@ -42,7 +37,9 @@ const SEND_0: Step = Step::Send(0);
 
 const SEND_1: Step = Step::Send(1);
 
-const SCRIPTS: &[Row] = &[
+/// What a script shows, its acts, its events as packets, and whether each request is answered in the end. Then the tree
+/// is blank.
+const SCRIPTS: &[(&str, &[Step], &[(u32, &[u8])], bool)] = &[
     ("no acts", &[], &[], true),
     (
         "requests are done in the order asked, and answered in any order",
@@ -86,20 +83,24 @@ const SCRIPTS: &[Row] = &[
     ),
 ];
 
-/// The packet of a type and of what follows its id.
-fn packet(alloc: Global, id: u32, part: &[u8]) -> Result<Vec<u8>, AllocError> {
+/// The packet of a type and of what follows its id. Where memory runs out it is cut off.
+fn packet(alloc: Global, id: u32, part: &[u8]) -> Vec<u8> {
     let length = (part.len() % 65_536) as u32 + 4;
-    let mut packet = Vec::from_slice(alloc, &length.to_be_bytes())?;
-    packet.extend_from_slice(part.get(..1).unwrap_or(&[]))?;
-    packet.extend_from_slice(&id.to_be_bytes())?;
-    packet.extend_from_slice(part.get(1..).unwrap_or(&[]))?;
-    Ok(packet)
+    let (kind, fields) = part.split_at_checked(1).unwrap_or((part, &[]));
+    let mut packet = Vec::new(alloc);
+    let _ = packet.extend_from_slice(&length.to_be_bytes()).is_ok()
+        && packet.extend_from_slice(kind).is_ok()
+        && packet.extend_from_slice(&id.to_be_bytes()).is_ok()
+        && packet.extend_from_slice(fields).is_ok();
+    packet
 }
 
 /// The request with this id, of this type and with these fields.
 pub(crate) fn request(alloc: Global, id: u32, part: &[u8]) -> Result<Request, NoMemory> {
-    let packet = packet(alloc, id, part)?;
-    match front(alloc, packet.as_slice(), Side::Client) {
+    let packet = packet(alloc, id, part);
+    let front = front(alloc, packet.as_slice(), Side::Client);
+    drop(packet);
+    match front {
         Ok(Some((Packet::Request(request), _))) => Ok(request),
         other => {
             drop(other);
@@ -114,6 +115,23 @@ fn act(alloc: Global, step: Step) -> Result<Act, NoMemory> {
         Step::Work(k) => Ok(Act::Work(k)),
         Step::Send(k) => Ok(Act::Send(k)),
     }
+}
+
+/// Adds an act, unless memory runs out.
+fn adds(alloc: Global, acts: &mut Vec<Act>, step: Step) -> bool {
+    match act(alloc, step) {
+        Ok(act) => acts.push(act).is_ok(),
+        Err(_) => false,
+    }
+}
+
+fn adds_each(alloc: Global, acts: &mut Vec<Act>, steps: &[Step]) -> bool {
+    for step in steps {
+        if !adds(alloc, acts, *step) {
+            return false;
+        }
+    }
+    true
 }
 
 fn packet_of(event: Event) -> Packet {
@@ -132,61 +150,83 @@ fn is_event(alloc: Global, event: Option<Event>, bytes: &[u8]) -> bool {
     said == Ok(()) && out.as_slice() == bytes
 }
 
-/// Takes the events out, the last one first, and says whether they are these packets.
-fn are_events(
-    alloc: Global,
-    events: &mut Vec<Event>,
-    packets: &[(u32, &[u8])],
-) -> Result<bool, NoMemory> {
-    for (id, part) in packets.iter().rev() {
-        let bytes = packet(alloc, *id, part)?;
-        if !is_event(alloc, events.pop(), bytes.as_slice()) {
-            return Ok(false);
-        }
-    }
-    Ok(events.is_empty())
+/// Whether there is an event with this id, of this type and with these fields.
+fn has_parts(alloc: Global, event: Option<Event>, id: u32, part: &[u8]) -> bool {
+    let bytes = packet(alloc, id, part);
+    let is_event = is_event(alloc, event, bytes.as_slice());
+    drop(bytes);
+    is_event
 }
 
-fn is_end(end: &Result<Tree, Core>, ends: bool) -> Result<bool, NoMemory> {
+/// Takes the events out, the last one first, and says whether they are these packets.
+fn are_events(alloc: Global, events: &mut Vec<Event>, packets: &[(u32, &[u8])]) -> bool {
+    for (id, part) in packets.iter().rev() {
+        if !has_parts(alloc, events.pop(), *id, part) {
+            return false;
+        }
+    }
+    events.is_empty()
+}
+
+fn is_blank(tree: &Tree) -> bool {
+    match tree.write() {
+        Ok(file) => file.as_slice() == BLANK,
+        Err(_) => false,
+    }
+}
+
+fn is_end(end: &Result<Tree, Core>, ends: bool) -> bool {
     match end {
-        Ok(tree) => Ok(tree.write()?.as_slice() == BLANK && ends),
-        Err(_) => Ok(!ends),
+        Ok(tree) => ends && is_blank(tree),
+        Err(_) => !ends,
     }
 }
 
 /// Whether a core finishes with the blank tree, or, if it is not to end, does not.
-fn ends_so(core: Core, ends: bool) -> Result<bool, NoMemory> {
+fn ends_so(core: Core, ends: bool) -> bool {
     let end = core.finish();
     let holds = is_end(&end, ends);
     drop(end);
     holds
 }
 
-/// Whether the acts of a row make its events, and lead to its end.
-fn holds(alloc: Global, row: &Row) -> Result<bool, NoMemory> {
-    let (_, steps, packets, ends) = row;
+/// Whether these acts make these events, and lead to this end.
+fn holds(alloc: Global, steps: &[Step], packets: &[(u32, &[u8])], ends: bool) -> bool {
     let mut acts = Vec::new(alloc);
-    let ran = ran(alloc, &mut acts, steps);
+    let has_acts = adds_each(alloc, &mut acts, steps);
+    let ran = ran(alloc, acts.as_slice());
     drop(acts);
-    let (mut events, core) = ran?;
-    let same = are_events(alloc, &mut events, packets);
-    drop(events);
-    let ended = ends_so(core, *ends);
-    Ok(same? && ended?)
+    has_acts && is_run(alloc, ran, packets, ends)
 }
 
-/// What comes of these steps, on a blank tree.
-fn ran(alloc: Global, acts: &mut Vec<Act>, steps: &[Step]) -> Result<(Vec<Event>, Core), NoMemory> {
-    for step in steps {
-        acts.push(act(alloc, *step)?)?;
+/// What comes of these acts, on a blank tree.
+fn ran(alloc: Global, acts: &[Act]) -> Result<(Vec<Event>, Core), NoMemory> {
+    match Tree::blank(alloc) {
+        Ok(tree) => run_script(tree, acts),
+        Err(_) => Err(NoMemory),
     }
-    run_script(Tree::blank(alloc)?, acts.as_slice())
+}
+
+fn is_run(
+    alloc: Global,
+    ran: Result<(Vec<Event>, Core), NoMemory>,
+    packets: &[(u32, &[u8])],
+    ends: bool,
+) -> bool {
+    match ran {
+        Ok((mut events, core)) => {
+            let same = are_events(alloc, &mut events, packets);
+            drop(events);
+            let ended = ends_so(core, ends);
+            same && ended
+        }
+        Err(_) => false,
+    }
 }
 
 #[test]
-fn events_of_scripts(rt: HostRuntime) -> Result<(), Fail> {
-    for row in SCRIPTS {
-        assert!(rt; holds(rt.alloc(), row)?, "{}", row.0);
+fn events_of_scripts(rt: HostRuntime) {
+    for (name, steps, packets, ends) in SCRIPTS {
+        assert!(rt; holds(rt.alloc(), steps, packets, *ends), "{name}");
     }
-    Ok(())
 }

@@ -4,7 +4,6 @@ use crate::audit::BLANK;
 use crate::from_memory::{Session, serve_bytes};
 use crate::streams::{Input, Room};
 use sftp_audit::audit;
-use sftp_path::NoMemory;
 use sftp_server::{Ended, Schedule, SessionEnd, Stream, serve_keeping_tree};
 use sftp_transcript::{Tally, Writer};
 use sftp_tree::Tree;
@@ -30,7 +29,7 @@ pub(crate) const VERSION: &[u8] = b"\0\0\0\x78\x02\0\0\0\x03\
 const DONE: &[u8] = b"\0\0\0\x11\x65\0\0\0\x01\0\0\0\0\0\0\0\0\0\0\0\0";
 
 /// How a session ended, without its tree.
-#[derive(Clone, Copy, Debug, PartialEq, Eq)]
+#[derive(Clone, Copy, PartialEq, Eq)]
 enum End {
     Finished,
     Fault,
@@ -39,7 +38,7 @@ enum End {
 }
 
 /// What came of a session: what it wrote and logged, how it ended, and the tree file that it left, if it left one.
-#[derive(Debug, Drop)]
+#[derive(Drop)]
 struct Outcome {
     written: Vec<u8>,
     logged: Vec<u8>,
@@ -56,13 +55,44 @@ fn end_of(ended: &Ended) -> End {
     }
 }
 
+/// The file of a tree, or nothing if memory runs out.
+fn written(alloc: Global, tree: &Tree) -> Vec<u8> {
+    match tree.write() {
+        Ok(file) => file,
+        Err(_) => Vec::new(alloc),
+    }
+}
+
 /// The tree file of a session's end, or of what the session left; empty if it has no tree then.
-fn file_of(alloc: Global, end: &SessionEnd) -> Result<Vec<u8>, NoMemory> {
+fn file_of(alloc: Global, end: &SessionEnd) -> Vec<u8> {
     match (&end.ended, &end.left) {
-        (Ended::Finished(tree), _) => tree.write(),
-        (Ended::Fault(tree, _), _) => tree.write(),
-        (_, Some(tree)) => tree.write(),
-        (_, None) => Ok(Vec::new(alloc)),
+        (Ended::Finished(tree), _) => written(alloc, tree),
+        (Ended::Fault(tree, _), _) => written(alloc, tree),
+        (_, Some(tree)) => written(alloc, tree),
+        (_, None) => Vec::new(alloc),
+    }
+}
+
+/// What comes of a session on a tree, whose log goes to this writer.
+fn served_on<S: Schedule>(
+    tree: Tree,
+    input: Input<'_>,
+    output: Room,
+    mut log: Writer<Tally<Room>>,
+    schedule: &mut S,
+) -> Outcome {
+    let alloc = tree.allocator();
+    let mut reader = Tally::new(input);
+    let mut writer = Tally::new(output);
+    let served = serve_keeping_tree(tree, &mut reader, &mut writer, &mut log, schedule);
+    let end = end_of(&served.ended);
+    let tree = file_of(alloc, &served);
+    drop(served);
+    Outcome {
+        written: writer.into_inner().bytes,
+        logged: log.into_sink().into_inner().bytes,
+        end,
+        tree,
     }
 }
 
@@ -74,22 +104,14 @@ fn session<S: Schedule>(
     log: Room,
     schedule: &mut S,
 ) -> Result<Outcome, Fail> {
-    let mut reader = Tally::new(input);
-    let mut writer = Tally::new(output);
-    let mut record = Writer::new(alloc, Tally::new(log))?;
     let tree = Tree::blank(alloc)?;
-    let served = serve_keeping_tree(tree, &mut reader, &mut writer, &mut record, schedule);
-    let end = end_of(&served.ended);
-    let file = file_of(alloc, &served);
-    drop(served);
-    let Room { bytes: written, .. } = writer.into_inner();
-    let Room { bytes: logged, .. } = record.into_sink().into_inner();
-    Ok(Outcome {
-        written,
-        logged,
-        end,
-        tree: file?,
-    })
+    match Writer::new(alloc, Tally::new(log)) {
+        Ok(log) => Ok(served_on(tree, input, output, log, schedule)),
+        Err(error) => {
+            drop(tree);
+            Err(Fail::from(error))
+        }
+    }
 }
 
 /// How many requests the log of a session on the blank tree has, if it is accepted with the tree of the session's end.

@@ -4,7 +4,7 @@ use std::io;
 use std::io::{ErrorKind, Read, Write};
 
 /// A reader that gives at most so many bytes a call. At the end it fails, if it does.
-#[derive(Debug, Drop)]
+#[derive(Drop)]
 pub(crate) struct Input<'a> {
     rest: &'a [u8],
     size: usize,
@@ -40,7 +40,7 @@ impl Read for Input<'_> {
 
 /// A writer that takes at most so many bytes a call and has room for so many. Then it fails, or takes no more. It can
 /// be flushed, or cannot.
-#[derive(Debug, Drop)]
+#[derive(Drop)]
 pub(crate) struct Room {
     pub(crate) bytes: Vec<u8>,
     size: usize,

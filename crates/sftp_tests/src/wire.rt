@@ -21,7 +21,7 @@ fn text(alloc: Global, bytes: &[u8]) -> Result<ByteString, AllocError> {
 }
 
 /// A byte string of so many bytes.
-pub(crate) fn long(alloc: Global, length: usize) -> Result<ByteString, AllocError> {
+fn long(alloc: Global, length: usize) -> Result<ByteString, AllocError> {
     Ok(ByteString::new(vec![in alloc; b'h'; length]?))
 }
 
@@ -32,31 +32,6 @@ pub(crate) fn attributes(size: Option<u64>) -> Attrs {
         permissions: None,
         times: None,
         extended: None,
-    }
-}
-
-/// A request on a handle: `c` CLOSE, `r` a READ of as many bytes at an offset, `w` WRITE, `t` FSTAT, `s` an FSETSTAT of
-/// the offset as size, `d` READDIR, and else fsync.
-pub(crate) fn on_handle(kind: u8, handle: ByteString, offset: u64, bytes: ByteString) -> Ask {
-    match kind {
-        b'c' => Ask::Close { handle },
-        b'r' => Ask::Read {
-            handle,
-            offset,
-            len: (bytes.as_slice().len() % 65_536) as u32,
-        },
-        b'w' => Ask::Write {
-            handle,
-            offset,
-            bytes,
-        },
-        b't' => Ask::Fstat { handle },
-        b's' => Ask::Fsetstat {
-            handle,
-            attrs: attributes(Some(offset)),
-        },
-        b'd' => Ask::Readdir { handle },
-        _ => Ask::Fsync { handle },
     }
 }
 
