@@ -1,5 +1,5 @@
-//! A client's session with a server: how many requests may be open, and each kind of request with its reply. Which calls
-//! are refused, and why, is in the contracts.
+//! A client's session with a server: how many requests may be open, and each kind of request with its reply. Which
+//! calls are refused, and why, is in the contracts.
 use crate::scripts::request;
 use crate::serving::VERSION as ALL_EXTENSIONS;
 use crate::wire::{attributes, written};
@@ -114,8 +114,8 @@ const POSIX_RENAME: &[u8] = b"\xc8\0\0\0\x18posix-rename@openssh.com\0\0\0\x01k\
 
 const READDIR: &[u8] = b"\x0c\0\0\0\x0c\0\0\0\0\0\0\0\x01\0\0\0\x01";
 
-/// Every request, with its name and the letter of the kind of its reply in this session on the blank tree. A handle is a
-/// slot and how many were opened before.
+/// Every request, with its name and the letter of the kind of its reply in this session on the blank tree. A handle is
+/// a slot and how many were opened before.
 const SESSION: &[(&str, &[u8], u8)] = &[
     ("mkdir", b"\x0e\0\0\0\x02/d\0\0\0\0", b's'),
     ("open", b"\x03\0\0\0\x01f\0\0\0\x0b\0\0\0\0", b'h'),
