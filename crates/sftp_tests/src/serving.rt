@@ -4,6 +4,7 @@ use crate::audit::BLANK;
 use crate::from_memory::{Session, serve_bytes};
 use crate::streams::{Input, Room};
 use sftp_audit::audit;
+use sftp_path::NoMemory;
 use sftp_server::{Ended, Schedule, SessionEnd, Stream, serve_keeping_tree};
 use sftp_transcript::{Tally, Writer};
 use sftp_tree::Tree;
@@ -29,7 +30,7 @@ pub(crate) const VERSION: &[u8] = b"\0\0\0\x78\x02\0\0\0\x03\
 const DONE: &[u8] = b"\0\0\0\x11\x65\0\0\0\x01\0\0\0\0\0\0\0\0\0\0\0\0";
 
 /// How a session ended, without its tree.
-#[derive(Clone, Copy, PartialEq, Eq)]
+#[derive(Clone, Copy, Debug, PartialEq, Eq)]
 enum End {
     Finished,
     Fault,
@@ -38,7 +39,7 @@ enum End {
 }
 
 /// What came of a session: what it wrote and logged, how it ended, and the tree file that it left, if it left one.
-#[derive(Drop)]
+#[derive(Debug, Drop)]
 struct Outcome {
     written: Vec<u8>,
     logged: Vec<u8>,
@@ -55,44 +56,13 @@ fn end_of(ended: &Ended) -> End {
     }
 }
 
-/// The file of a tree, or nothing if memory runs out.
-fn written(alloc: Global, tree: &Tree) -> Vec<u8> {
-    match tree.write() {
-        Ok(file) => file,
-        Err(_) => Vec::new(alloc),
-    }
-}
-
 /// The tree file of a session's end, or of what the session left; empty if it has no tree then.
-fn file_of(alloc: Global, end: &SessionEnd) -> Vec<u8> {
+fn file_of(alloc: Global, end: &SessionEnd) -> Result<Vec<u8>, NoMemory> {
     match (&end.ended, &end.left) {
-        (Ended::Finished(tree), _) => written(alloc, tree),
-        (Ended::Fault(tree, _), _) => written(alloc, tree),
-        (_, Some(tree)) => written(alloc, tree),
-        (_, None) => Vec::new(alloc),
-    }
-}
-
-/// What comes of a session on a tree, whose log goes to this writer.
-fn served_on<S: Schedule>(
-    tree: Tree,
-    input: Input<'_>,
-    output: Room,
-    mut log: Writer<Tally<Room>>,
-    schedule: &mut S,
-) -> Outcome {
-    let alloc = tree.allocator();
-    let mut reader = Tally::new(input);
-    let mut writer = Tally::new(output);
-    let served = serve_keeping_tree(tree, &mut reader, &mut writer, &mut log, schedule);
-    let end = end_of(&served.ended);
-    let tree = file_of(alloc, &served);
-    drop(served);
-    Outcome {
-        written: writer.into_inner().bytes,
-        logged: log.into_sink().into_inner().bytes,
-        end,
-        tree,
+        (Ended::Finished(tree), _) => tree.write(),
+        (Ended::Fault(tree, _), _) => tree.write(),
+        (_, Some(tree)) => tree.write(),
+        (_, None) => Ok(Vec::new(alloc)),
     }
 }
 
@@ -104,14 +74,22 @@ fn session<S: Schedule>(
     log: Room,
     schedule: &mut S,
 ) -> Result<Outcome, Fail> {
+    let mut reader = Tally::new(input);
+    let mut writer = Tally::new(output);
+    let mut record = Writer::new(alloc, Tally::new(log))?;
     let tree = Tree::blank(alloc)?;
-    match Writer::new(alloc, Tally::new(log)) {
-        Ok(log) => Ok(served_on(tree, input, output, log, schedule)),
-        Err(error) => {
-            drop(tree);
-            Err(Fail::from(error))
-        }
-    }
+    let served = serve_keeping_tree(tree, &mut reader, &mut writer, &mut record, schedule);
+    let end = end_of(&served.ended);
+    let file = file_of(alloc, &served);
+    drop(served);
+    let Room { bytes: written, .. } = writer.into_inner();
+    let Room { bytes: logged, .. } = record.into_sink().into_inner();
+    Ok(Outcome {
+        written,
+        logged,
+        end,
+        tree: file?,
+    })
 }
 
 /// How many requests the log of a session on the blank tree has, if it is accepted with the tree of the session's end.

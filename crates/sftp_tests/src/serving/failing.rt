@@ -46,167 +46,97 @@ fn left(end: End, logged: usize) -> &'static [u8] {
     }
 }
 
-/// How a session has to end, and how many bytes it has to write and to log.
-#[derive(Clone, Copy)]
-struct Wanted {
-    end: End,
-    written: usize,
-    logged: usize,
+/// Whether a session ended so, with so many bytes written and logged, and with the tree of the requests done.
+fn ends(outcome: &Outcome, end: End, written: usize, logged: usize) -> bool {
+    outcome.end == end
+        && is_front(outcome.written.as_slice(), written, WRITTEN)
+        && is_front(outcome.logged.as_slice(), logged, LOGGED)
+        && outcome.tree.as_slice() == left(end, logged)
 }
 
-/// Whether a session ended so, with the tree of the requests done.
-fn ended(outcome: &Outcome, wanted: Wanted) -> bool {
-    outcome.end == wanted.end
-        && is_front(outcome.written.as_slice(), wanted.written, WRITTEN)
-        && is_front(outcome.logged.as_slice(), wanted.logged, LOGGED)
-        && outcome.tree.as_slice() == left(wanted.end, wanted.logged)
-}
-
-/// Whether the session of this input with these writers ends so.
-fn ends(
-    alloc: Global,
-    input: Input,
-    output: Room,
-    log: Room,
-    wanted: Wanted,
-) -> Result<bool, Fail> {
-    let outcome = session(alloc, input, output, log, &mut InOrder)?;
-    let ended = ended(&outcome, wanted);
-    drop(outcome);
-    Ok(ended)
-}
-
-/// The same where the reader fails behind these bytes.
-fn ends_behind(alloc: Global, input: &[u8], wanted: Wanted) -> Result<bool, Fail> {
-    let torn = Input::whole(input, true);
-    ends(alloc, torn, Room::ample(alloc), Room::ample(alloc), wanted)
+/// The session of this input with these writers.
+fn over(alloc: Global, input: Input, output: Room, log: Room) -> Result<Outcome, Fail> {
+    session(alloc, input, output, log, &mut InOrder)
 }
 
 #[test]
 fn reader_fails(rt: HostRuntime) -> Result<(), Fail> {
+    let alloc = rt.alloc();
     for count in 0..=28 {
         let (written, logged) = match count {
             0..=8 => (0, 0),
             9..=27 => (124, 143),
             _ => (145, 185),
         };
-        let wanted = Wanted {
-            end: READER,
-            written,
-            logged,
-        };
-        let input = INPUT.get(..count).unwrap_or(INPUT);
-        assert!(rt; ends_behind(rt.alloc(), input, wanted)?, "{count}");
+        let torn = Input::whole(INPUT.get(..count).unwrap_or(INPUT), true);
+        let outcome = over(alloc, torn, Room::ample(alloc), Room::ample(alloc))?;
+        assert!(rt; ends(&outcome, READER, written, logged), "{count}");
     }
     Ok(())
 }
 
-/// Whether the session ends so with a writer and a log that have room for so many bytes, whether they take all at once
-/// or one a call.
-fn ends_in(alloc: Global, writer: usize, log: usize, wanted: Wanted) -> Result<bool, Fail> {
-    for size in [usize::MAX, 1] {
-        let input = Input::whole(INPUT, false);
-        let output = Room::of(alloc, writer, size, true);
-        let log = Room::of(alloc, log, size, true);
-        if !ends(alloc, input, output, log, wanted)? {
-            return Ok(false);
-        }
-    }
-    Ok(true)
+/// The session with a writer and a log that have room for so many bytes and take so many a call.
+fn narrow(alloc: Global, writer: usize, log: usize, size: usize) -> Result<Outcome, Fail> {
+    let output = Room::of(alloc, writer, size, true);
+    let record = Room::of(alloc, log, size, true);
+    over(alloc, Input::whole(INPUT, false), output, record)
 }
 
 #[test]
 fn writer_fails(rt: HostRuntime) -> Result<(), Fail> {
-    for written in 0..=145 {
-        let (end, logged) = match written {
+    for count in 0..=145 {
+        let (end, logged) = match count {
             0..=123 => (WRITER, 18),
             124..=144 => (WRITER, 163),
             _ => (End::Finished, 185),
         };
-        let wanted = Wanted {
-            end,
-            written,
-            logged,
-        };
-        assert!(rt;
-            ends_in(rt.alloc(), written, usize::MAX, wanted)?,
-            "{written}"
-        );
+        for size in [usize::MAX, 1] {
+            let outcome = narrow(rt.alloc(), count, usize::MAX, size)?;
+            assert!(rt; ends(&outcome, end, count, logged), "{count} {size}");
+        }
     }
     Ok(())
 }
 
 #[test]
 fn log_fails(rt: HostRuntime) -> Result<(), Fail> {
-    for logged in 0..=185 {
-        let (end, written) = match logged {
+    for count in 0..=185 {
+        let (end, written) = match count {
             0..=17 => (LOG, 0),
             18..=162 => (LOG, 124),
             163..=184 => (LOG, 145),
             _ => (End::Finished, 145),
         };
-        let wanted = Wanted {
-            end,
-            written,
-            logged,
-        };
-        assert!(rt;
-            ends_in(rt.alloc(), usize::MAX, logged, wanted)?,
-            "{logged}"
-        );
+        for size in [usize::MAX, 1] {
+            let outcome = narrow(rt.alloc(), usize::MAX, count, size)?;
+            assert!(rt; ends(&outcome, end, written, count), "{count} {size}");
+        }
     }
     Ok(())
-}
-
-/// Whether the session of this input ends so with a writer, or a log, that is this one.
-fn ends_with(
-    alloc: Global,
-    input: &[u8],
-    room: Room,
-    is_log: bool,
-    wanted: Wanted,
-) -> Result<bool, Fail> {
-    let input = Input::whole(input, false);
-    if is_log {
-        ends(alloc, input, Room::ample(alloc), room, wanted)
-    } else {
-        ends(alloc, input, room, Room::ample(alloc), wanted)
-    }
 }
 
 #[test]
 fn streams_take_nothing(rt: HostRuntime) -> Result<(), Fail> {
-    for (is_log, end, written, logged) in [(false, WRITER, 127, 163), (true, LOG, 124, 100)] {
-        let wanted = Wanted {
-            end,
-            written,
-            logged,
-        };
-        let room = if is_log { logged } else { written };
-        let full = Room::of(rt.alloc(), room, usize::MAX, false);
-        assert!(rt;
-            ends_with(rt.alloc(), INPUT, full, is_log, wanted)?,
-            "{is_log}"
-        );
-    }
+    let alloc = rt.alloc();
+    let full = Room::of(alloc, 127, usize::MAX, false);
+    let outcome = over(alloc, Input::whole(INPUT, false), full, Room::ample(alloc))?;
+    assert!(rt; ends(&outcome, WRITER, 127, 163));
+    let full = Room::of(alloc, 100, usize::MAX, false);
+    let outcome = over(alloc, Input::whole(INPUT, false), Room::ample(alloc), full)?;
+    assert!(rt; ends(&outcome, LOG, 124, 100));
     Ok(())
-}
-
-/// Whether the session of this input ends since the writer, or the log, cannot be flushed.
-fn ends_at_flush(alloc: Global, input: &[u8], is_log: bool) -> Result<bool, Fail> {
-    let wanted = Wanted {
-        end: if is_log { LOG } else { WRITER },
-        written: 145,
-        logged: 185,
-    };
-    ends_with(alloc, input, Room::stuck(alloc), is_log, wanted)
 }
 
 #[test]
 fn flush_fails(rt: HostRuntime) -> Result<(), Fail> {
-    for is_log in [false, true] {
-        assert!(rt; ends_at_flush(rt.alloc(), INPUT, is_log)?, "{is_log}");
-        assert!(rt; ends_at_flush(rt.alloc(), FAULTY, is_log)?, "{is_log}");
+    let alloc = rt.alloc();
+    for input in [INPUT, FAULTY] {
+        let whole = Input::whole(input, false);
+        let writer = over(alloc, whole, Room::stuck(alloc), Room::ample(alloc))?;
+        assert!(rt; ends(&writer, WRITER, 145, 185), "{input:?}");
+        let whole = Input::whole(input, false);
+        let log = over(alloc, whole, Room::ample(alloc), Room::stuck(alloc))?;
+        assert!(rt; ends(&log, LOG, 145, 185), "{input:?}");
     }
     Ok(())
 }

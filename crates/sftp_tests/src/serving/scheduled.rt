@@ -75,18 +75,12 @@ const SCHEDULES: &[(&[u8], &[usize], [u8; 4])] = &[
     (OPENS_AND_READS, &[], [1, 2, 3, 4]),
 ];
 
-/// Whether the replies of this input come in this order, by these choices, and the log is accepted.
-fn follows(alloc: Global, input: &[u8], rest: &[usize], ids: [u8; 4]) -> Result<bool, Fail> {
-    let outcome = served(alloc, input, rest, usize::MAX)?;
-    let follows = has_ids(&outcome, ids) && accepted_requests(alloc, &outcome) == Some(4);
-    drop(outcome);
-    Ok(follows)
-}
-
 #[test]
 fn schedules_are_followed(rt: HostRuntime) -> Result<(), Fail> {
     for (input, rest, ids) in SCHEDULES {
-        assert!(rt; follows(rt.alloc(), input, rest, *ids)?, "{rest:?}");
+        let outcome = served(rt.alloc(), input, rest, usize::MAX)?;
+        let accepted = accepted_requests(rt.alloc(), &outcome);
+        assert!(rt; has_ids(&outcome, *ids) && accepted == Some(4), "{rest:?}");
     }
     Ok(())
 }
@@ -96,21 +90,18 @@ const ENTRIES: &[u8] =
     b"\0\0\0\x02/aD\0\0\0\0\0\0\0\0\0\0\x01\xed\0\0\0\x02/bD\0\0\0\0\0\0\0\0\0\0\x01\xed\
 \0\0\0\x02/cD\0\0\0\0\0\0\0\0\0\0\x01\xed\0\0\0\x02/dD\0\0\0\0\0\0\0\0\0\0\x01\xed";
 
-/// Whether a session of the MKDIRs, by these choices, stops since its client went away, and leaves a tree with these
-/// entries.
-fn leaves(alloc: Global, rest: &[usize], room: usize, entries: &[u8]) -> Result<bool, Fail> {
-    let outcome = served(alloc, MKDIRS, rest, room)?;
-    let is_end = outcome.end == End::Io(Stream::Writer);
-    let are_entries = outcome.tree.get(BLANK.len()..) == Some(entries);
-    drop(outcome);
-    Ok(is_end && are_entries)
+/// Whether a session stopped since its client went away, and left a tree with these entries.
+fn leaves(outcome: &Outcome, entries: &[u8]) -> bool {
+    outcome.end == End::Io(Stream::Writer) && outcome.tree.get(BLANK.len()..) == Some(entries)
 }
 
 #[test]
 fn nothing_done_is_lost(rt: HostRuntime) -> Result<(), Fail> {
     // Each reply is sent before the next request is done; there is room for VERSION and the first.
-    assert!(rt; leaves(rt.alloc(), &[], VERSION.len() + 21, &ENTRIES[..38])?);
+    let in_turn = served(rt.alloc(), MKDIRS, &[], VERSION.len() + 21)?;
+    assert!(rt; leaves(&in_turn, &ENTRIES[..38]));
     // All requests are done before the first reply, for which there is no room.
-    assert!(rt; leaves(rt.alloc(), &[0, 1, 2, 3], VERSION.len(), ENTRIES)?);
+    let at_once = served(rt.alloc(), MKDIRS, &[0, 1, 2, 3], VERSION.len())?;
+    assert!(rt; leaves(&at_once, ENTRIES));
     Ok(())
 }
