@@ -10,8 +10,8 @@ use Rattle.sftp_transcript.specs.declared.errors.TranscriptError.TheVariants.{Ma
 use Rattle.sftp_transcript.specs.declared.stage.Stage.TheVariants as stages
 use Rattle.sftp_transcript.specs.Ahead.{Ahead, HoldsOpening, CutsPacket, CutsAtEnd}
 use Rattle.sftp_transcript.specs.Begun.{FaultAhead}
-use Rattle.sftp_transcript.specs.Records.{side_of_direction, IsInit, IsVersion}
-use Rattle.sftp_transcript.specs.Refused.{PacketFault, DirectedFault, RecordFault, BeginsOther, KindFault, IsEventPacket, InitFault, VersionFault, EventFault}
+use Rattle.sftp_transcript.specs.Records.{side_of_direction}
+use Rattle.sftp_transcript.specs.Refused.{PacketFault, DirectedFault, RecordFault, BeginsOther, KindFault, IsEventPacket, EventFault}
 use Rattle.sftp_transcript.specs.Steps.{HasAhead, IsExcuse}
 use Rattle.sftp_transcript.specs.Transcript.{transcript_opening, record_text}
 use Rattle.sftp_transcript.proofs.Fronts.{fault_stays}
@@ -84,14 +84,6 @@ pub opening_fault : (m : Ahead) (before : List ℕ) (error : TranscriptError) �
     → ((rest : List ℕ) → m.held ≡ transcript_opening ++ rest → error ≡ NoMemory) → IsExcuse error ⊎ FaultAhead stages.Opening 0 before error
 opening_fault m before error known holds is only =
     inr (is, λ rest opened. let front = opening_front m before rest holds known opened in subst IsExcuse is (excused (only front.rest front.held)))
-
-pub init_fault : (m : Ahead) (before : List ℕ) (error : TranscriptError) → HasAhead m before
-    → (m.held ≡ [] → IsAtEnd m.left) → CutsAtEnd m → InitFault m.held error → IsExcuse error ⊎ FaultAhead stages.Init 0 before error
-init_fault m before error known end part fault = fault_ahead IsInit 1 m before error known end part fault
-
-pub version_fault : (m : Ahead) (before : List ℕ) (error : TranscriptError) → HasAhead m before
-    → (m.held ≡ [] → IsAtEnd m.left) → CutsAtEnd m → VersionFault m.held error → IsExcuse error ⊎ FaultAhead stages.Version 0 before error
-version_fault m before error known end part fault = fault_ahead IsVersion 2 m before error known end part fault
 
 pub event_fault : (number : ℕ) (m : Ahead) (before : List ℕ) (error : TranscriptError) → HasAhead m before
     → (m.held ≡ [] → IsAtEnd m.left) → CutsAtEnd m → 0 < length m.held → EventFault number m.held error

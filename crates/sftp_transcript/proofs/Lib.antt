@@ -10,3 +10,4 @@ pub mod Numbers
 pub mod Recorded
 pub mod Begun
 pub mod Packets
+pub mod Greetings

@@ -18,8 +18,8 @@ use Rattle.sftp_transcript.specs.Recorded.{Reading, rank}
 use Rattle.sftp_transcript.specs.Refused.{KindFault, IsEventPacket}
 use Rattle.sftp_transcript.specs.Steps.{HasAhead, IsExcuse, IsOpened, Took}
 use Rattle.sftp_transcript.specs.Transcript.{transcript_opening, record_text, packet_of}
-use Rattle.sftp_transcript.proofs.Begun.{opening_read, init_read, version_read, event_read, number_more, given_kept, given_passed}
-use Rattle.sftp_transcript.proofs.Faults.{init_fault, version_fault, event_fault}
+use Rattle.sftp_transcript.proofs.Begun.{opening_read, greeting_read, event_read, number_more, given_kept, given_passed}
+use Rattle.sftp_transcript.proofs.Faults.{fault_ahead, event_fault}
 use Rattle.sftp_transcript.proofs.Inputs.{ahead_parts}
 use Rattle.sftp_transcript.proofs.Taking.{FrontHeld, front_taken}
 use Rattle.sftp_transcript.proofs.transcripts.Beginnings.{begins_one, not_both}
@@ -30,8 +30,8 @@ pub stage_fault : (stage : Stage) (number : ℕ) (m : Ahead) (before : List ℕ)
     → (m.held ≡ [] → IsAtEnd m.left) → CutsAtEnd m → (stage ≡ stages.Events → 0 < length m.held)
     → KindFault (MayCome stage) (record_number stage number) m.held error → IsExcuse error ⊎ FaultAhead stage number before error
 stage_fault stages.Opening number m before error begun known end part some fault = absurd (omega (arith, begun))
-stage_fault stages.Init number m before error begun known end part some fault = init_fault m before error known end part fault
-stage_fault stages.Version number m before error begun known end part some fault = version_fault m before error known end part fault
+stage_fault stages.Init number m before error begun known end part some fault = fault_ahead IsInit 1 m before error known end part fault
+stage_fault stages.Version number m before error begun known end part some fault = fault_ahead IsVersion 2 m before error known end part fault
 stage_fault stages.Events number m before error begun known end part some fault = event_fault number m before error known end part (some refl) fault
 
 pub record_took : (m : Ahead) (packet : Packet) (rest before : List ℕ) → HasAhead m before → Begins m.held packet rest
@@ -135,7 +135,7 @@ on_err_both F (Err error) f p q = f p q
 
 -- ---- one record is next at most, and none where a fault comes next
 
-one_opened : (stage : Stage) (before records others : List ℕ) → IsAfterOpening stage before records
+pub one_opened : (stage : Stage) (before records others : List ℕ) → IsAfterOpening stage before records
     → IsAfterOpening stage before others → records ≡ others
 one_opened stages.Opening before records others one other = append_cancel_left transcript_opening records others (sym one ∙ other)
 one_opened stages.Init before records others one other = one ∙ sym other
@@ -218,7 +218,7 @@ given_up_to : (stage : Stage) (bytes : List ℕ) (events : List Event) (number :
     → GivenUpTo stage bytes events number packet rest
 given_up_to stages.Opening bytes events number before packet rest is read n =
     let opened = opening_read bytes events before n.records read n.opened in
-    let init = init_read bytes events n.records rest opened (record { packet = packet; is_init = n.may_come; begins = n.begins }) in
+    let init = greeting_read stages.Init refl bytes events n.records rest opened (record { packet = packet; is_kind = n.may_come; begins = n.begins }) in
     let none : event_from packet ≡ None = event_of_init packet n.may_come in
     record {
       read = subst (λ (o : Option Event). ReadUpTo stages.Version bytes (with_given events o) rest) (sym none) init;
@@ -226,7 +226,7 @@ given_up_to stages.Opening bytes events number before packet rest is read n =
     }
 given_up_to stages.Init bytes events number before packet rest is read n =
     let begins : Begins before packet rest = subst (λ (l : List ℕ). Begins l packet rest) n.opened n.begins in
-    let init = init_read bytes events before rest read (record { packet = packet; is_init = n.may_come; begins = begins }) in
+    let init = greeting_read stages.Init refl bytes events before rest read (record { packet = packet; is_kind = n.may_come; begins = begins }) in
     let none : event_from packet ≡ None = event_of_init packet n.may_come in
     record {
       read = subst (λ (o : Option Event). ReadUpTo stages.Version bytes (with_given events o) rest) (sym none) init;
@@ -234,7 +234,7 @@ given_up_to stages.Init bytes events number before packet rest is read n =
     }
 given_up_to stages.Version bytes events number before packet rest is read n =
     let begins : Begins before packet rest = subst (λ (l : List ℕ). Begins l packet rest) n.opened n.begins in
-    let version = version_read bytes events before rest read (record { packet = packet; is_version = n.may_come; begins = begins }) in
+    let version = greeting_read stages.Version refl bytes events before rest read (record { packet = packet; is_kind = n.may_come; begins = begins }) in
     let none : event_from packet ≡ None = event_of_version packet n.may_come in
     record {
       read = subst (λ (o : Option Event). ReadUpTo stages.Events bytes (with_given events o) rest) (sym none) version;

@@ -1,5 +1,5 @@
 -- Which events are to come, before and after each step of a reader.
-use Rattle.std.proofs.Common.{◌≡◌, ℕ, ◌≤◌, List, [], ◌∷◌, ◌++◌, Option, Some, None, Result, Ok, Err, OnErr, refl, sym, ap, ◌∙◌, subst}
+use Rattle.std.proofs.Common.{◌≡◌, ℕ, ◌≤◌, true, List, [], ◌∷◌, ◌++◌, Option, Some, None, Result, Ok, Err, OnErr, refl, sym, ap, ◌∙◌, subst}
 use Rattle.std.proofs.Common.{arith}
 use Rattle.std.specs.List.{flat_map}
 use Rattle.std.proofs.lemmas.List.Concat.{flat_map-cons}
@@ -8,8 +8,9 @@ use Rattle.sftp_transcript.specs.declared.events.Event.{Event}
 use Rattle.sftp_transcript.specs.declared.stage.Stage.{Stage}
 use Rattle.sftp_transcript.specs.declared.stage.Stage.TheVariants as stages
 use Rattle.sftp_transcript.specs.Ahead.{IsSameAhead, bytes_ahead, size_of}
-use Rattle.sftp_transcript.specs.Records.{BeginsInit, BeginsVersion}
-use Rattle.sftp_transcript.specs.Recorded.{Reading, RecordsFrom, RecordsFromInit, RecordsFromVersion, IsKnown, Records, RecordsSame, Gave, Gives}
+use Rattle.sftp_transcript.specs.Packets.{MayCome, stage_after, is_greeting}
+use Rattle.sftp_transcript.specs.Records.{BeginsKind}
+use Rattle.sftp_transcript.specs.Recorded.{Reading, RecordsFrom, RecordsFromInit, IsKnown, Records, RecordsSame, Gave, Gives}
 use Rattle.sftp_transcript.specs.Steps.{HasAhead, IsExcuse, IsOpened, Took, BeginsEvent, TookEvent}
 use Rattle.sftp_transcript.specs.Transcript.{event_record, AreRecords, IsRecord}
 use Rattle.sftp_transcript.proofs.Taking.{known_kept}
@@ -118,19 +119,19 @@ opening_split events before is =
     let p = record_parts events before is.opened is.opening is in
     (is.opened, is.opening, record { middle = p.middle; init = p.init; answered = record { records = p.records; version = p.version; recorded = p.recorded } })
 
-pub init_sound : (events : List Event) (before after : List ℕ) → BeginsInit before after → RecordsFromVersion events after → RecordsFromInit events before
-init_sound events before after is r = record { middle = after; init = is; answered = r }
+pub greeting_sound : (s : Stage) → is_greeting s ≡ true → (events : List Event) (before after : List ℕ)
+    → BeginsKind (MayCome s) before after → RecordsFrom (stage_after s) events after → RecordsFrom s events before
+greeting_sound stages.Opening greets events before after is r = absurd cc
+greeting_sound stages.Init greets events before after is r = record { middle = after; init = is; answered = r }
+greeting_sound stages.Version greets events before after is r = record { records = after; version = is; recorded = r }
+greeting_sound stages.Events greets events before after is r = absurd cc
 
-pub init_split : (events : List Event) (before : List ℕ) → RecordsFromInit events before
-    → (after : List ℕ) × BeginsInit before after × RecordsFromVersion events after
-init_split events before r = (r.middle, r.init, r.answered)
-
-pub version_sound : (events : List Event) (before after : List ℕ) → BeginsVersion before after → AreRecords events after → RecordsFromVersion events before
-version_sound events before after is r = record { records = after; version = is; recorded = r }
-
-pub version_split : (events : List Event) (before : List ℕ) → RecordsFromVersion events before
-    → (after : List ℕ) × BeginsVersion before after × AreRecords events after
-version_split events before r = (r.records, r.version, r.recorded)
+pub greeting_split : (s : Stage) → is_greeting s ≡ true → (events : List Event) (before : List ℕ) → RecordsFrom s events before
+    → (after : List ℕ) × BeginsKind (MayCome s) before after × RecordsFrom (stage_after s) events after
+greeting_split stages.Opening greets events before r = absurd cc
+greeting_split stages.Init greets events before r = (r.middle, r.init, r.answered)
+greeting_split stages.Version greets events before r = (r.records, r.version, r.recorded)
+greeting_split stages.Events greets events before r = absurd cc
 
 -- ---- events
 

@@ -7,9 +7,8 @@ use Rattle.sftp_transcript.specs.declared.errors.TranscriptError.{TranscriptErro
 use Rattle.sftp_transcript.specs.declared.errors.TranscriptError.TheVariants.{NoMemory}
 use Rattle.sftp_transcript.specs.declared.events.Event.{Event}
 use Rattle.sftp_transcript.specs.Ahead.{Ahead, HoldsRecord, HoldsOpening, ahead_without}
-use Rattle.sftp_transcript.specs.Records.{BeginsInit, BeginsVersion}
 use Rattle.sftp_transcript.specs.Steps.{HasAhead, IsExcuse, IsOpened, BeginsEvent, Took}
-use Rattle.sftp_transcript.specs.Transcript.{transcript_opening, record_text, packet_of, event_record}
+use Rattle.sftp_transcript.specs.Transcript.{transcript_opening, packet_of, event_record}
 use Rattle.sftp_transcript.proofs.Inputs.{ahead_parts}
 
 pub known_kept : (a b : Option (List ℕ)) (bytes : List ℕ) → Keeps a b → a ≡ Some bytes → b ≡ Some bytes
@@ -63,36 +62,6 @@ pub opening_front : (m : Ahead) (before after : List ℕ) → HoldsOpening m →
     → FrontHeld m transcript_opening after
 opening_front m before after holds known is =
     front_held m transcript_opening before after known is (holds before after known is)
-
--- ---- the first two records
-
-pub init_front : (m : Ahead) (before after : List ℕ) → HoldsRecord m → HasAhead m before
-    → (is : BeginsInit before after) → FrontHeld m (record_text is.packet) after
-init_front m before after holds known is =
-    front_held m (record_text is.packet) before after known is.begins.bytes_are
-    (holds is.packet before after is.begins.spelled known is.begins.bytes_are)
-
-pub init_held : (m : Ahead) (before after : List ℕ) (is : BeginsInit before after)
-    → (front : FrontHeld m (record_text is.packet) after) → BeginsInit m.held front.rest
-init_held m before after is front = record {
-  packet = is.packet;
-  is_init = is.is_init;
-  begins = record { spelled = is.begins.spelled; bytes_are = front.held };
-}
-
-pub version_front : (m : Ahead) (before after : List ℕ) → HoldsRecord m → HasAhead m before
-    → (is : BeginsVersion before after) → FrontHeld m (record_text is.packet) after
-version_front m before after holds known is =
-    front_held m (record_text is.packet) before after known is.begins.bytes_are
-    (holds is.packet before after is.begins.spelled known is.begins.bytes_are)
-
-pub version_held : (m : Ahead) (before after : List ℕ) (is : BeginsVersion before after)
-    → (front : FrontHeld m (record_text is.packet) after) → BeginsVersion m.held front.rest
-version_held m before after is front = record {
-  packet = is.packet;
-  is_version = is.is_version;
-  begins = record { spelled = is.begins.spelled; bytes_are = front.held };
-}
 
 -- ---- events
 

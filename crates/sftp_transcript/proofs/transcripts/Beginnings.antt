@@ -151,12 +151,12 @@ not_recorded stages.Opening events others bytes ahead number error apart read fa
     fault.1 is.opened (sym read.1 ∙ is.opening)
 not_recorded stages.Init events others bytes ahead number error apart read fault is =
     let p = record_parts others bytes ahead read.1 is in
-    not_both IsInit p.init.packet 1 ahead p.middle error apart p.init.is_init p.init.begins fault
+    not_both IsInit p.init.packet 1 ahead p.middle error apart p.init.is_kind p.init.begins fault
 not_recorded stages.Version events others bytes ahead number error apart read fault is =
     let opened = read.1.opened in
     let p = record_parts others bytes opened read.1.opening is in
     let same = begins_one opened p.init.packet read.1.init.packet p.middle ahead p.init.begins read.1.init.begins in
-    not_both IsVersion p.version.packet 2 ahead p.records error apart p.version.is_version (subst (λ (l : List ℕ). Begins l p.version.packet p.records) same.1 p.version.begins) fault
+    not_both IsVersion p.version.packet 2 ahead p.records error apart p.version.is_kind (subst (λ (l : List ℕ). Begins l p.version.packet p.records) same.1 p.version.begins) fault
 not_recorded stages.Events events others bytes ahead number error apart read fault is =
     let on = begins_each events others bytes ahead read is in
     none_behind on.more ahead number error apart on.recorded fault.0 fault.1

@@ -151,7 +151,7 @@ init_of events bytes rest begins =
       opening = begins.opening;
       init = record {
         packet = Init shake.version shake.asked;
-        is_init = shake.high_enough;
+        is_kind = shake.high_enough;
         begins = record { spelled = shake.init; bytes_are = shake.bytes_are };
       };
     }
@@ -160,7 +160,7 @@ version_of : (events : List Event) (bytes rest : List ℕ) (begins : BeginsRecor
     → BeginsVersion (record_text (Version 3 begins.handshake.told) ++ begins.records) begins.records
 version_of events bytes rest begins = record {
   packet = Version 3 begins.handshake.told;
-  is_version = refl;
+  is_kind = refl;
   begins = record { spelled = begins.handshake.answer; bytes_are = refl };
 }
 
@@ -215,13 +215,13 @@ none_later stages.Init t bytes events others ahead rest number error apart less 
     let with_init = inits t bytes others rest (omega (arith, less)) other in
     let opened : with_init.1.opened ≡ ahead = same_opened bytes with_init.1.opened ahead with_init.1.opening read.1 in
     let init = with_init.1.init in
-    not_both IsInit init.packet 1 ahead with_init.0 error apart init.is_init
+    not_both IsInit init.packet 1 ahead with_init.0 error apart init.is_kind
     (subst (λ (l : List ℕ). Begins l init.packet with_init.0) opened init.begins) fault
 none_later stages.Version t bytes events others ahead rest number error apart less read fault other =
     let both = versions t bytes others rest (omega (arith, less)) other in
     let middle : both.0 ≡ ahead = one_init bytes both.0 ahead both.2 read.1 in
     let version = both.3 in
-    not_both IsVersion version.packet 2 ahead both.1 error apart version.is_version
+    not_both IsVersion version.packet 2 ahead both.1 error apart version.is_kind
     (subst (λ (l : List ℕ). Begins l version.packet both.1) middle version.begins) fault
 none_later stages.Events t bytes events others ahead rest number error apart less read fault other =
     absurd (omega (arith, less, rank_most t))
