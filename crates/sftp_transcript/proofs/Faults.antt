@@ -26,10 +26,7 @@ packet_fault number side bytes more (Truncated place) end fault =
     inr (fault.0, ap (front_of side) all ∙ fault.1)
 packet_fault number side bytes more (Wire f place) end fault = inr (fault.0, fault_stays side bytes more f fault.1)
 packet_fault number side bytes more NoMemory end fault = inl tt
-packet_fault number side bytes more (Magic place) end fault = absurd fault
-packet_fault number side bytes more (Direction place) end fault = absurd fault
-packet_fault number side bytes more (Start place) end fault = absurd fault
-packet_fault number side bytes more (Io place) end fault = absurd fault
+packet_fault number side bytes more other end fault = absurd fault
 
 directed_fault : (number : ℕ) (side : Option Side) (bytes more : List ℕ) (error : TranscriptError)
     → ((s : Side) → front_of s bytes ≡ Ok None → more ≡ []) → DirectedFault number side bytes error

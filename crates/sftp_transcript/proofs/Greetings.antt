@@ -31,9 +31,7 @@ next_of_kind s before rest begun is =
 fault_next : (s : Stage) (number : ℕ) (before : List ℕ) (error : TranscriptError) → 1 ≤ rank s
     → IsExcuse error ⊎ FaultAhead s number before error → IsExcuse error ⊎ FaultNext s number before error
 fault_next stages.Opening number before error begun fault = absurd (omega (arith, begun))
-fault_next stages.Init number before error begun fault = fault
-fault_next stages.Version number before error begun fault = fault
-fault_next stages.Events number before error begun fault = fault
+fault_next other number before error begun fault = fault
 
 -- ---- where an INIT or a VERSION is next
 
@@ -92,6 +90,4 @@ greeting_excused old error begun greets first =
 
 pub events_behind : (s : Stage) → stage_after (stage_after s) ≡ stages.Events
 events_behind stages.Opening = refl
-events_behind stages.Init = refl
-events_behind stages.Version = refl
-events_behind stages.Events = refl
+events_behind other = refl

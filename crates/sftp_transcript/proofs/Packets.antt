@@ -34,23 +34,11 @@ stage_fault stages.Init number m before error begun known end part some fault = 
 stage_fault stages.Version number m before error begun known end part some fault = fault_ahead IsVersion 2 m before error known end part fault
 stage_fault stages.Events number m before error begun known end part some fault = event_fault number m before error known end part (some refl) fault
 
-pub record_took : (m : Ahead) (packet : Packet) (rest before : List ℕ) → HasAhead m before → Begins m.held packet rest
-    → Took (λ all after. Begins all packet after) before (ahead_without (length m.held - length rest) m)
-record_took m packet rest before known begins =
-    let p = ahead_parts m before known in
-    let front : FrontHeld m (record_text packet) (rest ++ p.left) =
-    record { rest = rest; left = p.left; held = begins.bytes_are; known = p.known; after_is = refl } in
-    let bytes : before ≡ record_text packet ++ (rest ++ p.left) =
-    p.bytes_are ∙ ap (λ (l : List ℕ). l ++ p.left) begins.bytes_are ∙ append_assoc (record_text packet) rest p.left in
-    (rest ++ p.left, front_taken m (record_text packet) (rest ++ p.left) rest front refl, record { spelled = begins.spelled; bytes_are = bytes })
-
 -- ---- after the opening
 
 pub at_front : (stage : Stage) (before : List ℕ) → 1 ≤ rank stage → IsAfterOpening stage before before
 at_front stages.Opening before begun = absurd (omega (arith, begun))
-at_front stages.Init before begun = refl
-at_front stages.Version before begun = refl
-at_front stages.Events before begun = refl
+at_front other before begun = refl
 
 pub next_given : (stage : Stage) (before : List ℕ) (packet : Packet) (new : Ahead) → 1 ≤ rank stage
     → MayCome stage packet × Took (λ all after. Begins all packet after) before new
@@ -67,15 +55,11 @@ next_opened stages.Opening before records packet rest is n = record {
   may_come = n.may_come;
   begins = n.begins;
 }
-next_opened stages.Init before records packet rest is n = record { records = n.records; opened = n.opened ∙ is; may_come = n.may_come; begins = n.begins }
-next_opened stages.Version before records packet rest is n = record { records = n.records; opened = n.opened ∙ is; may_come = n.may_come; begins = n.begins }
-next_opened stages.Events before records packet rest is n = record { records = n.records; opened = n.opened ∙ is; may_come = n.may_come; begins = n.begins }
+next_opened other before records packet rest is n = record { records = n.records; opened = n.opened ∙ is; may_come = n.may_come; begins = n.begins }
 
 behind_opened : (old : Stage) → stage_after (stage_opened old) ≡ stage_after old
 behind_opened stages.Opening = refl
-behind_opened stages.Init = refl
-behind_opened stages.Version = refl
-behind_opened stages.Events = refl
+behind_opened other = refl
 
 events_opened : (old : Stage) → stage_opened old ≡ stages.Events → old ≡ stages.Events
 events_opened stages.Opening e = absurd cc
@@ -116,9 +100,7 @@ gives_opened old mid before records given new e is gives =
 fault_behind : (old : Stage) (number : ℕ) (before records : List ℕ) (error : TranscriptError) → IsAfterOpening old before records
     → FaultAhead (stage_opened old) number records error → FaultNext old number before error
 fault_behind stages.Opening number before records error is fault = inr (records, is, fault)
-fault_behind stages.Init number before records error is fault = subst (λ (l : List ℕ). FaultAhead stages.Init number l error) is fault
-fault_behind stages.Version number before records error is fault = subst (λ (l : List ℕ). FaultAhead stages.Version number l error) is fault
-fault_behind stages.Events number before records error is fault = subst (λ (l : List ℕ). FaultAhead stages.Events number l error) is fault
+fault_behind other number before records error is fault = subst (λ (l : List ℕ). FaultAhead other number l error) is fault
 
 pub fault_opened : (old mid : Stage) (number now : ℕ) (before records : List ℕ) (error : TranscriptError) → mid ≡ stage_opened old
     → now ≡ number → IsAfterOpening old before records → IsExcuse error ⊎ FaultAhead mid now records error
@@ -138,9 +120,7 @@ on_err_both F (Err error) f p q = f p q
 pub one_opened : (stage : Stage) (before records others : List ℕ) → IsAfterOpening stage before records
     → IsAfterOpening stage before others → records ≡ others
 one_opened stages.Opening before records others one other = append_cancel_left transcript_opening records others (sym one ∙ other)
-one_opened stages.Init before records others one other = one ∙ sym other
-one_opened stages.Version before records others one other = one ∙ sym other
-one_opened stages.Events before records others one other = one ∙ sym other
+one_opened stage before records others one other = one ∙ sym other
 
 pub BeginsNext-one : (stage : Stage) (before : List ℕ) (p q : Packet) (x y : List ℕ) → BeginsNext stage before p x
     → BeginsNext stage before q y → (p ≡ q) × (x ≡ y)
@@ -178,11 +158,7 @@ not_next stages.Events number before rest packet error apart fault n =
 memory_or : (error : TranscriptError) → (error ≢ NoMemory → ⊥) → IsExcuse error
 memory_or NoMemory not = tt
 memory_or (Io place) not = tt
-memory_or (Magic place) not = absurd (not (λ e. absurd cc))
-memory_or (Direction place) not = absurd (not (λ e. absurd cc))
-memory_or (Start place) not = absurd (not (λ e. absurd cc))
-memory_or (Wire f place) not = absurd (not (λ e. absurd cc))
-memory_or (Truncated place) not = absurd (not (λ e. absurd cc))
+memory_or other not = absurd (not (λ e. absurd cc))
 
 pub next_excuse : (stage : Stage) (number : ℕ) (before rest : List ℕ) (packet : Packet) (error : TranscriptError)
     → IsExcuse error ⊎ FaultNext stage number before error → BeginsNext stage before packet rest → IsExcuse error

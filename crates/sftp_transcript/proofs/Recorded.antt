@@ -3,6 +3,7 @@ use Rattle.std.proofs.Common.{◌≡◌, ℕ, ◌≤◌, true, List, [], ◌∷�
 use Rattle.std.proofs.Common.{arith}
 use Rattle.std.specs.List.{flat_map}
 use Rattle.std.proofs.lemmas.List.Concat.{flat_map-cons}
+use Rattle.std.proofs.lemmas.Option.{same_Some}
 use Rattle.sftp_transcript.specs.declared.errors.TranscriptError.{TranscriptError}
 use Rattle.sftp_transcript.specs.declared.events.Event.{Event}
 use Rattle.sftp_transcript.specs.declared.stage.Stage.{Stage}
@@ -15,9 +16,6 @@ use Rattle.sftp_transcript.specs.Steps.{HasAhead, IsExcuse, IsOpened, Took, Begi
 use Rattle.sftp_transcript.specs.Transcript.{event_record, AreRecords, IsRecord}
 use Rattle.sftp_transcript.proofs.Taking.{known_kept}
 use Rattle.sftp_transcript.proofs.transcripts.Reading.{record_parts, record_by}
-
-same_bytes : (x y : List ℕ) → Some x ≡ Some y → x ≡ y
-same_bytes x y e = cc
 
 -- ---- no step, and steps one after the other
 
@@ -44,7 +42,7 @@ RecordsSame-then a b c p q = record {
 -- ---- the same bytes are ahead
 
 kept_known : (a b : Option (List ℕ)) (x y : List ℕ) → a ≡ Some x → b ≡ Some y → ((z : List ℕ) → a ≡ Some z → b ≡ Some z) → x ≡ y
-kept_known a b x y e k f = same_bytes x y (sym (f x e) ∙ k)
+kept_known a b x y e k f = same_Some x y (sym (f x e) ∙ k)
 
 pub RecordsSame-kept : (old new : Reading) → IsSameAhead old.ahead new.ahead → new.stage ≡ old.stage → new.number ≡ old.number
     → new.fault ≡ old.fault → RecordsSame old new
@@ -58,7 +56,7 @@ RecordsSame-kept old new same stage number fault =
         are_ahead = k.1;
         recorded =
             let at : RecordsFrom old.stage events r.bytes = subst (λ (s : Stage). RecordsFrom s events r.bytes) stage r.recorded in
-            subst (λ (l : List ℕ). RecordsFrom old.stage events l) (sym (same_bytes k.0 r.bytes (sym (keep k.0 k.1) ∙ r.are_ahead))) at;
+            subst (λ (l : List ℕ). RecordsFrom old.stage events l) (sym (same_Some k.0 r.bytes (sym (keep k.0 k.1) ∙ r.are_ahead))) at;
       };
       complete = λ events r. record {
         bytes = r.bytes;
@@ -84,7 +82,7 @@ module _ (P : List ℕ → List ℕ → Type 0) (s t : Stage)
         let took = found k.0 k.1 in
         let at : RecordsFrom t events r.bytes = subst (λ (u : Stage). RecordsFrom u events r.bytes) to r.recorded in
         let behind : RecordsFrom t events took.0 =
-        subst (λ (l : List ℕ). RecordsFrom t events l) (same_bytes r.bytes took.0 (sym r.are_ahead ∙ took.1)) at in
+        subst (λ (l : List ℕ). RecordsFrom t events l) (same_Some r.bytes took.0 (sym r.are_ahead ∙ took.1)) at in
         record {
           bytes = k.0;
           are_ahead = k.1;
@@ -157,7 +155,7 @@ gave old new (Some event) from to found k =
       recorded =
           let at : AreRecords others r.bytes = subst (λ (u : Stage). RecordsFrom u others r.bytes) to r.recorded in
           let behind : AreRecords others took.0 =
-          subst (λ (l : List ℕ). AreRecords others l) (same_bytes r.bytes took.0 (sym r.are_ahead ∙ took.1)) at in
+          subst (λ (l : List ℕ). AreRecords others l) (same_Some r.bytes took.0 (sym r.are_ahead ∙ took.1)) at in
           subst (λ (u : Stage). RecordsFrom u (event ∷ others) k.0) (sym from) (event_sound event others k.0 took.0 took.2 behind);
     }
 gave old new None from to found k =

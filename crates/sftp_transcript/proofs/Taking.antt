@@ -6,9 +6,11 @@ use Rattle.std.specs.Io.KnownBytes.{Keeps, prepend_known}
 use Rattle.sftp_transcript.specs.declared.errors.TranscriptError.{TranscriptError}
 use Rattle.sftp_transcript.specs.declared.errors.TranscriptError.TheVariants.{NoMemory}
 use Rattle.sftp_transcript.specs.declared.events.Event.{Event}
+use Rattle.sftp_wire.specs.declared.packets.Packet.{Packet}
 use Rattle.sftp_transcript.specs.Ahead.{Ahead, HoldsRecord, HoldsOpening, ahead_without}
+use Rattle.sftp_transcript.specs.Records.{Begins}
 use Rattle.sftp_transcript.specs.Steps.{HasAhead, IsExcuse, IsOpened, BeginsEvent, Took}
-use Rattle.sftp_transcript.specs.Transcript.{transcript_opening, packet_of, event_record}
+use Rattle.sftp_transcript.specs.Transcript.{transcript_opening, record_text, packet_of, event_record}
 use Rattle.sftp_transcript.proofs.Inputs.{ahead_parts}
 
 pub known_kept : (a b : Option (List ℕ)) (bytes : List ℕ) → Keeps a b → a ≡ Some bytes → b ≡ Some bytes
@@ -63,6 +65,18 @@ pub opening_front : (m : Ahead) (before after : List ℕ) → HoldsOpening m →
 opening_front m before after holds known is =
     front_held m transcript_opening before after known is (holds before after known is)
 
+-- ---- records
+
+pub record_took : (m : Ahead) (packet : Packet) (rest before : List ℕ) → HasAhead m before → Begins m.held packet rest
+    → Took (λ all after. Begins all packet after) before (ahead_without (length m.held - length rest) m)
+record_took m packet rest before known begins =
+    let p = ahead_parts m before known in
+    let front : FrontHeld m (record_text packet) (rest ++ p.left) =
+    record { rest = rest; left = p.left; held = begins.bytes_are; known = p.known; after_is = refl } in
+    let bytes : before ≡ record_text packet ++ (rest ++ p.left) =
+    p.bytes_are ∙ ap (λ (l : List ℕ). l ++ p.left) begins.bytes_are ∙ append_assoc (record_text packet) rest p.left in
+    (rest ++ p.left, front_taken m (record_text packet) (rest ++ p.left) rest front refl, record { spelled = begins.spelled; bytes_are = bytes })
+
 -- ---- events
 
 pub event_front : (m : Ahead) (event : Event) (before after : List ℕ) → HoldsRecord m → HasAhead m before
@@ -73,7 +87,5 @@ event_front m event before after holds known is =
 pub event_took : (m : Ahead) (event : Event) (rest before : List ℕ) → HasAhead m before → BeginsEvent event m.held rest
     → Took (BeginsEvent event) before (ahead_without (length m.held - length rest) m)
 event_took m event rest before known is =
-    let p = ahead_parts m before known in
-    let front : FrontHeld m (event_record event) (rest ++ p.left) =
-    record { rest = rest; left = p.left; held = is.1; known = p.known; after_is = refl } in
-    (rest ++ p.left, front_taken m (event_record event) (rest ++ p.left) rest front refl, (is.0, p.bytes_are ∙ ap (λ (l : List ℕ). l ++ p.left) is.1 ∙ append_assoc (event_record event) rest p.left))
+    let took = record_took m (packet_of event) rest before known (record { spelled = is.0; bytes_are = is.1 }) in
+    (took.0, took.1, (took.2.spelled, took.2.bytes_are))

@@ -115,10 +115,7 @@ whole_packet packet number rest (Truncated place) apart is fault =
 whole_packet packet number rest (Wire f place) apart is fault =
     found_fault (packet, length (spelling packet)) f (front_of (side_of packet) (spelling packet ++ rest)) (front_again packet rest is) fault.1
 whole_packet packet number rest NoMemory apart is fault = absurd (apart refl)
-whole_packet packet number rest (Magic place) apart is fault = absurd fault
-whole_packet packet number rest (Direction place) apart is fault = absurd fault
-whole_packet packet number rest (Start place) apart is fault = absurd fault
-whole_packet packet number rest (Io place) apart is fault = absurd fault
+whole_packet packet number rest other apart is fault = absurd fault
 
 pub whole_record : (packet : Packet) (number : ℕ) (bytes rest : List ℕ) (error : TranscriptError) → error ≢ NoMemory → Begins bytes packet rest
     → RecordFault number bytes error → ⊥

@@ -40,10 +40,7 @@ why_unread : (number : ℕ) (side : Side) (bytes : List ℕ) (error : Transcript
 why_unread number side bytes (Truncated place) apart fault = inl (ap (λ (n : ℕ). Truncated n) fault.0, fault.1)
 why_unread number side bytes (Wire f place) apart fault = inr (f, ap (λ (n : ℕ). Wire f n) fault.0, fault.1)
 why_unread number side bytes NoMemory apart fault = absurd (apart refl)
-why_unread number side bytes (Magic place) apart fault = absurd fault
-why_unread number side bytes (Direction place) apart fault = absurd fault
-why_unread number side bytes (Start place) apart fault = absurd fault
-why_unread number side bytes (Io place) apart fault = absurd fault
+why_unread number side bytes other apart fault = absurd fault
 
 one_unread : (number : ℕ) (read : Front) (a b : TranscriptError) → WhyUnread number read a → WhyUnread number read b → a ≡ b
 one_unread number read a b (inl p) (inl q) = p.0 ∙ sym q.0
@@ -200,9 +197,7 @@ one_init bytes ahead rest one other =
 
 rank_most : (stage : Stage) → rank stage ≤ 3
 rank_most stages.Opening = omega arith
-rank_most stages.Init = omega arith
-rank_most stages.Version = omega arith
-rank_most stages.Events = omega arith
+rank_most other = omega arith
 
 -- after a fault nothing is read
 none_later : (s t : Stage) (bytes : List ℕ) (events others : List Event) (ahead rest : List ℕ) (number : ℕ) (error : TranscriptError)

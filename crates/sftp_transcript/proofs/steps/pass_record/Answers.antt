@@ -7,8 +7,8 @@ use Rattle.sftp_transcript.specs.Packets.{MayCome, record_number}
 use Rattle.sftp_transcript.specs.Records.{Begins}
 use Rattle.sftp_transcript.specs.Refused.{KindFault}
 use Rattle.sftp_transcript.specs.Steps.{HasAhead, Took}
-use Rattle.sftp_transcript.proofs.Packets.{stage_fault, record_took}
-use Rattle.sftp_transcript.proofs.Taking.{known_kept}
+use Rattle.sftp_transcript.proofs.Packets.{stage_fault}
+use Rattle.sftp_transcript.proofs.Taking.{known_kept, record_took}
 use Rattle.sftp_transcript.proofs.steps.pass_record.Goals as goal
 
 pub returns-in_err-packet-clause-first : goal.returns-in_err-packet-clause-first
