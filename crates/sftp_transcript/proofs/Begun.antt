@@ -1,21 +1,13 @@
 -- What a reader has given of known bytes, before and after each step.
-use Rattle.std.proofs.Common.{◌≡◌, ◌⊎◌, inl, inr, ℕ, true, List, [], ◌∷◌, ◌++◌, Option, Some, None, refl, sym, ap, ◌∙◌, subst, append_assoc, append-nil, arith}
-use Rattle.std.specs.List.{flat_map, AllByRecursion}
-use Rattle.std.proofs.lemmas.List.{length-append}
-use Rattle.std.proofs.lemmas.List.Concat.{flat_map-cons}
-use Rattle.std.proofs.lemmas.Grind.{flat_map-append}
-use Rattle.sftp_transcript.specs.declared.errors.TranscriptError.{TranscriptError}
-use Rattle.sftp_transcript.specs.declared.errors.TranscriptError.TheVariants.{NoMemory}
-use Rattle.sftp_transcript.specs.declared.events.Event.{Event}
-use Rattle.sftp_transcript.specs.declared.stage.Stage.{Stage}
+use Rattle.sftp_transcript.proofs.Imports.{◌≡◌, ◌⊎◌, inl, inr, ℕ, true, List, [], ◌∷◌, ◌++◌, Option, Some, None, refl}
+use Rattle.sftp_transcript.proofs.Imports.{sym, ap, ◌∙◌, subst, append_assoc, append-nil, arith, flat_map}
+use Rattle.sftp_transcript.proofs.Imports.{AllByRecursion, length-append, flat_map-cons, flat_map-append}
+use Rattle.sftp_transcript.proofs.Imports.{TranscriptError, NoMemory, Event, Stage, IsSameAhead, bytes_ahead}
+use Rattle.sftp_transcript.proofs.Imports.{number_after_events, BeginsRecord, ReadUpTo, HasGiven, HasGivenOf}
+use Rattle.sftp_transcript.proofs.Imports.{FaultAhead, FaultOf, GaveFrom, HasStillGiven, MayCome, stage_after}
+use Rattle.sftp_transcript.proofs.Imports.{is_greeting, BeginsKind, Reading, number_after, reported, HasAhead, IsExcuse}
+use Rattle.sftp_transcript.proofs.Imports.{IsOpened, Took, BeginsEvent, TookEvent, event_record, IsEvent}
 use Rattle.sftp_transcript.specs.declared.stage.Stage.TheVariants as stages
-use Rattle.sftp_transcript.specs.Ahead.{IsSameAhead, bytes_ahead}
-use Rattle.sftp_transcript.specs.Begun.{number_after_events, BeginsRecord, ReadUpTo, HasGiven, HasGivenOf, FaultAhead, FaultOf, GaveFrom, HasStillGiven}
-use Rattle.sftp_transcript.specs.Packets.{MayCome, stage_after, is_greeting}
-use Rattle.sftp_transcript.specs.Records.{BeginsKind}
-use Rattle.sftp_transcript.specs.Recorded.{Reading, number_after, reported}
-use Rattle.sftp_transcript.specs.Steps.{HasAhead, IsExcuse, IsOpened, Took, BeginsEvent, TookEvent}
-use Rattle.sftp_transcript.specs.Transcript.{event_record, IsEvent}
 use Rattle.sftp_transcript.proofs.Taking.{known_kept}
 use Rattle.sftp_transcript.proofs.transcripts.Reading.{handshake_by}
 

@@ -1,19 +1,13 @@
 -- A fault of the bytes held is one of all bytes ahead.
-use Rattle.std.proofs.Common.{◌≡◌, ◌≢◌, ℕ, ◌<◌, ◌⊎◌, inl, inr, List, [], ◌∷◌, ◌++◌, Option, Some, None, Ok, sym, ap, subst, ◌∙◌, refl, length, append_assoc, append-nil, arith}
-use Rattle.std.proofs.lemmas.List.{length-append}
-use Rattle.std.specs.Io.KnownBytes.{IsAtEnd}
-use Rattle.sftp_wire.specs.declared.packets.Packet.{Packet}
-use Rattle.sftp_wire.specs.declared.packets.Side.{Side}
+use Rattle.sftp_transcript.proofs.Imports.{◌≡◌, ◌≢◌, ℕ, ◌<◌, ◌⊎◌, inl, inr, List, [], ◌∷◌, ◌++◌, Option, Some, None, Ok}
+use Rattle.sftp_transcript.proofs.Imports.{sym, ap, subst, ◌∙◌, refl, length, append_assoc, append-nil, arith}
+use Rattle.sftp_transcript.proofs.Imports.{length-append, IsAtEnd, Packet, Side, TranscriptError, Magic, Wire}
+use Rattle.sftp_transcript.proofs.Imports.{Truncated, NoMemory, Ahead, HoldsOpening, CutsPacket, CutsAtEnd, FaultAhead}
+use Rattle.sftp_transcript.proofs.Imports.{side_of_direction, HasAhead, IsExcuse, transcript_opening, record_text}
 use Rattle.sftp_wire.specs.Reading.{front_of}
-use Rattle.sftp_transcript.specs.declared.errors.TranscriptError.{TranscriptError}
-use Rattle.sftp_transcript.specs.declared.errors.TranscriptError.TheVariants.{Magic, Direction, Start, Wire, Truncated, Io, NoMemory}
 use Rattle.sftp_transcript.specs.declared.stage.Stage.TheVariants as stages
-use Rattle.sftp_transcript.specs.Ahead.{Ahead, HoldsOpening, CutsPacket, CutsAtEnd}
-use Rattle.sftp_transcript.specs.Begun.{FaultAhead}
-use Rattle.sftp_transcript.specs.Records.{side_of_direction}
-use Rattle.sftp_transcript.specs.Refused.{PacketFault, DirectedFault, RecordFault, BeginsOther, KindFault, IsEventPacket, EventFault}
-use Rattle.sftp_transcript.specs.Steps.{HasAhead, IsExcuse}
-use Rattle.sftp_transcript.specs.Transcript.{transcript_opening, record_text}
+use Rattle.sftp_transcript.specs.Refused.{PacketFault, DirectedFault, RecordFault, BeginsOther, KindFault}
+use Rattle.sftp_transcript.specs.Refused.{IsEventPacket, EventFault}
 use Rattle.sftp_transcript.proofs.Fronts.{fault_stays}
 use Rattle.sftp_transcript.proofs.Inputs.{ahead_parts}
 use Rattle.sftp_transcript.proofs.Taking.{excused, opening_front}

@@ -1,17 +1,11 @@
 -- What is in front of the bytes held is in front of all bytes ahead: a fault stays, and so does a record of another kind.
-use Rattle.std.proofs.Common.{◌≡◌, ℕ, ◌+◌, ◌^◌, ◌<◌, ◌≤◌, ◌⊎◌, inl, inr, Bool, true, false, cond, eqb, ltb, List, ◌∷◌, ◌++◌, length, take, drop, Option, Some, None, Result, Ok, Err, refl, sym, ap, ◌∙◌, arith}
+use Rattle.sftp_transcript.proofs.Imports.{◌≡◌, ℕ, ◌+◌, ◌^◌, ◌<◌, ◌≤◌, ◌⊎◌, inl, inr, Bool, true, false, cond, eqb, ltb}
+use Rattle.sftp_transcript.proofs.Imports.{List, ◌∷◌, ◌++◌, length, take, drop, Option, Some, None, Result, Ok, Err}
+use Rattle.sftp_transcript.proofs.Imports.{refl, sym, ap, ◌∙◌, arith, w32, from_be_bytes, or_parts, ltb-true, ltb-false}
+use Rattle.sftp_transcript.proofs.Imports.{le-ltb, take_at, take-append-le, drop-append-le, length-append, length-drop}
+use Rattle.sftp_transcript.proofs.Imports.{Fault, Length, Packet, Side, uint32, packet_limit, wide32, CutsPacket}
 use Rattle.std.specs.Prelude.{◌||◌}
-use Rattle.std.specs.Int.{w32, from_be_bytes}
-use Rattle.std.proofs.lemmas.Bool.{or_parts, ltb-true, ltb-false, le-ltb}
-use Rattle.std.proofs.lemmas.List.{take_at, take-append-le, drop-append-le, length-append, length-drop}
-use Rattle.sftp_wire.specs.declared.errors.Fault.{Fault}
-use Rattle.sftp_wire.specs.declared.errors.Fault.TheVariants.{Length}
-use Rattle.sftp_wire.specs.declared.packets.Packet.{Packet}
-use Rattle.sftp_wire.specs.declared.packets.Side.{Side}
-use Rattle.sftp_wire.specs.Spelling.{uint32, packet_limit}
 use Rattle.sftp_wire.specs.Reading.{◌>>=◌, packet_of, front_of}
-use Rattle.sftp_wire.proofs.Bytes.Numbers.{wide32}
-use Rattle.sftp_transcript.specs.Ahead.{CutsPacket}
 use Rattle.sftp_transcript.proofs.Inputs.{same_cons}
 
 -- ---- a fault in front stays, whatever follows

@@ -1,16 +1,10 @@
 -- An INIT or a VERSION that is taken as the next record: the same events are to come.
-use Rattle.std.proofs.Common.{◌≡◌, ℕ, ◌≤◌, ◌⊎◌, true, false, List, Option, Some, None, refl, sym, ap, ◌∙◌, subst, arith}
-use Rattle.sftp_wire.specs.declared.packets.Packet.{Packet}
-use Rattle.sftp_transcript.specs.declared.errors.TranscriptError.{TranscriptError}
-use Rattle.sftp_transcript.specs.declared.events.Event.{Event}
-use Rattle.sftp_transcript.specs.declared.stage.Stage.{Stage}
+use Rattle.sftp_transcript.proofs.Imports.{◌≡◌, ℕ, ◌≤◌, ◌⊎◌, true, false, List, Option, Some, None, refl, sym, ap, ◌∙◌}
+use Rattle.sftp_transcript.proofs.Imports.{subst, arith, Packet, TranscriptError, Event, Stage, size_of, FaultAhead}
+use Rattle.sftp_transcript.proofs.Imports.{HasGiven, HasGivenOf, MayCome, is_greeting, stage_after, BeginsNext}
+use Rattle.sftp_transcript.proofs.Imports.{FaultNext, GivenRecord, GivesNext, IsStageThen, number_then, Begins}
+use Rattle.sftp_transcript.proofs.Imports.{BeginsKind, Reading, Records, RecordsSame, rank, HasAhead, IsExcuse, Took}
 use Rattle.sftp_transcript.specs.declared.stage.Stage.TheVariants as stages
-use Rattle.sftp_transcript.specs.Ahead.{size_of}
-use Rattle.sftp_transcript.specs.Begun.{FaultAhead, HasGiven, HasGivenOf}
-use Rattle.sftp_transcript.specs.Packets.{MayCome, is_greeting, stage_after, BeginsNext, FaultNext, GivenRecord, GivesNext, IsStageThen, number_then}
-use Rattle.sftp_transcript.specs.Records.{Begins, BeginsKind}
-use Rattle.sftp_transcript.specs.Recorded.{Reading, Records, RecordsSame, rank}
-use Rattle.sftp_transcript.specs.Steps.{HasAhead, IsExcuse, Took}
 use Rattle.sftp_transcript.proofs.Begun.{given_passed, greeting_read}
 use Rattle.sftp_transcript.proofs.Packets.{at_front, one_opened, gives_only, next_excuse}
 use Rattle.sftp_transcript.proofs.Recorded.{RecordsSame-passed, passed_excuse, greeting_sound, greeting_split}

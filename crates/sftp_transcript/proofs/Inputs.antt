@@ -1,15 +1,9 @@
 -- What is ahead of a reader while its buffer fills.
-use Rattle.std.proofs.Common.{◌≡◌, ℕ, ◌+◌, ◌^◌, ◌<◌, ◌≤◌, List, ◌∷◌, ◌++◌, length, take, Option, None, Some, refl, sym, ap, ◌∙◌}
-use Rattle.std.proofs.Common.{append_assoc, append-nil, arith}
-use Rattle.std.proofs.lemmas.List.{take_at, length-append}
-use Rattle.std.proofs.lemmas.Option.{same_Some}
-use Rattle.std.specs.Int.{w32, from_be_bytes}
-use Rattle.std.specs.Io.KnownBytes.{Consumes, Keeps, IsAtEnd, prepend_known}
-use Rattle.sftp_wire.specs.declared.packets.Packet.{Packet}
-use Rattle.sftp_wire.specs.Spelling.{uint32, contents, spelling, packet_limit, HasSpelling}
-use Rattle.sftp_wire.proofs.Bytes.Numbers.{wide32}
-use Rattle.sftp_transcript.specs.Transcript.{record_text}
-use Rattle.sftp_transcript.specs.Ahead.{Ahead, bytes_ahead}
+use Rattle.sftp_transcript.proofs.Imports.{◌≡◌, ℕ, ◌+◌, ◌^◌, ◌<◌, ◌≤◌, List, ◌∷◌, ◌++◌, length, take, Option, None}
+use Rattle.sftp_transcript.proofs.Imports.{Some, refl, sym, ap, ◌∙◌, append_assoc, append-nil, arith, take_at}
+use Rattle.sftp_transcript.proofs.Imports.{length-append, same_Some, w32, from_be_bytes, Consumes, Keeps, IsAtEnd}
+use Rattle.sftp_transcript.proofs.Imports.{prepend_known, Packet, uint32, contents, spelling, packet_limit, HasSpelling}
+use Rattle.sftp_transcript.proofs.Imports.{wide32, record_text, Ahead, bytes_ahead}
 
 -- ---- bytes that are read
 

@@ -1,3 +1,4 @@
+pub mod Imports
 pub mod pairing
 pub mod transcripts
 pub mod Putting

@@ -1,27 +1,19 @@
 -- The next record, before and after each step of a reader.
-use Rattle.std.proofs.Common.{◌≡◌, ◌≢◌, ℕ, ◌-◌, ◌<◌, ◌≤◌, ◌⊎◌, inl, inr, List, [], ◌++◌, length, Option, Some, None, Result, Ok, Err, OnErr, MatchResult, refl, sym, ap, ◌∙◌, subst, append_assoc, arith}
-use Rattle.std.specs.Io.KnownBytes.{IsAtEnd}
-use Rattle.std.proofs.lemmas.List.{append_cancel_left}
-use Rattle.sftp_wire.specs.declared.packets.Packet.{Packet}
-use Rattle.sftp_wire.specs.declared.packets.Packet.TheVariants.{Init, Version, Request, Reply}
-use Rattle.sftp_transcript.specs.declared.errors.TranscriptError.{TranscriptError}
-use Rattle.sftp_transcript.specs.declared.errors.TranscriptError.TheVariants.{Magic, Direction, Start, Wire, Truncated, Io, NoMemory}
-use Rattle.sftp_transcript.specs.declared.events.Event.{Event}
-use Rattle.sftp_transcript.specs.declared.events.Event.TheVariants.{Asked, Replied}
-use Rattle.sftp_transcript.specs.declared.stage.Stage.{Stage}
+use Rattle.sftp_transcript.proofs.Imports.{◌≡◌, ◌≢◌, ℕ, ◌<◌, ◌≤◌, ◌⊎◌, inl, inr, List, [], ◌++◌, length, Option, Some}
+use Rattle.sftp_transcript.proofs.Imports.{None, Result, Ok, Err, OnErr, MatchResult, refl, sym, ap, ◌∙◌, subst, arith}
+use Rattle.sftp_transcript.proofs.Imports.{IsAtEnd, append_cancel_left, Packet, Init, Version, Request, TranscriptError}
+use Rattle.sftp_transcript.proofs.Imports.{Io, NoMemory, Event, Asked, Replied, Stage, Ahead, CutsAtEnd, FaultAhead}
+use Rattle.sftp_transcript.proofs.Imports.{ReadUpTo, HasGiven, HasGivenOf, number_after_events, with_given, MayCome}
+use Rattle.sftp_transcript.proofs.Imports.{record_number, stage_opened, stage_after, IsAfterOpening, BeginsNext}
+use Rattle.sftp_transcript.proofs.Imports.{FaultNext, GivenRecord, GivesPacket, GivesNext, event_from, event_in}
+use Rattle.sftp_transcript.proofs.Imports.{number_past, number_then, IsStageThen, TookNoRecord, Begins, IsInit}
+use Rattle.sftp_transcript.proofs.Imports.{IsVersion, Reading, rank, HasAhead, IsExcuse, IsOpened, Took}
+use Rattle.sftp_transcript.proofs.Imports.{transcript_opening, packet_of}
+use Rattle.sftp_wire.specs.declared.packets.Packet.TheVariants.{Reply}
 use Rattle.sftp_transcript.specs.declared.stage.Stage.TheVariants as stages
-use Rattle.sftp_transcript.specs.Ahead.{Ahead, CutsAtEnd, ahead_without}
-use Rattle.sftp_transcript.specs.Begun.{FaultAhead, ReadUpTo, HasGiven, HasGivenOf, number_after_events, with_given}
-use Rattle.sftp_transcript.specs.Packets.{MayCome, record_number, stage_opened, stage_after, IsAfterOpening, BeginsNext, FaultNext, GivenRecord, GivesPacket, GivesNext, event_from, event_in, number_past, number_then, IsStageThen, TookNoRecord}
-use Rattle.sftp_transcript.specs.Records.{Begins, IsInit, IsVersion}
-use Rattle.sftp_transcript.specs.Recorded.{Reading, rank}
 use Rattle.sftp_transcript.specs.Refused.{KindFault, IsEventPacket}
-use Rattle.sftp_transcript.specs.Steps.{HasAhead, IsExcuse, IsOpened, Took}
-use Rattle.sftp_transcript.specs.Transcript.{transcript_opening, record_text, packet_of}
 use Rattle.sftp_transcript.proofs.Begun.{opening_read, greeting_read, event_read, number_more, given_kept, given_passed}
 use Rattle.sftp_transcript.proofs.Faults.{fault_ahead, event_fault}
-use Rattle.sftp_transcript.proofs.Inputs.{ahead_parts}
-use Rattle.sftp_transcript.proofs.Taking.{FrontHeld, front_taken}
 use Rattle.sftp_transcript.proofs.transcripts.Beginnings.{begins_one, not_both}
 
 -- ---- what is taken from the bytes held

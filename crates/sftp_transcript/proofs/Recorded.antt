@@ -1,19 +1,11 @@
 -- Which events are to come, before and after each step of a reader.
-use Rattle.std.proofs.Common.{◌≡◌, ℕ, ◌≤◌, true, List, [], ◌∷◌, ◌++◌, Option, Some, None, Result, Ok, Err, OnErr, refl, sym, ap, ◌∙◌, subst}
-use Rattle.std.proofs.Common.{arith}
-use Rattle.std.specs.List.{flat_map}
-use Rattle.std.proofs.lemmas.List.Concat.{flat_map-cons}
-use Rattle.std.proofs.lemmas.Option.{same_Some}
-use Rattle.sftp_transcript.specs.declared.errors.TranscriptError.{TranscriptError}
-use Rattle.sftp_transcript.specs.declared.events.Event.{Event}
-use Rattle.sftp_transcript.specs.declared.stage.Stage.{Stage}
+use Rattle.sftp_transcript.proofs.Imports.{◌≡◌, ℕ, ◌≤◌, true, List, [], ◌∷◌, ◌++◌, Option, Some, None, Result, Ok, Err}
+use Rattle.sftp_transcript.proofs.Imports.{OnErr, refl, sym, ap, ◌∙◌, subst, arith, flat_map, flat_map-cons, same_Some}
+use Rattle.sftp_transcript.proofs.Imports.{TranscriptError, Event, Stage, IsSameAhead, bytes_ahead, size_of, MayCome}
+use Rattle.sftp_transcript.proofs.Imports.{stage_after, is_greeting, BeginsKind, Reading, RecordsFrom, RecordsFromInit}
+use Rattle.sftp_transcript.proofs.Imports.{IsKnown, Records, RecordsSame, Gave, Gives, HasAhead, IsExcuse, IsOpened}
+use Rattle.sftp_transcript.proofs.Imports.{Took, BeginsEvent, TookEvent, event_record, AreRecords, IsRecord}
 use Rattle.sftp_transcript.specs.declared.stage.Stage.TheVariants as stages
-use Rattle.sftp_transcript.specs.Ahead.{IsSameAhead, bytes_ahead, size_of}
-use Rattle.sftp_transcript.specs.Packets.{MayCome, stage_after, is_greeting}
-use Rattle.sftp_transcript.specs.Records.{BeginsKind}
-use Rattle.sftp_transcript.specs.Recorded.{Reading, RecordsFrom, RecordsFromInit, IsKnown, Records, RecordsSame, Gave, Gives}
-use Rattle.sftp_transcript.specs.Steps.{HasAhead, IsExcuse, IsOpened, Took, BeginsEvent, TookEvent}
-use Rattle.sftp_transcript.specs.Transcript.{event_record, AreRecords, IsRecord}
 use Rattle.sftp_transcript.proofs.Taking.{known_kept}
 use Rattle.sftp_transcript.proofs.transcripts.Reading.{record_parts, record_by}
 

@@ -1,16 +1,10 @@
 -- What is taken from the front of the bytes held is taken from the bytes ahead.
-use Rattle.std.proofs.Common.{◌≡◌, ℕ, ◌-◌, ◌≤◌, List, ◌++◌, length, take, drop, Option, None, Some, refl, sym, ap, ◌∙◌, subst}
-use Rattle.std.proofs.Common.{append_assoc, take-append-drop, arith}
-use Rattle.std.proofs.lemmas.List.{take_at, drop_at, take-append-le, drop-append-le, length-append}
-use Rattle.std.specs.Io.KnownBytes.{Keeps, prepend_known}
-use Rattle.sftp_transcript.specs.declared.errors.TranscriptError.{TranscriptError}
-use Rattle.sftp_transcript.specs.declared.errors.TranscriptError.TheVariants.{NoMemory}
-use Rattle.sftp_transcript.specs.declared.events.Event.{Event}
-use Rattle.sftp_wire.specs.declared.packets.Packet.{Packet}
-use Rattle.sftp_transcript.specs.Ahead.{Ahead, HoldsRecord, HoldsOpening, ahead_without}
-use Rattle.sftp_transcript.specs.Records.{Begins}
-use Rattle.sftp_transcript.specs.Steps.{HasAhead, IsExcuse, IsOpened, BeginsEvent, Took}
-use Rattle.sftp_transcript.specs.Transcript.{transcript_opening, record_text, packet_of, event_record}
+use Rattle.sftp_transcript.proofs.Imports.{◌≡◌, ℕ, ◌-◌, ◌≤◌, List, ◌++◌, length, take, drop, Option, None, Some, refl}
+use Rattle.sftp_transcript.proofs.Imports.{sym, ap, ◌∙◌, subst, append_assoc, take-append-drop, arith, take_at, drop_at}
+use Rattle.sftp_transcript.proofs.Imports.{take-append-le, drop-append-le, length-append, Keeps, prepend_known}
+use Rattle.sftp_transcript.proofs.Imports.{TranscriptError, NoMemory, Event, Packet, Ahead, HoldsRecord, HoldsOpening}
+use Rattle.sftp_transcript.proofs.Imports.{ahead_without, Begins, HasAhead, IsExcuse, IsOpened, BeginsEvent, Took}
+use Rattle.sftp_transcript.proofs.Imports.{transcript_opening, record_text, packet_of, event_record}
 use Rattle.sftp_transcript.proofs.Inputs.{ahead_parts}
 
 pub known_kept : (a b : Option (List ℕ)) (bytes : List ℕ) → Keeps a b → a ≡ Some bytes → b ≡ Some bytes

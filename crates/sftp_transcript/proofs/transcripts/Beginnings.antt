@@ -1,25 +1,16 @@
 -- What begins the bytes begins each list of events that they record, and bytes with a fault record none.
-use Rattle.std.proofs.Common.{◌≡◌, ◌≢◌, inl, inr, ℕ, List, [], ◌∷◌, ◌++◌, length, Option, Some, None, Result, Ok, Err, refl, sym, ap, ◌∙◌, subst, append_assoc, append-nil, arith}
-use Rattle.std.specs.List.{flat_map, AllByRecursion}
-use Rattle.std.proofs.lemmas.List.{append_cancel_left}
-use Rattle.std.proofs.lemmas.List.Concat.{flat_map-cons}
-use Rattle.sftp_wire.specs.declared.errors.Fault.{Fault}
-use Rattle.sftp_wire.specs.declared.packets.Packet.{Packet}
-use Rattle.sftp_wire.specs.declared.packets.Packet.TheVariants.{Init, Version}
-use Rattle.sftp_wire.specs.declared.packets.Side.{Side}
-use Rattle.sftp_wire.specs.declared.packets.Side.TheVariants.{Client, Server}
+use Rattle.sftp_transcript.proofs.Imports.{◌≡◌, ◌≢◌, inl, inr, ℕ, List, [], ◌∷◌, ◌++◌, length, Option, Some, None}
+use Rattle.sftp_transcript.proofs.Imports.{Result, Ok, Err, refl, sym, ap, ◌∙◌, subst, append_assoc, append-nil, arith}
+use Rattle.sftp_transcript.proofs.Imports.{flat_map, AllByRecursion, append_cancel_left, flat_map-cons, Fault, Packet}
+use Rattle.sftp_transcript.proofs.Imports.{Init, Version, Side, Client, Server, spelling, HasSpelling, side_of}
+use Rattle.sftp_transcript.proofs.Imports.{TranscriptError, Wire, Truncated, NoMemory, Event, Stage, BeginsRecord}
+use Rattle.sftp_transcript.proofs.Imports.{ReadUpTo, FaultAhead, FaultAfter, number_after_events, side_of_direction}
+use Rattle.sftp_transcript.proofs.Imports.{Begins, IsInit, IsVersion, transcript_opening, direction_of, record_text}
+use Rattle.sftp_transcript.proofs.Imports.{packet_of, event_record, IsEvent, AreRecords, IsHandshake, IsRecord}
 use Rattle.sftp_wire.specs.Reading.{front_of}
-use Rattle.sftp_wire.specs.Spelling.{spelling, HasSpelling, side_of}
 use Rattle.sftp_wire.proofs.StreamLaws.Front.{front_again, spellings-apart}
-use Rattle.sftp_transcript.specs.declared.errors.TranscriptError.{TranscriptError}
-use Rattle.sftp_transcript.specs.declared.errors.TranscriptError.TheVariants.{Magic, Direction, Start, Wire, Truncated, Io, NoMemory}
-use Rattle.sftp_transcript.specs.declared.events.Event.{Event}
-use Rattle.sftp_transcript.specs.declared.stage.Stage.{Stage}
 use Rattle.sftp_transcript.specs.declared.stage.Stage.TheVariants as stages
-use Rattle.sftp_transcript.specs.Begun.{BeginsRecord, ReadUpTo, FaultAhead, FaultAfter, number_after_events}
-use Rattle.sftp_transcript.specs.Records.{side_of_direction, Begins, IsInit, IsVersion}
 use Rattle.sftp_transcript.specs.Refused.{KindFault, PacketFault, DirectedFault, RecordFault, IsEventPacket, EventFault}
-use Rattle.sftp_transcript.specs.Transcript.{transcript_opening, direction_of, record_text, packet_of, event_record, IsEvent, AreRecords, IsHandshake, IsRecord}
 use Rattle.sftp_transcript.proofs.transcripts.OneRecord.{Begins-one, event_from_packet}
 use Rattle.sftp_transcript.proofs.transcripts.Reading.{record_parts}
 

@@ -1,23 +1,16 @@
 -- Bytes have one first fault, and what begins them agrees with it.
-use Rattle.std.proofs.Common.{◌≡◌, ◌≢◌, ◌<◌, ◌≤◌, ◌⊎◌, inl, inr, ℕ, List, [], ◌∷◌, ◌++◌, Option, Some, None, Result, Ok, Err, refl, sym, ap, ◌∙◌, subst, append-nil, arith}
-use Rattle.std.specs.List.{flat_map, AllByRecursion}
-use Rattle.std.proofs.lemmas.List.{append_cancel_left}
-use Rattle.sftp_wire.specs.declared.errors.Fault.{Fault}
-use Rattle.sftp_wire.specs.declared.packets.Packet.{Packet}
-use Rattle.sftp_wire.specs.declared.packets.Packet.TheVariants.{Init, Version}
-use Rattle.sftp_wire.specs.declared.packets.Side.{Side}
+use Rattle.sftp_transcript.proofs.Imports.{◌≡◌, ◌≢◌, ◌<◌, ◌≤◌, ◌⊎◌, inl, inr, ℕ, List, [], ◌∷◌, ◌++◌, Option, Some}
+use Rattle.sftp_transcript.proofs.Imports.{None, Result, Ok, Err, refl, sym, ap, ◌∙◌, subst, append-nil, arith}
+use Rattle.sftp_transcript.proofs.Imports.{flat_map, AllByRecursion, append_cancel_left, Fault, Packet, Init, Version}
+use Rattle.sftp_transcript.proofs.Imports.{Side, TranscriptError, Wire, Truncated, NoMemory, Event, Stage, BeginsRecord}
+use Rattle.sftp_transcript.proofs.Imports.{BeginsWithInit, ReadUpTo, FaultAhead, FaultAfter, number_after_events}
+use Rattle.sftp_transcript.proofs.Imports.{side_of_direction, Begins, IsInit, IsVersion, BeginsVersion, rank}
+use Rattle.sftp_transcript.proofs.Imports.{transcript_opening, record_text, packet_of, event_record, IsEvent}
 use Rattle.sftp_wire.specs.Reading.{front_of}
-use Rattle.sftp_transcript.specs.declared.errors.TranscriptError.{TranscriptError}
-use Rattle.sftp_transcript.specs.declared.errors.TranscriptError.TheVariants.{Magic, Direction, Start, Wire, Truncated, Io, NoMemory}
-use Rattle.sftp_transcript.specs.declared.events.Event.{Event}
-use Rattle.sftp_transcript.specs.declared.stage.Stage.{Stage}
 use Rattle.sftp_transcript.specs.declared.stage.Stage.TheVariants as stages
-use Rattle.sftp_transcript.specs.Begun.{BeginsRecord, BeginsWithInit, ReadUpTo, FaultAhead, FaultAfter, number_after_events}
-use Rattle.sftp_transcript.specs.Records.{side_of_direction, Begins, IsInit, IsVersion, BeginsVersion}
-use Rattle.sftp_transcript.specs.Recorded.{rank}
 use Rattle.sftp_transcript.specs.Refused.{KindFault, PacketFault, DirectedFault, RecordFault, IsEventPacket, EventFault}
-use Rattle.sftp_transcript.specs.Transcript.{transcript_opening, record_text, packet_of, event_record, IsEvent}
-use Rattle.sftp_transcript.proofs.transcripts.Beginnings.{begins_one, first_record, same_records, whole_record, not_both}
+use Rattle.sftp_transcript.proofs.transcripts.Beginnings.{begins_one, first_record, same_records, whole_record}
+use Rattle.sftp_transcript.proofs.transcripts.Beginnings.{not_both}
 use Rattle.sftp_transcript.proofs.transcripts.OneRecord.{event_from_packet}
 
 -- ---- a record has one fault

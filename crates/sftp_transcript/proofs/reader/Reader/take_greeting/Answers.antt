@@ -1,7 +1,5 @@
 -- The INIT or the VERSION in front is taken, and the same events are to come.
-use Rattle.std.proofs.Common.{◌≡◌, true, refl, sym, ◌∙◌}
-use Rattle.std.proofs.lemmas.Result.{err_from_is_err_and}
-use Rattle.sftp_transcript.specs.Packets.{is_greeting}
+use Rattle.sftp_transcript.proofs.Imports.{◌≡◌, true, refl, sym, ◌∙◌, err_from_is_err_and, is_greeting}
 use Rattle.sftp_transcript.proofs.Begun.{given_kept, fault_from}
 use Rattle.sftp_transcript.proofs.Greetings.{greeting_same, greeting_given, greeting_excused}
 use Rattle.sftp_transcript.proofs.Recorded.{RecordsSame-kept}

@@ -1,7 +1,5 @@
 -- Each step keeps the events to come.
-use Rattle.std.proofs.Common.{ap, ◌∙◌}
-use Rattle.std.proofs.lemmas.Result.{err_from_is_err_and}
-use Rattle.sftp_transcript.specs.Packets.{stage_after}
+use Rattle.sftp_transcript.proofs.Imports.{ap, ◌∙◌, err_from_is_err_and, stage_after}
 use Rattle.sftp_transcript.proofs.Greetings.{events_behind}
 use Rattle.sftp_transcript.proofs.reader.Reader.take_start.Goals as goal
 
