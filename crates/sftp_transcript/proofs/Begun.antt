@@ -1,20 +1,13 @@
 -- What a reader has given of known bytes, before and after each step.
-use Rattle.std.proofs.Common.{◌≡◌, ◌⊎◌, inl, inr, ℕ, List, [], ◌∷◌, ◌++◌, Option, Some, None, refl, sym, ap, ◌∙◌, subst, append_assoc, append-nil, arith}
-use Rattle.std.specs.List.{flat_map, AllByRecursion}
-use Rattle.std.proofs.lemmas.List.{length-append}
-use Rattle.std.proofs.lemmas.List.Concat.{flat_map-cons}
-use Rattle.std.proofs.lemmas.Grind.{flat_map-append}
-use Rattle.sftp_transcript.specs.declared.errors.TranscriptError.{TranscriptError}
-use Rattle.sftp_transcript.specs.declared.errors.TranscriptError.TheVariants.{NoMemory}
-use Rattle.sftp_transcript.specs.declared.events.Event.{Event}
-use Rattle.sftp_transcript.specs.declared.stage.Stage.{Stage}
+use Rattle.sftp_transcript.proofs.Imports.{◌≡◌, ◌⊎◌, inl, inr, ℕ, true, List, [], ◌∷◌, ◌++◌, Option, Some, None, refl}
+use Rattle.sftp_transcript.proofs.Imports.{sym, ap, ◌∙◌, subst, append_assoc, append-nil, arith, flat_map}
+use Rattle.sftp_transcript.proofs.Imports.{AllByRecursion, length-append, flat_map-cons, flat_map-append}
+use Rattle.sftp_transcript.proofs.Imports.{TranscriptError, NoMemory, Event, Stage, IsSameAhead, bytes_ahead}
+use Rattle.sftp_transcript.proofs.Imports.{number_after_events, BeginsRecord, ReadUpTo, HasGiven, HasGivenOf}
+use Rattle.sftp_transcript.proofs.Imports.{FaultAhead, FaultOf, GaveFrom, HasStillGiven, MayCome, stage_after}
+use Rattle.sftp_transcript.proofs.Imports.{is_greeting, BeginsKind, Reading, number_after, reported, HasAhead, IsExcuse}
+use Rattle.sftp_transcript.proofs.Imports.{IsOpened, Took, BeginsEvent, TookEvent, event_record, IsEvent}
 use Rattle.sftp_transcript.specs.declared.stage.Stage.TheVariants as stages
-use Rattle.sftp_transcript.specs.Ahead.{IsSameAhead, bytes_ahead}
-use Rattle.sftp_transcript.specs.Begun.{number_after_events, BeginsRecord, ReadUpTo, HasGiven, HasGivenOf, FaultAhead, FaultOf, GaveFrom, HasStillGiven}
-use Rattle.sftp_transcript.specs.Records.{BeginsInit, BeginsVersion}
-use Rattle.sftp_transcript.specs.Recorded.{Reading, number_after, reported}
-use Rattle.sftp_transcript.specs.Steps.{HasAhead, IsExcuse, IsOpened, Took, BeginsEvent, TookEvent}
-use Rattle.sftp_transcript.specs.Transcript.{event_record, IsEvent}
 use Rattle.sftp_transcript.proofs.Taking.{known_kept}
 use Rattle.sftp_transcript.proofs.transcripts.Reading.{handshake_by}
 
@@ -41,22 +34,23 @@ pub opening_read : (bytes : List ℕ) (events : List Event) (before after : List
     → IsOpened before after → ReadUpTo stages.Init bytes events after
 opening_read bytes events before after read is = (read.0, read.1 ∙ is)
 
-pub init_read : (bytes : List ℕ) (events : List Event) (before after : List ℕ) → ReadUpTo stages.Init bytes events before
-    → BeginsInit before after → ReadUpTo stages.Version bytes events after
-init_read bytes events before after read is = (read.0, record { opened = before; opening = read.1; init = is })
-
-pub version_read : (bytes : List ℕ) (events : List Event) (before after : List ℕ) → ReadUpTo stages.Version bytes events before
-    → BeginsVersion before after → ReadUpTo stages.Events bytes events after
-version_read bytes events before after read is =
+pub greeting_read : (s : Stage) → is_greeting s ≡ true → (bytes : List ℕ) (events : List Event) (before after : List ℕ)
+    → ReadUpTo s bytes events before → BeginsKind (MayCome s) before after → ReadUpTo (stage_after s) bytes events after
+greeting_read stages.Opening greets bytes events before after read is = absurd cc
+greeting_read stages.Init greets bytes events before after read is =
+    (read.0, record { opened = before; opening = read.1; init = is })
+greeting_read stages.Version greets bytes events before after read is =
+    let init = read.1.init in
     let none : BeginsRecord [] bytes after = record {
       opened = read.1.opened;
       records = after;
       opening = read.1.opening;
-      handshake = handshake_by read.1.init.packet is.packet read.1.opened before after read.1.init.is_init read.1.init.begins is.is_version is.begins;
+      handshake = handshake_by init.packet is.packet read.1.opened before after init.is_kind init.begins is.is_kind is.begins;
       spelled = tt;
       records_are = refl;
     } in
     subst (λ (l : List Event). BeginsRecord l bytes after) (sym read.0) none
+greeting_read stages.Events greets bytes events before after read is = absurd cc
 
 all_more : (events : List Event) (event : Event) → AllByRecursion IsEvent events → IsEvent event → AllByRecursion IsEvent (events ++ event ∷ [])
 all_more [] event all is = (is, tt)

@@ -1,19 +1,13 @@
 -- A fault of the bytes held is one of all bytes ahead.
-use Rattle.std.proofs.Common.{◌≡◌, ◌≢◌, ℕ, ◌<◌, ◌⊎◌, inl, inr, List, [], ◌∷◌, ◌++◌, Option, Some, None, Ok, sym, ap, subst, ◌∙◌, refl, length, append_assoc, append-nil, arith}
-use Rattle.std.proofs.lemmas.List.{length-append}
-use Rattle.std.specs.Io.KnownBytes.{IsAtEnd}
-use Rattle.sftp_wire.specs.declared.packets.Packet.{Packet}
-use Rattle.sftp_wire.specs.declared.packets.Side.{Side}
+use Rattle.sftp_transcript.proofs.Imports.{◌≡◌, ◌≢◌, ℕ, ◌<◌, ◌⊎◌, inl, inr, List, [], ◌∷◌, ◌++◌, Option, Some, None, Ok}
+use Rattle.sftp_transcript.proofs.Imports.{sym, ap, subst, ◌∙◌, refl, length, append_assoc, append-nil, arith}
+use Rattle.sftp_transcript.proofs.Imports.{length-append, IsAtEnd, Packet, Side, TranscriptError, Magic, Wire}
+use Rattle.sftp_transcript.proofs.Imports.{Truncated, NoMemory, Ahead, HoldsOpening, CutsPacket, CutsAtEnd, FaultAhead}
+use Rattle.sftp_transcript.proofs.Imports.{side_of_direction, HasAhead, IsExcuse, transcript_opening, record_text}
 use Rattle.sftp_wire.specs.Reading.{front_of}
-use Rattle.sftp_transcript.specs.declared.errors.TranscriptError.{TranscriptError}
-use Rattle.sftp_transcript.specs.declared.errors.TranscriptError.TheVariants.{Magic, Direction, Start, Wire, Truncated, Io, NoMemory}
 use Rattle.sftp_transcript.specs.declared.stage.Stage.TheVariants as stages
-use Rattle.sftp_transcript.specs.Ahead.{Ahead, HoldsOpening, CutsPacket, CutsAtEnd}
-use Rattle.sftp_transcript.specs.Begun.{FaultAhead}
-use Rattle.sftp_transcript.specs.Records.{side_of_direction, IsInit, IsVersion}
-use Rattle.sftp_transcript.specs.Refused.{PacketFault, DirectedFault, RecordFault, BeginsOther, KindFault, IsEventPacket, InitFault, VersionFault, EventFault}
-use Rattle.sftp_transcript.specs.Steps.{HasAhead, IsExcuse}
-use Rattle.sftp_transcript.specs.Transcript.{transcript_opening, record_text}
+use Rattle.sftp_transcript.specs.Refused.{PacketFault, DirectedFault, RecordFault, BeginsOther, KindFault}
+use Rattle.sftp_transcript.specs.Refused.{IsEventPacket, EventFault}
 use Rattle.sftp_transcript.proofs.Fronts.{fault_stays}
 use Rattle.sftp_transcript.proofs.Inputs.{ahead_parts}
 use Rattle.sftp_transcript.proofs.Taking.{excused, opening_front}
@@ -26,10 +20,7 @@ packet_fault number side bytes more (Truncated place) end fault =
     inr (fault.0, ap (front_of side) all ∙ fault.1)
 packet_fault number side bytes more (Wire f place) end fault = inr (fault.0, fault_stays side bytes more f fault.1)
 packet_fault number side bytes more NoMemory end fault = inl tt
-packet_fault number side bytes more (Magic place) end fault = absurd fault
-packet_fault number side bytes more (Direction place) end fault = absurd fault
-packet_fault number side bytes more (Start place) end fault = absurd fault
-packet_fault number side bytes more (Io place) end fault = absurd fault
+packet_fault number side bytes more other end fault = absurd fault
 
 directed_fault : (number : ℕ) (side : Option Side) (bytes more : List ℕ) (error : TranscriptError)
     → ((s : Side) → front_of s bytes ≡ Ok None → more ≡ []) → DirectedFault number side bytes error
@@ -84,14 +75,6 @@ pub opening_fault : (m : Ahead) (before : List ℕ) (error : TranscriptError) �
     → ((rest : List ℕ) → m.held ≡ transcript_opening ++ rest → error ≡ NoMemory) → IsExcuse error ⊎ FaultAhead stages.Opening 0 before error
 opening_fault m before error known holds is only =
     inr (is, λ rest opened. let front = opening_front m before rest holds known opened in subst IsExcuse is (excused (only front.rest front.held)))
-
-pub init_fault : (m : Ahead) (before : List ℕ) (error : TranscriptError) → HasAhead m before
-    → (m.held ≡ [] → IsAtEnd m.left) → CutsAtEnd m → InitFault m.held error → IsExcuse error ⊎ FaultAhead stages.Init 0 before error
-init_fault m before error known end part fault = fault_ahead IsInit 1 m before error known end part fault
-
-pub version_fault : (m : Ahead) (before : List ℕ) (error : TranscriptError) → HasAhead m before
-    → (m.held ≡ [] → IsAtEnd m.left) → CutsAtEnd m → VersionFault m.held error → IsExcuse error ⊎ FaultAhead stages.Version 0 before error
-version_fault m before error known end part fault = fault_ahead IsVersion 2 m before error known end part fault
 
 pub event_fault : (number : ℕ) (m : Ahead) (before : List ℕ) (error : TranscriptError) → HasAhead m before
     → (m.held ≡ [] → IsAtEnd m.left) → CutsAtEnd m → 0 < length m.held → EventFault number m.held error

@@ -1,17 +1,12 @@
 -- What is in front of the bytes held is in front of all bytes ahead: a fault stays, and so does a record of another kind.
-use Rattle.std.proofs.Common.{◌≡◌, ℕ, ◌+◌, ◌^◌, ◌<◌, ◌≤◌, ◌⊎◌, inl, inr, Bool, true, false, cond, eqb, ltb, List, ◌∷◌, ◌++◌, length, take, drop, Option, Some, None, Result, Ok, Err, refl, sym, ap, ◌∙◌, arith}
+use Rattle.sftp_transcript.proofs.Imports.{◌≡◌, ℕ, ◌+◌, ◌^◌, ◌<◌, ◌≤◌, ◌⊎◌, inl, inr, Bool, true, false, cond, eqb, ltb}
+use Rattle.sftp_transcript.proofs.Imports.{List, ◌∷◌, ◌++◌, length, take, drop, Option, Some, None, Result, Ok, Err}
+use Rattle.sftp_transcript.proofs.Imports.{refl, sym, ap, ◌∙◌, arith, w32, from_be_bytes, or_parts, ltb-true, ltb-false}
+use Rattle.sftp_transcript.proofs.Imports.{le-ltb, take_at, take-append-le, drop-append-le, length-append, length-drop}
+use Rattle.sftp_transcript.proofs.Imports.{Fault, Length, Packet, Side, uint32, packet_limit, wide32, CutsPacket}
 use Rattle.std.specs.Prelude.{◌||◌}
-use Rattle.std.specs.Int.{w32, from_be_bytes}
-use Rattle.std.proofs.lemmas.Bool.{or_parts, ltb-true, ltb-false, le-ltb}
-use Rattle.std.proofs.lemmas.List.{take_at, take-append-le, drop-append-le, length-append, length-drop}
-use Rattle.sftp_wire.specs.declared.errors.Fault.{Fault}
-use Rattle.sftp_wire.specs.declared.errors.Fault.TheVariants.{Length}
-use Rattle.sftp_wire.specs.declared.packets.Packet.{Packet}
-use Rattle.sftp_wire.specs.declared.packets.Side.{Side}
-use Rattle.sftp_wire.specs.Spelling.{uint32, packet_limit}
 use Rattle.sftp_wire.specs.Reading.{◌>>=◌, packet_of, front_of}
-use Rattle.sftp_wire.proofs.Bytes.Numbers.{wide32}
-use Rattle.sftp_transcript.specs.Ahead.{CutsPacket}
+use Rattle.sftp_transcript.proofs.Inputs.{same_cons}
 
 -- ---- a fault in front stays, whatever follows
 
@@ -97,13 +92,10 @@ part_in_front side size after fits e =
       | inr part ↦ (ltb-false packet_limit (size + 4) (or_parts _ _ part.0).1, ltb-true (length bytes) (size + 4) part.1)
     ]
 
-second_of : (a b : ℕ) (x y : List ℕ) → a ∷ x ≡ b ∷ y → x ≡ y
-second_of a b x y e = cc
-
 -- the number after the direction says how many bytes are missing
 pub part_is_short : (side : Side) (held : List ℕ) (direction size : ℕ) (after : List ℕ) → held ≡ direction ∷ (uint32 size ++ after)
     → size < 2 ^ 32 → CutsPacket held side → (size + 4 ≤ packet_limit) × (length held < size + 5)
 part_is_short side held direction size after is fits part =
-    let spelled : part.1 ≡ uint32 size ++ after = second_of part.0 direction part.1 (uint32 size ++ after) (sym part.2 ∙ is) in
+    let spelled : part.1 ≡ uint32 size ++ after = (same_cons part.0 direction part.1 (uint32 size ++ after) (sym part.2 ∙ is)).1 in
     let in_front = part_in_front side size after fits (ap (front_of side) (sym spelled) ∙ part.3) in
     (in_front.0, omega (arith, ap length is, in_front.1))

@@ -1,14 +1,9 @@
 -- What is ahead of a reader while its buffer fills.
-use Rattle.std.proofs.Common.{◌≡◌, ℕ, ◌+◌, ◌^◌, ◌<◌, ◌≤◌, List, ◌∷◌, ◌++◌, length, take, Option, None, Some, refl, sym, ap, ◌∙◌}
-use Rattle.std.proofs.Common.{append_assoc, append-nil, arith}
-use Rattle.std.proofs.lemmas.List.{take_at, length-append}
-use Rattle.std.specs.Int.{w32, from_be_bytes}
-use Rattle.std.specs.Io.KnownBytes.{Consumes, Keeps, IsAtEnd, prepend_known}
-use Rattle.sftp_wire.specs.declared.packets.Packet.{Packet}
-use Rattle.sftp_wire.specs.Spelling.{uint32, contents, spelling, packet_limit, HasSpelling}
-use Rattle.sftp_wire.proofs.Bytes.Numbers.{wide32}
-use Rattle.sftp_transcript.specs.Transcript.{record_text}
-use Rattle.sftp_transcript.specs.Ahead.{Ahead, bytes_ahead}
+use Rattle.sftp_transcript.proofs.Imports.{◌≡◌, ℕ, ◌+◌, ◌^◌, ◌<◌, ◌≤◌, List, ◌∷◌, ◌++◌, length, take, Option, None}
+use Rattle.sftp_transcript.proofs.Imports.{Some, refl, sym, ap, ◌∙◌, append_assoc, append-nil, arith, take_at}
+use Rattle.sftp_transcript.proofs.Imports.{length-append, same_Some, w32, from_be_bytes, Consumes, Keeps, IsAtEnd}
+use Rattle.sftp_transcript.proofs.Imports.{prepend_known, Packet, uint32, contents, spelling, packet_limit, HasSpelling}
+use Rattle.sftp_transcript.proofs.Imports.{wide32, record_text, Ahead, bytes_ahead}
 
 -- ---- bytes that are read
 
@@ -37,12 +32,9 @@ failed_keeps held (Some x) (Some y) p = ap (λ (l : List ℕ). held ++ l) p
 pub all_held : (a : Ahead) (bytes : List ℕ) → IsAtEnd a.left → bytes_ahead a ≡ Some bytes → bytes ≡ a.held
 all_held a bytes end known = held_by a.held a.left bytes end known
   where
-    some_is : (x y : List ℕ) → Some x ≡ Some y → y ≡ x
-    some_is x y e = cc
-
     held_by : (held : List ℕ) (left : Option (List ℕ)) (bytes : List ℕ) → IsAtEnd left → prepend_known held left ≡ Some bytes → bytes ≡ held
     held_by held None bytes end e = absurd cc
-    held_by held (Some x) bytes end e = some_is (held ++ x) bytes e ∙ ap (λ (l : List ℕ). held ++ l) end ∙ append-nil held
+    held_by held (Some x) bytes end e = sym (same_Some (held ++ x) bytes e) ∙ ap (λ (l : List ℕ). held ++ l) end ∙ append-nil held
 
 -- what is ahead begins with what is held
 pub record Ahead-parts (a : Ahead) (bytes : List ℕ) : Type 0 where
@@ -53,12 +45,9 @@ pub record Ahead-parts (a : Ahead) (bytes : List ℕ) : Type 0 where
 pub ahead_parts : (a : Ahead) (bytes : List ℕ) → bytes_ahead a ≡ Some bytes → Ahead-parts a bytes
 ahead_parts a bytes known = parts_by a a.left bytes refl known
   where
-    some_is : (x y : List ℕ) → Some x ≡ Some y → y ≡ x
-    some_is x y e = cc
-
     parts_by : (a : Ahead) (left : Option (List ℕ)) (bytes : List ℕ) → a.left ≡ left → prepend_known a.held left ≡ Some bytes → Ahead-parts a bytes
     parts_by a None bytes e k = absurd cc
-    parts_by a (Some x) bytes e k = record { left = x; known = e; bytes_are = some_is (a.held ++ x) bytes k }
+    parts_by a (Some x) bytes e k = record { left = x; known = e; bytes_are = sym (same_Some (a.held ++ x) bytes k) }
 
 -- ---- how long a record is
 
@@ -68,8 +57,8 @@ same_number a b x y p q e =
     ∙ ap (from_be_bytes w32) (sym (take_at (uint32 a) x 4 (wide32.len a)) ∙ ap (take 4) e ∙ take_at (uint32 b) y 4 (wide32.len b))
     ∙ wide32.again b q
 
-second : (a b : ℕ) (x y : List ℕ) → a ∷ x ≡ b ∷ y → x ≡ y
-second a b x y e = cc
+pub same_cons : (a b : ℕ) (x y : List ℕ) → a ∷ x ≡ b ∷ y → (a ≡ b) × (x ≡ y)
+same_cons a b x y e = (cc, cc)
 
 -- the number after the direction is the length of what follows it in the record
 pub record_length : (packet : Packet) (direction size : ℕ) (after more rest : List ℕ) → HasSpelling packet → size < 2 ^ 32
@@ -80,6 +69,6 @@ record_length packet direction size after more rest is fits e =
     let body = contents packet in
     let len : length (spelling packet) ≡ length body + 4 = omega (arith, length-append (uint32 (length body)) body, wide32.len (length body)) in
     let behind : uint32 size ++ (after ++ more) ≡ uint32 (length body) ++ (body ++ rest) =
-    sym (append_assoc (uint32 size) after more) ∙ second _ _ _ _ e ∙ append_assoc (uint32 (length body)) body rest in
+    sym (append_assoc (uint32 size) after more) ∙ (same_cons _ _ _ _ e).1 ∙ append_assoc (uint32 (length body)) body rest in
     let same : size ≡ length body = same_number size (length body) (after ++ more) (body ++ rest) fits (omega (arith, len, is.whole)) behind in
     (omega (arith, len, same), omega (arith, len, same, is.whole))

@@ -1,3 +1,4 @@
+pub mod Imports
 pub mod pairing
 pub mod transcripts
 pub mod Putting
@@ -10,3 +11,4 @@ pub mod Numbers
 pub mod Recorded
 pub mod Begun
 pub mod Packets
+pub mod Greetings

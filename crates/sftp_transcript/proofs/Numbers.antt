@@ -1,13 +1,10 @@
 -- An error is of the record in hand.
-use Rattle.std.proofs.Common.{◌≡◌, ◌⊎◌, inl, inr, ℕ, List, [], ◌∷◌, Option, Some, None, refl, sym, subst}
-use Rattle.sftp_wire.specs.declared.packets.Packet.{Packet}
-use Rattle.sftp_wire.specs.declared.packets.Side.{Side}
-use Rattle.sftp_transcript.specs.declared.errors.TranscriptError.{TranscriptError}
-use Rattle.sftp_transcript.specs.declared.errors.TranscriptError.TheVariants.{Magic, Direction, Start, Wire, Truncated, Io, NoMemory}
-use Rattle.sftp_transcript.specs.declared.stage.Stage.{Stage}
+use Rattle.sftp_transcript.proofs.Imports.{◌≡◌, ◌⊎◌, inl, inr, ℕ, List, [], ◌∷◌, Option, Some, None, refl, sym, subst}
+use Rattle.sftp_transcript.proofs.Imports.{Packet, Side, TranscriptError, Magic, Direction, Start, Wire, Truncated, Io}
+use Rattle.sftp_transcript.proofs.Imports.{NoMemory, Stage, side_of_direction, IsInit, IsVersion}
 use Rattle.sftp_transcript.specs.declared.stage.Stage.TheVariants as stages
-use Rattle.sftp_transcript.specs.Records.{side_of_direction, IsInit, IsVersion}
-use Rattle.sftp_transcript.specs.Refused.{PacketFault, DirectedFault, RecordFault, KindFault, IsEventPacket, FaultIn, NamesRecord, number_in_hand}
+use Rattle.sftp_transcript.specs.Refused.{PacketFault, DirectedFault, RecordFault, KindFault, IsEventPacket, FaultIn}
+use Rattle.sftp_transcript.specs.Refused.{NamesRecord, number_in_hand}
 
 packet_names : (number : ℕ) (side : Side) (bytes : List ℕ) (error : TranscriptError) → PacketFault number side bytes error
     → NamesRecord number error

@@ -1,27 +1,19 @@
 -- The next record, before and after each step of a reader.
-use Rattle.std.proofs.Common.{◌≡◌, ◌≢◌, ℕ, ◌-◌, ◌<◌, ◌≤◌, ◌⊎◌, inl, inr, List, [], ◌++◌, length, Option, Some, None, Result, Ok, Err, OnErr, MatchResult, refl, sym, ap, ◌∙◌, subst, append_assoc, arith}
-use Rattle.std.specs.Io.KnownBytes.{IsAtEnd}
-use Rattle.std.proofs.lemmas.List.{append_cancel_left}
-use Rattle.sftp_wire.specs.declared.packets.Packet.{Packet}
-use Rattle.sftp_wire.specs.declared.packets.Packet.TheVariants.{Init, Version, Request, Reply}
-use Rattle.sftp_transcript.specs.declared.errors.TranscriptError.{TranscriptError}
-use Rattle.sftp_transcript.specs.declared.errors.TranscriptError.TheVariants.{Magic, Direction, Start, Wire, Truncated, Io, NoMemory}
-use Rattle.sftp_transcript.specs.declared.events.Event.{Event}
-use Rattle.sftp_transcript.specs.declared.events.Event.TheVariants.{Asked, Replied}
-use Rattle.sftp_transcript.specs.declared.stage.Stage.{Stage}
+use Rattle.sftp_transcript.proofs.Imports.{◌≡◌, ◌≢◌, ℕ, ◌<◌, ◌≤◌, ◌⊎◌, inl, inr, List, [], ◌++◌, length, Option, Some}
+use Rattle.sftp_transcript.proofs.Imports.{None, Result, Ok, Err, OnErr, MatchResult, refl, sym, ap, ◌∙◌, subst, arith}
+use Rattle.sftp_transcript.proofs.Imports.{IsAtEnd, append_cancel_left, Packet, Init, Version, Request, TranscriptError}
+use Rattle.sftp_transcript.proofs.Imports.{Io, NoMemory, Event, Asked, Replied, Stage, Ahead, CutsAtEnd, FaultAhead}
+use Rattle.sftp_transcript.proofs.Imports.{ReadUpTo, HasGiven, HasGivenOf, number_after_events, with_given, MayCome}
+use Rattle.sftp_transcript.proofs.Imports.{record_number, stage_opened, stage_after, IsAfterOpening, BeginsNext}
+use Rattle.sftp_transcript.proofs.Imports.{FaultNext, GivenRecord, GivesPacket, GivesNext, event_from, event_in}
+use Rattle.sftp_transcript.proofs.Imports.{number_past, number_then, IsStageThen, TookNoRecord, Begins, IsInit}
+use Rattle.sftp_transcript.proofs.Imports.{IsVersion, Reading, rank, HasAhead, IsExcuse, IsOpened, Took}
+use Rattle.sftp_transcript.proofs.Imports.{transcript_opening, packet_of}
+use Rattle.sftp_wire.specs.declared.packets.Packet.TheVariants.{Reply}
 use Rattle.sftp_transcript.specs.declared.stage.Stage.TheVariants as stages
-use Rattle.sftp_transcript.specs.Ahead.{Ahead, CutsAtEnd, ahead_without}
-use Rattle.sftp_transcript.specs.Begun.{FaultAhead, ReadUpTo, HasGiven, HasGivenOf, number_after_events, with_given}
-use Rattle.sftp_transcript.specs.Packets.{MayCome, record_number, stage_opened, stage_after, IsAfterOpening, BeginsNext, FaultNext, GivenRecord, GivesPacket, GivesNext, event_from, event_in, number_past, number_then, IsStageThen, TookNoRecord}
-use Rattle.sftp_transcript.specs.Records.{Begins, IsInit, IsVersion}
-use Rattle.sftp_transcript.specs.Recorded.{Reading, rank}
 use Rattle.sftp_transcript.specs.Refused.{KindFault, IsEventPacket}
-use Rattle.sftp_transcript.specs.Steps.{HasAhead, IsExcuse, IsOpened, Took}
-use Rattle.sftp_transcript.specs.Transcript.{transcript_opening, record_text, packet_of}
-use Rattle.sftp_transcript.proofs.Begun.{opening_read, init_read, version_read, event_read, number_more, given_kept, given_passed}
-use Rattle.sftp_transcript.proofs.Faults.{init_fault, version_fault, event_fault}
-use Rattle.sftp_transcript.proofs.Inputs.{ahead_parts}
-use Rattle.sftp_transcript.proofs.Taking.{FrontHeld, front_taken}
+use Rattle.sftp_transcript.proofs.Begun.{opening_read, greeting_read, event_read, number_more, given_kept, given_passed}
+use Rattle.sftp_transcript.proofs.Faults.{fault_ahead, event_fault}
 use Rattle.sftp_transcript.proofs.transcripts.Beginnings.{begins_one, not_both}
 
 -- ---- what is taken from the bytes held
@@ -30,27 +22,15 @@ pub stage_fault : (stage : Stage) (number : ℕ) (m : Ahead) (before : List ℕ)
     → (m.held ≡ [] → IsAtEnd m.left) → CutsAtEnd m → (stage ≡ stages.Events → 0 < length m.held)
     → KindFault (MayCome stage) (record_number stage number) m.held error → IsExcuse error ⊎ FaultAhead stage number before error
 stage_fault stages.Opening number m before error begun known end part some fault = absurd (omega (arith, begun))
-stage_fault stages.Init number m before error begun known end part some fault = init_fault m before error known end part fault
-stage_fault stages.Version number m before error begun known end part some fault = version_fault m before error known end part fault
+stage_fault stages.Init number m before error begun known end part some fault = fault_ahead IsInit 1 m before error known end part fault
+stage_fault stages.Version number m before error begun known end part some fault = fault_ahead IsVersion 2 m before error known end part fault
 stage_fault stages.Events number m before error begun known end part some fault = event_fault number m before error known end part (some refl) fault
-
-pub record_took : (m : Ahead) (packet : Packet) (rest before : List ℕ) → HasAhead m before → Begins m.held packet rest
-    → Took (λ all after. Begins all packet after) before (ahead_without (length m.held - length rest) m)
-record_took m packet rest before known begins =
-    let p = ahead_parts m before known in
-    let front : FrontHeld m (record_text packet) (rest ++ p.left) =
-    record { rest = rest; left = p.left; held = begins.bytes_are; known = p.known; after_is = refl } in
-    let bytes : before ≡ record_text packet ++ (rest ++ p.left) =
-    p.bytes_are ∙ ap (λ (l : List ℕ). l ++ p.left) begins.bytes_are ∙ append_assoc (record_text packet) rest p.left in
-    (rest ++ p.left, front_taken m (record_text packet) (rest ++ p.left) rest front refl, record { spelled = begins.spelled; bytes_are = bytes })
 
 -- ---- after the opening
 
 pub at_front : (stage : Stage) (before : List ℕ) → 1 ≤ rank stage → IsAfterOpening stage before before
 at_front stages.Opening before begun = absurd (omega (arith, begun))
-at_front stages.Init before begun = refl
-at_front stages.Version before begun = refl
-at_front stages.Events before begun = refl
+at_front other before begun = refl
 
 pub next_given : (stage : Stage) (before : List ℕ) (packet : Packet) (new : Ahead) → 1 ≤ rank stage
     → MayCome stage packet × Took (λ all after. Begins all packet after) before new
@@ -67,15 +47,11 @@ next_opened stages.Opening before records packet rest is n = record {
   may_come = n.may_come;
   begins = n.begins;
 }
-next_opened stages.Init before records packet rest is n = record { records = n.records; opened = n.opened ∙ is; may_come = n.may_come; begins = n.begins }
-next_opened stages.Version before records packet rest is n = record { records = n.records; opened = n.opened ∙ is; may_come = n.may_come; begins = n.begins }
-next_opened stages.Events before records packet rest is n = record { records = n.records; opened = n.opened ∙ is; may_come = n.may_come; begins = n.begins }
+next_opened other before records packet rest is n = record { records = n.records; opened = n.opened ∙ is; may_come = n.may_come; begins = n.begins }
 
 behind_opened : (old : Stage) → stage_after (stage_opened old) ≡ stage_after old
 behind_opened stages.Opening = refl
-behind_opened stages.Init = refl
-behind_opened stages.Version = refl
-behind_opened stages.Events = refl
+behind_opened other = refl
 
 events_opened : (old : Stage) → stage_opened old ≡ stages.Events → old ≡ stages.Events
 events_opened stages.Opening e = absurd cc
@@ -116,9 +92,7 @@ gives_opened old mid before records given new e is gives =
 fault_behind : (old : Stage) (number : ℕ) (before records : List ℕ) (error : TranscriptError) → IsAfterOpening old before records
     → FaultAhead (stage_opened old) number records error → FaultNext old number before error
 fault_behind stages.Opening number before records error is fault = inr (records, is, fault)
-fault_behind stages.Init number before records error is fault = subst (λ (l : List ℕ). FaultAhead stages.Init number l error) is fault
-fault_behind stages.Version number before records error is fault = subst (λ (l : List ℕ). FaultAhead stages.Version number l error) is fault
-fault_behind stages.Events number before records error is fault = subst (λ (l : List ℕ). FaultAhead stages.Events number l error) is fault
+fault_behind other number before records error is fault = subst (λ (l : List ℕ). FaultAhead other number l error) is fault
 
 pub fault_opened : (old mid : Stage) (number now : ℕ) (before records : List ℕ) (error : TranscriptError) → mid ≡ stage_opened old
     → now ≡ number → IsAfterOpening old before records → IsExcuse error ⊎ FaultAhead mid now records error
@@ -135,12 +109,10 @@ on_err_both F (Err error) f p q = f p q
 
 -- ---- one record is next at most, and none where a fault comes next
 
-one_opened : (stage : Stage) (before records others : List ℕ) → IsAfterOpening stage before records
+pub one_opened : (stage : Stage) (before records others : List ℕ) → IsAfterOpening stage before records
     → IsAfterOpening stage before others → records ≡ others
 one_opened stages.Opening before records others one other = append_cancel_left transcript_opening records others (sym one ∙ other)
-one_opened stages.Init before records others one other = one ∙ sym other
-one_opened stages.Version before records others one other = one ∙ sym other
-one_opened stages.Events before records others one other = one ∙ sym other
+one_opened stage before records others one other = one ∙ sym other
 
 pub BeginsNext-one : (stage : Stage) (before : List ℕ) (p q : Packet) (x y : List ℕ) → BeginsNext stage before p x
     → BeginsNext stage before q y → (p ≡ q) × (x ≡ y)
@@ -178,11 +150,7 @@ not_next stages.Events number before rest packet error apart fault n =
 memory_or : (error : TranscriptError) → (error ≢ NoMemory → ⊥) → IsExcuse error
 memory_or NoMemory not = tt
 memory_or (Io place) not = tt
-memory_or (Magic place) not = absurd (not (λ e. absurd cc))
-memory_or (Direction place) not = absurd (not (λ e. absurd cc))
-memory_or (Start place) not = absurd (not (λ e. absurd cc))
-memory_or (Wire f place) not = absurd (not (λ e. absurd cc))
-memory_or (Truncated place) not = absurd (not (λ e. absurd cc))
+memory_or other not = absurd (not (λ e. absurd cc))
 
 pub next_excuse : (stage : Stage) (number : ℕ) (before rest : List ℕ) (packet : Packet) (error : TranscriptError)
     → IsExcuse error ⊎ FaultNext stage number before error → BeginsNext stage before packet rest → IsExcuse error
@@ -218,7 +186,7 @@ given_up_to : (stage : Stage) (bytes : List ℕ) (events : List Event) (number :
     → GivenUpTo stage bytes events number packet rest
 given_up_to stages.Opening bytes events number before packet rest is read n =
     let opened = opening_read bytes events before n.records read n.opened in
-    let init = init_read bytes events n.records rest opened (record { packet = packet; is_init = n.may_come; begins = n.begins }) in
+    let init = greeting_read stages.Init refl bytes events n.records rest opened (record { packet = packet; is_kind = n.may_come; begins = n.begins }) in
     let none : event_from packet ≡ None = event_of_init packet n.may_come in
     record {
       read = subst (λ (o : Option Event). ReadUpTo stages.Version bytes (with_given events o) rest) (sym none) init;
@@ -226,7 +194,7 @@ given_up_to stages.Opening bytes events number before packet rest is read n =
     }
 given_up_to stages.Init bytes events number before packet rest is read n =
     let begins : Begins before packet rest = subst (λ (l : List ℕ). Begins l packet rest) n.opened n.begins in
-    let init = init_read bytes events before rest read (record { packet = packet; is_init = n.may_come; begins = begins }) in
+    let init = greeting_read stages.Init refl bytes events before rest read (record { packet = packet; is_kind = n.may_come; begins = begins }) in
     let none : event_from packet ≡ None = event_of_init packet n.may_come in
     record {
       read = subst (λ (o : Option Event). ReadUpTo stages.Version bytes (with_given events o) rest) (sym none) init;
@@ -234,7 +202,7 @@ given_up_to stages.Init bytes events number before packet rest is read n =
     }
 given_up_to stages.Version bytes events number before packet rest is read n =
     let begins : Begins before packet rest = subst (λ (l : List ℕ). Begins l packet rest) n.opened n.begins in
-    let version = version_read bytes events before rest read (record { packet = packet; is_version = n.may_come; begins = begins }) in
+    let version = greeting_read stages.Version refl bytes events before rest read (record { packet = packet; is_kind = n.may_come; begins = begins }) in
     let none : event_from packet ≡ None = event_of_version packet n.may_come in
     record {
       read = subst (λ (o : Option Event). ReadUpTo stages.Events bytes (with_given events o) rest) (sym none) version;

@@ -1,8 +1,7 @@
 -- Bytes that are written in several calls.
-use Rattle.std.proofs.Common.{◌≡◌, ℕ, List, [], ◌++◌, Option, None, Some, take, drop, refl, sym, ap, ◌∙◌}
-use Rattle.std.proofs.Common.{append_assoc, append-nil, take-append-drop, Result, Ok, Err, OnErr}
-use Rattle.std.specs.Io.KnownBytes.{Appends, Keeps}
-use Rattle.sftp_transcript.specs.Streams.{AppendsPart}
+use Rattle.sftp_transcript.proofs.Imports.{◌≡◌, ℕ, List, [], ◌++◌, Option, None, Some, take, drop, refl, sym, ap, ◌∙◌}
+use Rattle.sftp_transcript.proofs.Imports.{append_assoc, append-nil, take-append-drop, Result, Ok, Err, OnErr, Appends}
+use Rattle.sftp_transcript.proofs.Imports.{Keeps, AppendsPart}
 
 pub on_err : {A E P : Type 0} (result : Result A E) → P → OnErr result P
 on_err (Ok value) holds = tt

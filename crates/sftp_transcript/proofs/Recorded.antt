@@ -1,22 +1,13 @@
 -- Which events are to come, before and after each step of a reader.
-use Rattle.std.proofs.Common.{◌≡◌, ℕ, ◌≤◌, List, [], ◌∷◌, ◌++◌, Option, Some, None, Result, Ok, Err, OnErr, refl, sym, ap, ◌∙◌, subst}
-use Rattle.std.proofs.Common.{arith}
-use Rattle.std.specs.List.{flat_map}
-use Rattle.std.proofs.lemmas.List.Concat.{flat_map-cons}
-use Rattle.sftp_transcript.specs.declared.errors.TranscriptError.{TranscriptError}
-use Rattle.sftp_transcript.specs.declared.events.Event.{Event}
-use Rattle.sftp_transcript.specs.declared.stage.Stage.{Stage}
+use Rattle.sftp_transcript.proofs.Imports.{◌≡◌, ℕ, ◌≤◌, true, List, [], ◌∷◌, ◌++◌, Option, Some, None, Result, Ok, Err}
+use Rattle.sftp_transcript.proofs.Imports.{OnErr, refl, sym, ap, ◌∙◌, subst, arith, flat_map, flat_map-cons, same_Some}
+use Rattle.sftp_transcript.proofs.Imports.{TranscriptError, Event, Stage, IsSameAhead, bytes_ahead, size_of, MayCome}
+use Rattle.sftp_transcript.proofs.Imports.{stage_after, is_greeting, BeginsKind, Reading, RecordsFrom, RecordsFromInit}
+use Rattle.sftp_transcript.proofs.Imports.{IsKnown, Records, RecordsSame, Gave, Gives, HasAhead, IsExcuse, IsOpened}
+use Rattle.sftp_transcript.proofs.Imports.{Took, BeginsEvent, TookEvent, event_record, AreRecords, IsRecord}
 use Rattle.sftp_transcript.specs.declared.stage.Stage.TheVariants as stages
-use Rattle.sftp_transcript.specs.Ahead.{IsSameAhead, bytes_ahead, size_of}
-use Rattle.sftp_transcript.specs.Records.{BeginsInit, BeginsVersion}
-use Rattle.sftp_transcript.specs.Recorded.{Reading, RecordsFrom, RecordsFromInit, RecordsFromVersion, IsKnown, Records, RecordsSame, Gave, Gives}
-use Rattle.sftp_transcript.specs.Steps.{HasAhead, IsExcuse, IsOpened, Took, BeginsEvent, TookEvent}
-use Rattle.sftp_transcript.specs.Transcript.{event_record, AreRecords, IsRecord}
 use Rattle.sftp_transcript.proofs.Taking.{known_kept}
 use Rattle.sftp_transcript.proofs.transcripts.Reading.{record_parts, record_by}
-
-same_bytes : (x y : List ℕ) → Some x ≡ Some y → x ≡ y
-same_bytes x y e = cc
 
 -- ---- no step, and steps one after the other
 
@@ -43,7 +34,7 @@ RecordsSame-then a b c p q = record {
 -- ---- the same bytes are ahead
 
 kept_known : (a b : Option (List ℕ)) (x y : List ℕ) → a ≡ Some x → b ≡ Some y → ((z : List ℕ) → a ≡ Some z → b ≡ Some z) → x ≡ y
-kept_known a b x y e k f = same_bytes x y (sym (f x e) ∙ k)
+kept_known a b x y e k f = same_Some x y (sym (f x e) ∙ k)
 
 pub RecordsSame-kept : (old new : Reading) → IsSameAhead old.ahead new.ahead → new.stage ≡ old.stage → new.number ≡ old.number
     → new.fault ≡ old.fault → RecordsSame old new
@@ -57,7 +48,7 @@ RecordsSame-kept old new same stage number fault =
         are_ahead = k.1;
         recorded =
             let at : RecordsFrom old.stage events r.bytes = subst (λ (s : Stage). RecordsFrom s events r.bytes) stage r.recorded in
-            subst (λ (l : List ℕ). RecordsFrom old.stage events l) (sym (same_bytes k.0 r.bytes (sym (keep k.0 k.1) ∙ r.are_ahead))) at;
+            subst (λ (l : List ℕ). RecordsFrom old.stage events l) (sym (same_Some k.0 r.bytes (sym (keep k.0 k.1) ∙ r.are_ahead))) at;
       };
       complete = λ events r. record {
         bytes = r.bytes;
@@ -83,7 +74,7 @@ module _ (P : List ℕ → List ℕ → Type 0) (s t : Stage)
         let took = found k.0 k.1 in
         let at : RecordsFrom t events r.bytes = subst (λ (u : Stage). RecordsFrom u events r.bytes) to r.recorded in
         let behind : RecordsFrom t events took.0 =
-        subst (λ (l : List ℕ). RecordsFrom t events l) (same_bytes r.bytes took.0 (sym r.are_ahead ∙ took.1)) at in
+        subst (λ (l : List ℕ). RecordsFrom t events l) (same_Some r.bytes took.0 (sym r.are_ahead ∙ took.1)) at in
         record {
           bytes = k.0;
           are_ahead = k.1;
@@ -118,19 +109,19 @@ opening_split events before is =
     let p = record_parts events before is.opened is.opening is in
     (is.opened, is.opening, record { middle = p.middle; init = p.init; answered = record { records = p.records; version = p.version; recorded = p.recorded } })
 
-pub init_sound : (events : List Event) (before after : List ℕ) → BeginsInit before after → RecordsFromVersion events after → RecordsFromInit events before
-init_sound events before after is r = record { middle = after; init = is; answered = r }
+pub greeting_sound : (s : Stage) → is_greeting s ≡ true → (events : List Event) (before after : List ℕ)
+    → BeginsKind (MayCome s) before after → RecordsFrom (stage_after s) events after → RecordsFrom s events before
+greeting_sound stages.Opening greets events before after is r = absurd cc
+greeting_sound stages.Init greets events before after is r = record { middle = after; init = is; answered = r }
+greeting_sound stages.Version greets events before after is r = record { records = after; version = is; recorded = r }
+greeting_sound stages.Events greets events before after is r = absurd cc
 
-pub init_split : (events : List Event) (before : List ℕ) → RecordsFromInit events before
-    → (after : List ℕ) × BeginsInit before after × RecordsFromVersion events after
-init_split events before r = (r.middle, r.init, r.answered)
-
-pub version_sound : (events : List Event) (before after : List ℕ) → BeginsVersion before after → AreRecords events after → RecordsFromVersion events before
-version_sound events before after is r = record { records = after; version = is; recorded = r }
-
-pub version_split : (events : List Event) (before : List ℕ) → RecordsFromVersion events before
-    → (after : List ℕ) × BeginsVersion before after × AreRecords events after
-version_split events before r = (r.records, r.version, r.recorded)
+pub greeting_split : (s : Stage) → is_greeting s ≡ true → (events : List Event) (before : List ℕ) → RecordsFrom s events before
+    → (after : List ℕ) × BeginsKind (MayCome s) before after × RecordsFrom (stage_after s) events after
+greeting_split stages.Opening greets events before r = absurd cc
+greeting_split stages.Init greets events before r = (r.middle, r.init, r.answered)
+greeting_split stages.Version greets events before r = (r.records, r.version, r.recorded)
+greeting_split stages.Events greets events before r = absurd cc
 
 -- ---- events
 
@@ -156,7 +147,7 @@ gave old new (Some event) from to found k =
       recorded =
           let at : AreRecords others r.bytes = subst (λ (u : Stage). RecordsFrom u others r.bytes) to r.recorded in
           let behind : AreRecords others took.0 =
-          subst (λ (l : List ℕ). AreRecords others l) (same_bytes r.bytes took.0 (sym r.are_ahead ∙ took.1)) at in
+          subst (λ (l : List ℕ). AreRecords others l) (same_Some r.bytes took.0 (sym r.are_ahead ∙ took.1)) at in
           subst (λ (u : Stage). RecordsFrom u (event ∷ others) k.0) (sym from) (event_sound event others k.0 took.0 took.2 behind);
     }
 gave old new None from to found k =

@@ -1,15 +1,10 @@
 -- What is taken from the front of the bytes held is taken from the bytes ahead.
-use Rattle.std.proofs.Common.{◌≡◌, ℕ, ◌-◌, ◌≤◌, List, ◌++◌, length, take, drop, Option, None, Some, refl, sym, ap, ◌∙◌, subst}
-use Rattle.std.proofs.Common.{append_assoc, take-append-drop, arith}
-use Rattle.std.proofs.lemmas.List.{take_at, drop_at, take-append-le, drop-append-le, length-append}
-use Rattle.std.specs.Io.KnownBytes.{Keeps, prepend_known}
-use Rattle.sftp_transcript.specs.declared.errors.TranscriptError.{TranscriptError}
-use Rattle.sftp_transcript.specs.declared.errors.TranscriptError.TheVariants.{NoMemory}
-use Rattle.sftp_transcript.specs.declared.events.Event.{Event}
-use Rattle.sftp_transcript.specs.Ahead.{Ahead, HoldsRecord, HoldsOpening, ahead_without}
-use Rattle.sftp_transcript.specs.Records.{BeginsInit, BeginsVersion}
-use Rattle.sftp_transcript.specs.Steps.{HasAhead, IsExcuse, IsOpened, BeginsEvent, Took}
-use Rattle.sftp_transcript.specs.Transcript.{transcript_opening, record_text, packet_of, event_record}
+use Rattle.sftp_transcript.proofs.Imports.{◌≡◌, ℕ, ◌-◌, ◌≤◌, List, ◌++◌, length, take, drop, Option, None, Some, refl}
+use Rattle.sftp_transcript.proofs.Imports.{sym, ap, ◌∙◌, subst, append_assoc, take-append-drop, arith, take_at, drop_at}
+use Rattle.sftp_transcript.proofs.Imports.{take-append-le, drop-append-le, length-append, Keeps, prepend_known}
+use Rattle.sftp_transcript.proofs.Imports.{TranscriptError, NoMemory, Event, Packet, Ahead, HoldsRecord, HoldsOpening}
+use Rattle.sftp_transcript.proofs.Imports.{ahead_without, Begins, HasAhead, IsExcuse, IsOpened, BeginsEvent, Took}
+use Rattle.sftp_transcript.proofs.Imports.{transcript_opening, record_text, packet_of, event_record}
 use Rattle.sftp_transcript.proofs.Inputs.{ahead_parts}
 
 pub known_kept : (a b : Option (List ℕ)) (bytes : List ℕ) → Keeps a b → a ≡ Some bytes → b ≡ Some bytes
@@ -64,35 +59,17 @@ pub opening_front : (m : Ahead) (before after : List ℕ) → HoldsOpening m →
 opening_front m before after holds known is =
     front_held m transcript_opening before after known is (holds before after known is)
 
--- ---- the first two records
+-- ---- records
 
-pub init_front : (m : Ahead) (before after : List ℕ) → HoldsRecord m → HasAhead m before
-    → (is : BeginsInit before after) → FrontHeld m (record_text is.packet) after
-init_front m before after holds known is =
-    front_held m (record_text is.packet) before after known is.begins.bytes_are
-    (holds is.packet before after is.begins.spelled known is.begins.bytes_are)
-
-pub init_held : (m : Ahead) (before after : List ℕ) (is : BeginsInit before after)
-    → (front : FrontHeld m (record_text is.packet) after) → BeginsInit m.held front.rest
-init_held m before after is front = record {
-  packet = is.packet;
-  is_init = is.is_init;
-  begins = record { spelled = is.begins.spelled; bytes_are = front.held };
-}
-
-pub version_front : (m : Ahead) (before after : List ℕ) → HoldsRecord m → HasAhead m before
-    → (is : BeginsVersion before after) → FrontHeld m (record_text is.packet) after
-version_front m before after holds known is =
-    front_held m (record_text is.packet) before after known is.begins.bytes_are
-    (holds is.packet before after is.begins.spelled known is.begins.bytes_are)
-
-pub version_held : (m : Ahead) (before after : List ℕ) (is : BeginsVersion before after)
-    → (front : FrontHeld m (record_text is.packet) after) → BeginsVersion m.held front.rest
-version_held m before after is front = record {
-  packet = is.packet;
-  is_version = is.is_version;
-  begins = record { spelled = is.begins.spelled; bytes_are = front.held };
-}
+pub record_took : (m : Ahead) (packet : Packet) (rest before : List ℕ) → HasAhead m before → Begins m.held packet rest
+    → Took (λ all after. Begins all packet after) before (ahead_without (length m.held - length rest) m)
+record_took m packet rest before known begins =
+    let p = ahead_parts m before known in
+    let front : FrontHeld m (record_text packet) (rest ++ p.left) =
+    record { rest = rest; left = p.left; held = begins.bytes_are; known = p.known; after_is = refl } in
+    let bytes : before ≡ record_text packet ++ (rest ++ p.left) =
+    p.bytes_are ∙ ap (λ (l : List ℕ). l ++ p.left) begins.bytes_are ∙ append_assoc (record_text packet) rest p.left in
+    (rest ++ p.left, front_taken m (record_text packet) (rest ++ p.left) rest front refl, record { spelled = begins.spelled; bytes_are = bytes })
 
 -- ---- events
 
@@ -104,7 +81,5 @@ event_front m event before after holds known is =
 pub event_took : (m : Ahead) (event : Event) (rest before : List ℕ) → HasAhead m before → BeginsEvent event m.held rest
     → Took (BeginsEvent event) before (ahead_without (length m.held - length rest) m)
 event_took m event rest before known is =
-    let p = ahead_parts m before known in
-    let front : FrontHeld m (event_record event) (rest ++ p.left) =
-    record { rest = rest; left = p.left; held = is.1; known = p.known; after_is = refl } in
-    (rest ++ p.left, front_taken m (event_record event) (rest ++ p.left) rest front refl, (is.0, p.bytes_are ∙ ap (λ (l : List ℕ). l ++ p.left) is.1 ∙ append_assoc (event_record event) rest p.left))
+    let took = record_took m (packet_of event) rest before known (record { spelled = is.0; bytes_are = is.1 }) in
+    (took.0, took.1, (took.2.spelled, took.2.bytes_are))

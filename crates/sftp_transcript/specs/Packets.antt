@@ -1,5 +1,5 @@
 -- The records of a transcript file one after the other, INIT and VERSION among them. This profile's own.
-use Rattle.std.specs.Prelude.{◌≡◌, ◌⊎◌, ℕ, List, [], length, Option, Some, None}
+use Rattle.std.specs.Prelude.{◌≡◌, ◌⊎◌, ℕ, Bool, true, false, List, [], length, Option, Some, None}
 use Rattle.sftp_wire.specs.declared.packets.Packet.{Packet}
 use Rattle.sftp_wire.specs.declared.packets.Packet.TheVariants.{Init, Version, Request, Reply}
 use Rattle.sftp_wire.specs.declared.packets.Side.{Side}
@@ -30,6 +30,13 @@ stage_opened stages.Opening = stages.Init
 stage_opened stages.Init = stages.Init
 stage_opened stages.Version = stages.Version
 stage_opened stages.Events = stages.Events
+
+-- an INIT or a VERSION is next, and no opening before it
+abbrev pub is_greeting : Stage → Bool
+is_greeting stages.Opening = false
+is_greeting stages.Init = true
+is_greeting stages.Version = true
+is_greeting stages.Events = false
 
 -- the stage after the next record
 abbrev pub stage_after : Stage → Stage

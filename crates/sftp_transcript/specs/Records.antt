@@ -23,16 +23,20 @@ pub record Begins (bytes : List ℕ) (packet : Packet) (rest : List ℕ) : Type 
   pub spelled : HasSpelling packet
   pub bytes_are : bytes ≡ record_text packet ++ rest
 
+-- the bytes begin with the record of a packet of this kind, and the rest follows
+pub record BeginsKind (P : Packet → Type 0) (bytes rest : List ℕ) : Type 0 where
+  pub packet : Packet
+  pub is_kind : P packet
+  pub begins : Begins bytes packet rest
+
 -- an INIT of version 3 or more
 abbrev pub IsInit : Packet → Type 0
 IsInit (Init version extensions) = 3 ≤ version
 IsInit other = ⊥
 
 -- the bytes begin with the record of one
-pub record BeginsInit (bytes rest : List ℕ) : Type 0 where
-  pub packet : Packet
-  pub is_init : IsInit packet
-  pub begins : Begins bytes packet rest
+abbrev pub BeginsInit : List ℕ → List ℕ → Type 0
+BeginsInit bytes rest = BeginsKind IsInit bytes rest
 
 -- a VERSION 3
 abbrev pub IsVersion : Packet → Type 0
@@ -40,10 +44,8 @@ IsVersion (Version version extensions) = IsTrue (version == 3)
 IsVersion other = ⊥
 
 -- the bytes begin with the record of one
-pub record BeginsVersion (bytes rest : List ℕ) : Type 0 where
-  pub packet : Packet
-  pub is_version : IsVersion packet
-  pub begins : Begins bytes packet rest
+abbrev pub BeginsVersion : List ℕ → List ℕ → Type 0
+BeginsVersion bytes rest = BeginsKind IsVersion bytes rest
 
 -- the result has the property, unless memory ran out
 abbrev pub GivesOnly : {A : Type 0} → (A → Type 0) → Result A TranscriptError → Type 0

@@ -4,8 +4,10 @@ ghost use Rattle.sftp_transcript.specs.declared.errors.TranscriptError.{Transcri
 ghost use Rattle.sftp_transcript.specs.declared.errors.TranscriptError.TheVariants.{NoMemory};
 ghost use Rattle.sftp_transcript.specs.declared.events.Event.{Event};
 ghost use Rattle.sftp_transcript.specs.Begun.{FaultAfter};
-ghost use Rattle.sftp_transcript.specs.Explained.{Matching, exchanges_of, leading_pairs};
+ghost use Rattle.sftp_transcript.specs.Explained.{Matching, exchanges_of, leading_pairs, window};
 ghost use Rattle.sftp_transcript.specs.Sound.{InTurn, IsWaiting};
+
+use crate::events::WINDOW;
 
 /// Where requests and replies of each id take turns, each request has a reply, so that a session's run goes
 /// over all of them.
@@ -26,4 +28,9 @@ pub fn one_fault()
     ensures { (bytes : List ℕ) (events others : List Event) (a b : TranscriptError) →
         FaultAfter bytes events a → FaultAfter bytes others b → a ≢ NoMemory → b ≢ NoMemory →
         (events ≡ others) × (a ≡ b) }
+{}
+
+/// The window is one number, in code and in the definitions.
+pub fn one_window()
+    ensures { WINDOW ≡ window }
 {}

@@ -19,7 +19,7 @@ mod writer;
 
 pub use buffer::Buffer;
 pub use errors::TranscriptError;
-pub use events::Event;
+pub use events::{Event, WINDOW};
 pub use memory::Memory;
 pub use reader::Reader;
 pub use records::{OPENING, records_are_one};

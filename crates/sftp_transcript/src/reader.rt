@@ -14,14 +14,14 @@ ghost use Rattle.sftp_transcript.specs.Begun.{HasGiven, HasGivenOf, GaveFrom, Fa
 ghost use Rattle.sftp_transcript.specs.Begun.{HasStillGiven};
 ghost use Rattle.sftp_transcript.specs.Packets.{IsAfterOpening, BeginsNext, FaultNext, IsMeasured, GivesPacket};
 ghost use Rattle.sftp_transcript.specs.Packets.{GivesNext, TookNoRecord, stage_opened, stage_after, number_past};
-ghost use Rattle.sftp_transcript.specs.Packets.{IsStageThen, number_then, event_in};
+ghost use Rattle.sftp_transcript.specs.Packets.{IsStageThen, number_then, event_in, is_greeting};
 
 use crate::buffer::Buffer;
 use crate::errors::TranscriptError;
 use crate::events::Event;
 use crate::input::Input;
 use crate::stage::Stage;
-use crate::steps::{pass_event, pass_init, pass_opening, pass_record, pass_version};
+use crate::steps::{pass_event, pass_opening, pass_record};
 use crate::streams::Source;
 use crate::writer::sender;
 use sftp_wire::{Packet, Side};
@@ -148,38 +148,24 @@ impl<R: Source> Reader<R> {
         }
     }
 
-    /// Takes the client's INIT if it is next.
-    fn take_init(&mut self) -> Result<(), TranscriptError>
-        requires { 1 ≤ rank self.old.stage }
-        ensures same { RecordsSame self.old self.new }
-        ensures only { (events : List Event) → Records self.old events → MatchResult result (λ _. ⊤) IsExcuse }
-        ensures next { OnOk result (2 ≤ rank self.new.stage) }
-        ensures refused { IfErr result (FaultIn self.new.stage self.new.number self.new.ahead.held) }
-        ensures first { (bytes ahead : List ℕ) (events : List Event) → HasGiven bytes events ahead self.old
-            → MatchResult result (λ _. HasGivenOf bytes events self.new) (FaultOf bytes events) }
-        ensures onward { rank self.old.stage ≤ rank self.new.stage }
-        ensures still { (bytes ahead : List ℕ) (events : List Event) → HasGiven bytes events ahead self.old
-            → OnErr result (HasGivenOf bytes events self.new) }
-        ensures counts { CountsError R.may_fail result self.old.ahead.failures self.new.ahead.failures }
+    /// Whether an INIT or a VERSION is next, and no opening before it.
+    fn greets(&self) -> bool
+        ensures { result ≡ is_greeting self.now.stage }
     {
         match self.stage {
-            Stage::Opening => unreachable!(),
-            Stage::Init => {
-                pass_init(self.alloc, &mut self.input)?;
-                self.stage = Stage::Version;
-                Ok(())
-            }
-            Stage::Version => Ok(()),
-            Stage::Events => Ok(()),
+            Stage::Opening => false,
+            Stage::Init => true,
+            Stage::Version => true,
+            Stage::Events => false,
         }
     }
 
-    /// Takes the server's VERSION if it is next.
-    fn take_version(&mut self) -> Result<(), TranscriptError>
-        requires { 2 ≤ rank self.old.stage }
+    /// Takes the client's INIT or the server's VERSION, whichever is next.
+    fn take_greeting(&mut self) -> Result<(), TranscriptError>
+        requires { 1 ≤ rank self.old.stage }
         ensures same { RecordsSame self.old self.new }
         ensures only { (events : List Event) → Records self.old events → MatchResult result (λ _. ⊤) IsExcuse }
-        ensures next { OnOk result (self.new.stage ≡ Stage.Events) }
+        ensures next { OnOk result (self.new.stage ≡ stage_after self.old.stage) }
         ensures refused { IfErr result (FaultIn self.new.stage self.new.number self.new.ahead.held) }
         ensures first { (bytes ahead : List ℕ) (events : List Event) → HasGiven bytes events ahead self.old
             → MatchResult result (λ _. HasGivenOf bytes events self.new) (FaultOf bytes events) }
@@ -188,16 +174,10 @@ impl<R: Source> Reader<R> {
             → OnErr result (HasGivenOf bytes events self.new) }
         ensures counts { CountsError R.may_fail result self.old.ahead.failures self.new.ahead.failures }
     {
-        match self.stage {
-            Stage::Opening => unreachable!(),
-            Stage::Init => unreachable!(),
-            Stage::Version => {
-                pass_version(self.alloc, &mut self.input)?;
-                self.stage = Stage::Events;
-                Ok(())
-            }
-            Stage::Events => Ok(()),
+        if self.greets() {
+            drop(self.take_record()?);
         }
+        Ok(())
     }
 
     /// Takes what comes before the events.
@@ -214,8 +194,8 @@ impl<R: Source> Reader<R> {
         ensures counts { CountsError R.may_fail result self.old.ahead.failures self.new.ahead.failures }
     {
         self.take_opening()?;
-        self.take_init()?;
-        self.take_version()?;
+        self.take_greeting()?;
+        self.take_greeting()?;
         Ok(())
     }
 
@@ -280,6 +260,7 @@ impl<R: Source> Reader<R> {
             (λ _. self.new.number ≡ self.old.number) }
         ensures stage { IfOk result (λ given. IsStageThen self.old.stage given self.new.stage) }
         ensures falls { IfOk result (λ given. IfSome given (λ _. size_of self.new.ahead < size_of self.old.ahead)) }
+        ensures never_rises { size_of self.new.ahead ≤ size_of self.old.ahead }
         ensures refused { IfErr result (FaultIn self.new.stage self.new.number self.new.ahead.held) }
         ensures first { (before : List ℕ) → HasAhead self.old.ahead before
             → IfErr result (λ error. IsExcuse error ⊎ FaultAhead self.old.stage self.old.number before error) }

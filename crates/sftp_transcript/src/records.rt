@@ -6,9 +6,8 @@ ghost use Rattle.sftp_wire.specs.Spelling.{spelling, HasSpelling, side_of};
 ghost use Rattle.sftp_transcript.specs.declared.events.Event.{Event};
 ghost use Rattle.sftp_transcript.specs.Transcript.{transcript_opening, packet_of, event_record, IsEvent, IsRecord};
 ghost use Rattle.sftp_transcript.specs.Records.{side_of_direction, read_fault, Begins, GivesOnly};
-ghost use Rattle.sftp_transcript.specs.Records.{IsInit, BeginsInit, IsVersion, BeginsVersion};
-ghost use Rattle.sftp_transcript.specs.Refused.{PacketFault, RecordFault, InitFault, VersionFault, EventFault};
-ghost use Rattle.sftp_transcript.specs.Refused.{KindFault, IsEventPacket};
+ghost use Rattle.sftp_transcript.specs.Records.{IsInit, IsVersion};
+ghost use Rattle.sftp_transcript.specs.Refused.{PacketFault, RecordFault, EventFault, KindFault, IsEventPacket};
 ghost use Rattle.sftp_transcript.specs.Packets.{MayCome};
 
 use crate::errors::TranscriptError;
@@ -32,34 +31,6 @@ pub(crate) fn take_opening(bytes: &[u8]) -> Result<&[u8], TranscriptError>
     bytes
         .strip_prefix(&OPENING)
         .ok_or(TranscriptError::Magic { record: 0 })
-}
-
-/// The bytes after the client's INIT, which is the first record.
-pub(crate) fn take_init(alloc: Global, bytes: &[u8]) -> Result<&[u8], TranscriptError>
-    ensures found { IfOk result (λ rest. BeginsInit bytes.now rest.now) }
-    ensures only { (rest : List ℕ) → BeginsInit bytes.now rest → GivesOnly (λ r. r.now ≡ rest) result }
-    ensures refused { IfErr result (InitFault bytes.now) }
-{
-    let (packet, rest) = take_record(alloc, bytes, 1)?;
-    if is_next(packet, Stage::Init) {
-        Ok(rest)
-    } else {
-        Err(TranscriptError::Start { record: 1 })
-    }
-}
-
-/// The bytes after the server's VERSION, which is the second record.
-pub(crate) fn take_version(alloc: Global, bytes: &[u8]) -> Result<&[u8], TranscriptError>
-    ensures found { IfOk result (λ rest. BeginsVersion bytes.now rest.now) }
-    ensures only { (rest : List ℕ) → BeginsVersion bytes.now rest → GivesOnly (λ r. r.now ≡ rest) result }
-    ensures refused { IfErr result (VersionFault bytes.now) }
-{
-    let (packet, rest) = take_record(alloc, bytes, 2)?;
-    if is_next(packet, Stage::Version) {
-        Ok(rest)
-    } else {
-        Err(TranscriptError::Start { record: 2 })
-    }
 }
 
 /// The event of the record in front, and the bytes after it.
@@ -122,16 +93,6 @@ fn next_packet(packet: Packet, stage: Stage, number: u64) -> Result<Packet, Tran
         drop(packet);
         Err(TranscriptError::Start { record: number })
     }
-}
-
-/// Whether the packet may come at this stage. It takes the packet, so that no caller drops it.
-fn is_next(packet: Packet, stage: Stage) -> bool
-    ensures yes { IsTrue result → MayCome stage packet }
-    ensures no { result ≡ false → MayCome stage packet → ⊥ }
-{
-    let comes = may_come(&packet, stage);
-    drop(packet);
-    comes
 }
 
 /// Whether the packet may come at this stage.

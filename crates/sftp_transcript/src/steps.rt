@@ -1,4 +1,4 @@
-//! What a reader of a transcript file takes from its input: the opening, the first two records, and each later one.
+//! What a reader of a transcript file takes from its input: the opening, an event, and any record.
 ghost use Rattle.std.specs.Prelude.{◌≡◌, ◌⊎◌, ◌<◌, ◌≤◌, List, ℕ, [], Some, None, OnOk, OnErr, IfOk, IfErr};
 ghost use Rattle.std.specs.Prelude.{IfSome, MatchResult, IsTrue, false, length};
 ghost use Rattle.sftp_wire.specs.Spelling.{spelling};
@@ -7,14 +7,13 @@ ghost use Rattle.sftp_transcript.specs.Ahead.{IsSameAhead, size_of};
 ghost use Rattle.sftp_transcript.specs.Begun.{FaultAhead};
 ghost use Rattle.sftp_transcript.specs.Packets.{TookPacket, record_number};
 ghost use Rattle.sftp_transcript.specs.Recorded.{rank};
-ghost use Rattle.sftp_transcript.specs.Records.{BeginsInit, BeginsVersion};
 ghost use Rattle.sftp_transcript.specs.Refused.{FaultIn};
 ghost use Rattle.sftp_transcript.specs.Steps.{HasAhead, IsExcuse, CountsError, IsOpened, Took, BeginsEvent, TookEvent};
 
 use crate::errors::TranscriptError;
 use crate::events::Event;
 use crate::input::Input;
-use crate::records::{take_event, take_init, take_next, take_opening, take_version};
+use crate::records::{take_event, take_next, take_opening};
 use crate::stage::Stage;
 use crate::streams::Source;
 use sftp_wire::Packet;
@@ -34,48 +33,6 @@ pub(crate) fn pass_opening<R: Source>(input: &mut Input<R>) -> Result<(), Transc
 {
     input.fill_opening()?;
     let left = take_opening(input.held())?.len();
-    input.take(input.held().len() - left);
-    Ok(())
-}
-
-/// Takes the client's INIT.
-pub(crate) fn pass_init<R: Source>(
-    alloc: Global,
-    input: &mut Input<R>,
-) -> Result<(), TranscriptError>
-    ensures found { OnOk result ((before : List ℕ) → HasAhead input.old before → Took BeginsInit before input.new) }
-    ensures only { (before after : List ℕ) → HasAhead input.old before → BeginsInit before after
-        → MatchResult result (λ _. HasAhead input.new after) IsExcuse }
-    ensures same { OnErr result (IsSameAhead input.old input.new) }
-    ensures never_rises { size_of input.new ≤ size_of input.old }
-    ensures refused { IfErr result (FaultIn Stage.Init 0 input.new.held) }
-    ensures first { (before : List ℕ) → HasAhead input.old before
-        → IfErr result (λ error. IsExcuse error ⊎ FaultAhead Stage.Init 0 before error) }
-    ensures counts { CountsError R.may_fail result input.old.failures input.new.failures }
-{
-    input.fill_record(1)?;
-    let left = take_init(alloc, input.held())?.len();
-    input.take(input.held().len() - left);
-    Ok(())
-}
-
-/// Takes the server's VERSION.
-pub(crate) fn pass_version<R: Source>(
-    alloc: Global,
-    input: &mut Input<R>,
-) -> Result<(), TranscriptError>
-    ensures found { OnOk result ((before : List ℕ) → HasAhead input.old before → Took BeginsVersion before input.new) }
-    ensures only { (before after : List ℕ) → HasAhead input.old before → BeginsVersion before after
-        → MatchResult result (λ _. HasAhead input.new after) IsExcuse }
-    ensures same { OnErr result (IsSameAhead input.old input.new) }
-    ensures never_rises { size_of input.new ≤ size_of input.old }
-    ensures refused { IfErr result (FaultIn Stage.Version 0 input.new.held) }
-    ensures first { (before : List ℕ) → HasAhead input.old before
-        → IfErr result (λ error. IsExcuse error ⊎ FaultAhead Stage.Version 0 before error) }
-    ensures counts { CountsError R.may_fail result input.old.failures input.new.failures }
-{
-    input.fill_record(2)?;
-    let left = take_version(alloc, input.held())?.len();
     input.take(input.held().len() - left);
     Ok(())
 }

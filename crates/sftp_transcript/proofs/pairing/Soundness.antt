@@ -1,8 +1,6 @@
 -- A session is explained where its events are sound and no request waits.
-use Rattle.std.proofs.Common.{◌≡◌, ℕ, List, refl}
-use Rattle.sftp_transcript.specs.declared.events.Event.{Event}
+use Rattle.sftp_transcript.proofs.Imports.{◌≡◌, ℕ, List, refl, Event, InTurn, IsWaiting, Sound}
 use Rattle.sftp_transcript.specs.Explained.{Turn, closed, waiting, broken, turn_after, Matching, StepOf, Explained}
-use Rattle.sftp_transcript.specs.Sound.{InTurn, IsWaiting, Sound}
 
 -- no request waits for its reply
 abbrev pub NoneWaits : List Event → Type 0

@@ -1,17 +1,14 @@
 -- The ledger goes on with each event, and an event out of turn or out of time ends every explanation.
-use Rattle.std.proofs.Common.{◌≡◌, ◌==◌, ◌&&◌, ◌||◌, nat_lt, ℕ, suc, ◌+◌, ◌<◌, ◌≤◌, Bool, true, false, cond, List, []}
-use Rattle.std.proofs.Common.{◌∷◌, ◌++◌, Some, None, length, refl, sym, ap, ◌∙◌, append_assoc, arith, inl, inr}
-use Rattle.std.proofs.Common.{zero-add}
-use Rattle.std.specs.List.{AllByRecursion}
-use Rattle.std.proofs.lemmas.Bool.{and_parts, and_from, or_parts, or_from, eqb-true, eqb-false, eq-eqb, ne_eqb, lt-ltb}
-use Rattle.std.proofs.lemmas.Bool.{le-ltb, ltb-true, cases_Bool, both_ways}
-use Rattle.std.proofs.lemmas.List.{length-append, append-nil}
+use Rattle.sftp_transcript.proofs.Imports.{◌≡◌, ◌==◌, ◌&&◌, ◌||◌, nat_lt, ℕ, suc, ◌+◌, ◌<◌, ◌≤◌, Bool, true, false}
+use Rattle.sftp_transcript.proofs.Imports.{cond, List, [], ◌∷◌, ◌++◌, Some, None, length, refl, sym, ap, ◌∙◌}
+use Rattle.sftp_transcript.proofs.Imports.{append_assoc, arith, inl, inr, zero-add, AllByRecursion, and_parts, and_from}
+use Rattle.sftp_transcript.proofs.Imports.{or_parts, or_from, eqb-false, ne_eqb, lt-ltb, le-ltb, ltb-true, cases_Bool}
+use Rattle.sftp_transcript.proofs.Imports.{both_ways, length-append, Reply, Event, Asked, Replied}
+use Rattle.std.proofs.lemmas.Bool.{eqb-true, eq-eqb}
+use Rattle.std.proofs.lemmas.List.{append-nil}
 use Rattle.sftp_wire.specs.declared.packets.Request.{Request}
-use Rattle.sftp_wire.specs.declared.packets.Reply.{Reply}
-use Rattle.sftp_transcript.specs.declared.events.Event.{Event}
-use Rattle.sftp_transcript.specs.declared.events.Event.TheVariants.{Asked, Replied}
-use Rattle.sftp_transcript.specs.Explained.{closed, waiting, broken, after_event, turn_after, next_reply}
-use Rattle.sftp_transcript.specs.Explained.{exchanges_of, requests_before_reply, in_window, window}
+use Rattle.sftp_transcript.specs.Explained.{closed, waiting, broken, after_event, turn_after, next_reply, exchanges_of}
+use Rattle.sftp_transcript.specs.Explained.{requests_before_reply, in_window, window}
 use Rattle.sftp_transcript.specs.Ledger.{Exchange, with_replies, is_open, turn_of, AreApart, keeps_window, StandsFor}
 use Rattle.sftp_transcript.specs.Ledger.{IsAnswered, IsComplete}
 

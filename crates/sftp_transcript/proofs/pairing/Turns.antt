@@ -1,9 +1,6 @@
 -- Turns are judged by the ids that occur.
-use Rattle.std.proofs.Common.{◌≡◌, ◌==◌, ◌||◌, ℕ, Bool, true, false, List, [], ◌∷◌, refl, subst, eqb-true}
-use Rattle.std.proofs.lemmas.Bool.{or_parts}
-use Rattle.std.specs.List.{list_any, AllByRecursion}
-use Rattle.sftp_transcript.specs.declared.events.Event.{Event}
-use Rattle.sftp_transcript.specs.declared.events.Event.TheVariants.{Asked, Replied}
+use Rattle.sftp_transcript.proofs.Imports.{◌≡◌, ◌==◌, ◌||◌, ℕ, Bool, true, false, List, [], ◌∷◌, refl, subst, eqb-true}
+use Rattle.sftp_transcript.proofs.Imports.{or_parts, list_any, AllByRecursion, Event, Asked, Replied}
 use Rattle.sftp_transcript.specs.Explained.{Turn, closed, turn_after, after_event, Matching}
 
 abbrev pub id_of : Event → ℕ

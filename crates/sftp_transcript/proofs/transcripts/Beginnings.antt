@@ -1,25 +1,16 @@
 -- What begins the bytes begins each list of events that they record, and bytes with a fault record none.
-use Rattle.std.proofs.Common.{◌≡◌, ◌≢◌, inl, inr, ℕ, List, [], ◌∷◌, ◌++◌, length, Option, Some, None, Result, Ok, Err, refl, sym, ap, ◌∙◌, subst, append_assoc, append-nil, arith}
-use Rattle.std.specs.List.{flat_map, AllByRecursion}
-use Rattle.std.proofs.lemmas.List.{append_cancel_left}
-use Rattle.std.proofs.lemmas.List.Concat.{flat_map-cons}
-use Rattle.sftp_wire.specs.declared.errors.Fault.{Fault}
-use Rattle.sftp_wire.specs.declared.packets.Packet.{Packet}
-use Rattle.sftp_wire.specs.declared.packets.Packet.TheVariants.{Init, Version}
-use Rattle.sftp_wire.specs.declared.packets.Side.{Side}
-use Rattle.sftp_wire.specs.declared.packets.Side.TheVariants.{Client, Server}
+use Rattle.sftp_transcript.proofs.Imports.{◌≡◌, ◌≢◌, inl, inr, ℕ, List, [], ◌∷◌, ◌++◌, length, Option, Some, None}
+use Rattle.sftp_transcript.proofs.Imports.{Result, Ok, Err, refl, sym, ap, ◌∙◌, subst, append_assoc, append-nil, arith}
+use Rattle.sftp_transcript.proofs.Imports.{flat_map, AllByRecursion, append_cancel_left, flat_map-cons, Fault, Packet}
+use Rattle.sftp_transcript.proofs.Imports.{Init, Version, Side, Client, Server, spelling, HasSpelling, side_of}
+use Rattle.sftp_transcript.proofs.Imports.{TranscriptError, Wire, Truncated, NoMemory, Event, Stage, BeginsRecord}
+use Rattle.sftp_transcript.proofs.Imports.{ReadUpTo, FaultAhead, FaultAfter, number_after_events, side_of_direction}
+use Rattle.sftp_transcript.proofs.Imports.{Begins, IsInit, IsVersion, transcript_opening, direction_of, record_text}
+use Rattle.sftp_transcript.proofs.Imports.{packet_of, event_record, IsEvent, AreRecords, IsHandshake, IsRecord}
 use Rattle.sftp_wire.specs.Reading.{front_of}
-use Rattle.sftp_wire.specs.Spelling.{spelling, HasSpelling, side_of}
 use Rattle.sftp_wire.proofs.StreamLaws.Front.{front_again, spellings-apart}
-use Rattle.sftp_transcript.specs.declared.errors.TranscriptError.{TranscriptError}
-use Rattle.sftp_transcript.specs.declared.errors.TranscriptError.TheVariants.{Magic, Direction, Start, Wire, Truncated, Io, NoMemory}
-use Rattle.sftp_transcript.specs.declared.events.Event.{Event}
-use Rattle.sftp_transcript.specs.declared.stage.Stage.{Stage}
 use Rattle.sftp_transcript.specs.declared.stage.Stage.TheVariants as stages
-use Rattle.sftp_transcript.specs.Begun.{BeginsRecord, ReadUpTo, FaultAhead, FaultAfter, number_after_events}
-use Rattle.sftp_transcript.specs.Records.{side_of_direction, Begins, IsInit, IsVersion}
 use Rattle.sftp_transcript.specs.Refused.{KindFault, PacketFault, DirectedFault, RecordFault, IsEventPacket, EventFault}
-use Rattle.sftp_transcript.specs.Transcript.{transcript_opening, direction_of, record_text, packet_of, event_record, IsEvent, AreRecords, IsHandshake, IsRecord}
 use Rattle.sftp_transcript.proofs.transcripts.OneRecord.{Begins-one, event_from_packet}
 use Rattle.sftp_transcript.proofs.transcripts.Reading.{record_parts}
 
@@ -115,10 +106,7 @@ whole_packet packet number rest (Truncated place) apart is fault =
 whole_packet packet number rest (Wire f place) apart is fault =
     found_fault (packet, length (spelling packet)) f (front_of (side_of packet) (spelling packet ++ rest)) (front_again packet rest is) fault.1
 whole_packet packet number rest NoMemory apart is fault = absurd (apart refl)
-whole_packet packet number rest (Magic place) apart is fault = absurd fault
-whole_packet packet number rest (Direction place) apart is fault = absurd fault
-whole_packet packet number rest (Start place) apart is fault = absurd fault
-whole_packet packet number rest (Io place) apart is fault = absurd fault
+whole_packet packet number rest other apart is fault = absurd fault
 
 pub whole_record : (packet : Packet) (number : ℕ) (bytes rest : List ℕ) (error : TranscriptError) → error ≢ NoMemory → Begins bytes packet rest
     → RecordFault number bytes error → ⊥
@@ -151,12 +139,12 @@ not_recorded stages.Opening events others bytes ahead number error apart read fa
     fault.1 is.opened (sym read.1 ∙ is.opening)
 not_recorded stages.Init events others bytes ahead number error apart read fault is =
     let p = record_parts others bytes ahead read.1 is in
-    not_both IsInit p.init.packet 1 ahead p.middle error apart p.init.is_init p.init.begins fault
+    not_both IsInit p.init.packet 1 ahead p.middle error apart p.init.is_kind p.init.begins fault
 not_recorded stages.Version events others bytes ahead number error apart read fault is =
     let opened = read.1.opened in
     let p = record_parts others bytes opened read.1.opening is in
     let same = begins_one opened p.init.packet read.1.init.packet p.middle ahead p.init.begins read.1.init.begins in
-    not_both IsVersion p.version.packet 2 ahead p.records error apart p.version.is_version (subst (λ (l : List ℕ). Begins l p.version.packet p.records) same.1 p.version.begins) fault
+    not_both IsVersion p.version.packet 2 ahead p.records error apart p.version.is_kind (subst (λ (l : List ℕ). Begins l p.version.packet p.records) same.1 p.version.begins) fault
 not_recorded stages.Events events others bytes ahead number error apart read fault is =
     let on = begins_each events others bytes ahead read is in
     none_behind on.more ahead number error apart on.recorded fault.0 fault.1

@@ -1,23 +1,16 @@
 -- Bytes have one first fault, and what begins them agrees with it.
-use Rattle.std.proofs.Common.{◌≡◌, ◌≢◌, ◌<◌, ◌≤◌, ◌⊎◌, inl, inr, ℕ, List, [], ◌∷◌, ◌++◌, Option, Some, None, Result, Ok, Err, refl, sym, ap, ◌∙◌, subst, append-nil, arith}
-use Rattle.std.specs.List.{flat_map, AllByRecursion}
-use Rattle.std.proofs.lemmas.List.{append_cancel_left}
-use Rattle.sftp_wire.specs.declared.errors.Fault.{Fault}
-use Rattle.sftp_wire.specs.declared.packets.Packet.{Packet}
-use Rattle.sftp_wire.specs.declared.packets.Packet.TheVariants.{Init, Version}
-use Rattle.sftp_wire.specs.declared.packets.Side.{Side}
+use Rattle.sftp_transcript.proofs.Imports.{◌≡◌, ◌≢◌, ◌<◌, ◌≤◌, ◌⊎◌, inl, inr, ℕ, List, [], ◌∷◌, ◌++◌, Option, Some}
+use Rattle.sftp_transcript.proofs.Imports.{None, Result, Ok, Err, refl, sym, ap, ◌∙◌, subst, append-nil, arith}
+use Rattle.sftp_transcript.proofs.Imports.{flat_map, AllByRecursion, append_cancel_left, Fault, Packet, Init, Version}
+use Rattle.sftp_transcript.proofs.Imports.{Side, TranscriptError, Wire, Truncated, NoMemory, Event, Stage, BeginsRecord}
+use Rattle.sftp_transcript.proofs.Imports.{BeginsWithInit, ReadUpTo, FaultAhead, FaultAfter, number_after_events}
+use Rattle.sftp_transcript.proofs.Imports.{side_of_direction, Begins, IsInit, IsVersion, BeginsVersion, rank}
+use Rattle.sftp_transcript.proofs.Imports.{transcript_opening, record_text, packet_of, event_record, IsEvent}
 use Rattle.sftp_wire.specs.Reading.{front_of}
-use Rattle.sftp_transcript.specs.declared.errors.TranscriptError.{TranscriptError}
-use Rattle.sftp_transcript.specs.declared.errors.TranscriptError.TheVariants.{Magic, Direction, Start, Wire, Truncated, Io, NoMemory}
-use Rattle.sftp_transcript.specs.declared.events.Event.{Event}
-use Rattle.sftp_transcript.specs.declared.stage.Stage.{Stage}
 use Rattle.sftp_transcript.specs.declared.stage.Stage.TheVariants as stages
-use Rattle.sftp_transcript.specs.Begun.{BeginsRecord, BeginsWithInit, ReadUpTo, FaultAhead, FaultAfter, number_after_events}
-use Rattle.sftp_transcript.specs.Records.{side_of_direction, Begins, IsInit, IsVersion, BeginsVersion}
-use Rattle.sftp_transcript.specs.Recorded.{rank}
 use Rattle.sftp_transcript.specs.Refused.{KindFault, PacketFault, DirectedFault, RecordFault, IsEventPacket, EventFault}
-use Rattle.sftp_transcript.specs.Transcript.{transcript_opening, record_text, packet_of, event_record, IsEvent}
-use Rattle.sftp_transcript.proofs.transcripts.Beginnings.{begins_one, first_record, same_records, whole_record, not_both}
+use Rattle.sftp_transcript.proofs.transcripts.Beginnings.{begins_one, first_record, same_records, whole_record}
+use Rattle.sftp_transcript.proofs.transcripts.Beginnings.{not_both}
 use Rattle.sftp_transcript.proofs.transcripts.OneRecord.{event_from_packet}
 
 -- ---- a record has one fault
@@ -40,10 +33,7 @@ why_unread : (number : ℕ) (side : Side) (bytes : List ℕ) (error : Transcript
 why_unread number side bytes (Truncated place) apart fault = inl (ap (λ (n : ℕ). Truncated n) fault.0, fault.1)
 why_unread number side bytes (Wire f place) apart fault = inr (f, ap (λ (n : ℕ). Wire f n) fault.0, fault.1)
 why_unread number side bytes NoMemory apart fault = absurd (apart refl)
-why_unread number side bytes (Magic place) apart fault = absurd fault
-why_unread number side bytes (Direction place) apart fault = absurd fault
-why_unread number side bytes (Start place) apart fault = absurd fault
-why_unread number side bytes (Io place) apart fault = absurd fault
+why_unread number side bytes other apart fault = absurd fault
 
 one_unread : (number : ℕ) (read : Front) (a b : TranscriptError) → WhyUnread number read a → WhyUnread number read b → a ≡ b
 one_unread number read a b (inl p) (inl q) = p.0 ∙ sym q.0
@@ -151,7 +141,7 @@ init_of events bytes rest begins =
       opening = begins.opening;
       init = record {
         packet = Init shake.version shake.asked;
-        is_init = shake.high_enough;
+        is_kind = shake.high_enough;
         begins = record { spelled = shake.init; bytes_are = shake.bytes_are };
       };
     }
@@ -160,7 +150,7 @@ version_of : (events : List Event) (bytes rest : List ℕ) (begins : BeginsRecor
     → BeginsVersion (record_text (Version 3 begins.handshake.told) ++ begins.records) begins.records
 version_of events bytes rest begins = record {
   packet = Version 3 begins.handshake.told;
-  is_version = refl;
+  is_kind = refl;
   begins = record { spelled = begins.handshake.answer; bytes_are = refl };
 }
 
@@ -200,9 +190,7 @@ one_init bytes ahead rest one other =
 
 rank_most : (stage : Stage) → rank stage ≤ 3
 rank_most stages.Opening = omega arith
-rank_most stages.Init = omega arith
-rank_most stages.Version = omega arith
-rank_most stages.Events = omega arith
+rank_most other = omega arith
 
 -- after a fault nothing is read
 none_later : (s t : Stage) (bytes : List ℕ) (events others : List Event) (ahead rest : List ℕ) (number : ℕ) (error : TranscriptError)
@@ -215,13 +203,13 @@ none_later stages.Init t bytes events others ahead rest number error apart less 
     let with_init = inits t bytes others rest (omega (arith, less)) other in
     let opened : with_init.1.opened ≡ ahead = same_opened bytes with_init.1.opened ahead with_init.1.opening read.1 in
     let init = with_init.1.init in
-    not_both IsInit init.packet 1 ahead with_init.0 error apart init.is_init
+    not_both IsInit init.packet 1 ahead with_init.0 error apart init.is_kind
     (subst (λ (l : List ℕ). Begins l init.packet with_init.0) opened init.begins) fault
 none_later stages.Version t bytes events others ahead rest number error apart less read fault other =
     let both = versions t bytes others rest (omega (arith, less)) other in
     let middle : both.0 ≡ ahead = one_init bytes both.0 ahead both.2 read.1 in
     let version = both.3 in
-    not_both IsVersion version.packet 2 ahead both.1 error apart version.is_version
+    not_both IsVersion version.packet 2 ahead both.1 error apart version.is_kind
     (subst (λ (l : List ℕ). Begins l version.packet both.1) middle version.begins) fault
 none_later stages.Events t bytes events others ahead rest number error apart less read fault other =
     absurd (omega (arith, less, rank_most t))

@@ -1,15 +1,9 @@
 -- Bytes record one list of events.
-use Rattle.std.proofs.Common.{◌≡◌, ℕ, List, [], ◌∷◌, ◌++◌, length, refl, sym, ap, ◌∙◌, arith}
-use Rattle.std.specs.List.{flat_map}
-use Rattle.std.proofs.lemmas.List.Concat.{flat_map-cons}
-use Rattle.sftp_wire.specs.declared.packets.Packet.{Packet}
-use Rattle.sftp_wire.specs.declared.packets.Side.{Side}
-use Rattle.sftp_wire.specs.declared.packets.Side.TheVariants.{Client, Server}
-use Rattle.sftp_wire.specs.Spelling.{spelling, HasSpelling, side_of}
-use Rattle.sftp_transcript.specs.declared.events.Event.{Event}
-use Rattle.sftp_transcript.specs.declared.events.Event.TheVariants.{Asked, Replied}
-use Rattle.sftp_transcript.specs.Transcript.{direction_of, packet_of, event_record, AreRecords, IsRecord}
-use Rattle.sftp_transcript.specs.Records.{Begins}
+use Rattle.sftp_transcript.proofs.Imports.{◌≡◌, ℕ, List, [], ◌∷◌, ◌++◌, length, refl, sym, ap, ◌∙◌, arith, flat_map}
+use Rattle.sftp_transcript.proofs.Imports.{flat_map-cons, Packet, Side, Client, Server, spelling, HasSpelling, side_of}
+use Rattle.sftp_transcript.proofs.Imports.{Event, Asked, Replied, direction_of, packet_of, event_record, AreRecords}
+use Rattle.sftp_transcript.proofs.Imports.{IsRecord, Begins}
+use Rattle.sftp_transcript.proofs.Inputs.{same_cons}
 use Rattle.sftp_transcript.proofs.transcripts.Reading.{record_parts, no_events}
 
 side_from_direction : (s t : Side) → direction_of s ≡ direction_of t → s ≡ t
@@ -23,9 +17,6 @@ event_from_packet (Asked x) (Asked y) e = cc
 event_from_packet (Asked x) (Replied y) e = cc
 event_from_packet (Replied x) (Asked y) e = cc
 event_from_packet (Replied x) (Replied y) e = cc
-
-same_cons : (a b : ℕ) (x y : List ℕ) → a ∷ x ≡ b ∷ y → (a ≡ b) × (x ≡ y)
-same_cons a b x y e = (cc, cc)
 
 module _ (apart : (p q : Packet) (x y : List ℕ) → HasSpelling p → HasSpelling q → side_of p ≡ side_of q → spelling p ++ x ≡ spelling q ++ y → (p ≡ q) × (x ≡ y)) where
   -- one record begins the bytes at most

@@ -1,11 +1,8 @@
 -- What a transcript file begins with.
-use Rattle.std.proofs.Common.{eqb-true, ◌≡◌, ℕ, List, [], ◌∷◌, ◌++◌, length, refl, arith}
-use Rattle.std.proofs.lemmas.List.{append_cancel_left}
-use Rattle.sftp_transcript.specs.declared.events.Event.{Event}
-use Rattle.sftp_wire.specs.declared.packets.Packet.{Packet}
-use Rattle.sftp_wire.specs.declared.packets.Packet.TheVariants.{Init, Version}
-use Rattle.sftp_transcript.specs.Transcript.{transcript_opening, AreRecords, IsHandshake, IsRecord}
-use Rattle.sftp_transcript.specs.Records.{Begins, IsInit, BeginsInit, IsVersion, BeginsVersion}
+use Rattle.sftp_transcript.proofs.Imports.{eqb-true, ◌≡◌, ℕ, List, [], ◌∷◌, ◌++◌, length, refl, arith}
+use Rattle.sftp_transcript.proofs.Imports.{append_cancel_left, Event, Packet, Init, Version, transcript_opening}
+use Rattle.sftp_transcript.proofs.Imports.{AreRecords, IsHandshake, IsRecord, Begins, IsInit, BeginsInit, IsVersion}
+use Rattle.sftp_transcript.proofs.Imports.{BeginsVersion}
 
 pub no_events : (events : List Event) (bytes : List ℕ) → length bytes ≡ 0 → AreRecords events bytes → events ≡ []
 no_events [] bytes none are = refl

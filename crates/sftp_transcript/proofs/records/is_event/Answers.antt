@@ -1,5 +1,5 @@
 -- A request and a reply are packets of events.
-use Rattle.sftp_transcript.specs.declared.events.Event.TheVariants.{Asked, Replied}
+use Rattle.sftp_transcript.proofs.Imports.{Asked, Replied}
 use Rattle.sftp_transcript.proofs.records.is_event.Goals as goal
 
 pub returns-in-Request-clause-yes : goal.returns-in-Request-clause-yes

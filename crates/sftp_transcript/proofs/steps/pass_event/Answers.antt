@@ -1,9 +1,6 @@
 -- Where the bytes ahead begin with an event, so do the bytes held.
-use Rattle.std.proofs.Common.{◌≡◌, ◌-◌, ◌<◌, length, Some, rules, sym, ap, subst}
-use Rattle.std.proofs.lemmas.Result.{err_from_is_err_and}
-use Rattle.sftp_transcript.specs.Ahead.{Ahead, bytes_ahead, ahead_without}
-use Rattle.sftp_transcript.specs.Steps.{HasAhead, BeginsEvent, Took}
-use Rattle.sftp_transcript.specs.Transcript.{event_record}
+use Rattle.sftp_transcript.proofs.Imports.{◌≡◌, ◌-◌, ◌<◌, length, Some, rules, sym, ap, subst, err_from_is_err_and}
+use Rattle.sftp_transcript.proofs.Imports.{Ahead, bytes_ahead, ahead_without, HasAhead, BeginsEvent, Took, event_record}
 use Rattle.sftp_transcript.proofs.Faults.{event_fault}
 use Rattle.sftp_transcript.proofs.Taking.{known_kept, excused, front_taken, event_front, event_took}
 use Rattle.sftp_transcript.proofs.steps.pass_event.Goals as goal

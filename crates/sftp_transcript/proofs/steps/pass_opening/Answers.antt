@@ -1,7 +1,5 @@
 -- Where the bytes ahead begin with the opening, so do the bytes held.
-use Rattle.std.proofs.lemmas.Result.{err_from_is_err_and}
-use Rattle.sftp_transcript.specs.Ahead.{bytes_ahead}
-use Rattle.sftp_transcript.specs.Steps.{HasAhead}
+use Rattle.sftp_transcript.proofs.Imports.{err_from_is_err_and, bytes_ahead, HasAhead}
 use Rattle.sftp_transcript.proofs.Faults.{opening_fault}
 use Rattle.sftp_transcript.proofs.Taking.{known_kept, excused, opening_front}
 use Rattle.sftp_transcript.proofs.steps.pass_opening.Goals as goal

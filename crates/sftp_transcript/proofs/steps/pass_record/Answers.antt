@@ -1,14 +1,10 @@
 -- What is taken from the bytes held is taken from the bytes ahead.
-use Rattle.std.proofs.Common.{◌≡◌, ◌-◌, ◌<◌, length, rules, sym, subst}
-use Rattle.std.proofs.lemmas.Result.{err_from_is_err_and}
+use Rattle.sftp_transcript.proofs.Imports.{◌≡◌, ◌-◌, ◌<◌, length, rules, sym, subst, err_from_is_err_and, Ahead}
+use Rattle.sftp_transcript.proofs.Imports.{bytes_ahead, ahead_without, MayCome, record_number, Begins, HasAhead, Took}
 use Rattle.sftp_transcript.specs.declared.stage.Stage.TheVariants as stages
-use Rattle.sftp_transcript.specs.Ahead.{Ahead, bytes_ahead, ahead_without}
-use Rattle.sftp_transcript.specs.Packets.{MayCome, record_number}
-use Rattle.sftp_transcript.specs.Records.{Begins}
 use Rattle.sftp_transcript.specs.Refused.{KindFault}
-use Rattle.sftp_transcript.specs.Steps.{HasAhead, Took}
-use Rattle.sftp_transcript.proofs.Packets.{stage_fault, record_took}
-use Rattle.sftp_transcript.proofs.Taking.{known_kept}
+use Rattle.sftp_transcript.proofs.Packets.{stage_fault}
+use Rattle.sftp_transcript.proofs.Taking.{known_kept, record_took}
 use Rattle.sftp_transcript.proofs.steps.pass_record.Goals as goal
 
 pub returns-in_err-packet-clause-first : goal.returns-in_err-packet-clause-first

@@ -1,5 +1,5 @@
 -- The bytes that are no longer in `rest` were appended, and no call failed.
-use Rattle.std.proofs.Common.{length}
+use Rattle.sftp_transcript.proofs.Imports.{length}
 use Rattle.sftp_transcript.proofs.Putting.{IsPutBefore}
 use Rattle.sftp_transcript.proofs.writer.put_all.Given as goal
 

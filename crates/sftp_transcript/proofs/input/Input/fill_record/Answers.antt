@@ -1,5 +1,5 @@
 -- Where a record is held in part, the loop goes on until nothing is left.
-use Rattle.std.proofs.Common.{ap, length, arith}
+use Rattle.sftp_transcript.proofs.Imports.{ap, length, arith}
 use Rattle.sftp_transcript.proofs.input.Input.fill_record.Goals as goal
 
 pub returns-clause-part : goal.returns-clause-part

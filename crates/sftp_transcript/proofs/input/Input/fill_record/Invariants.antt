@@ -1,6 +1,5 @@
 -- The same bytes are ahead, and no read failed.
-use Rattle.std.proofs.Common.{◌≡◌}
-use Rattle.sftp_transcript.specs.Ahead.{IsSameAhead}
+use Rattle.sftp_transcript.proofs.Imports.{◌≡◌, IsSameAhead}
 use Rattle.sftp_transcript.proofs.input.Input.fill_record.Given as goal
 
 abbrev pub invariant-fill : goal.invariant-fill

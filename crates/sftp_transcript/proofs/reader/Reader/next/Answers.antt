@@ -1,7 +1,5 @@
 -- An error is reported, and nothing is given with it.
-use Rattle.std.proofs.Common.{sym, subst}
-use Rattle.sftp_transcript.specs.Begun.{HasStillGiven}
-use Rattle.sftp_transcript.specs.Recorded.{Reading}
+use Rattle.sftp_transcript.proofs.Imports.{sym, subst, HasStillGiven, Reading}
 use Rattle.sftp_transcript.proofs.Begun.{still_given}
 use Rattle.sftp_transcript.proofs.Numbers.{names_record}
 use Rattle.sftp_transcript.proofs.reader.Reader.next.Goals as goal

@@ -1,7 +1,5 @@
 -- One record is next at most.
-use Rattle.std.proofs.Common.{sym, subst}
-use Rattle.sftp_transcript.specs.Begun.{HasStillGiven}
-use Rattle.sftp_transcript.specs.Recorded.{Reading}
+use Rattle.sftp_transcript.proofs.Imports.{sym, subst, HasStillGiven, Reading}
 use Rattle.sftp_transcript.proofs.Begun.{still_given}
 use Rattle.sftp_transcript.proofs.Numbers.{names_record}
 use Rattle.sftp_transcript.proofs.Packets.{gives_only, next_excuse, given_next, given_untaken}

@@ -1,10 +1,7 @@
 -- The event in front is the first of those to come.
-use Rattle.std.proofs.Common.{◌≡◌, List, refl, ap, sym, ◌∙◌, subst}
-use Rattle.std.proofs.lemmas.Result.{err_from_is_err_and}
-use Rattle.sftp_transcript.specs.declared.events.Event.{Event}
+use Rattle.sftp_transcript.proofs.Imports.{◌≡◌, List, refl, ap, sym, ◌∙◌, subst, err_from_is_err_and, Event, HasGiven}
+use Rattle.sftp_transcript.proofs.Imports.{Reading, IsKnown, Records, Gave, Gives}
 use Rattle.sftp_transcript.specs.declared.stage.Stage.TheVariants as stages
-use Rattle.sftp_transcript.specs.Begun.{HasGiven}
-use Rattle.sftp_transcript.specs.Recorded.{Reading, IsKnown, Records, Gave, Gives}
 use Rattle.sftp_transcript.proofs.Recorded.{gave, gives, known_after, excused_events}
 use Rattle.sftp_transcript.proofs.Begun.{given_kept, gave_from, fault_from}
 use Rattle.sftp_transcript.proofs.reader.Reader.take_event.Goals as goal

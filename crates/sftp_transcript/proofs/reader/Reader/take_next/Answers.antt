@@ -1,6 +1,5 @@
 -- The start keeps the events to come.
-use Rattle.std.proofs.lemmas.Result.{err_from_is_err_and, IfOk-weaker}
-use Rattle.sftp_transcript.specs.Recorded.{IsKnown, Gave}
+use Rattle.sftp_transcript.proofs.Imports.{err_from_is_err_and, IfOk-weaker, IsKnown, Gave}
 use Rattle.sftp_transcript.proofs.Recorded.{RecordsSame-then, gave_same, on_err_then}
 use Rattle.sftp_transcript.proofs.reader.Reader.take_next.Goals as goal
 

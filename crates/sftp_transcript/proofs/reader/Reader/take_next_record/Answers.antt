@@ -1,9 +1,6 @@
 -- Behind the opening the same record is next.
-use Rattle.std.proofs.Common.{◌≡◌, List, ℕ, ◌⊎◌}
-use Rattle.std.proofs.lemmas.Result.{IfOk-weaker, IfErr-weaker}
-use Rattle.sftp_transcript.specs.Begun.{FaultAhead}
-use Rattle.sftp_transcript.specs.Packets.{GivesNext, FaultNext, IsStageThen, number_then}
-use Rattle.sftp_transcript.specs.Steps.{HasAhead, IsExcuse}
+use Rattle.sftp_transcript.proofs.Imports.{◌≡◌, List, ℕ, ◌⊎◌, IfOk-weaker, IfErr-weaker, FaultAhead, GivesNext}
+use Rattle.sftp_transcript.proofs.Imports.{FaultNext, IsStageThen, number_then, HasAhead, IsExcuse}
 use Rattle.sftp_transcript.proofs.Packets.{gives_opened, fault_opened, stage_then_opened, on_err_both}
 use Rattle.sftp_transcript.proofs.Recorded.{RecordsSame-kept, RecordsSame-then}
 use Rattle.sftp_transcript.proofs.reader.Reader.take_next_record.Goals as goal

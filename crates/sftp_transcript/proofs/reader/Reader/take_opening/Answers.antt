@@ -1,10 +1,6 @@
 -- The opening in front is taken.
-use Rattle.std.proofs.Common.{refl, sym, subst}
-use Rattle.std.proofs.lemmas.Result.{err_from_is_err_and}
+use Rattle.sftp_transcript.proofs.Imports.{refl, sym, subst, err_from_is_err_and, HasGiven, Reading, IsOpened}
 use Rattle.sftp_transcript.specs.declared.stage.Stage.TheVariants as stages
-use Rattle.sftp_transcript.specs.Begun.{HasGiven}
-use Rattle.sftp_transcript.specs.Recorded.{Reading}
-use Rattle.sftp_transcript.specs.Steps.{IsOpened}
 use Rattle.sftp_transcript.proofs.Begun.{given_kept, given_passed, opening_read, fault_from}
 use Rattle.sftp_transcript.proofs.reader.Reader.take_opening.Goals as goal
 

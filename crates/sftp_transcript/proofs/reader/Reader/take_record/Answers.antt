@@ -1,9 +1,7 @@
 -- The record in front is the next one.
-use Rattle.std.proofs.Common.{◌≡◌, ◌≤◌, List, ℕ, [], sym, subst}
+use Rattle.sftp_transcript.proofs.Imports.{◌≡◌, ◌≤◌, List, ℕ, [], sym, subst, BeginsNext, stage_after, Reading, rank}
+use Rattle.sftp_transcript.proofs.Imports.{HasAhead}
 use Rattle.sftp_transcript.specs.declared.stage.Stage.TheVariants as stages
-use Rattle.sftp_transcript.specs.Packets.{BeginsNext, stage_after}
-use Rattle.sftp_transcript.specs.Recorded.{Reading, rank}
-use Rattle.sftp_transcript.specs.Steps.{HasAhead}
 use Rattle.sftp_transcript.proofs.Packets.{next_given}
 use Rattle.sftp_transcript.proofs.reader.Reader.take_record.Goals as goal
 
