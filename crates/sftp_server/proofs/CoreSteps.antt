@@ -8,6 +8,7 @@ use Rattle.sftp_wire.specs.declared.packets.Request.{Request}
 use Rattle.sftp_wire.specs.declared.packets.Reply.{Reply}
 use Rattle.sftp_wire.specs.declared.packets.Packet.TheVariants.{Reply as reply_packet}
 use Rattle.sftp_wire.specs.Spelling.{HasSpelling}
+use Rattle.sftp_transcript.specs.Explained.{window as full_window}
 use Rattle.sftp_handles.specs.State.{State}
 use Rattle.sftp_handles.specs.Allowed.{Allowed}
 use Rattle.sftp_server.specs.declared.queue.Entry.{Entry}
@@ -156,7 +157,7 @@ worked-step machine after k request reply pending allowed spelled window queue =
 
 -- ---- what the core keeps
 
-pub core-new : (window : ℕ) → 1 ≤ window → window ≤ 1024 → IsCore window []
+pub core-new : (window : ℕ) → 1 ≤ window → window ≤ full_window → IsCore window []
 unfolding from_unsent
 core-new window some bounded =
     record { some = some; bounded = bounded; few = omega arith; front = refl; sendable = tt }

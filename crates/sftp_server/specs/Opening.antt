@@ -4,6 +4,7 @@ use Rattle.sftp_wire.specs.declared.packets.Packet.{Packet}
 use Rattle.sftp_wire.specs.declared.packets.Side.TheVariants.{Client}
 use Rattle.sftp_wire.specs.Reading.{front_of}
 use Rattle.sftp_transcript.specs.Records.{IsInit}
+use Rattle.sftp_transcript.specs.Explained.{window}
 use Rattle.sftp_tree.specs.Tree.{Tree}
 use Rattle.sftp_handles.specs.State.{Good}
 use Rattle.sftp_server.specs.declared.ends.SessionFault.TheVariants as faults
@@ -48,6 +49,6 @@ OpensOn ahead0 ahead1 written0 written1 logged0 logged1 result =
     (start : Tree) (past : StreamBytes) (left : Option (List ℕ)) → Good (started start)
     → IsUnopenedYet past (stream_bytes left written0 logged0) ahead0
     → MatchResult result
-    (λ _. IsRunning start past (stream_bytes left written1 logged1) ahead1 (at_start (started start) 1024) None)
+    (λ _. IsRunning start past (stream_bytes left written1 logged1) ahead1 (at_start (started start) window) None)
     (λ stop. Stops start past (stream_bytes left written1 logged1) stop
-    (tree_left (at_start (started start) 1024)))
+    (tree_left (at_start (started start) window)))

@@ -14,6 +14,7 @@ use Rattle.sftp_transcript.specs.declared.events.Event.{Event}
 use Rattle.sftp_transcript.specs.Streams.{one_more, AppendsPart}
 use Rattle.sftp_transcript.specs.Log.{Log, opened_text}
 use Rattle.sftp_transcript.specs.Transcript.{record_text, IsEvent}
+use Rattle.sftp_transcript.specs.Explained.{window}
 use Rattle.sftp_tree.specs.Tree.{Tree}
 use Rattle.sftp_handles.specs.State.{State, Good}
 use Rattle.sftp_server.specs.declared.ends.Ended.{Ended}
@@ -171,7 +172,7 @@ pub record IsRunning (start : Tree) (past now : StreamBytes) (ahead : Ahead) (co
   pub good : Good (started start)
   pub greeting : IsGreeting init
   pub spelled : AllByRecursion IsEvent events
-  pub reached : IsReached (started start) 1024 events core
+  pub reached : IsReached (started start) window events core
   pub passed : Passed past now (sent_by Client (session_packets init events) ++ ahead.held)
       (sent_by Server (session_packets init events)) (recorded (session_packets init events))
   pub place : ahead.place ≡ place_after 0 (length (sent_by Client (session_packets init events)))

@@ -5,6 +5,7 @@ ghost use Rattle.std.specs.Prelude.{IfNone};
 ghost use Rattle.std.specs.Prelude.{◌↔◌, ◌<◌, nat_lt, Some, if◌then◌else◌, slice_get};
 ghost use Rattle.sftp_wire.specs.declared.packets.Packet.TheVariants.{Reply as reply_packet};
 ghost use Rattle.sftp_wire.specs.Spelling.{HasSpelling};
+ghost use Rattle.sftp_transcript.specs.Explained.{window as full_window};
 ghost use Rattle.sftp_handles.specs.State as states;
 ghost use Rattle.sftp_handles.specs.Allowed.{Allowed};
 ghost use Rattle.sftp_server.specs.declared.refusals.Did.TheVariants as did;
@@ -61,13 +62,13 @@ impl Model for Core {
 
 impl Core {
     /// A core on a tree, with nothing open and nothing asked; pins that the tree has are removed. Its queue takes up to
-    /// `window` requests, which is 1 to 1,024.
+    /// `window` requests, which is 1 to `sftp_transcript::WINDOW`.
     ///
     /// # Errors
     ///
     /// `NoMemory` if memory runs out.
     pub fn new(tree: Tree, window: usize) -> Result<Core, NoMemory>
-        requires { (1 ≤ window) × (window ≤ 1024) }
+        requires { (1 ≤ window) × (window ≤ full_window) }
         ensures start { IfOk result (λ core. core ≡ at_start (started tree) window) }
         ensures good { OnOk result (states.Good (started tree)) }
     {

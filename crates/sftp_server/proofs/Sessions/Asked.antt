@@ -21,6 +21,7 @@ use Rattle.sftp_transcript.specs.declared.events.Event.TheVariants.{Asked}
 use Rattle.sftp_transcript.specs.Streams.{AppendsPart}
 use Rattle.sftp_transcript.specs.Log.{Log, IsAppended, FailsToRecord}
 use Rattle.sftp_transcript.specs.Transcript.{record_text, IsEvent}
+use Rattle.sftp_transcript.specs.Explained.{window}
 use Rattle.sftp_tree.specs.Tree.{Tree}
 use Rattle.sftp_tree.proofs.Requests.AskValues.{encoded-ask}
 use Rattle.sftp_handles.specs.State.{State}
@@ -93,9 +94,9 @@ module _ (start : Tree) (past : StreamBytes) (left written : Option (List ℕ)) 
   spelled-more : AllByRecursion IsEvent events
   spelled-more = events-more running.events (Asked request) running.spelled front.has_spelling
 
-  reached-more : IsReached (started start) 1024 events (taken core request)
+  reached-more : IsReached (started start) window events (taken core request)
   reached-more =
-      reached-taken (started start) 1024 running.events core request running.reached
+      reached-taken (started start) window running.events core request running.reached
       (request-value request front.has_spelling) can
 
   -- the packets of the client and the rest are the same bytes as before

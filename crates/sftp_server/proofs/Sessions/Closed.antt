@@ -9,6 +9,7 @@ use Rattle.sftp_wire.specs.declared.errors.WireError.TheVariants.{TooLong, NotCa
 use Rattle.sftp_wire.specs.declared.packets.Side.TheVariants.{Client, Server}
 use Rattle.sftp_wire.specs.Reading.{front_of}
 use Rattle.sftp_transcript.specs.declared.events.Event.{Event}
+use Rattle.sftp_transcript.specs.Explained.{window}
 use Rattle.sftp_tree.specs.Tree.{Tree}
 use Rattle.sftp_handles.specs.State.{State}
 use Rattle.sftp_server.specs.declared.ends.Ended.TheVariants as ends
@@ -220,7 +221,7 @@ served-by start past now core fault ending =
     let running = ending.running in
     record {
       last = core.state;
-      explained = explained stays-good each-answered (started start) 1024 running.events core running.good (omega arith)
+      explained = explained stays-good each-answered (started start) window running.events core running.good (omega arith)
           running.reached ending.answered;
       end_is = refl;
     }

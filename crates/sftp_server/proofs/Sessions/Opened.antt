@@ -19,7 +19,7 @@ use Rattle.sftp_transcript.specs.Streams.{AppendsPart}
 use Rattle.sftp_transcript.specs.Log.{Log, opened_text}
 use Rattle.sftp_transcript.specs.Records.{IsInit}
 use Rattle.sftp_transcript.specs.Transcript.{record_text, transcript_opening}
-use Rattle.sftp_transcript.specs.Explained.{BeginsFrom, turn_after, in_window, exchanges_of, leading_pairs}
+use Rattle.sftp_transcript.specs.Explained.{BeginsFrom, turn_after, in_window, exchanges_of, leading_pairs, window}
 use Rattle.sftp_tree.specs.Tree.{Tree}
 use Rattle.sftp_handles.specs.State.{State, Good, settled}
 use Rattle.sftp_handles.specs.Allowed.{Allowed}
@@ -227,7 +227,7 @@ init-logged past left written logged0 logged1 ahead count greets unopened logged
 
 -- the tree of a session in which no request was done
 abbrev pub first_left : Tree → Option Tree
-first_left start = tree_left (at_start (started start) 1024)
+first_left start = tree_left (at_start (started start) window)
 
 nothing-done : (start : Tree) → IsAfterDone start [] (closed_tree (started start))
 unfolding AreDone exchanges_of
@@ -378,7 +378,7 @@ pub version-sent : (start : Tree) (init : Packet) (past : StreamBytes)
     (left written0 written1 logged0 logged1 : Option (List ℕ)) (ahead : Ahead) → Good (started start)
     → IsInitLogged init past (stream_bytes left written0 logged0) ahead
     → Appends written0 written1 (spelling our_version) → Appends logged0 logged1 (record_text our_version)
-    → IsRunning start past (stream_bytes left written1 logged1) ahead (at_start (started start) 1024) None
+    → IsRunning start past (stream_bytes left written1 logged1) ahead (at_start (started start) window) None
 version-sent start init past left written0 written1 logged0 logged1 ahead good logged written recorded_too =
     record {
       init = init;
@@ -386,7 +386,7 @@ version-sent start init past left written0 written1 logged0 logged1 ahead good l
       good = good;
       greeting = logged.greeting;
       spelled = tt;
-      reached = reached-start (started start) 1024;
+      reached = reached-start (started start) window;
       passed = record {
         read = subst (λ (input : List ℕ). Consumes past.left left (input ++ ahead.held))
             (sym (client-silent (init ∷ []) our_version refl)) logged.passed.read;
@@ -412,7 +412,7 @@ pub version-done : (start : Tree) (init : Packet) (past : StreamBytes) (left wri
     → OnOk result (Appends log0.bytes log1.bytes (record_text packet))
     → IfErr result (λ stop. FailsToSend packet written0 written1 log0 log1 stop)
     → MatchResult result
-    (λ _. IsRunning start past (stream_bytes left written1 log1.bytes) ahead (at_start (started start) 1024) None)
+    (λ _. IsRunning start past (stream_bytes left written1 log1.bytes) ahead (at_start (started start) window) None)
     (λ stop. Stops start past (stream_bytes left written1 log1.bytes) stop (first_left start))
 version-done start init past left written0 written1 log0 log1 ahead packet (Ok done) good is logging logged written
     recorded_too fails =

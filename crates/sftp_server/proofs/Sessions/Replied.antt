@@ -16,6 +16,7 @@ use Rattle.sftp_transcript.specs.declared.events.Event.{Event}
 use Rattle.sftp_transcript.specs.declared.events.Event.TheVariants.{Asked, Replied}
 use Rattle.sftp_transcript.specs.Log.{Log}
 use Rattle.sftp_transcript.specs.Transcript.{packet_of, record_text, IsEvent}
+use Rattle.sftp_transcript.specs.Explained.{window}
 use Rattle.sftp_tree.specs.Tree.{Tree}
 use Rattle.sftp_handles.specs.State.{State}
 use Rattle.sftp_handles.specs.Allowed.{Allowed}
@@ -150,7 +151,7 @@ running-worked start past now ahead core0 core1 k fault running ready worked = r
   good = running.good;
   greeting = running.greeting;
   spelled = running.spelled;
-  reached = reached-worked (started start) 1024 running.events core0 core1 k running.reached ready worked;
+  reached = reached-worked (started start) window running.events core0 core1 k running.reached ready worked;
   passed = running.passed;
   place = running.place;
   found = fault-kept running.events running.events core0.queue core1.queue ahead.held ahead.place fault
@@ -176,14 +177,14 @@ module _ {start : Tree} {past now : StreamBytes} {ahead : Ahead} {core0 core1 : 
     (at : reply_at core0.queue k ≡ Some reply) (sent : IsSent core0 k reply core1) where
   for-request : (reply.id ≡ sent.request.id) × HasSpelling (reply_packet reply)
   for-request =
-      reply-for stays-good each-answered (started start) 1024 running.events core0 k reply core1 running.good
+      reply-for stays-good each-answered (started start) window running.events core0 k reply core1 running.good
       (omega arith) running.reached sent
 
   abbrev events : List Event
   events = running.events ++ Replied reply ∷ []
 
-  reached : IsReached (started start) 1024 events core1
-  reached = reached-sent (started start) 1024 running.events core0 core1 k reply running.reached at sent
+  reached : IsReached (started start) window events core1
+  reached = reached-sent (started start) window running.events core0 core1 k reply running.reached at sent
 
   spelled : AllByRecursion IsEvent events
   spelled = events-more running.events (Replied reply) running.spelled for-request.1

@@ -8,7 +8,7 @@ use Rattle.sftp_wire.specs.declared.packets.Side.{Side}
 use Rattle.sftp_wire.specs.declared.packets.Side.TheVariants.{Client, Server}
 use Rattle.sftp_wire.specs.Spelling.{spelling, side_of}
 use Rattle.sftp_transcript.specs.declared.events.Event.{Event}
-use Rattle.sftp_transcript.specs.Explained.{BeginsFrom}
+use Rattle.sftp_transcript.specs.Explained.{BeginsFrom, window}
 use Rattle.sftp_transcript.specs.Log.{Log, opened_text}
 use Rattle.sftp_transcript.specs.Transcript.{record_text, transcript_opening}
 use Rattle.sftp_tree.specs.Tree.{Tree}
@@ -76,9 +76,9 @@ pub each-answered : core_laws.IsTotal
 each-answered = some-allowed paths-lead
 
 pub reached-begins : (start : Tree) (events : List Event) (core : Machine State) → Good (started start)
-    → IsReached (started start) 1024 events core → BeginsFrom Allowed (settled start []) events
+    → IsReached (started start) window events core → BeginsFrom Allowed (settled start []) events
 reached-begins start events core good reached =
-    core_laws.begun stays-good each-answered (started start) 1024 events core good (omega arith) reached
+    core_laws.begun stays-good each-answered (started start) window events core good (omega arith) reached
 
 pub begun : {start : Tree} {past now : StreamBytes} {ahead : Ahead} {core : Machine State} {fault : Option SessionFault}
     → (running : IsRunning start past now ahead core fault) → BeginsFrom Allowed (settled start []) running.events
@@ -123,17 +123,17 @@ cut-whole (first ∷ packets) =
 -- ---- the tree of the requests done
 
 pub after-done : (start : Tree) (events : List Event) (core : Machine State) → Good (started start)
-    → IsReached (started start) 1024 events core → IsAfterDone start events (closed_tree core.state)
+    → IsReached (started start) window events core → IsAfterDone start events (closed_tree core.state)
 after-done start events core good reached =
     record {
       last = core.state;
-      leads = core_laws.leads-to stays-good each-answered (started start) 1024 events core good (omega arith) reached;
+      leads = core_laws.leads-to stays-good each-answered (started start) window events core good (omega arith) reached;
       end_is = refl;
     }
 
 -- a core that was reached leaves this tree
 pub reached-leaves : (start : Tree) (init : Packet) (events : List Event) (core : Machine State) → Good (started start)
-    → IsReached (started start) 1024 events core → IsLeftAfter start (session_packets init events) (tree_left core)
+    → IsReached (started start) window events core → IsLeftAfter start (session_packets init events) (tree_left core)
 reached-leaves start init events core good reached = (events, refl, after-done start events core good reached)
 
 -- ---- a session that stops between packets

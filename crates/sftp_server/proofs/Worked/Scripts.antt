@@ -23,7 +23,7 @@ use Rattle.sftp_handles.specs.Clash.{clash, touched}
 use Rattle.sftp_handles.specs.Ranges.{range, range_clash}
 use Rattle.sftp_handles.proofs.TotalSteps.PlaceTexts.{bytes-by}
 use Rattle.sftp_transcript.specs.Explained.{Explained, turn_after, in_window, requests_before_reply, exchanges_of}
-use Rattle.sftp_transcript.specs.Explained.{leading_pairs, next_reply}
+use Rattle.sftp_transcript.specs.Explained.{leading_pairs, next_reply, window}
 use Rattle.sftp_transcript.specs.Examples.{mkdir, rmdir, status}
 use Rattle.sftp_transcript.proofs.pairing.Turns.{Matching-from_ids}
 use Rattle.sftp_server.specs.declared.queue.Entry.{Entry}
@@ -136,7 +136,7 @@ abbrev with_progress : Request → Progress → Entry
 with_progress request progress = record { request = request; progress = progress }
 
 abbrev machine : State → List Entry → Machine State
-machine state queue = record { state = state; window = 1024; queue = queue }
+machine state queue = record { state = state; window = window; queue = queue }
 
 abbrev both : Progress → Progress → List Entry
 both first second = with_progress make_a first ∷ with_progress remove_a second ∷ []
@@ -198,8 +198,8 @@ first_sends = record {
   marked = refl;
 }
 
-pub keeps_order : AreActs Allowed server_clash (at_start (started blank) 1024) made_and_removed answered_backwards
-    (at_start (started blank) 1024)
+pub keeps_order : AreActs Allowed server_clash (at_start (started blank) window) made_and_removed answered_backwards
+    (at_start (started blank) window)
 unfolding is_unsent is_free_of range_clash clash touched range
 keeps_order =
     let asked_first = mkdir 1 (codes "/a") in

@@ -1,5 +1,6 @@
 -- Once memory is there, the session is opened, served, and ends.
 use Rattle.std.proofs.Common.{Some, None, refl, subst, sym, ap, ◌∙◌}
+use Rattle.sftp_transcript.specs.Explained.{window}
 use Rattle.sftp_handles.specs.State.{State}
 use Rattle.sftp_server.specs.declared.ends.Stop.TheVariants as stops
 use Rattle.sftp_server.specs.Machine.{Machine, at_start}
@@ -28,7 +29,7 @@ returns-in-Err-clause-served g c = λ past yet.
     let left = g.R.Source.left c.args.reader.now in
     let now = stream_bytes left (g.W.Sink.written c.greet.new.writer) c.greet.new.log.bytes in
     let call = c.leaving-in-Err in
-    let first : Machine State = at_start (started c.args.tree) 1024 in
+    let first : Machine State = at_start (started c.args.tree) window in
     stopped-end c.args.tree past now c.in-Err.stop (tree_left first) call.result call.ensures.ended
     (call.ensures.left ∙ ap Some c.into_tree.ensures ∙ ap (λ (core : Machine State). tree_left core) c.in-Ok.ensures.start)
     (c.in-Err.ensures.running c.args.tree past left c.in-Ok.ensures.good yet)
