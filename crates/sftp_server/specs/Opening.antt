@@ -13,9 +13,8 @@ use Rattle.sftp_server.specs.declared.opening.First.{First}
 use Rattle.sftp_server.specs.declared.opening.First.TheVariants.{Init, Fault}
 use Rattle.sftp_server.specs.Machine.{at_start}
 use Rattle.sftp_server.specs.Core.{started}
-use Rattle.sftp_server.specs.Served.{IsUnopenedBy}
-use Rattle.sftp_server.specs.Sessions.{StreamBytes, stream_bytes, Ahead, Stops, tree_left, IsRunning, IsUnopenedYet}
-use Rattle.sftp_server.specs.Sessions.{BeginsWithGreeting}
+use Rattle.sftp_server.specs.Served.{IsUnopenedBy, StreamBytes, stream_bytes}
+use Rattle.sftp_server.specs.Sessions.{Ahead, Stops, tree_left, IsRunning, IsUnopenedYet, BeginsWithGreeting}
 
 -- what the bytes begin with; `over`: no more will come
 abbrev pub IsFirst : List ℕ → Type 0 → First → Type 0

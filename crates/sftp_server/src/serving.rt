@@ -5,9 +5,10 @@ ghost use Rattle.sftp_wire.specs.Reading.{front_of};
 ghost use Rattle.sftp_server.specs.declared.ends.Stream.TheVariants as streams;
 ghost use Rattle.sftp_server.specs.declared.taking.Front.TheVariants as fronts;
 ghost use Rattle.sftp_server.specs.declared.serving.Next.TheVariants as nexts;
-ghost use Rattle.sftp_server.specs.Sessions.{stream_bytes, IsUnused, IsLogging, Serves, CountsCall, CountsEnd};
-ghost use Rattle.sftp_server.specs.Sessions.{StreamBytes, input_limit, IsUnopenedYet, BeginsWithGreeting};
-ghost use Rattle.sftp_server.specs.Sessions.{LeavesAt, IsSessionEnd};
+ghost use Rattle.sftp_server.specs.Served.{stream_bytes, IsUnused, Serves, CountsEnd, StreamBytes};
+ghost use Rattle.sftp_server.specs.Left.{LeavesAt};
+ghost use Rattle.sftp_server.specs.Sessions.{IsLogging, CountsCall, input_limit, IsUnopenedYet, BeginsWithGreeting};
+ghost use Rattle.sftp_server.specs.Sessions.{IsSessionEnd};
 ghost use Rattle.sftp_server.specs.Ending.{closed_end, EndsOn, ReadsOn, RunsOut, GoesOn};
 
 use crate::cores::Core;

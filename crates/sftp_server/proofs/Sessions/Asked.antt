@@ -39,8 +39,8 @@ use Rattle.sftp_server.specs.Machine.{Machine, taken, can_take, is_unsent}
 use Rattle.sftp_server.specs.Core.{started, IsValue, IsReached}
 use Rattle.sftp_server.specs.Fronts.{fault_of, found_refused, TakesOn}
 use Rattle.sftp_server.specs.Served.{session_packets, sent_by, recorded, IsListed, IsBeginning, IsCutInLast}
-use Rattle.sftp_server.specs.Sessions.{StreamBytes, stream_bytes, Passed, Stops, tree_left, IsLogging, Ahead}
-use Rattle.sftp_server.specs.Sessions.{ahead_without, IsRunning, IsFaultAhead}
+use Rattle.sftp_server.specs.Served.{StreamBytes, stream_bytes, Passed}
+use Rattle.sftp_server.specs.Sessions.{Stops, tree_left, IsLogging, Ahead, ahead_without, IsRunning, IsFaultAhead}
 use Rattle.sftp_server.proofs.Machines.Reached.{reached-taken}
 use Rattle.sftp_server.proofs.Sessions.Lists.{asked-session, session-more, events-more}
 use Rattle.sftp_server.proofs.Sessions.Stops.{no-opening, reached-begins, reached-leaves, is-beginning}

@@ -24,10 +24,10 @@ use Rattle.sftp_server.specs.declared.queue.Entry.{Entry}
 use Rattle.sftp_server.specs.Machine.{Machine, is_unsent}
 use Rattle.sftp_server.specs.Core.{started}
 use Rattle.sftp_server.specs.Served.{session_packets, sent_by, recorded, EndsSession, IsUnopenedBy, IsOpened, IsServed}
-use Rattle.sftp_server.specs.Served.{closed_tree}
-use Rattle.sftp_server.specs.Sessions.{StreamBytes, stream_bytes, Passed, Serves, Ahead, IsRunning, IsEnding}
-use Rattle.sftp_server.specs.Sessions.{input_limit, IsFaultAhead, IsUnopenedYet, ended_by, Stops, tree_left}
-use Rattle.sftp_server.specs.Sessions.{Leaves, LeavesAt, IsSessionEnd}
+use Rattle.sftp_server.specs.Served.{closed_tree, StreamBytes, stream_bytes, Passed, Serves}
+use Rattle.sftp_server.specs.Left.{Leaves, LeavesAt}
+use Rattle.sftp_server.specs.Sessions.{Ahead, IsRunning, IsEnding, input_limit, IsFaultAhead, IsUnopenedYet, ended_by}
+use Rattle.sftp_server.specs.Sessions.{Stops, tree_left, IsSessionEnd}
 use Rattle.sftp_server.specs.Ending.{closed_end}
 use Rattle.sftp_server.proofs.Machines.Laws.{explained}
 use Rattle.sftp_server.proofs.Sessions.Stops.{stays-good, each-answered, running-kept}

@@ -13,8 +13,7 @@ use Rattle.sftp_wire.specs.Spelling.{spelling, side_of}
 use Rattle.sftp_transcript.specs.declared.events.Event.{Event}
 use Rattle.sftp_transcript.specs.declared.events.Event.TheVariants.{Asked, Replied}
 use Rattle.sftp_transcript.specs.Transcript.{packet_of, record_text, transcript_opening, IsEvent}
-use Rattle.sftp_server.specs.Served.{session_packets, spelled_if, sent_by, recorded, our_version}
-use Rattle.sftp_server.specs.Sessions.{StreamBytes, Passed}
+use Rattle.sftp_server.specs.Served.{session_packets, spelled_if, sent_by, recorded, our_version, StreamBytes, Passed}
 use Rattle.sftp_server.proofs.Machines.Acts.{all-append}
 
 -- ---- packets

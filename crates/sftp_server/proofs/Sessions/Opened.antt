@@ -33,10 +33,10 @@ use Rattle.sftp_server.specs.declared.opening.First.TheVariants as firsts
 use Rattle.sftp_server.specs.Machine.{at_start}
 use Rattle.sftp_server.specs.Core.{started}
 use Rattle.sftp_server.specs.Served.{our_version, sent_by, spelled_if, recorded, IsGreeting, IsNoGreeting, IsListed}
-use Rattle.sftp_server.specs.Served.{closed_tree, IsCutInLast}
-use Rattle.sftp_server.specs.Left.{AreDone, IsAfterDone}
-use Rattle.sftp_server.specs.Sessions.{StreamBytes, stream_bytes, Passed, Leaves, Stops, tree_left, IsLogging, Ahead}
-use Rattle.sftp_server.specs.Sessions.{input_limit, ahead_without, IsRunning, IsUnopenedYet, BeginsWithGreeting, FailsToSend}
+use Rattle.sftp_server.specs.Served.{closed_tree, IsCutInLast, StreamBytes, stream_bytes, Passed}
+use Rattle.sftp_server.specs.Left.{AreDone, IsAfterDone, Leaves}
+use Rattle.sftp_server.specs.Sessions.{Stops, tree_left, IsLogging, Ahead, input_limit, ahead_without, IsRunning}
+use Rattle.sftp_server.specs.Sessions.{IsUnopenedYet, BeginsWithGreeting, FailsToSend}
 use Rattle.sftp_server.specs.Opening.{IsFirst, IsInFront, IsGreetingOf}
 use Rattle.sftp_server.proofs.Machines.Reached.{reached-start}
 use Rattle.sftp_server.proofs.Sessions.Lists.{sent-one, recorded-more}

@@ -28,10 +28,9 @@ use Rattle.sftp_server.specs.declared.queue.Entry.{Entry}
 use Rattle.sftp_server.specs.declared.queue.Progress.TheVariants.{Pending, Done, Sent}
 use Rattle.sftp_server.specs.Machine.{Machine, is_sent, is_unsent, is_ready, reply_at, from_unsent, IsWorked, IsSent}
 use Rattle.sftp_server.specs.Core.{server_clash, started, IsReached}
-use Rattle.sftp_server.specs.Served.{session_packets, our_version, answered_last, IsListed}
+use Rattle.sftp_server.specs.Served.{session_packets, our_version, answered_last, IsListed, StreamBytes, stream_bytes}
 use Rattle.sftp_server.specs.Left.{IsLeftAfter}
-use Rattle.sftp_server.specs.Sessions.{StreamBytes, stream_bytes, IsLogging, Ahead, IsRunning}
-use Rattle.sftp_server.specs.Sessions.{IsFaultAhead, FailsToSend, SendsOn, tree_left}
+use Rattle.sftp_server.specs.Sessions.{IsLogging, Ahead, IsRunning, IsFaultAhead, FailsToSend, SendsOn, tree_left}
 use Rattle.sftp_server.proofs.Machines.Laws.{reply-for}
 use Rattle.sftp_server.proofs.Machines.Reached.{reached-worked, reached-sent}
 use Rattle.sftp_server.proofs.Sessions.Lists.{session-more, replied-session, events-more}

@@ -26,10 +26,9 @@ use Rattle.sftp_server.specs.declared.ends.Stream.TheVariants as streams
 use Rattle.sftp_server.specs.Machine.{Machine}
 use Rattle.sftp_server.specs.Core.{started, IsReached}
 use Rattle.sftp_server.specs.Served.{session_packets, sent_by, spelled_if, recorded, opened_record, IsListed}
-use Rattle.sftp_server.specs.Served.{IsBeginning, IsCutInLast, closed_tree}
-use Rattle.sftp_server.specs.Left.{IsAfterDone, IsLeftAfter}
-use Rattle.sftp_server.specs.Sessions.{StreamBytes, stream_bytes, Passed, IsLogging, Ahead, IsRunning}
-use Rattle.sftp_server.specs.Sessions.{FailsToSend, Leaves, Stops, tree_left}
+use Rattle.sftp_server.specs.Served.{IsBeginning, IsCutInLast, closed_tree, StreamBytes, stream_bytes, Passed}
+use Rattle.sftp_server.specs.Left.{IsAfterDone, IsLeftAfter, Leaves}
+use Rattle.sftp_server.specs.Sessions.{IsLogging, Ahead, IsRunning, FailsToSend, Stops, tree_left}
 use Rattle.sftp_server.proofs.Machines.Laws as core_laws
 use Rattle.sftp_server.proofs.Sessions.Lists.{sent-more, recorded-more}
 

@@ -4,7 +4,8 @@ use Rattle.std.proofs.lemmas.Result.{err_from_is_err_and}
 use Rattle.sftp_wire.specs.declared.packets.Side.TheVariants.{Client}
 use Rattle.sftp_wire.specs.Reading.{front_of}
 use Rattle.sftp_wire.proofs.StreamLaws.Front.{none-leaves_room}
-use Rattle.sftp_server.specs.Sessions.{Ahead, stream_bytes}
+use Rattle.sftp_server.specs.Served.{stream_bytes}
+use Rattle.sftp_server.specs.Sessions.{Ahead}
 use Rattle.sftp_server.proofs.Sessions.Closed.{writer-stops, reader-stops, log-stops, running-written, running-more}
 use Rattle.sftp_server.proofs.Sessions.Closed.{running-logged, ending-whole, ending-cut, nothing-read}
 use Rattle.sftp_server.proofs.Sessions.Closed.{held-none, held-some}

@@ -5,7 +5,8 @@ use Rattle.sftp_handles.specs.State.{State}
 use Rattle.sftp_server.specs.declared.ends.Stop.TheVariants as stops
 use Rattle.sftp_server.specs.Machine.{Machine, at_start}
 use Rattle.sftp_server.specs.Core.{started}
-use Rattle.sftp_server.specs.Sessions.{stream_bytes, IsRunning, tree_left}
+use Rattle.sftp_server.specs.Served.{stream_bytes}
+use Rattle.sftp_server.specs.Sessions.{IsRunning, tree_left}
 use Rattle.sftp_server.proofs.Sessions.Closed.{unopened-stops, stopped-end, closed-session}
 use Rattle.sftp_server.proofs.serving.serve_from.Goals as goal
 

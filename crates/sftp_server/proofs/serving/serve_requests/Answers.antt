@@ -3,7 +3,7 @@ use Rattle.std.proofs.Common.{subst}
 use Rattle.std.proofs.lemmas.Result.{err_from_is_err_and}
 use Rattle.sftp_server.specs.declared.serving.Next.{Next}
 use Rattle.sftp_server.specs.Fronts.{fault_of}
-use Rattle.sftp_server.specs.Sessions.{stream_bytes}
+use Rattle.sftp_server.specs.Served.{stream_bytes}
 use Rattle.sftp_server.specs.Ending.{IsNext}
 use Rattle.sftp_server.proofs.serving.serve_requests.Goals as goal
 
