@@ -2,7 +2,7 @@
 use Rattle.std.proofs.Common.{◌≡◌, ◌≢◌, ◌+◌, ◌<◌, ◌&&◌, ℕ, zero, suc, Bool, true, false, List, [], ◌∷◌}
 use Rattle.std.proofs.Common.{Option, Some, None, is_some, length, set, slice_get, refl, sym, ap, ◌∙◌}
 use Rattle.std.proofs.Common.{◌||◌, arith, ◌-◌, take, drop}
-use Rattle.std.proofs.lemmas.Bool.{true≢false, and_left}
+use Rattle.std.proofs.lemmas.Bool.{true≢false, and_left, and_right}
 use Rattle.std.proofs.lemmas.Option.{none-some}
 use Rattle.std.proofs.lemmas.List.{get_or-drop}
 use Rattle.std.proofs.lemmas.List.Sums.{sum_by-set, sum_by-cons, sum_by-take-drop}
@@ -124,11 +124,7 @@ reply-worked (entry ∷ queue) (suc k) reply is = reply-worked queue k reply is
 -- ---- what is in the way
 
 and-fewer : (a b c : Bool) → (b ≡ true → a ≡ true) → (a && c) ≡ false → (b && c) ≡ false
-and-fewer true b c was clear = and-right b c clear
-  where
-    and-right : (b c : Bool) → c ≡ false → (b && c) ≡ false
-    and-right true c clear = clear
-    and-right false c clear = refl
+and-fewer true b c was clear = and_right b c clear
 and-fewer false true c was clear = absurd (true≢false (sym (was refl)))
 and-fewer false false c was clear = refl
 

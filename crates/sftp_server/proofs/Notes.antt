@@ -10,7 +10,7 @@ use Rattle.std.specs.Prelude.{get_or}
 use Rattle.sftp_wire.specs.declared.packets.Ask.{Ask}
 use Rattle.sftp_handles.specs.declared.byte_range.ByteRange.{ByteRange}
 use Rattle.sftp_handles.specs.declared.touch.Touch.{Touch}
-use Rattle.sftp_handles.specs.declared.touch.Touch.TheVariants.{Nothing, ReadsFile, WritesFile, TakesNames, Everything}
+use Rattle.sftp_handles.specs.declared.touch.Touch.TheVariants.{Nothing, ReadsFile}
 use Rattle.sftp_handles.specs.Clash.{touched, share}
 use Rattle.sftp_handles.specs.Ranges.{range, are_apart}
 use Rattle.sftp_handles.specs.Touch.{touched_as}
@@ -39,18 +39,10 @@ by_place j k P same other = by (j == k) refl
     by false is = other (eqb-false j k is)
 
 pub below : (j k : ℕ) → j < suc k → j ≢ k → j < k
-below j k lt apart = by (nat_lt j k) refl
-  where
-    by : (b : Bool) → nat_lt j k ≡ b → j < k
-    by true is = ltb-true j k is
-    by false is = absurd (apart (let from = ltb-false j k is in omega (arith, lt, from)))
+below j k lt apart = omega (arith, lt, apart)
 
 pub beyond : (j k : ℕ) → k ≤ j → j ≢ k → suc k ≤ j
-beyond j k from apart = by (nat_lt k j) refl
-  where
-    by : (b : Bool) → nat_lt k j ≡ b → suc k ≤ j
-    by true is = ltb-true k j is
-    by false is = absurd (apart (let past = ltb-false k j is in omega (arith, from, past)))
+beyond j k from apart = omega (arith, from, apart)
 
 -- what a look-up gives is the note at the position
 pub note-read : (notes : List Note) (k : ℕ) (note : Note) → k < length notes → note ≡ get_or notes k note
@@ -489,24 +481,12 @@ reads-apart Nothing Nothing a b t_reads u_reads = refl
 reads-apart Nothing (ReadsFile m) a b t_reads u_reads = refl
 reads-apart (ReadsFile n) Nothing a b t_reads u_reads = refl
 reads-apart (ReadsFile n) (ReadsFile m) a b t_reads u_reads = refl
-reads-apart Nothing (WritesFile m) a b t_reads u_reads = absurd (true≢false (sym u_reads))
-reads-apart Nothing TakesNames a b t_reads u_reads = absurd (true≢false (sym u_reads))
-reads-apart Nothing Everything a b t_reads u_reads = absurd (true≢false (sym u_reads))
-reads-apart (ReadsFile n) (WritesFile m) a b t_reads u_reads = absurd (true≢false (sym u_reads))
-reads-apart (ReadsFile n) TakesNames a b t_reads u_reads = absurd (true≢false (sym u_reads))
-reads-apart (ReadsFile n) Everything a b t_reads u_reads = absurd (true≢false (sym u_reads))
-reads-apart (WritesFile n) u a b t_reads u_reads = absurd (true≢false (sym t_reads))
-reads-apart TakesNames u a b t_reads u_reads = absurd (true≢false (sym t_reads))
-reads-apart Everything u a b t_reads u_reads = absurd (true≢false (sym t_reads))
+reads-apart t u a b t_reads u_reads = absurd cc
 
 -- a request that is not pending is in no way
 no_way : (on : Bool) (shares : Bool) → (on ≡ true → shares ≡ false) → (on && shares) ≡ false
 no_way true shares none = none refl
 no_way false shares none = refl
-
-worked_away : (on : Bool) (shares : Bool) → on ≡ false → (on && shares) ≡ false
-worked_away true shares worked = absurd (true≢false worked)
-worked_away false shares worked = refl
 
 pub start-free : (queue : List Entry) (notes : List Note) (f o w p k from : ℕ) → IsNoted queue notes f o w p → k < o
     → ((j : ℕ) → from ≤ j → j < k → (w ≤ j) × (only_reads (note_at notes k).touch ≡ true))
@@ -536,7 +516,7 @@ free-all queue notes f o w p k from is passed free j before = by (nat_lt j from)
   where
     by : (b : Bool) → nat_lt j from ≡ b → is_in_way queue notes j (portion_at queue notes k) ≡ false
     by true lt =
-        worked_away (note_at notes j).pending (portions_clash (portion_at queue notes j) (portion_at queue notes k))
+        and_left (note_at notes j).pending (portions_clash (portion_at queue notes j) (portion_at queue notes k))
         (is.passed j (let early = ltb-true j from lt in omega (arith, early, passed)))
     by false later = free j (ltb-false j from later) before
 

@@ -7,6 +7,7 @@ use Rattle.std.proofs.lemmas.Bool.{true≢false, ltb-true, ltb-false, and_from}
 use Rattle.std.proofs.lemmas.Option.{slice_get_within}
 use Rattle.std.proofs.lemmas.List.{take_all, drop_more, get_or_past}
 use Rattle.std.proofs.lemmas.List.Sums.{sum_by-cons}
+use mathlib.Core.Bool.{and-false, or-false}
 use Rattle.sftp_wire.specs.declared.packets.Request.{Request}
 use Rattle.sftp_handles.specs.State.{State}
 use Rattle.sftp_handles.specs.Clash.{Touched, touched, share, clash, everything}
@@ -53,11 +54,7 @@ free-not clash s [] (suc k) j request before blocks = absurd (true≢false (sym 
 free-not clash s (entry ∷ queue) (suc k) zero request before blocks = rw blocks refl
 free-not clash s (entry ∷ queue) (suc k) (suc j) request before blocks =
     rw (free-not clash s queue k j request (omega (arith, before)) blocks)
-    (and_false (not (is_pending entry.progress && clash s entry.request request)))
-  where
-    and_false : (b : Bool) → (b && false) ≡ false
-    and_false true = refl
-    and_false false = refl
+    (and-false (not (is_pending entry.progress && clash s entry.request request)))
 
 -- what blocks a request, by what both touch and which ranges they keep to
 blocks-portions : (s : State) (found : Option Entry) (request : Request)
@@ -173,10 +170,6 @@ pub possible-is : (machine : Machine State) (notes : List Note) (first opened wr
     → (k : ℕ) → (note_at notes k).possible ≡ (is_ready range_clash machine k || is_some (reply_at machine.queue k))
 possible-is machine notes first opened writers possible are is_opened k = by (note_at notes k).pending refl
   where
-    or_false : (b : Bool) → b ≡ (b || false)
-    or_false true = refl
-    or_false false = refl
-
     by : (b : Bool) → (note_at notes k).pending ≡ b
         → (note_at notes k).possible ≡ (is_ready range_clash machine k || is_some (reply_at machine.queue k))
     by true pending =
@@ -184,7 +177,7 @@ possible-is machine notes first opened writers possible are is_opened k = by (no
           ready-is machine.state machine.queue notes first opened writers possible are is_opened k,
           pending,
           pending-no_reply (slice_get machine.queue k) (sym (are.marks.asked.marked k) ∙ pending),
-        ) (or_false (note_at notes k).possible)
+        ) (sym (or-false (note_at notes k).possible))
     by false idle =
         rw (ready-is machine.state machine.queue notes first opened writers possible are is_opened k, idle)
         (are.marks.asked.replies k idle)
@@ -273,14 +266,14 @@ choice-here machine notes first opened writers possible are is_opened k rest is 
           is,
         ) refl
 
-possible-within : (notes : List Note) (k : ℕ) → (note_at notes k).possible ≡ true → k < length notes
+pub possible-within : (notes : List Note) (k : ℕ) → (note_at notes k).possible ≡ true → k < length notes
 possible-within notes k is = by (nat_lt k (length notes)) refl
   where
     by : (b : Bool) → nat_lt k (length notes) ≡ b → k < length notes
     by true less = ltb-true k (length notes) less
-    by false less =
+    by false past =
         absurd (true≢false (sym is ∙ ap (λ (n : Note). n.possible)
-        (get_or_past notes k blank (ltb-false k (length notes) less))))
+        (get_or_past notes k blank (ltb-false k (length notes) past))))
 
 -- the act of a number is at the position before which so many are possible, and at which one is
 pub choice-at : (machine : Machine State) (notes : List Note) (first opened writers possible : ℕ)

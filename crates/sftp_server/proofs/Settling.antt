@@ -8,7 +8,7 @@ use Rattle.std.proofs.lemmas.List.Sums.{sum_by-set}
 use Rattle.sftp_wire.specs.declared.packets.Ask.{Ask}
 use Rattle.sftp_handles.specs.declared.byte_range.ByteRange.{ByteRange}
 use Rattle.sftp_handles.specs.declared.touch.Touch.{Touch}
-use Rattle.sftp_handles.specs.declared.touch.Touch.TheVariants.{Nothing, ReadsFile, WritesFile, TakesNames, Everything}
+use Rattle.sftp_handles.specs.declared.touch.Touch.TheVariants.{Nothing, WritesFile}
 use Rattle.sftp_handles.specs.Ranges.{range}
 use Rattle.sftp_handles.specs.Touch.{touched_as}
 use Rattle.sftp_handles.specs.State.{State}
@@ -31,10 +31,7 @@ use Rattle.sftp_server.proofs.StillRanged.{portion-sound}
 
 pub on-touch : (number : ℕ) (touch : Touch) (ask : Ask) → is_on number (touched_as touch ask) ≡ touches_file number touch
 on-touch number Nothing ask = refl
-on-touch number (ReadsFile n) ask = refl
-on-touch number (WritesFile n) ask = refl
-on-touch number TakesNames ask = refl
-on-touch number Everything ask = refl
+on-touch number touch ask = refl
 
 pub resizes-file : (touch : Touch) (ask : Ask) (found : Option ByteRange) (number : ℕ)
     → resized_file touch found ≡ Some number → resizes_by number (touched_as touch ask) found ≡ true
@@ -46,21 +43,13 @@ resizes-file touch ask found number is = absurd cc
 
 pub resizes-nothing : (touch : Touch) (ask : Ask) (found : Option ByteRange) → resized_file touch found ≡ None
     → (number : ℕ) → resizes_by number (touched_as touch ask) found ≡ false
-resizes-nothing Nothing ask found is number = refl
-resizes-nothing (ReadsFile n) ask found is number = refl
 resizes-nothing (WritesFile n) ask None is number = absurd cc
-resizes-nothing (WritesFile n) ask (Some at) is number = refl
-resizes-nothing TakesNames ask found is number = refl
-resizes-nothing Everything ask found is number = refl
+resizes-nothing touch ask found is number = refl
 
 pub resizes-by_note : (touch : Touch) (ask : Ask) (found : Option ByteRange) (number : ℕ)
     → resizes_by number (touched_as touch ask) found ≡ resizes_noted number touch found
-resizes-by_note Nothing ask found number = refl
-resizes-by_note (ReadsFile n) ask found number = refl
 resizes-by_note (WritesFile n) ask None number = refl
-resizes-by_note (WritesFile n) ask (Some at) number = refl
-resizes-by_note TakesNames ask found number = refl
-resizes-by_note Everything ask found number = refl
+resizes-by_note touch ask found number = refl
 
 -- ---- one is measured
 

@@ -8,7 +8,7 @@ use Rattle.sftp_wire.specs.declared.packets.Reply.{Reply}
 use Rattle.sftp_handles.specs.declared.byte_range.ByteRange.{ByteRange}
 use Rattle.sftp_handles.specs.State.{State}
 use Rattle.sftp_handles.specs.Allowed.{Allowed}
-use Rattle.sftp_handles.specs.Clash.{Touched, untouched, reads_file, writes_file, takes_names, everything, share, touched}
+use Rattle.sftp_handles.specs.Clash.{Touched, untouched, reads_file, writes_file, everything, share, touched}
 use Rattle.sftp_handles.specs.Ranges.{range, may_resize}
 use Rattle.sftp_handles.proofs.RangesKept.{ranges-kept, other-ranges, range-touches}
 use Rattle.sftp_server.specs.RangedNotes.{portion_in, is_on, HasItsRange, IsPortion, resizes_by, resizes}
@@ -34,11 +34,7 @@ portion-sound s ask = sound-by s ask (range s ask) refl
 not-resizing : (at : Touched) (found : Option ByteRange) → ((number : ℕ) → resizes_by number at found ≡ false)
     → may_resize at found ≡ false
 not-resizing (writes_file n) None keeps = absurd (true≢false (sym (eq-eqb n n refl) ∙ keeps n))
-not-resizing untouched found keeps = refl
-not-resizing (reads_file n) found keeps = refl
-not-resizing (writes_file n) (Some at) keeps = refl
-not-resizing (takes_names handle) found keeps = refl
-not-resizing everything found keeps = refl
+not-resizing at found keeps = refl
 
 -- all requests keep to the ranges that they kept to
 pub ranges-still : (s end : State) (request : Request) (reply : Reply) (ask : Ask)
@@ -57,18 +53,14 @@ resizing-writes number at found is = absurd cc
 
 other-shares : (number : ℕ) (at : Touched) → is_on number at ≡ false → at ≢ everything
     → share (writes_file number) at ≡ false
-other-shares number untouched other part = refl
 other-shares number (reads_file n) other part = nat_eq_equiv.symm number n ∙ other
 other-shares number (writes_file n) other part = nat_eq_equiv.symm number n ∙ other
-other-shares number (takes_names handle) other part = refl
 other-shares number everything other part = absurd (part refl)
+other-shares number at other part = refl
 
 is-everything : (at : Touched) → (at ≡ everything) ⊎ (at ≡ everything → ⊥)
 is-everything everything = inl refl
-is-everything untouched = inr (λ is. true≢false (sym (ap (λ (t : Touched). share t untouched) is)))
-is-everything (reads_file n) = inr (λ is. true≢false (sym (ap (λ (t : Touched). share t untouched) is)))
-is-everything (writes_file n) = inr (λ is. true≢false (sym (ap (λ (t : Touched). share t untouched) is)))
-is-everything (takes_names handle) = inr (λ is. true≢false (sym (ap (λ (t : Touched). share t untouched) is)))
+is-everything at = inr (λ is. true≢false (sym (ap (λ (t : Touched). share t untouched) is)))
 
 -- the requests that are not on that file keep to the ranges that they kept to
 pub other-ranges-still : (s end : State) (request : Request) (reply : Reply) (ask : Ask) (number : ℕ)

@@ -10,7 +10,7 @@ use Rattle.sftp_wire.specs.Spelling.{asked_handle}
 use Rattle.sftp_handles.specs.Handles.{Handles, open_at}
 use Rattle.sftp_handles.specs.State.{State}
 use Rattle.sftp_handles.specs.Seen.{seen}
-use Rattle.sftp_handles.specs.HandleRequests.{row_of, Change, nothing, rewrites, leaves, closes, change_of}
+use Rattle.sftp_handles.specs.HandleRequests.{row_of, Change, nothing, change_of}
 use Rattle.sftp_handles.specs.Requests.{changed, after, after_by}
 use Rattle.sftp_handles.specs.Allowed.{Allowed, Refuses, Does}
 use Rattle.sftp_handles.specs.Clash.{Touched, everything, touched, touched_by, touched_through, may_change}
@@ -45,9 +45,7 @@ touched-same s t ask same = by (asked_handle ask)
 changed-handles : (s : State) (handle : List ℕ) (change : Change)
     → (changed s handle change).handles ≡ (applied s handle change).handles
 changed-handles s handle nothing = refl
-changed-handles s handle (rewrites number next) = refl
-changed-handles s handle (leaves left) = refl
-changed-handles s handle closes = refl
+changed-handles s handle change = refl
 
 touched-done : (s : State) (asked ask : Ask) (answer : Answer) (handle : List ℕ) → asked_handle asked ≡ Some handle
     → touched s asked ≢ everything → touched (after s asked answer) ask ≡ touched s ask

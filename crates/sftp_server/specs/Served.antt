@@ -1,7 +1,7 @@
 -- What a session of the server reads, writes and logs, and how it ends (draft-ietf-secsh-filexfer-02, sections 3 to 7).
 -- Own to this profile: the window, that an unreadable packet ends the session, and how sessions end.
 use Rattle.std.specs.Prelude.{◌≡◌, ◌≢◌, ◌⊎◌, ◌==◌, ◌||◌, ℕ, Bool, true, false, List, [], ◌∷◌, ◌++◌, length}
-use Rattle.std.specs.Prelude.{map, codes, Option, Some, None, Result, Ok, Err, IsTrue}
+use Rattle.std.specs.Prelude.{map, Option, Some, None, Result, Ok, Err, IsTrue}
 use Rattle.std.specs.List.{flat_map, AllByRecursion}
 use Rattle.std.specs.Io.KnownBytes.{Appends, Consumes, IsAtEnd}
 use Rattle.sftp_wire.specs.declared.errors.Fault.{Fault}

@@ -1,6 +1,6 @@
 //! Which requests of a queue are ready, known without going over those before.
 ghost use Rattle.std.specs.Prelude.{◌≡◌, ◌≢◌, ◌+◌, ◌-◌, ◌<◌, ◌≤◌, ◌&&◌, ◌++◌, ℕ, suc, [], ◌∷◌, true, false};
-ghost use Rattle.std.specs.Prelude.{IsTrue, IfOk, OnOk, length, take, drop, set};
+ghost use Rattle.std.specs.Prelude.{OnOk, length, take, drop, set};
 ghost use Rattle.std.specs.VecDeque.{deque_len, deque_capacity};
 ghost use Rattle.sftp_handles.specs.Clash.{touched, share};
 ghost use Rattle.sftp_handles.specs.Ranges as ranges;
@@ -8,7 +8,7 @@ ghost use Rattle.sftp_handles.specs.Ranges.{range};
 ghost use Rattle.sftp_handles.specs.Touch.{touched_as};
 ghost use Rattle.sftp_server.specs.Readiness.{blank, note_at, portion_at, ask_at, is_in_way, IsFree, IsBlockedBack};
 ghost use Rattle.sftp_server.specs.Readiness.{IsPlaced, AreAlike, possible_count, IsNoted, AreBlocked, AreBlockedBut};
-ghost use Rattle.sftp_server.specs.Readiness.{IsShut, IsMarked, AreNotes, IsOpened, IsTouched};
+ghost use Rattle.sftp_server.specs.Readiness.{IsShut, AreNotes, IsOpened, IsTouched};
 ghost use Rattle.sftp_server.specs.Readiness.{CanRefresh, IsSettling, IsSettled, IsMarkedBut, AreNotReadyOn};
 ghost use Rattle.sftp_server.specs.Readiness.{AreBlockedButOn};
 ghost use Rattle.sftp_server.specs.Readiness as words;

@@ -1,12 +1,12 @@
 //! Acts of a server that are done one after the other.
-ghost use Rattle.std.specs.Prelude.{◌≡◌, ◌≢◌, ◌++◌, [], ◌∷◌, IfOk, IfErr, OnOk, OnErr};
+ghost use Rattle.std.specs.Prelude.{◌≡◌, ◌≢◌, ◌++◌, [], ◌∷◌, IfOk, OnOk};
 ghost use Rattle.sftp_handles.specs.Allowed.{Allowed};
 ghost use Rattle.sftp_transcript.specs.declared.events.Event.TheVariants.{Asked};
 ghost use Rattle.sftp_transcript.specs.Explained.{Explained, BeginsFrom, window};
 ghost use Rattle.sftp_server.specs.declared.acts.Act.TheVariants as acts;
 ghost use Rattle.sftp_server.specs.declared.refusals.Refuse.TheVariants.{NoMemory as no_memory};
 ghost use Rattle.sftp_server.specs.Machine.{at_start, AreActs, IsAct};
-ghost use Rattle.sftp_server.specs.Core.{server_clash, started, IsValue};
+ghost use Rattle.sftp_server.specs.Core.{server_clash, started};
 ghost use Rattle.sftp_server.specs.Scripts.{IsPerformed};
 
 use crate::acts::Act;

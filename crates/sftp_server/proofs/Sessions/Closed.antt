@@ -5,7 +5,7 @@ use Rattle.std.proofs.Common.{true≢false, arith}
 use Rattle.std.proofs.lemmas.Bool.{eqb-true}
 use Rattle.std.specs.Io.KnownBytes.{Consumes, IsAtEnd, Keeps}
 use Rattle.std.proofs.KnownBytes.{Consumes-nil, Consumes-trans, Appends-nil, Keeps-refl}
-use Rattle.sftp_wire.specs.declared.errors.WireError.TheVariants.{TooLong, NotCanonical, NoMemory, Unreadable}
+use Rattle.sftp_wire.specs.declared.errors.WireError.TheVariants.{NoMemory, Unreadable}
 use Rattle.sftp_wire.specs.declared.packets.Side.TheVariants.{Client, Server}
 use Rattle.sftp_wire.specs.Reading.{front_of}
 use Rattle.sftp_transcript.specs.declared.events.Event.{Event}
@@ -168,13 +168,10 @@ pub fault-ends : (events : List Event) (rest : List ℕ) (place : ℕ) (over : T
     → IsFaultAhead events [] rest place (Some fault) → EndsSession events rest place over fault
 unfolding is_unsent
 fault-ends events rest place over (faults.Wire (Unreadable fault at)) found = found
-fault-ends events rest place over (faults.Wire TooLong) found = absurd found
-fault-ends events rest place over (faults.Wire NotCanonical) found = absurd found
-fault-ends events rest place over (faults.Wire NoMemory) found = absurd found
 fault-ends events rest place over (faults.IdInUse id) found =
     (found.0, elim found.1 [ inl unsent ↦ absurd (true≢false (sym unsent)) | inr answered ↦ answered ])
 fault-ends events rest place over faults.BadInit found = found
-fault-ends events rest place over (faults.Cut at) found = absurd found
+fault-ends events rest place over other found = absurd found
 
 -- the session that found this fault ends, once each request is answered
 pub ending-fault : (start : Tree) (past now : StreamBytes) (ahead : Ahead) (core : Machine State) (fault : SessionFault)

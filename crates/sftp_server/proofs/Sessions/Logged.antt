@@ -1,10 +1,9 @@
 -- The log of a session is a transcript.
 use Rattle.std.proofs.Common.{◌≡◌, ℕ, ◌≤◌, List, [], ◌∷◌, ◌++◌, refl, ap, ◌∙◌, subst}
-use Rattle.std.specs.Prelude.{map, codes}
+use Rattle.std.specs.Prelude.{map}
 use Rattle.std.specs.List.{flat_map}
 use Rattle.sftp_wire.specs.declared.packets.Packet.{Packet}
-use Rattle.sftp_wire.specs.declared.packets.Packet.TheVariants.{Init, Version, Request as request_packet}
-use Rattle.sftp_wire.specs.declared.packets.Packet.TheVariants.{Reply as reply_packet}
+use Rattle.sftp_wire.specs.declared.packets.Packet.TheVariants.{Init}
 use Rattle.sftp_wire.specs.Spelling.{HasSpelling, server_extensions}
 use Rattle.sftp_transcript.specs.declared.events.Event.{Event}
 use Rattle.sftp_transcript.specs.Transcript.{packet_of, record_text, event_record}
@@ -26,9 +25,7 @@ record GreetingParts (init : Packet) : Type 0 where
 greeting-parts : (init : Packet) → IsGreeting init → GreetingParts init
 greeting-parts (Init version extensions) greeting =
     record { version = version; extensions = extensions; high_enough = greeting.0; init_is = refl }
-greeting-parts (Version version extensions) greeting = absurd greeting.0
-greeting-parts (request_packet request) greeting = absurd greeting.0
-greeting-parts (reply_packet reply) greeting = absurd greeting.0
+greeting-parts other greeting = absurd greeting.0
 
 pub log-is-transcript : (input output log : List ℕ) (init : Packet) (events : List Event) (rest : List ℕ)
     → IsOpened input output log init events rest → IsRecord events log

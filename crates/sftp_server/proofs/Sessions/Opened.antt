@@ -147,9 +147,7 @@ first-greeting bytes packet count (firsts.Init taken) found stands is = record {
 }
 first-greeting bytes packet count (firsts.Fault faults.BadInit) found stands is =
     inr (subst IsNoGreeting (sym found) is)
-first-greeting bytes packet count (firsts.Fault (faults.Wire error)) found stands is = absurd is
-first-greeting bytes packet count (firsts.Fault (faults.IdInUse id)) found stands is = absurd is
-first-greeting bytes packet count (firsts.Fault (faults.Cut at)) found stands is = absurd is
+first-greeting bytes packet count other found stands is = absurd is
 
 -- the same, as a call finds it
 pub first-found : (bytes held : List ℕ) (front : Option (Packet × ℕ)) (packet : Packet) (count : ℕ) (first : First)

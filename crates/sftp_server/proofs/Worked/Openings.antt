@@ -4,7 +4,7 @@ use Rattle.std.proofs.Common.{◌∙◌, arith, append_assoc, append-nil, lit<, 
 use Rattle.std.specs.List.{AllByRecursion}
 use Rattle.std.proofs.lemmas.List.{length-append}
 use Rattle.sftp_wire.specs.declared.packets.Packet.{Packet}
-use Rattle.sftp_wire.specs.declared.packets.Packet.TheVariants.{Init, Version, Request as request_packet}
+use Rattle.sftp_wire.specs.declared.packets.Packet.TheVariants.{Init, Request as request_packet}
 use Rattle.sftp_wire.specs.declared.packets.Packet.TheVariants.{Reply as reply_packet}
 use Rattle.sftp_wire.specs.declared.packets.Side.TheVariants.{Client, Server}
 use Rattle.sftp_wire.specs.Spelling.{spelling}
@@ -99,9 +99,7 @@ only_opens more log rest (Init version extensions) events none is =
     let ended = no_events more rest events is.spelled none apart.1 (nothing_written (sent_by Server (map packet_of
     events)) is.written) in
     record { init_is = sym apart.0; no_events = ended.0; rest_is = ended.1 }
-only_opens more log rest (Version version extensions) events none is = absurd is.greeting.0
-only_opens more log rest (request_packet request) events none is = absurd is.greeting.0
-only_opens more log rest (reply_packet reply) events none is = absurd is.greeting.0
+only_opens more log rest other events none is = absurd is.greeting.0
 
 pub version_written : version_bytes ≡ [] → ⊥
 version_written none =
