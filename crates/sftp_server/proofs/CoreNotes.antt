@@ -1,26 +1,13 @@
 -- What the calls of the notes say of the core.
-use Rattle.std.proofs.Common.{◌≡◌, ◌++◌, ◌<◌, ◌≤◌, ◌-◌, ◌&&◌, ℕ, Bool, true, false, List, [], ◌∷◌}
-use Rattle.std.proofs.Common.{Option, Some, None, is_some, if◌then◌else◌, length, take, drop, set, slice_get}
-use Rattle.std.proofs.Common.{refl, sym, ap, ◌∙◌, arith}
-use Rattle.std.proofs.lemmas.Option.{none-some, same_Some}
-use Rattle.std.proofs.lemmas.List.Sums.{sum_by_more_le}
-use mathlib.Core.Bool.{or-true}
-use Rattle.std.proofs.lemmas.Bool.{and_parts}
-use Rattle.sftp_wire.specs.declared.packets.Request.{Request}
-use Rattle.sftp_wire.specs.declared.packets.Reply.{Reply}
-use Rattle.sftp_handles.specs.State.{State}
-use Rattle.sftp_handles.specs.Allowed.{Allowed}
+use Rattle.sftp_server.proofs.Imports.{◌≡◌, ◌++◌, ◌<◌, ◌≤◌, ◌-◌, ◌&&◌, ℕ, Bool, true, false, List, [], ◌∷◌, Option}
+use Rattle.sftp_server.proofs.Imports.{Some, None, is_some, if◌then◌else◌, length, take, drop, set, slice_get, refl}
+use Rattle.sftp_server.proofs.Imports.{sym, ap, ◌∙◌, arith, none-some, same_Some, sum_by_more_le, or-true, and_parts}
+use Rattle.sftp_server.proofs.Imports.{Request, Reply, State, Allowed, Entry, Pending, Done, Sent, Note, Machine}
+use Rattle.sftp_server.proofs.Imports.{is_pending, ready_in, reply_at, from_unsent, request_in, pending_at}
+use Rattle.sftp_server.proofs.Imports.{with_progress, choices_of, server_clash, blank, note_at, ask_in, as_count}
+use Rattle.sftp_server.proofs.Imports.{possible_count, CanRefresh, AreNotes, KeepsNotes}
 use Rattle.sftp_server.specs.declared.cores.Choice.TheVariants as choices
-use Rattle.sftp_server.specs.declared.queue.Entry.{Entry}
-use Rattle.sftp_server.specs.declared.queue.Progress.TheVariants.{Pending, Done, Sent}
-use Rattle.sftp_server.specs.declared.readiness.Note.{Note}
 use Rattle.sftp_server.specs.declared.readiness.Readiness.{Readiness}
-use Rattle.sftp_server.specs.Machine.{Machine, is_pending, ready_in, reply_at, from_unsent}
-use Rattle.sftp_server.specs.Queue.{request_in, pending_at, with_progress}
-use Rattle.sftp_server.specs.Choices.{choices_of}
-use Rattle.sftp_server.specs.Core.{server_clash}
-use Rattle.sftp_server.specs.Readiness.{blank, note_at, ask_in, as_count, possible_count, CanRefresh, AreNotes}
-use Rattle.sftp_server.specs.Readiness.{KeepsNotes}
 use Rattle.sftp_server.proofs.Queues.{length-progress, from_unsent-short}
 use Rattle.sftp_server.proofs.SentNotes.{notes-sent}
 use Rattle.sftp_server.proofs.StillTouched.{ready-open, notes-worked}

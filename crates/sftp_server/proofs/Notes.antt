@@ -1,30 +1,17 @@
 -- What the notes of a queue say, and what stays when one of them changes.
-use Rattle.std.proofs.Common.{◌≡◌, ◌≢◌, ◌==◌, ◌&&◌, ◌+◌, ◌-◌, ◌<◌, ◌≤◌, ℕ, suc, Bool, true, false, List, [], ◌∷◌}
-use Rattle.std.proofs.Common.{not, Option, inl, inr, length, set, max, nat_lt, refl, sym, ap, subst, ◌∙◌, arith, true≢false}
-use Rattle.std.proofs.lemmas.Bool.{eqb-true, eqb-false, ltb-true, ltb-false, and_left}
-use Rattle.std.proofs.lemmas.List.{length-set, get_or-set_same, get_or-set_other}
-use Rattle.std.proofs.lemmas.List.Sums.{sum_by-set, sum_by-cons}
-use Rattle.std.proofs.lemmas.Option.{slice_get_read, get_or_from_slice_get}
+use Rattle.sftp_server.proofs.Imports.{◌≡◌, ◌≢◌, ◌==◌, ◌&&◌, ◌+◌, ◌-◌, ◌<◌, ◌≤◌, ℕ, suc, Bool, true, false, List, []}
+use Rattle.sftp_server.proofs.Imports.{◌∷◌, not, Option, inl, inr, length, set, max, nat_lt, refl, sym, ap, subst, ◌∙◌}
+use Rattle.sftp_server.proofs.Imports.{arith, true≢false, eqb-true, eqb-false, ltb-true, ltb-false, and_left}
+use Rattle.sftp_server.proofs.Imports.{length-set, get_or-set_same, get_or-set_other, sum_by-set, sum_by-cons}
+use Rattle.sftp_server.proofs.Imports.{slice_get_read, get_or_from_slice_get, get_or, Ask, ByteRange, Touch, Nothing}
+use Rattle.sftp_server.proofs.Imports.{ReadsFile, touched, share, range, are_apart, touched_as, State, Entry, Note}
+use Rattle.sftp_server.proofs.Imports.{blank, note_at, ask_at, touched_at, is_in_way, IsFree, IsFreeFrom, IsBlockedBack}
+use Rattle.sftp_server.proofs.Imports.{IsBlocked, only_reads, is_all, as_count, possible_count, IsNoted, AreBlocked}
+use Rattle.sftp_server.proofs.Imports.{AreBlockedBut, IsShut, IsMarked, held, AreAlike, IsPlaced, raised, portion_at}
+use Rattle.sftp_server.proofs.Imports.{pending_by, is_late, IsStopped, portion_now, IsMarkedAsked, HaveTheirRanges}
+use Rattle.sftp_server.proofs.Imports.{IsMarkedBut, Portion, portions_clash, IsPortion, is_behind_by, is_behind}
+use Rattle.sftp_server.proofs.Imports.{AreKnown, AreKnownBut}
 use Rattle.std.proofs.Math.Nat.{le-max_left, le-max_right}
-use Rattle.std.specs.Prelude.{get_or}
-use Rattle.sftp_wire.specs.declared.packets.Ask.{Ask}
-use Rattle.sftp_handles.specs.declared.byte_range.ByteRange.{ByteRange}
-use Rattle.sftp_handles.specs.declared.touch.Touch.{Touch}
-use Rattle.sftp_handles.specs.declared.touch.Touch.TheVariants.{Nothing, ReadsFile}
-use Rattle.sftp_handles.specs.Clash.{touched, share}
-use Rattle.sftp_handles.specs.Ranges.{range, are_apart}
-use Rattle.sftp_handles.specs.Touch.{touched_as}
-use Rattle.sftp_handles.specs.State.{State}
-use Rattle.sftp_server.specs.declared.queue.Entry.{Entry}
-use Rattle.sftp_server.specs.declared.readiness.Note.{Note}
-use Rattle.sftp_server.specs.Readiness.{blank, note_at, ask_at, touched_at, is_in_way, IsFree, IsFreeFrom}
-use Rattle.sftp_server.specs.Readiness.{IsBlockedBack, IsBlocked, only_reads, is_all, as_count, possible_count}
-use Rattle.sftp_server.specs.Readiness.{IsNoted, AreBlocked, AreBlockedBut, IsShut, IsMarked}
-use Rattle.sftp_server.specs.Readiness.{held, AreAlike, IsPlaced, raised, portion_at}
-use Rattle.sftp_server.specs.Readiness.{pending_by, is_late, IsStopped, portion_now, IsMarkedAsked, HaveTheirRanges}
-use Rattle.sftp_server.specs.Readiness.{IsMarkedBut}
-use Rattle.sftp_server.specs.RangedNotes.{Portion, portions_clash, IsPortion, is_behind_by, is_behind, AreKnown}
-use Rattle.sftp_server.specs.RangedNotes.{AreKnownBut}
 use Rattle.sftp_server.proofs.RangedNotes.{behind-local}
 use Rattle.sftp_server.proofs.StillRanged.{portion-sound}
 

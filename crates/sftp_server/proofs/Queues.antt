@@ -1,18 +1,11 @@
 -- How each change of a queue goes over its requests.
-use Rattle.std.proofs.Common.{◌≡◌, ◌==◌, ◌&&◌, ◌||◌, not, nat_eq, ℕ, zero, suc, ◌≤◌}
-use Rattle.std.proofs.Common.{Bool, true, false, cond, List, [], ◌∷◌, ◌++◌, Option, Some, None, is_some, length}
-use Rattle.std.proofs.Common.{set, drop, slice_get, if◌then◌else◌, refl, sym, ap, ◌∙◌, arith}
-use Rattle.std.specs.Map.{lookup}
-use Rattle.std.proofs.lemmas.Bool.{or_parts, ne_eqb, eqb-true, eqb-false, eq-eqb, true≢false}
-use Rattle.std.proofs.lemmas.Option.{none-some, same_Some}
-use mathlib.Core.Bool.{or-false, or_assoc, or_comm, or-true, and-false}
-use Rattle.sftp_wire.specs.declared.packets.Request.{Request}
-use Rattle.sftp_wire.specs.declared.packets.Reply.{Reply}
-use Rattle.sftp_server.specs.declared.queue.Entry.{Entry}
-use Rattle.sftp_server.specs.declared.queue.Progress.{Progress}
-use Rattle.sftp_server.specs.declared.queue.Progress.TheVariants.{Pending, Done, Sent}
-use Rattle.sftp_server.specs.Machine.{is_pending, is_sent, is_unsent, is_pending_at, from_unsent, reply_of}
-use Rattle.sftp_server.specs.Queue.{pending_at, with_progress, HasReply, sent_in, AreUnsentApart, IsQueue}
+use Rattle.sftp_server.proofs.Imports.{◌≡◌, ◌==◌, ◌&&◌, ◌||◌, not, nat_eq, ℕ, zero, suc, ◌≤◌, Bool, true, false, cond}
+use Rattle.sftp_server.proofs.Imports.{List, [], ◌∷◌, ◌++◌, Option, Some, None, is_some, length, set, drop, slice_get}
+use Rattle.sftp_server.proofs.Imports.{if◌then◌else◌, refl, sym, ap, ◌∙◌, arith, lookup, or_parts, ne_eqb, eqb-true}
+use Rattle.sftp_server.proofs.Imports.{eqb-false, eq-eqb, true≢false, none-some, same_Some, or-false, or_assoc, or_comm}
+use Rattle.sftp_server.proofs.Imports.{or-true, and-false, Request, Reply, Entry, Progress, Pending, Done, Sent}
+use Rattle.sftp_server.proofs.Imports.{is_pending, is_sent, is_unsent, is_pending_at, from_unsent, reply_of, pending_at}
+use Rattle.sftp_server.proofs.Imports.{with_progress, HasReply, sent_in, AreUnsentApart, IsQueue}
 
 -- ---- the front
 

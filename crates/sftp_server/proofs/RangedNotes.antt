@@ -1,17 +1,13 @@
 -- That notes with ranges say which requests are clear, though ranges may be out of date; and how they are brought up to
 -- date once a request was done that may have changed the length of its file.
-use Rattle.std.proofs.Common.{◌≡◌, ◌==◌, ◌<◌, ◌≤◌, ◌&&◌, ◌||◌, not, ℕ, zero, suc, Bool, true, false, Option, Some}
-use Rattle.std.proofs.Common.{None, if◌then◌else◌, refl, sym, ap, ◌∙◌, arith, ◌⊎◌, inl, inr, nat_lt}
-use Rattle.std.proofs.lemmas.Bool.{true≢false, cases_Bool, and_parts, and_from, and_left, or_cases, or_left}
-use Rattle.std.proofs.lemmas.Bool.{or_right, eqb-true, eqb-false, eq-eqb, ne_eqb, ltb-true}
-use Rattle.std.proofs.lemmas.Bool.{ltb-false, not-true}
-use mathlib.Core.Bool.{and-false, and-true}
-use Rattle.sftp_handles.specs.declared.byte_range.ByteRange.{ByteRange}
-use Rattle.sftp_handles.specs.Clash.{Touched, untouched, reads_file, writes_file, takes_names, everything, share}
-use Rattle.sftp_handles.specs.Ranges.{are_apart}
-use Rattle.sftp_server.specs.RangedNotes.{Portion, portions_clash, is_on, HasItsRange, IsPortion, resizes_by, resizes}
-use Rattle.sftp_server.specs.RangedNotes.{any_below, is_behind_by, is_behind, stands_in_way, IsClear, IsHindered}
-use Rattle.sftp_server.specs.RangedNotes.{AreKnown, AreKnownBut, without, looked_at}
+use Rattle.sftp_server.proofs.Imports.{◌≡◌, ◌==◌, ◌<◌, ◌≤◌, ◌&&◌, ◌||◌, not, ℕ, zero, suc, Bool, true, false, Option}
+use Rattle.sftp_server.proofs.Imports.{Some, None, if◌then◌else◌, refl, sym, ap, ◌∙◌, arith, ◌⊎◌, inl, inr, nat_lt}
+use Rattle.sftp_server.proofs.Imports.{true≢false, cases_Bool, and_parts, and_from, and_left, or_cases, or_left}
+use Rattle.sftp_server.proofs.Imports.{or_right, eqb-true, eqb-false, eq-eqb, ne_eqb, ltb-true, ltb-false, not-true}
+use Rattle.sftp_server.proofs.Imports.{and-false, and-true, ByteRange, Touched, untouched, reads_file, writes_file}
+use Rattle.sftp_server.proofs.Imports.{takes_names, everything, share, are_apart, Portion, portions_clash, is_on}
+use Rattle.sftp_server.proofs.Imports.{HasItsRange, IsPortion, resizes_by, resizes, any_below, is_behind_by, is_behind}
+use Rattle.sftp_server.proofs.Imports.{stands_in_way, IsClear, IsHindered, AreKnown, AreKnownBut, without, looked_at}
 
 -- ---- numbers below
 

@@ -1,30 +1,18 @@
 -- What the notes of a queue say of what is ready, and of what is possible.
-use Rattle.std.proofs.Common.{◌≡◌, ◌+◌, ◌<◌, ◌≤◌, ◌++◌, ◌&&◌, ◌||◌, not, nat_lt, ℕ, zero, suc, Bool, true, false}
-use Rattle.std.proofs.Common.{List, [], ◌∷◌, ◌⊎◌, inl, inr}
-use Rattle.std.proofs.Common.{Option, Some, None, is_some, if◌then◌else◌, length, take, drop, slice_get}
-use Rattle.std.proofs.Common.{refl, sym, ap, ap₂, ◌∙◌, ◌-◌, arith, length-append, append_assoc}
-use Rattle.std.proofs.lemmas.Bool.{true≢false, ltb-true, ltb-false, and_from}
-use Rattle.std.proofs.lemmas.Option.{slice_get_within}
-use Rattle.std.proofs.lemmas.List.{take_all, drop_more, get_or_past}
-use Rattle.std.proofs.lemmas.List.Sums.{sum_by-cons}
-use mathlib.Core.Bool.{and-false, or-false}
-use Rattle.sftp_wire.specs.declared.packets.Request.{Request}
-use Rattle.sftp_handles.specs.State.{State}
-use Rattle.sftp_handles.specs.Clash.{Touched, touched, share, clash, everything}
-use Rattle.sftp_handles.specs.Ranges.{range, range_clash}
-use Rattle.sftp_server.specs.declared.cores.Choice.{Choice}
+use Rattle.sftp_server.proofs.Imports.{◌≡◌, ◌+◌, ◌<◌, ◌≤◌, ◌++◌, ◌&&◌, ◌||◌, not, nat_lt, ℕ, zero, suc, Bool, true}
+use Rattle.sftp_server.proofs.Imports.{false, List, [], ◌∷◌, ◌⊎◌, inl, inr, Option, Some, None, is_some, if◌then◌else◌}
+use Rattle.sftp_server.proofs.Imports.{length, take, drop, slice_get, refl, sym, ap, ap₂, ◌∙◌, ◌-◌, arith}
+use Rattle.sftp_server.proofs.Imports.{length-append, append_assoc, true≢false, ltb-true, ltb-false, and_from}
+use Rattle.sftp_server.proofs.Imports.{slice_get_within, take_all, drop_more, get_or_past, sum_by-cons, and-false}
+use Rattle.sftp_server.proofs.Imports.{or-false, Request, State, Touched, touched, share, clash, everything, range}
+use Rattle.sftp_server.proofs.Imports.{range_clash, Choice, Entry, Progress, Pending, Done, Sent, Note, Machine}
+use Rattle.sftp_server.proofs.Imports.{ClashOf, is_pending, is_free_of, ready_in, is_ready, pending_in, reply_of}
+use Rattle.sftp_server.proofs.Imports.{reply_in, reply_at, choices_at, choices_from, choices_of, portion_in}
+use Rattle.sftp_server.proofs.Imports.{portions_clash, stands_in_way, IsHindered, blank, note_at, ask_in, ask_at}
+use Rattle.sftp_server.proofs.Imports.{portion_at, portion_now, as_count, possible_count, pending_by, is_late}
+use Rattle.sftp_server.proofs.Imports.{IsStopped, IsShut, IsMarkedAsked, IsMarked, AreNotes}
 use Rattle.sftp_server.specs.declared.cores.Choice.TheVariants as choices
-use Rattle.sftp_server.specs.declared.queue.Entry.{Entry}
-use Rattle.sftp_server.specs.declared.queue.Progress.{Progress}
-use Rattle.sftp_server.specs.declared.queue.Progress.TheVariants.{Pending, Done, Sent}
-use Rattle.sftp_server.specs.declared.readiness.Note.{Note}
-use Rattle.sftp_server.specs.Machine.{Machine, ClashOf, is_pending, is_free_of, ready_in, is_ready}
-use Rattle.sftp_server.specs.Machine.{pending_in, reply_of, reply_in, reply_at}
-use Rattle.sftp_server.specs.Choices.{choices_at, choices_from, choices_of}
-use Rattle.sftp_server.specs.RangedNotes.{portion_in, portions_clash, stands_in_way, IsHindered}
-use Rattle.sftp_server.specs.Readiness.{blank, note_at, ask_in, ask_at, portion_at, portion_now, as_count}
-use Rattle.sftp_server.specs.Readiness.{possible_count, pending_by, is_late, IsStopped, IsShut, IsMarkedAsked, IsMarked}
-use Rattle.sftp_server.specs.Readiness.{AreNotes, IsOpened}
+use Rattle.sftp_server.specs.Readiness.{IsOpened}
 use Rattle.sftp_server.proofs.RangedNotes.{clear-is, hindered-is, clash-left, all-none}
 use Rattle.sftp_server.proofs.StillRanged.{portion-sound}
 use Rattle.sftp_server.proofs.DoneNotes.{all-touched}

@@ -1,32 +1,16 @@
 -- What comes of an act of a script, and of the acts so far.
-use Rattle.std.proofs.Common.{◌≡◌, ◌≢◌, ◌<◌, ◌≤◌, ◌+◌, ◌^◌, ℕ, zero, suc, Bool, true, false, List}
-use Rattle.std.proofs.Common.{[], ◌∷◌, ◌++◌}
-use Rattle.std.proofs.Common.{Result, Ok, Err, IfSome, IsTrue, length, take, get_or, refl, sym, ap, subst, ◌∙◌, arith}
-use Rattle.std.proofs.Common.{append-nil, add-one}
-use Rattle.std.specs.Result.{OnOk}
+use Rattle.sftp_server.proofs.Imports.{◌≡◌, ◌≢◌, ◌<◌, ◌≤◌, ◌+◌, ◌^◌, ℕ, zero, suc, Bool, true, false, List, [], ◌∷◌}
+use Rattle.sftp_server.proofs.Imports.{◌++◌, Result, Ok, Err, IfSome, IsTrue, length, take, get_or, refl, sym, ap}
+use Rattle.sftp_server.proofs.Imports.{subst, ◌∙◌, arith, append-nil, add-one, OnOk, le-ltb, Ask, Request, IsAsk}
+use Rattle.sftp_server.proofs.Imports.{path_of, Tree, State, Good, Allowed, Event, Asked, Explained, BeginsFrom, window}
+use Rattle.sftp_server.proofs.Imports.{Act, Deliver, Refuse, Machine, at_start, taken, can_take, IsDelivery, AreActs}
+use Rattle.sftp_server.proofs.Imports.{Delivers, server_clash, started, IsRefusedFor, IsValue, AreDeliverable}
 use Rattle.std.proofs.Math.Seq.{take-suc}
-use Rattle.std.proofs.lemmas.Bool.{le-ltb}
 use Rattle.sftp_path.specs.declared.errors.NoMemory.{NoMemory}
-use Rattle.sftp_wire.specs.declared.packets.Ask.{Ask}
 use Rattle.sftp_wire.specs.declared.packets.Ask.TheVariants as asks
-use Rattle.sftp_wire.specs.declared.packets.Request.{Request}
 use Rattle.sftp_treefile.specs.TreeFile.{are_bytes}
-use Rattle.sftp_tree.specs.AskValues.{IsAsk}
-use Rattle.sftp_tree.specs.Requests.{path_of}
 use Rattle.sftp_tree.proofs.WellFormedTrees.Fields.{bytes-fit}
-use Rattle.sftp_tree.specs.Tree.{Tree}
-use Rattle.sftp_handles.specs.State.{State, Good}
-use Rattle.sftp_handles.specs.Allowed.{Allowed}
-use Rattle.sftp_transcript.specs.declared.events.Event.{Event}
-use Rattle.sftp_transcript.specs.declared.events.Event.TheVariants.{Asked}
-use Rattle.sftp_transcript.specs.Explained.{Explained, BeginsFrom, window}
-use Rattle.sftp_server.specs.declared.acts.Act.{Act}
-use Rattle.sftp_server.specs.declared.acts.Act.TheVariants.{Deliver}
-use Rattle.sftp_server.specs.declared.refusals.Refuse.{Refuse}
 use Rattle.sftp_server.specs.declared.refusals.Refuse.TheVariants as refuses
-use Rattle.sftp_server.specs.Machine.{Machine, at_start, taken, can_take, IsDelivery, AreActs}
-use Rattle.sftp_server.specs.Machine.{Delivers}
-use Rattle.sftp_server.specs.Core.{server_clash, started, IsRefusedFor, IsValue, AreDeliverable}
 use Rattle.sftp_server.specs.Scripts.{IsPerformed}
 use Rattle.sftp_server.proofs.Machines.Acts.{all-append, acts-more}
 use Rattle.sftp_server.proofs.Machines.Laws as core_laws

@@ -1,17 +1,10 @@
 -- Which requests touch, after a step, what they touched before, and keep to the ranges that they kept to.
-use Rattle.std.proofs.Common.{◌≡◌, ◌≢◌, ℕ, true, false, Option, Some, None, refl, sym, ap, ◌∙◌, ◌⊎◌, inl, inr}
+use Rattle.sftp_server.proofs.Imports.{◌≡◌, ◌≢◌, ℕ, true, false, Option, Some, None, refl, sym, ap, ◌∙◌, ◌⊎◌, inl, inr}
+use Rattle.sftp_server.proofs.Imports.{true≢false, eq-eqb, eqb-true, Ask, Request, Reply, ByteRange, State, Allowed}
+use Rattle.sftp_server.proofs.Imports.{Touched, untouched, reads_file, writes_file, everything, share, touched, range}
+use Rattle.sftp_server.proofs.Imports.{may_resize, portion_in, is_on, HasItsRange, IsPortion, resizes_by, resizes}
 use Rattle.std.specs.Cmp.{nat_eq_equiv}
-use Rattle.std.proofs.lemmas.Bool.{true≢false, eq-eqb, eqb-true}
-use Rattle.sftp_wire.specs.declared.packets.Ask.{Ask}
-use Rattle.sftp_wire.specs.declared.packets.Request.{Request}
-use Rattle.sftp_wire.specs.declared.packets.Reply.{Reply}
-use Rattle.sftp_handles.specs.declared.byte_range.ByteRange.{ByteRange}
-use Rattle.sftp_handles.specs.State.{State}
-use Rattle.sftp_handles.specs.Allowed.{Allowed}
-use Rattle.sftp_handles.specs.Clash.{Touched, untouched, reads_file, writes_file, everything, share, touched}
-use Rattle.sftp_handles.specs.Ranges.{range, may_resize}
 use Rattle.sftp_handles.proofs.RangesKept.{ranges-kept, other-ranges, range-touches}
-use Rattle.sftp_server.specs.RangedNotes.{portion_in, is_on, HasItsRange, IsPortion, resizes_by, resizes}
 use Rattle.sftp_server.proofs.RangedNotes.{all-none}
 
 -- ---- a range is one of the file that is touched

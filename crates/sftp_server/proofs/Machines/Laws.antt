@@ -1,17 +1,9 @@
 -- The laws of the core, from those of steps that do not clash.
-use Rattle.std.proofs.Common.{◌≡◌, ◌≤◌, ℕ, true, false, List, []}
-use Rattle.sftp_wire.specs.declared.packets.Request.{Request}
-use Rattle.sftp_wire.specs.declared.packets.Reply.{Reply}
-use Rattle.sftp_tree.specs.AskValues.{IsAsk}
-use Rattle.sftp_handles.specs.State.{State, Good}
-use Rattle.sftp_handles.specs.Allowed.{Allowed}
+use Rattle.sftp_server.proofs.Imports.{◌≡◌, ◌≤◌, ℕ, true, false, List, [], Request, Reply, IsAsk, State, Good, Allowed}
+use Rattle.sftp_server.proofs.Imports.{Event, Explained, BeginsFrom, in_window, full_window, Machine, at_start, IsSent}
+use Rattle.sftp_server.proofs.Imports.{server_clash, IsValue, IsReached, LeadsTo}
 use Rattle.sftp_handles.specs.Laws.{IsAskable, IsAnswerable}
 use Rattle.sftp_handles.proofs.SteadyRanges.{ranges-exchanged, still-free}
-use Rattle.sftp_transcript.specs.declared.events.Event.{Event}
-use Rattle.sftp_transcript.specs.Explained.{Explained, BeginsFrom, in_window, window as full_window}
-use Rattle.sftp_server.specs.Machine.{Machine, at_start, IsSent}
-use Rattle.sftp_server.specs.Core.{server_clash, IsValue, IsReached}
-use Rattle.sftp_server.specs.Left.{LeadsTo}
 use Rattle.sftp_server.proofs.Machines.Premises.{Premises, HasReply}
 use Rattle.sftp_server.proofs.Machines.Histories.{Follows, done, IsReplyFor}
 use Rattle.sftp_server.proofs.Machines.Acts.{follows-start, follows-acts, follows-reply}

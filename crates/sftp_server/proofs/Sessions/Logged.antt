@@ -1,14 +1,7 @@
 -- The log of a session is a transcript.
-use Rattle.std.proofs.Common.{◌≡◌, ℕ, ◌≤◌, List, [], ◌∷◌, ◌++◌, refl, ap, ◌∙◌, subst}
-use Rattle.std.specs.Prelude.{map}
-use Rattle.std.specs.List.{flat_map}
-use Rattle.sftp_wire.specs.declared.packets.Packet.{Packet}
-use Rattle.sftp_wire.specs.declared.packets.Packet.TheVariants.{Init}
-use Rattle.sftp_wire.specs.Spelling.{HasSpelling, server_extensions}
-use Rattle.sftp_transcript.specs.declared.events.Event.{Event}
-use Rattle.sftp_transcript.specs.Transcript.{packet_of, record_text, event_record}
-use Rattle.sftp_transcript.specs.Transcript.{IsRecord}
-use Rattle.sftp_server.specs.Served.{our_version, IsGreeting, IsOpened}
+use Rattle.sftp_server.proofs.Imports.{◌≡◌, ℕ, ◌≤◌, List, [], ◌∷◌, ◌++◌, refl, ap, ◌∙◌, subst, map, flat_map, Packet}
+use Rattle.sftp_server.proofs.Imports.{Init, HasSpelling, server_extensions, Event, packet_of, record_text}
+use Rattle.sftp_server.proofs.Imports.{event_record, IsRecord, our_version, IsGreeting, IsOpened}
 use Rattle.sftp_server.proofs.Sessions.Opened.{version-spelled}
 
 records-are : (events : List Event) → flat_map record_text (map packet_of events) ≡ flat_map event_record events

@@ -1,43 +1,23 @@
 -- A request is done, or a reply is sent, in a running session.
-use Rattle.std.proofs.Common.{◌≡◌, ◌⊎◌, ◌==◌, ◌&&◌, ◌||◌, not, ℕ, Bool, true, false, List, [], ◌∷◌, ◌++◌, length, map}
-use Rattle.std.proofs.Common.{Option, Some, None, Result, Ok, Err, OnOk, OnErr, IfErr, IsTrue}
-use Rattle.std.proofs.Common.{inl, inr, refl, sym, ap, subst, subst₂, ◌∙◌, arith}
-use Rattle.std.specs.Io.KnownBytes.{Appends, Consumes}
-use Rattle.std.proofs.KnownBytes.{Appends-trans}
-use Rattle.std.proofs.lemmas.Bool.{or_left, or_right, or_cases}
-use Rattle.std.specs.List.{AllByRecursion}
-use Rattle.sftp_wire.specs.declared.errors.WireError.TheVariants.{Unreadable}
-use Rattle.sftp_wire.specs.declared.packets.Packet.{Packet}
-use Rattle.sftp_wire.specs.declared.packets.Packet.TheVariants.{Reply as reply_packet}
-use Rattle.sftp_wire.specs.declared.packets.Request.{Request}
-use Rattle.sftp_wire.specs.declared.packets.Reply.{Reply}
-use Rattle.sftp_wire.specs.Framing.{place_after}
-use Rattle.sftp_wire.specs.Spelling.{spelling, HasSpelling}
-use Rattle.sftp_transcript.specs.declared.events.Event.{Event}
-use Rattle.sftp_transcript.specs.declared.events.Event.TheVariants.{Asked, Replied}
-use Rattle.sftp_transcript.specs.Log.{Log}
-use Rattle.sftp_transcript.specs.Transcript.{packet_of, record_text, IsEvent}
-use Rattle.sftp_transcript.specs.Explained.{window}
-use Rattle.sftp_tree.specs.Tree.{Tree}
-use Rattle.sftp_handles.specs.State.{State}
-use Rattle.sftp_handles.specs.Allowed.{Allowed}
-use Rattle.sftp_server.specs.declared.ends.SessionFault.{SessionFault}
+use Rattle.sftp_server.proofs.Imports.{◌≡◌, ◌⊎◌, ◌==◌, ◌&&◌, ◌||◌, not, ℕ, Bool, true, false, List, [], ◌∷◌, ◌++◌}
+use Rattle.sftp_server.proofs.Imports.{length, map, Option, Some, None, Result, Ok, Err, OnOk, OnErr, IfErr, IsTrue}
+use Rattle.sftp_server.proofs.Imports.{inl, inr, refl, sym, ap, subst, subst₂, ◌∙◌, arith, Appends, Consumes}
+use Rattle.sftp_server.proofs.Imports.{Appends-trans, or_left, or_right, or_cases, AllByRecursion, Unreadable, Packet}
+use Rattle.sftp_server.proofs.Imports.{reply_packet, Request, Reply, place_after, spelling, HasSpelling, Event, Asked}
+use Rattle.sftp_server.proofs.Imports.{Replied, Log, packet_of, record_text, IsEvent, window, Tree, State, Allowed}
+use Rattle.sftp_server.proofs.Imports.{SessionFault, Stop, Entry, Pending, Done, Sent, Machine, is_sent, is_unsent}
+use Rattle.sftp_server.proofs.Imports.{is_ready, reply_at, IsWorked, IsSent, server_clash, started, IsReached}
+use Rattle.sftp_server.proofs.Imports.{session_packets, our_version, answered_last, IsListed, StreamBytes, stream_bytes}
+use Rattle.sftp_server.proofs.Imports.{IsLeftAfter, IsLogging, Ahead, IsRunning, IsFaultAhead, FailsToSend, SendsOn}
+use Rattle.sftp_server.proofs.Imports.{tree_left}
 use Rattle.sftp_server.specs.declared.ends.SessionFault.TheVariants as faults
-use Rattle.sftp_server.specs.declared.ends.Stop.{Stop}
 use Rattle.sftp_server.specs.declared.ends.Stop.TheVariants as stops
-use Rattle.sftp_server.specs.declared.queue.Entry.{Entry}
-use Rattle.sftp_server.specs.declared.queue.Progress.TheVariants.{Pending, Done, Sent}
-use Rattle.sftp_server.specs.Machine.{Machine, is_sent, is_unsent, is_ready, reply_at, IsWorked, IsSent}
-use Rattle.sftp_server.specs.Core.{server_clash, started, IsReached}
-use Rattle.sftp_server.specs.Served.{session_packets, our_version, answered_last, IsListed, StreamBytes, stream_bytes}
-use Rattle.sftp_server.specs.Left.{IsLeftAfter}
-use Rattle.sftp_server.specs.Sessions.{IsLogging, Ahead, IsRunning, IsFaultAhead, FailsToSend, SendsOn, tree_left}
 use Rattle.sftp_server.proofs.Queues.{is_unsent-front}
 use Rattle.sftp_server.proofs.Machines.Laws.{reply-for}
 use Rattle.sftp_server.proofs.Machines.Reached.{reached-worked, reached-sent}
 use Rattle.sftp_server.proofs.Sessions.Lists.{session-more, replied-session, events-more}
-use Rattle.sftp_server.proofs.Sessions.Stops.{stays-good, each-answered, reached-begins, running-listed}
-use Rattle.sftp_server.proofs.Sessions.Stops.{reached-leaves, stopped-no-memory, stopped-sending}
+use Rattle.sftp_server.proofs.Sessions.Stops.{stays-good, each-answered, reached-begins, running-listed, reached-leaves}
+use Rattle.sftp_server.proofs.Sessions.Stops.{stopped-no-memory, stopped-sending}
 
 -- ---- the unsent requests
 

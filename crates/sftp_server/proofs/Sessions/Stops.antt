@@ -1,34 +1,20 @@
 -- A session that stops where a stream fails or memory runs out.
-use Rattle.std.proofs.Common.{◌≡◌, ◌≢◌, ℕ, Bool, if◌then◌else◌, List, [], ◌∷◌, ◌++◌, Option, refl, sym, ap, ◌∙◌}
-use Rattle.std.proofs.Common.{inl, inr, arith, append-nil, append_assoc, ne_eqb}
-use Rattle.std.specs.Io.KnownBytes.{Keeps}
-use Rattle.std.proofs.KnownBytes.{Appends-trans, Appends-kept, Consumes-kept, Keeps-refl}
-use Rattle.sftp_wire.specs.declared.packets.Packet.{Packet}
-use Rattle.sftp_wire.specs.declared.packets.Side.{Side}
-use Rattle.sftp_wire.specs.declared.packets.Side.TheVariants.{Client, Server}
-use Rattle.sftp_wire.specs.Spelling.{spelling, side_of}
-use Rattle.sftp_transcript.specs.declared.events.Event.{Event}
-use Rattle.sftp_transcript.specs.Explained.{BeginsFrom, window}
-use Rattle.sftp_transcript.specs.Log.{Log, opened_text}
-use Rattle.sftp_transcript.specs.Transcript.{record_text, transcript_opening}
-use Rattle.sftp_tree.specs.Tree.{Tree}
+use Rattle.sftp_server.proofs.Imports.{◌≡◌, ◌≢◌, ℕ, Bool, if◌then◌else◌, List, [], ◌∷◌, ◌++◌, Option, refl, sym, ap}
+use Rattle.sftp_server.proofs.Imports.{◌∙◌, inl, inr, arith, append-nil, append_assoc, ne_eqb, Keeps, Appends-trans}
+use Rattle.sftp_server.proofs.Imports.{Appends-kept, Consumes-kept, Keeps-refl, Packet, Side, Client, Server, spelling}
+use Rattle.sftp_server.proofs.Imports.{side_of, Event, BeginsFrom, window, Log, opened_text, record_text}
+use Rattle.sftp_server.proofs.Imports.{transcript_opening, Tree, State, Good, settled, Allowed, SessionFault, Stop}
+use Rattle.sftp_server.proofs.Imports.{Machine, started, IsReached, session_packets, sent_by, spelled_if, recorded}
+use Rattle.sftp_server.proofs.Imports.{opened_record, IsListed, IsBeginning, IsCutInLast, closed_tree, StreamBytes}
+use Rattle.sftp_server.proofs.Imports.{stream_bytes, Passed, IsAfterDone, IsLeftAfter, Leaves, IsLogging, Ahead}
+use Rattle.sftp_server.proofs.Imports.{IsRunning, FailsToSend, Stops, tree_left}
 use Rattle.sftp_tree.proofs.Walks.Places.{path-found}
 use Rattle.sftp_tree.proofs.Requests.Trees.{PathsLeadWell}
-use Rattle.sftp_handles.specs.State.{State, Good, settled}
-use Rattle.sftp_handles.specs.Allowed.{Allowed}
 use Rattle.sftp_handles.proofs.GoodLaws.{allowed-good}
 use Rattle.sftp_handles.proofs.FirstListings.{listing-fits}
 use Rattle.sftp_handles.proofs.TotalSteps.SomeReplies.{some-allowed}
-use Rattle.sftp_server.specs.declared.ends.SessionFault.{SessionFault}
-use Rattle.sftp_server.specs.declared.ends.Stop.{Stop}
 use Rattle.sftp_server.specs.declared.ends.Stop.TheVariants as stops
 use Rattle.sftp_server.specs.declared.ends.Stream.TheVariants as streams
-use Rattle.sftp_server.specs.Machine.{Machine}
-use Rattle.sftp_server.specs.Core.{started, IsReached}
-use Rattle.sftp_server.specs.Served.{session_packets, sent_by, spelled_if, recorded, opened_record, IsListed}
-use Rattle.sftp_server.specs.Served.{IsBeginning, IsCutInLast, closed_tree, StreamBytes, stream_bytes, Passed}
-use Rattle.sftp_server.specs.Left.{IsAfterDone, IsLeftAfter, Leaves}
-use Rattle.sftp_server.specs.Sessions.{IsLogging, Ahead, IsRunning, FailsToSend, Stops, tree_left}
 use Rattle.sftp_server.proofs.Machines.Laws as core_laws
 use Rattle.sftp_server.proofs.Sessions.Lists.{sent-more, recorded-more}
 

@@ -1,8 +1,4 @@
-use Rattle.std.proofs.Common.{take}
-use Rattle.sftp_transcript.specs.Explained.{window}
-use Rattle.sftp_handles.specs.Allowed.{Allowed}
-use Rattle.sftp_server.specs.Machine.{at_start, AreActs}
-use Rattle.sftp_server.specs.Core.{server_clash, started, AreDeliverable}
+use Rattle.sftp_server.proofs.Imports.{take, window, Allowed, at_start, AreActs, server_clash, started, AreDeliverable}
 use Rattle.sftp_server.proofs.scripts.run_script.Given as goal
 
 abbrev pub invariant-acts : goal.invariant-acts

@@ -1,12 +1,7 @@
 -- Once memory is there, the session is opened, served, and ends.
-use Rattle.std.proofs.Common.{Some, None, refl, subst, sym, ap, ◌∙◌}
-use Rattle.sftp_transcript.specs.Explained.{window}
-use Rattle.sftp_handles.specs.State.{State}
+use Rattle.sftp_server.proofs.Imports.{Some, None, refl, subst, sym, ap, ◌∙◌, window, State, Machine, at_start, started}
+use Rattle.sftp_server.proofs.Imports.{stream_bytes, IsRunning, tree_left}
 use Rattle.sftp_server.specs.declared.ends.Stop.TheVariants as stops
-use Rattle.sftp_server.specs.Machine.{Machine, at_start}
-use Rattle.sftp_server.specs.Core.{started}
-use Rattle.sftp_server.specs.Served.{stream_bytes}
-use Rattle.sftp_server.specs.Sessions.{IsRunning, tree_left}
 use Rattle.sftp_server.proofs.Sessions.Closed.{unopened-stops, stopped-end, closed-session}
 use Rattle.sftp_server.proofs.serving.serve_from.Goals as goal
 
