@@ -26,7 +26,7 @@ use sftp_tree::{NoMemory, Tree};
 use sftp_wire::{Reply, Request};
 use std::marker::Model;
 
-/// What a core may do next, by the position in its queue.
+/// What a core may do next, by a position in its queue.
 #[derive(Clone, Copy)]
 pub(crate) enum Choice {
     /// Do the request.
@@ -85,8 +85,8 @@ impl Core {
     ///
     /// # Errors
     ///
-    /// They carry the request; the core is unchanged. `Full` if there is no room in the queue; otherwise `IdInUse` if a
-    /// request with this id is unanswered; `NoMemory` if memory runs out.
+    /// Each carries the request, and the core is unchanged. `Full` if there is no room in the queue; else `IdInUse` if
+    /// a request with this id is unanswered; `NoMemory` if memory runs out.
     pub fn deliver(&mut self, request: Request) -> Result<(), (Request, Refuse)>
         ensures could { OnOk result (IsTrue (can_take self.old request)) }
         ensures taken { OnOk result (self.new ≡ taken self.old request) }
@@ -126,7 +126,7 @@ impl Core {
         }
     }
 
-    /// Why no request of this id can be taken, memory aside.
+    /// Why a request with this id cannot be taken, memory aside.
     pub(crate) fn refusal(&self, id: u32) -> Option<Refuse>
         ensures full { (result ≡ Some full) ↔ (self.now.window ≤ length self.now.queue) }
         ensures in_use { (result ≡ Some in_use)
