@@ -1,19 +1,10 @@
 -- What a machine may do next.
-use Rattle.std.proofs.Common.{◌≡◌, ◌<◌, ◌≤◌, ◌+◌, ◌++◌, ℕ, zero, suc, Bool, true, false, List, [], ◌∷◌}
-use Rattle.std.proofs.Common.{Some, is_some, if◌then◌else◌, length, slice_get}
-use Rattle.std.proofs.Common.{refl, ap, subst, arith, length-append}
-use Rattle.std.specs.List.{AllByRecursion}
-use Rattle.std.proofs.lemmas.Bool.{true≢false}
-use Rattle.std.proofs.lemmas.Option.{none-some, same_Some}
-use Rattle.sftp_wire.specs.declared.packets.Reply.{Reply}
-use Rattle.sftp_transcript.specs.Explained.{StepOf}
-use Rattle.sftp_server.specs.declared.cores.Choice.{Choice}
-use Rattle.sftp_server.specs.declared.queue.Entry.{Entry}
-use Rattle.sftp_server.specs.declared.queue.Progress.{Progress}
-use Rattle.sftp_server.specs.declared.queue.Progress.TheVariants.{Pending, Done, Sent}
-use Rattle.sftp_server.specs.Machine.{Machine, ClashOf, is_sent, is_free_of, is_ready, reply_at}
-use Rattle.sftp_server.specs.Machine.{from_unsent, IsWorked, IsSent}
-use Rattle.sftp_server.specs.Choices.{choices_at, choices_from, choices_of, IsPossible, steps_left, owed}
+use Rattle.sftp_server.proofs.Imports.{◌≡◌, ◌<◌, ◌≤◌, ◌+◌, ◌++◌, ℕ, zero, suc, Bool, true, false, List, [], ◌∷◌, Some}
+use Rattle.sftp_server.proofs.Imports.{is_some, if◌then◌else◌, length, slice_get, refl, ap, subst, arith, length-append}
+use Rattle.sftp_server.proofs.Imports.{AllByRecursion, true≢false, none-some, same_Some, Reply, StepOf, Choice, Entry}
+use Rattle.sftp_server.proofs.Imports.{Progress, Pending, Done, Sent, Machine, ClashOf, is_sent, is_free_of, is_ready}
+use Rattle.sftp_server.proofs.Imports.{reply_at, from_unsent, IsWorked, IsSent, choices_at, choices_from, choices_of}
+use Rattle.sftp_server.proofs.Imports.{IsPossible, steps_left, owed}
 use Rattle.sftp_server.proofs.Queues.{from_unsent-short}
 use Rattle.sftp_server.proofs.Machines.Acts.{all-append}
 

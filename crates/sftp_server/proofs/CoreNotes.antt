@@ -1,30 +1,17 @@
 -- What the calls of the notes say of the core.
-use Rattle.std.proofs.Common.{◌≡◌, ◌++◌, ◌<◌, ◌≤◌, ◌-◌, ◌&&◌, ◌||◌, nat_lt, ℕ, Bool, true, false, List, [], ◌∷◌}
-use Rattle.std.proofs.Common.{Option, Some, None, is_some, if◌then◌else◌, length, take, drop, set, slice_get}
-use Rattle.std.proofs.Common.{refl, sym, ap, ◌∙◌, arith, true≢false}
-use Rattle.std.proofs.lemmas.Bool.{ltb-true, ltb-false}
-use Rattle.std.proofs.lemmas.Option.{none-some, same_Some}
-use Rattle.std.proofs.lemmas.List.{get_or_past}
-use Rattle.std.proofs.lemmas.List.Sums.{sum_by_more_le}
-use Rattle.sftp_wire.specs.declared.packets.Request.{Request}
-use Rattle.sftp_wire.specs.declared.packets.Reply.{Reply}
-use Rattle.sftp_handles.specs.State.{State}
-use Rattle.sftp_handles.specs.Allowed.{Allowed}
+use Rattle.sftp_server.proofs.Imports.{◌≡◌, ◌++◌, ◌<◌, ◌≤◌, ◌-◌, ◌&&◌, ℕ, Bool, true, false, List, [], ◌∷◌, Option}
+use Rattle.sftp_server.proofs.Imports.{Some, None, is_some, if◌then◌else◌, length, take, drop, set, slice_get, refl}
+use Rattle.sftp_server.proofs.Imports.{sym, ap, ◌∙◌, arith, none-some, same_Some, sum_by_more_le, or-true, and_parts}
+use Rattle.sftp_server.proofs.Imports.{Request, Reply, State, Allowed, Entry, Pending, Done, Sent, Note, Machine}
+use Rattle.sftp_server.proofs.Imports.{is_pending, ready_in, reply_at, from_unsent, request_in, pending_at}
+use Rattle.sftp_server.proofs.Imports.{with_progress, choices_of, server_clash, blank, note_at, ask_in, as_count}
+use Rattle.sftp_server.proofs.Imports.{possible_count, CanRefresh, AreNotes, KeepsNotes}
 use Rattle.sftp_server.specs.declared.cores.Choice.TheVariants as choices
-use Rattle.sftp_server.specs.declared.queue.Entry.{Entry}
-use Rattle.sftp_server.specs.declared.queue.Progress.TheVariants.{Pending, Done, Sent}
-use Rattle.sftp_server.specs.declared.readiness.Note.{Note}
 use Rattle.sftp_server.specs.declared.readiness.Readiness.{Readiness}
-use Rattle.sftp_server.specs.Machine.{Machine, is_pending, ready_in, reply_at, from_unsent}
-use Rattle.sftp_server.specs.Queue.{request_in, pending_at, with_progress}
-use Rattle.sftp_server.specs.Choices.{choices_of}
-use Rattle.sftp_server.specs.Core.{server_clash}
-use Rattle.sftp_server.specs.Readiness.{blank, note_at, ask_in, as_count, possible_count, CanRefresh, AreNotes}
-use Rattle.sftp_server.specs.Readiness.{KeepsNotes}
 use Rattle.sftp_server.proofs.Queues.{length-progress, from_unsent-short}
 use Rattle.sftp_server.proofs.SentNotes.{notes-sent}
 use Rattle.sftp_server.proofs.StillTouched.{ready-open, notes-worked}
-use Rattle.sftp_server.proofs.ReadyLaws.{ready-is, possible-is, possible-count, choice-at}
+use Rattle.sftp_server.proofs.ReadyLaws.{ready-is, possible-is, possible-count, possible-within, choice-at}
 use Rattle.sftp_server.proofs.NewNotes.{notes-pushed, notes-start}
 
 -- ---- requests that are taken
@@ -78,27 +65,13 @@ choice-noted machine r number k pending keeps count possible is =
     (choice-at machine r.notes.items r.first_pending r.opened r.writers r.possible keeps.0 keeps.1 number k count
     possible)
 
-possible-inside : (notes : List Note) (k : ℕ) → (note_at notes k).possible ≡ true → k < length notes
-possible-inside notes k is = by (nat_lt k (length notes)) refl
-  where
-    by : (b : Bool) → nat_lt k (length notes) ≡ b → k < length notes
-    by true less = ltb-true k (length notes) less
-    by false past =
-        absurd (true≢false (sym is
-        ∙ ap (λ (n : Note). n.possible) (get_or_past notes k blank (ltb-false k (length notes) past))))
-
 -- ---- a request is done
-
-and-both : (a b : Bool) → (a && b) ≡ true → (a ≡ true) × (b ≡ true)
-and-both true true is = (refl, refl)
-and-both true false is = absurd (true≢false (sym is))
-and-both false b is = absurd (true≢false (sym is))
 
 pub ready-inside : (s : State) (queue : List Entry) (r : Readiness) (k : ℕ) → KeepsNotes s queue r
     → ready_in server_clash s (take k queue) (slice_get queue k) ≡ true → k < length r.notes.items
 ready-inside s queue r k keeps ready =
-    possible-inside r.notes.items k
-    (and-both (note_at r.notes.items k).pending (note_at r.notes.items k).possible
+    possible-within r.notes.items k
+    (and_parts (note_at r.notes.items k).pending (note_at r.notes.items k).possible
     (sym (ready-noted s queue r k keeps) ∙ ready)).1
 
 -- the request at the position is noted as done
@@ -125,7 +98,7 @@ pub keeps-done : (s end : State) (queue after : List Entry) (old new : Readiness
     → pending_at queue k ≡ Some request → Allowed s request reply end
     → after ≡ with_progress queue k (Done reply) → IsMarkedDone old new k → CanRefresh end after new k
 keeps-done s end queue after old new k request reply keeps ready pending allowed is marked =
-    let both = and-both (note_at old.notes.items k).pending (note_at old.notes.items k).possible
+    let both = and_parts (note_at old.notes.items k).pending (note_at old.notes.items k).possible
     (sym (ready-noted s queue old k keeps) ∙ ready) in
     let before = ready-open s queue old.notes.items old.first_pending old.opened old.writers old.possible k keeps.0
     both.0 both.1 in
@@ -139,21 +112,17 @@ keeps-done s end queue after old new k request reply keeps ready pending allowed
 
 -- ---- a reply is sent
 
-or_true : (b : Bool) → (b || true) ≡ true
-or_true true = refl
-or_true false = refl
-
 reply-possible : (s : State) (queue : List Entry) (r : Readiness) (k : ℕ) (reply : Reply) → KeepsNotes s queue r
     → reply_at queue k ≡ Some reply → (note_at r.notes.items k).possible ≡ true
 reply-possible s queue r k reply keeps is =
     let machine : Machine State = record { state = s; window = 0; queue = queue } in
     let found : is_some (reply_at queue k) ≡ true = ap is_some is in
     possible-is machine r.notes.items r.first_pending r.opened r.writers r.possible keeps.0 keeps.1 k
-    ∙ rw found (or_true (ready_in server_clash s (take k queue) (slice_get queue k)))
+    ∙ rw found (or-true (ready_in server_clash s (take k queue) (slice_get queue k)))
 
 pub reply-inside : (s : State) (queue : List Entry) (r : Readiness) (k : ℕ) (reply : Reply) → KeepsNotes s queue r
     → reply_at queue k ≡ Some reply → k < length r.notes.items
-reply-inside s queue r k reply keeps is = possible-inside r.notes.items k (reply-possible s queue r k reply keeps is)
+reply-inside s queue r k reply keeps is = possible-within r.notes.items k (reply-possible s queue r k reply keeps is)
 
 pub reply-counted : (s : State) (queue : List Entry) (r : Readiness) (k : ℕ) (reply : Reply) → KeepsNotes s queue r
     → reply_at queue k ≡ Some reply → 1 ≤ r.possible
@@ -161,7 +130,7 @@ reply-counted s queue r k reply keeps is =
     let here = reply-possible s queue r k reply keeps is in
     let one : as_count (note_at r.notes.items k).possible ≡ 1 = ap as_count here in
     let more = sum_by_more_le (λ (n : Note). as_count n.possible) r.notes.items k blank
-    (possible-inside r.notes.items k here) in
+    (possible-within r.notes.items k here) in
     let count = keeps.0.noted.counted in
     omega (arith, one, more, count)
 

@@ -1,22 +1,12 @@
 -- What the calls of the queue say of the core.
-use Rattle.std.proofs.Common.{◌≡◌, ◌&&◌, ℕ, zero, suc, ◌<◌, ◌≤◌, Bool, true, false, List, [], ◌∷◌, ◌++◌}
-use Rattle.std.proofs.Common.{Option, Some, None, length, refl, sym, ap, subst, ◌∙◌, arith, length-append}
-use Rattle.std.specs.List.{AllByRecursion}
-use Rattle.std.specs.Option.{IfSome, IfNone}
-use Rattle.std.proofs.lemmas.Option.{none-some, same_Some}
-use Rattle.sftp_wire.specs.declared.packets.Request.{Request}
-use Rattle.sftp_wire.specs.declared.packets.Reply.{Reply}
-use Rattle.sftp_wire.specs.declared.packets.Packet.TheVariants.{Reply as reply_packet}
-use Rattle.sftp_wire.specs.Spelling.{HasSpelling}
-use Rattle.sftp_handles.specs.State.{State}
-use Rattle.sftp_handles.specs.Allowed.{Allowed}
-use Rattle.sftp_server.specs.declared.queue.Entry.{Entry}
-use Rattle.sftp_server.specs.declared.queue.Progress.{Progress}
-use Rattle.sftp_server.specs.declared.queue.Progress.TheVariants.{Pending, Done, Sent}
-use Rattle.sftp_server.specs.Machine.{Machine, is_pending, is_free_of, ready_in, reply_of, reply_at, IsSent, IsWorked}
-use Rattle.sftp_server.specs.Machine.{from_unsent, is_sent}
-use Rattle.sftp_server.specs.Queue.{request_in, pending_at, with_progress}
-use Rattle.sftp_server.specs.Core.{server_clash, HasGoodReply, IsSendable, IsCore}
+use Rattle.sftp_server.proofs.Imports.{◌≡◌, ◌&&◌, ℕ, zero, suc, ◌<◌, ◌≤◌, Bool, true, false, List, [], ◌∷◌, ◌++◌}
+use Rattle.sftp_server.proofs.Imports.{Option, Some, None, length, refl, sym, ap, subst, ◌∙◌, arith, length-append}
+use Rattle.sftp_server.proofs.Imports.{AllByRecursion, IfSome, none-some, same_Some, Request, Reply, reply_packet}
+use Rattle.sftp_server.proofs.Imports.{HasSpelling, full_window, State, Allowed, Entry, Progress, Pending, Done, Sent}
+use Rattle.sftp_server.proofs.Imports.{Machine, is_pending, is_free_of, ready_in, reply_of, reply_at, IsSent, IsWorked}
+use Rattle.sftp_server.proofs.Imports.{from_unsent, is_sent, request_in, pending_at, with_progress, server_clash}
+use Rattle.sftp_server.proofs.Imports.{HasGoodReply, IsSendable, IsCore}
+use Rattle.std.specs.Option.{IfNone}
 use Rattle.sftp_server.proofs.Queues.{length-progress, from_unsent-short, from_unsent-pushed, front-done}
 use Rattle.sftp_server.proofs.Queues.{from_unsent-again}
 use Rattle.sftp_server.proofs.Machines.Acts.{all-append, all-parts}
@@ -156,7 +146,7 @@ worked-step machine after k request reply pending allowed spelled window queue =
 
 -- ---- what the core keeps
 
-pub core-new : (window : ℕ) → 1 ≤ window → window ≤ 1024 → IsCore window []
+pub core-new : (window : ℕ) → 1 ≤ window → window ≤ full_window → IsCore window []
 unfolding from_unsent
 core-new window some bounded =
     record { some = some; bounded = bounded; few = omega arith; front = refl; sendable = tt }

@@ -1,34 +1,22 @@
 -- How the notes of a queue change once a request is done.
-use Rattle.std.proofs.Common.{◌≡◌, ◌≢◌, ◌+◌, ◌<◌, ◌≤◌, ◌&&◌, not, ◌==◌, nat_lt, ℕ, suc, Bool, true, false, List}
-use Rattle.std.proofs.Common.{Option, is_some, length, set, refl, sym, ap, subst, ◌∙◌, arith, ◌⊎◌, inl, inr}
-use Rattle.std.proofs.lemmas.Bool.{ltb-true, ltb-false, and_from, true≢false, cases_Bool, eqb-true, eqb-false}
-use Rattle.std.proofs.lemmas.List.{length-set, get_or-set_other}
-use Rattle.sftp_wire.specs.declared.packets.Ask.{Ask}
-use Rattle.sftp_wire.specs.declared.packets.Reply.{Reply}
-use Rattle.sftp_handles.specs.State.{State}
-use Rattle.sftp_handles.specs.Clash.{Touched, touched, share, untouched, reads_file, writes_file}
-use Rattle.sftp_handles.specs.Clash.{takes_names, everything}
-use Rattle.sftp_handles.specs.Touch.{touched_as}
-use Rattle.sftp_handles.specs.Ranges.{range}
-use Rattle.sftp_handles.specs.declared.touch.Touch.{Touch}
-use Rattle.sftp_handles.specs.declared.touch.Touch.TheVariants.{Nothing, ReadsFile, WritesFile, TakesNames, Everything}
-use Rattle.sftp_server.specs.declared.queue.Entry.{Entry}
-use Rattle.sftp_server.specs.declared.queue.Progress.TheVariants.{Done}
-use Rattle.sftp_server.specs.declared.readiness.Note.{Note}
-use Rattle.sftp_server.specs.Machine.{is_pending_at, pending_in, reply_at, reply_in}
-use Rattle.sftp_server.specs.Queue.{with_progress}
-use Rattle.sftp_server.specs.RangedNotes.{Portion, portion_in, portions_clash, is_on, IsPortion, resizes, is_behind}
-use Rattle.sftp_server.specs.RangedNotes.{AreKnown, AreKnownBut, without}
-use Rattle.sftp_server.specs.Readiness.{blank, note_at, ask_at, touched_at, portion_at, portion_now, is_in_way, is_all}
-use Rattle.sftp_server.specs.Readiness.{possible_count, pending_by, is_late, IsFree, IsBlocked, IsStopped, IsNoted}
-use Rattle.sftp_server.specs.Readiness.{AreBlocked, AreBlockedBut, AreBlockedButOn, AreNotReadyOn, IsMarkedAsked}
-use Rattle.sftp_server.specs.Readiness.{HaveTheirRanges, IsMarked, IsMarkedBut, IsDone, AreNotes}
+use Rattle.sftp_server.proofs.Imports.{◌≡◌, ◌≢◌, ◌+◌, ◌<◌, ◌≤◌, ◌&&◌, not, ◌==◌, nat_lt, ℕ, suc, Bool, true, false}
+use Rattle.sftp_server.proofs.Imports.{List, Option, is_some, length, set, refl, sym, ap, subst, ◌∙◌, arith, ◌⊎◌, inl}
+use Rattle.sftp_server.proofs.Imports.{inr, ltb-true, ltb-false, and_from, true≢false, cases_Bool, eqb-true, eqb-false}
+use Rattle.sftp_server.proofs.Imports.{length-set, get_or-set_other, and-false, and-true, Ask, Reply, State, Touched}
+use Rattle.sftp_server.proofs.Imports.{touched, share, untouched, everything, touched_as, range, Touch, Everything}
+use Rattle.sftp_server.proofs.Imports.{Entry, Done, Note, is_pending_at, pending_in, reply_at, reply_in, with_progress}
+use Rattle.sftp_server.proofs.Imports.{Portion, portion_in, portions_clash, is_on, IsPortion, resizes, is_behind}
+use Rattle.sftp_server.proofs.Imports.{AreKnown, AreKnownBut, without, blank, note_at, ask_at, touched_at, portion_at}
+use Rattle.sftp_server.proofs.Imports.{portion_now, is_in_way, is_all, possible_count, pending_by, is_late, IsFree}
+use Rattle.sftp_server.proofs.Imports.{IsBlocked, IsStopped, IsNoted, AreBlocked, AreBlockedBut, AreBlockedButOn}
+use Rattle.sftp_server.proofs.Imports.{AreNotReadyOn, IsMarkedAsked, HaveTheirRanges, IsMarked, IsMarkedBut, IsDone}
+use Rattle.sftp_server.proofs.Imports.{AreNotes}
 use Rattle.sftp_server.proofs.Queues.{length-progress}
-use Rattle.sftp_server.proofs.RangedNotes.{resizes-on, resizes-one, resizes-clashes, clash-right, all-none}
-use Rattle.sftp_server.proofs.RangedNotes.{clear-front, behind-without, known-kept, known-resized}
+use Rattle.sftp_server.proofs.RangedNotes.{resizes-on, resizes-one, resizes-clashes, clash-right, all-none, clear-front}
+use Rattle.sftp_server.proofs.RangedNotes.{behind-without, known-kept, known-resized}
 use Rattle.sftp_server.proofs.NotePlaces.{part-set, fails-set, fails-still, passed-before, passes-elsewhere, count-set}
-use Rattle.sftp_server.proofs.NotePlaces.{other-progress, ask-progress, worked-here, reply-here}
-use Rattle.sftp_server.proofs.NotePlaces.{in_way-fewer, in_way-same, portion-set}
+use Rattle.sftp_server.proofs.NotePlaces.{other-progress, ask-progress, worked-here, reply-here, in_way-fewer}
+use Rattle.sftp_server.proofs.NotePlaces.{in_way-same, portion-set}
 
 -- the notes after the request at the position was done
 abbrev pub done_note : List Note → ℕ → Note
@@ -65,21 +53,13 @@ done-here notes k = fails-set (λ (n : Note). n.pending) notes k (done_note note
 done-pending : (notes : List Note) (k j : ℕ) → pending_by (done_notes notes k) j ≡ without (pending_by notes) k j
 done-pending notes k j = by (cases_Bool (j == k))
   where
-    and_false : (b : Bool) → false ≡ (b && false)
-    and_false true = refl
-    and_false false = refl
-
-    and_true : (b : Bool) → b ≡ (b && true)
-    and_true true = refl
-    and_true false = refl
-
     by : ((j == k) ≡ true) ⊎ ((j == k) ≡ false)
         → (note_at (done_notes notes k) j).pending ≡ ((note_at notes j).pending && not (j == k))
     by (inl same) =
         ap (λ (n : ℕ). (note_at (done_notes notes k) n).pending) (eqb-true j k same)
-        ∙ (done-here notes k ∙ rw same (and_false (note_at notes j).pending))
+        ∙ (done-here notes k ∙ rw same (sym (and-false (note_at notes j).pending)))
     by (inr other) =
-        done-other notes k j (eqb-false j k other) ∙ rw other (and_true (note_at notes j).pending)
+        done-other notes k j (eqb-false j k other) ∙ rw other (sym (and-true (note_at notes j).pending))
 
 done-touch : (notes : List Note) (k j : ℕ) → (note_at (done_notes notes k) j).touch ≡ (note_at notes j).touch
 done-touch notes k j = part-set (λ (n : Note). n.touch) notes k j (done_note notes k) refl
@@ -263,24 +243,15 @@ not-ready queue notes first opened writers possible k number reply noted waits i
 
 share-all : (other : Touched) → share other everything ≡ true
 share-all untouched = refl
-share-all (reads_file number) = refl
-share-all (writes_file number) = refl
-share-all (takes_names handle) = refl
-share-all everything = refl
+share-all other = refl
 
 pub all-touched : (touch : Touch) (ask : Ask) → is_all touch ≡ true → touched_as touch ask ≡ everything
-all-touched Nothing ask all = absurd (true≢false (sym all))
-all-touched (ReadsFile number) ask all = absurd (true≢false (sym all))
-all-touched (WritesFile number) ask all = absurd (true≢false (sym all))
-all-touched TakesNames ask all = absurd (true≢false (sym all))
 all-touched Everything ask all = refl
+all-touched touch ask all = absurd cc
 
 not-all : (touch : Touch) (ask : Ask) → is_all touch ≡ false → touched_as touch ask ≢ everything
-not-all Nothing ask part is = absurd cc
-not-all (ReadsFile number) ask part is = absurd cc
-not-all (WritesFile number) ask part is = absurd cc
-not-all TakesNames ask part is = absurd cc
 not-all Everything ask part is = absurd (true≢false part)
+not-all touch ask part is = absurd cc
 
 -- nothing but the last open request touches everything, and it is ready only if it is the only one that is pending
 alone : (queue : List Entry) (notes : List Note) (first opened writers possible k j : ℕ)

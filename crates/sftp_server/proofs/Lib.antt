@@ -1,3 +1,4 @@
+pub mod Imports
 pub mod Queues
 pub mod CoreSteps
 pub mod RangedNotes

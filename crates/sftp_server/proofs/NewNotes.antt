@@ -1,20 +1,11 @@
 -- The notes of no requests, and what one request more changes.
-use Rattle.std.proofs.Common.{◌≡◌, ◌+◌, ◌<◌, ◌≤◌, ◌++◌, nat_lt, ℕ, zero, suc, Bool, true, false, List, [], ◌∷◌}
-use Rattle.std.proofs.Common.{Option, is_some, length, slice_get, refl, sym, ap, subst, ◌∙◌, arith, length-append}
-use Rattle.std.proofs.Common.{inl, inr}
-use Rattle.std.proofs.lemmas.Bool.{ltb-true, ltb-false}
-use Rattle.std.proofs.lemmas.List.{get_or_append_left, get_or_push}
-use Rattle.std.proofs.lemmas.List.Sums.{sum_by_push}
-use Rattle.sftp_wire.specs.declared.packets.Request.{Request}
-use Rattle.sftp_handles.specs.State.{State}
-use Rattle.sftp_server.specs.declared.queue.Entry.{Entry}
-use Rattle.sftp_server.specs.declared.queue.Progress.TheVariants.{Pending}
-use Rattle.sftp_server.specs.declared.readiness.Note.{Note}
-use Rattle.sftp_server.specs.Machine.{is_pending_at, reply_at}
-use Rattle.sftp_server.specs.RangedNotes.{Portion, portion_in, IsPortion, is_behind_by}
-use Rattle.sftp_server.specs.Readiness.{blank, note_at, ask_in, portion_at, portion_now, is_in_way, as_count}
-use Rattle.sftp_server.specs.Readiness.{possible_count, pending_by, is_late, IsFree, IsBlocked, IsStopped, IsNoted}
-use Rattle.sftp_server.specs.Readiness.{IsMarked, AreNotes}
+use Rattle.sftp_server.proofs.Imports.{◌≡◌, ◌+◌, ◌<◌, ◌≤◌, ◌++◌, nat_lt, ℕ, zero, suc, Bool, true, false, List, [], ◌∷◌}
+use Rattle.sftp_server.proofs.Imports.{Option, is_some, length, slice_get, refl, sym, ap, subst, ◌∙◌, arith}
+use Rattle.sftp_server.proofs.Imports.{length-append, inl, inr, ltb-true, ltb-false, get_or_append_left, get_or_push}
+use Rattle.sftp_server.proofs.Imports.{sum_by_push, Request, State, Entry, Pending, Note, is_pending_at, reply_at}
+use Rattle.sftp_server.proofs.Imports.{Portion, portion_in, IsPortion, is_behind_by, blank, note_at, ask_in, portion_at}
+use Rattle.sftp_server.proofs.Imports.{portion_now, is_in_way, as_count, possible_count, pending_by, is_late, IsFree}
+use Rattle.sftp_server.proofs.Imports.{IsBlocked, IsStopped, IsNoted, IsMarked, AreNotes}
 use Rattle.sftp_server.proofs.NotePlaces.{in_way-same, behind-alike}
 
 -- the note of a request that was just taken

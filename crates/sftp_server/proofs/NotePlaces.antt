@@ -1,23 +1,13 @@
 -- Notes and requests at their positions, after one is replaced.
-use Rattle.std.proofs.Common.{◌≡◌, ◌≢◌, ◌+◌, ◌<◌, ◌&&◌, ℕ, zero, suc, Bool, true, false, List, [], ◌∷◌}
-use Rattle.std.proofs.Common.{Option, Some, None, is_some, length, set, slice_get, refl, sym, ap, ◌∙◌}
-use Rattle.std.proofs.Common.{◌||◌, arith, ◌-◌, take, drop}
-use Rattle.std.proofs.lemmas.Bool.{true≢false, and_left}
-use Rattle.std.proofs.lemmas.Option.{none-some}
-use Rattle.std.proofs.lemmas.List.{get_or-drop}
-use Rattle.std.proofs.lemmas.List.Sums.{sum_by-set, sum_by-cons, sum_by-take-drop}
-use Rattle.sftp_wire.specs.declared.packets.Reply.{Reply}
-use Rattle.sftp_handles.specs.Clash.{Touched, untouched, reads_file, writes_file, takes_names, everything}
-use Rattle.sftp_server.specs.declared.queue.Entry.{Entry}
-use Rattle.sftp_server.specs.declared.queue.Progress.{Progress}
-use Rattle.sftp_server.specs.declared.readiness.Note.{Note}
-use Rattle.sftp_server.specs.declared.queue.Progress.TheVariants.{Pending, Done, Sent}
-use Rattle.sftp_server.specs.Machine.{is_pending, is_sent, is_pending_at, pending_in, reply_of, reply_in}
-use Rattle.sftp_server.specs.Machine.{reply_at, from_unsent}
-use Rattle.sftp_server.specs.Queue.{with_progress, sent_in}
-use Rattle.sftp_server.specs.Readiness.{portion_at, is_late, pending_by}
-use Rattle.sftp_server.specs.Readiness.{blank, note_at, ask_in, ask_at, is_in_way, as_count, possible_count}
-use Rattle.sftp_server.specs.RangedNotes.{Portion, portions_clash, resizes, any_below, is_behind_by, AreKnown}
+use Rattle.sftp_server.proofs.Imports.{◌≡◌, ◌≢◌, ◌+◌, ◌<◌, ◌&&◌, ℕ, zero, suc, Bool, true, false, List, [], ◌∷◌, Option}
+use Rattle.sftp_server.proofs.Imports.{Some, None, is_some, length, set, slice_get, refl, sym, ap, ◌∙◌, ◌||◌, arith}
+use Rattle.sftp_server.proofs.Imports.{◌-◌, take, drop, true≢false, and_left, and_right, none-some, get_or-drop}
+use Rattle.sftp_server.proofs.Imports.{sum_by-set, sum_by-cons, sum_by-take-drop, Reply, Touched, untouched, reads_file}
+use Rattle.sftp_server.proofs.Imports.{writes_file, takes_names, everything, Entry, Progress, Note, Pending, Done, Sent}
+use Rattle.sftp_server.proofs.Imports.{is_pending, is_sent, is_pending_at, pending_in, reply_of, reply_in, reply_at}
+use Rattle.sftp_server.proofs.Imports.{from_unsent, with_progress, sent_in, portion_at, is_late, pending_by, blank}
+use Rattle.sftp_server.proofs.Imports.{note_at, ask_in, ask_at, is_in_way, as_count, possible_count, Portion}
+use Rattle.sftp_server.proofs.Imports.{portions_clash, resizes, any_below, is_behind_by, AreKnown}
 use Rattle.sftp_server.proofs.Queues.{from_unsent-short}
 use Rattle.sftp_server.proofs.RangedNotes.{same-below}
 
@@ -124,11 +114,7 @@ reply-worked (entry ∷ queue) (suc k) reply is = reply-worked queue k reply is
 -- ---- what is in the way
 
 and-fewer : (a b c : Bool) → (b ≡ true → a ≡ true) → (a && c) ≡ false → (b && c) ≡ false
-and-fewer true b c was clear = and-right b c clear
-  where
-    and-right : (b c : Bool) → c ≡ false → (b && c) ≡ false
-    and-right true c clear = clear
-    and-right false c clear = refl
+and-fewer true b c was clear = and_right b c clear
 and-fewer false true c was clear = absurd (true≢false (sym (was refl)))
 and-fewer false false c was clear = refl
 

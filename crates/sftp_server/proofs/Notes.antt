@@ -1,30 +1,17 @@
 -- What the notes of a queue say, and what stays when one of them changes.
-use Rattle.std.proofs.Common.{◌≡◌, ◌≢◌, ◌==◌, ◌&&◌, ◌+◌, ◌-◌, ◌<◌, ◌≤◌, ℕ, suc, Bool, true, false, List, [], ◌∷◌}
-use Rattle.std.proofs.Common.{not, Option, inl, inr, length, set, max, nat_lt, refl, sym, ap, subst, ◌∙◌, arith, true≢false}
-use Rattle.std.proofs.lemmas.Bool.{eqb-true, eqb-false, ltb-true, ltb-false, and_left}
-use Rattle.std.proofs.lemmas.List.{length-set, get_or-set_same, get_or-set_other}
-use Rattle.std.proofs.lemmas.List.Sums.{sum_by-set, sum_by-cons}
-use Rattle.std.proofs.lemmas.Option.{slice_get_read, get_or_from_slice_get}
+use Rattle.sftp_server.proofs.Imports.{◌≡◌, ◌≢◌, ◌==◌, ◌&&◌, ◌+◌, ◌-◌, ◌<◌, ◌≤◌, ℕ, suc, Bool, true, false, List, []}
+use Rattle.sftp_server.proofs.Imports.{◌∷◌, not, Option, inl, inr, length, set, max, nat_lt, refl, sym, ap, subst, ◌∙◌}
+use Rattle.sftp_server.proofs.Imports.{arith, true≢false, eqb-true, eqb-false, ltb-true, ltb-false, and_left}
+use Rattle.sftp_server.proofs.Imports.{length-set, get_or-set_same, get_or-set_other, sum_by-set, sum_by-cons}
+use Rattle.sftp_server.proofs.Imports.{slice_get_read, get_or_from_slice_get, get_or, Ask, ByteRange, Touch, Nothing}
+use Rattle.sftp_server.proofs.Imports.{ReadsFile, touched, share, range, are_apart, touched_as, State, Entry, Note}
+use Rattle.sftp_server.proofs.Imports.{blank, note_at, ask_at, touched_at, is_in_way, IsFree, IsFreeFrom, IsBlockedBack}
+use Rattle.sftp_server.proofs.Imports.{IsBlocked, only_reads, is_all, as_count, possible_count, IsNoted, AreBlocked}
+use Rattle.sftp_server.proofs.Imports.{AreBlockedBut, IsShut, IsMarked, held, AreAlike, IsPlaced, raised, portion_at}
+use Rattle.sftp_server.proofs.Imports.{pending_by, is_late, IsStopped, portion_now, IsMarkedAsked, HaveTheirRanges}
+use Rattle.sftp_server.proofs.Imports.{IsMarkedBut, Portion, portions_clash, IsPortion, is_behind_by, is_behind}
+use Rattle.sftp_server.proofs.Imports.{AreKnown, AreKnownBut}
 use Rattle.std.proofs.Math.Nat.{le-max_left, le-max_right}
-use Rattle.std.specs.Prelude.{get_or}
-use Rattle.sftp_wire.specs.declared.packets.Ask.{Ask}
-use Rattle.sftp_handles.specs.declared.byte_range.ByteRange.{ByteRange}
-use Rattle.sftp_handles.specs.declared.touch.Touch.{Touch}
-use Rattle.sftp_handles.specs.declared.touch.Touch.TheVariants.{Nothing, ReadsFile, WritesFile, TakesNames, Everything}
-use Rattle.sftp_handles.specs.Clash.{touched, share}
-use Rattle.sftp_handles.specs.Ranges.{range, are_apart}
-use Rattle.sftp_handles.specs.Touch.{touched_as}
-use Rattle.sftp_handles.specs.State.{State}
-use Rattle.sftp_server.specs.declared.queue.Entry.{Entry}
-use Rattle.sftp_server.specs.declared.readiness.Note.{Note}
-use Rattle.sftp_server.specs.Readiness.{blank, note_at, ask_at, touched_at, is_in_way, IsFree, IsFreeFrom}
-use Rattle.sftp_server.specs.Readiness.{IsBlockedBack, IsBlocked, only_reads, is_all, as_count, possible_count}
-use Rattle.sftp_server.specs.Readiness.{IsNoted, AreBlocked, AreBlockedBut, IsShut, IsMarked}
-use Rattle.sftp_server.specs.Readiness.{held, AreAlike, IsPlaced, raised, portion_at}
-use Rattle.sftp_server.specs.Readiness.{pending_by, is_late, IsStopped, portion_now, IsMarkedAsked, HaveTheirRanges}
-use Rattle.sftp_server.specs.Readiness.{IsMarkedBut}
-use Rattle.sftp_server.specs.RangedNotes.{Portion, portions_clash, IsPortion, is_behind_by, is_behind, AreKnown}
-use Rattle.sftp_server.specs.RangedNotes.{AreKnownBut}
 use Rattle.sftp_server.proofs.RangedNotes.{behind-local}
 use Rattle.sftp_server.proofs.StillRanged.{portion-sound}
 
@@ -39,18 +26,10 @@ by_place j k P same other = by (j == k) refl
     by false is = other (eqb-false j k is)
 
 pub below : (j k : ℕ) → j < suc k → j ≢ k → j < k
-below j k lt apart = by (nat_lt j k) refl
-  where
-    by : (b : Bool) → nat_lt j k ≡ b → j < k
-    by true is = ltb-true j k is
-    by false is = absurd (apart (let from = ltb-false j k is in omega (arith, lt, from)))
+below j k lt apart = omega (arith, lt, apart)
 
 pub beyond : (j k : ℕ) → k ≤ j → j ≢ k → suc k ≤ j
-beyond j k from apart = by (nat_lt k j) refl
-  where
-    by : (b : Bool) → nat_lt k j ≡ b → suc k ≤ j
-    by true is = ltb-true k j is
-    by false is = absurd (apart (let past = ltb-false k j is in omega (arith, from, past)))
+beyond j k from apart = omega (arith, from, apart)
 
 -- what a look-up gives is the note at the position
 pub note-read : (notes : List Note) (k : ℕ) (note : Note) → k < length notes → note ≡ get_or notes k note
@@ -489,24 +468,12 @@ reads-apart Nothing Nothing a b t_reads u_reads = refl
 reads-apart Nothing (ReadsFile m) a b t_reads u_reads = refl
 reads-apart (ReadsFile n) Nothing a b t_reads u_reads = refl
 reads-apart (ReadsFile n) (ReadsFile m) a b t_reads u_reads = refl
-reads-apart Nothing (WritesFile m) a b t_reads u_reads = absurd (true≢false (sym u_reads))
-reads-apart Nothing TakesNames a b t_reads u_reads = absurd (true≢false (sym u_reads))
-reads-apart Nothing Everything a b t_reads u_reads = absurd (true≢false (sym u_reads))
-reads-apart (ReadsFile n) (WritesFile m) a b t_reads u_reads = absurd (true≢false (sym u_reads))
-reads-apart (ReadsFile n) TakesNames a b t_reads u_reads = absurd (true≢false (sym u_reads))
-reads-apart (ReadsFile n) Everything a b t_reads u_reads = absurd (true≢false (sym u_reads))
-reads-apart (WritesFile n) u a b t_reads u_reads = absurd (true≢false (sym t_reads))
-reads-apart TakesNames u a b t_reads u_reads = absurd (true≢false (sym t_reads))
-reads-apart Everything u a b t_reads u_reads = absurd (true≢false (sym t_reads))
+reads-apart t u a b t_reads u_reads = absurd cc
 
 -- a request that is not pending is in no way
 no_way : (on : Bool) (shares : Bool) → (on ≡ true → shares ≡ false) → (on && shares) ≡ false
 no_way true shares none = none refl
 no_way false shares none = refl
-
-worked_away : (on : Bool) (shares : Bool) → on ≡ false → (on && shares) ≡ false
-worked_away true shares worked = absurd (true≢false worked)
-worked_away false shares worked = refl
 
 pub start-free : (queue : List Entry) (notes : List Note) (f o w p k from : ℕ) → IsNoted queue notes f o w p → k < o
     → ((j : ℕ) → from ≤ j → j < k → (w ≤ j) × (only_reads (note_at notes k).touch ≡ true))
@@ -536,7 +503,7 @@ free-all queue notes f o w p k from is passed free j before = by (nat_lt j from)
   where
     by : (b : Bool) → nat_lt j from ≡ b → is_in_way queue notes j (portion_at queue notes k) ≡ false
     by true lt =
-        worked_away (note_at notes j).pending (portions_clash (portion_at queue notes j) (portion_at queue notes k))
+        and_left (note_at notes j).pending (portions_clash (portion_at queue notes j) (portion_at queue notes k))
         (is.passed j (let early = ltb-true j from lt in omega (arith, early, passed)))
     by false later = free j (ltb-false j from later) before
 

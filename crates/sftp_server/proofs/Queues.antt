@@ -1,17 +1,11 @@
 -- How each change of a queue goes over its requests.
-use Rattle.std.proofs.Common.{◌≡◌, ◌==◌, ◌&&◌, ◌||◌, not, nat_eq, ℕ, zero, suc, ◌≤◌}
-use Rattle.std.proofs.Common.{Bool, true, false, cond, List, [], ◌∷◌, ◌++◌, Option, Some, None, is_some, length}
-use Rattle.std.proofs.Common.{set, drop, slice_get, if◌then◌else◌, refl, sym, ap, ◌∙◌, arith}
-use Rattle.std.specs.Map.{lookup}
-use Rattle.std.proofs.lemmas.Bool.{or_parts, ne_eqb, eqb-true, eqb-false, eq-eqb, true≢false}
-use Rattle.std.proofs.lemmas.Option.{none-some, same_Some}
-use Rattle.sftp_wire.specs.declared.packets.Request.{Request}
-use Rattle.sftp_wire.specs.declared.packets.Reply.{Reply}
-use Rattle.sftp_server.specs.declared.queue.Entry.{Entry}
-use Rattle.sftp_server.specs.declared.queue.Progress.{Progress}
-use Rattle.sftp_server.specs.declared.queue.Progress.TheVariants.{Pending, Done, Sent}
-use Rattle.sftp_server.specs.Machine.{is_pending, is_sent, is_unsent, is_pending_at, from_unsent, reply_of}
-use Rattle.sftp_server.specs.Queue.{pending_at, with_progress, HasReply, sent_in, AreUnsentApart, IsQueue}
+use Rattle.sftp_server.proofs.Imports.{◌≡◌, ◌==◌, ◌&&◌, ◌||◌, not, nat_eq, ℕ, zero, suc, ◌≤◌, Bool, true, false, cond}
+use Rattle.sftp_server.proofs.Imports.{List, [], ◌∷◌, ◌++◌, Option, Some, None, is_some, length, set, drop, slice_get}
+use Rattle.sftp_server.proofs.Imports.{if◌then◌else◌, refl, sym, ap, ◌∙◌, arith, lookup, or_parts, ne_eqb, eqb-true}
+use Rattle.sftp_server.proofs.Imports.{eqb-false, eq-eqb, true≢false, none-some, same_Some, or-false, or_assoc, or_comm}
+use Rattle.sftp_server.proofs.Imports.{or-true, and-false, Request, Reply, Entry, Progress, Pending, Done, Sent}
+use Rattle.sftp_server.proofs.Imports.{is_pending, is_sent, is_unsent, is_pending_at, from_unsent, reply_of, pending_at}
+use Rattle.sftp_server.proofs.Imports.{with_progress, HasReply, sent_in, AreUnsentApart, IsQueue}
 
 -- ---- the front
 
@@ -63,18 +57,10 @@ is_unsent-pushed : (id : ℕ) (queue : List Entry) (request : Request)
     → is_unsent id (queue ++ record { request = request; progress = Pending } ∷ [])
     ≡ (is_unsent id queue || request.id == id)
 unfolding is_unsent
-is_unsent-pushed id [] request = or_false (request.id == id)
-  where
-    or_false : (b : Bool) → (b || false) ≡ b
-    or_false true = refl
-    or_false false = refl
+is_unsent-pushed id [] request = or-false (request.id == id)
 is_unsent-pushed id (entry ∷ queue) request =
     rw (is_unsent-pushed id queue request)
-    (or_assoc (not (is_sent entry.progress) && entry.request.id == id) (is_unsent id queue) (request.id == id))
-  where
-    or_assoc : (a b c : Bool) → (a || (b || c)) ≡ ((a || b) || c)
-    or_assoc true b c = refl
-    or_assoc false b c = refl
+    (sym (or_assoc (not (is_sent entry.progress) && entry.request.id == id) (is_unsent id queue) (request.id == id)))
 
 apart-pushed : (queue : List Entry) (request : Request) → AreUnsentApart queue → is_unsent request.id queue ≡ false
     → AreUnsentApart (queue ++ record { request = request; progress = Pending } ∷ [])
@@ -109,16 +95,10 @@ pub queue-pushed : (queue : List Entry) (ids after : List (ℕ × Unit {0})) (re
 queue-pushed queue ids after request is free noted = record {
   front = from_unsent-pushed queue request is.front;
   indexed = λ id.
-      rw (noted id, is.indexed id, is_unsent-pushed id queue request) (or_swap (nat_eq request.id id)
+      rw (noted id, is.indexed id, is_unsent-pushed id queue request) (or_comm (nat_eq request.id id)
       (is_unsent id queue));
   apart = apart-pushed queue request is.apart free;
 }
-  where
-    or_swap : (a b : Bool) → (a || b) ≡ (b || a)
-    or_swap true true = refl
-    or_swap true false = refl
-    or_swap false true = refl
-    or_swap false false = refl
 
 -- ---- progress
 
@@ -224,11 +204,7 @@ unsent-there id (first ∷ queue) zero reply has =
     let same = same_Some first has.0 has.1 in
     rw (same, sent-done has.0.progress reply has.3, eq-eqb has.0.request.id id has.2) refl
 unsent-there id (first ∷ queue) (suc k) reply has =
-    rw (unsent-there id queue k reply has) (or_true (not (is_sent first.progress) && first.request.id == id))
-  where
-    or_true : (b : Bool) → (b || true) ≡ true
-    or_true true = refl
-    or_true false = refl
+    rw (unsent-there id queue k reply has) (or-true (not (is_sent first.progress) && first.request.id == id))
 
 is_unsent-sent : (id at : ℕ) (queue : List Entry) (k : ℕ) (reply : Reply) → AreUnsentApart queue
     → HasReply queue k at reply
@@ -271,14 +247,10 @@ unfolding AreUnsentApart with_progress
 apart-sent [] k at reply apart has = tt
 apart-sent (first ∷ queue) zero at reply apart has = (λ e. absurd (true≢false e), apart.1)
 apart-sent (first ∷ queue) (suc k) at reply apart has = (
-  λ unsent. rw (is_unsent-sent first.request.id at queue k reply apart.1 has, apart.0 unsent) (and_false (not
+  λ unsent. rw (is_unsent-sent first.request.id at queue k reply apart.1 has, apart.0 unsent) (and-false (not
       (nat_eq at first.request.id))),
   apart-sent queue k at reply apart.1 has,
 )
-  where
-    and_false : (b : Bool) → (b && false) ≡ false
-    and_false true = refl
-    and_false false = refl
 
 -- ---- the front leaves
 
@@ -292,7 +264,8 @@ from_unsent-again (entry ∷ queue) = by (from_unsent-again queue) (is_sent entr
     by rest true is = rw is rest
     by rest false is = rw (is, is) refl
 
-is_unsent-front : (id : ℕ) (queue : List Entry) → is_unsent id (from_unsent queue) ≡ is_unsent id queue
+-- the requests that leave the queue were sent
+pub is_unsent-front : (id : ℕ) (queue : List Entry) → is_unsent id (from_unsent queue) ≡ is_unsent id queue
 unfolding from_unsent is_unsent
 is_unsent-front id [] = refl
 is_unsent-front id (entry ∷ queue) = by (is_unsent-front id queue) (is_sent entry.progress) refl

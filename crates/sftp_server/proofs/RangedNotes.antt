@@ -1,16 +1,13 @@
 -- That notes with ranges say which requests are clear, though ranges may be out of date; and how they are brought up to
 -- date once a request was done that may have changed the length of its file.
-use Rattle.std.proofs.Common.{◌≡◌, ◌==◌, ◌<◌, ◌≤◌, ◌&&◌, ◌||◌, not, ℕ, zero, suc, Bool, true, false, Option, Some}
-use Rattle.std.proofs.Common.{None, if◌then◌else◌, refl, sym, ap, ◌∙◌, arith, ◌⊎◌, inl, inr, nat_lt}
-use Rattle.std.proofs.lemmas.Bool.{true≢false, cases_Bool, and_parts, and_from, and_left, or_cases, or_left}
-use Rattle.std.proofs.lemmas.Bool.{or_right, eqb-true, eqb-false, eq-eqb, ne_eqb, ltb-true}
-use Rattle.std.proofs.lemmas.Bool.{ltb-false, not-true}
-use Rattle.sftp_handles.specs.declared.byte_range.ByteRange.{ByteRange}
-use Rattle.sftp_handles.specs.Clash.{Touched, untouched, reads_file, writes_file, takes_names, everything, share}
-use Rattle.sftp_handles.specs.Ranges.{are_apart}
-use Rattle.sftp_server.specs.RangedNotes.{Portion, portions_clash, is_on, HasItsRange, IsPortion, resizes_by, resizes}
-use Rattle.sftp_server.specs.RangedNotes.{any_below, is_behind_by, is_behind, stands_in_way, IsClear, IsHindered}
-use Rattle.sftp_server.specs.RangedNotes.{AreKnown, AreKnownBut, without, looked_at}
+use Rattle.sftp_server.proofs.Imports.{◌≡◌, ◌==◌, ◌<◌, ◌≤◌, ◌&&◌, ◌||◌, not, ℕ, zero, suc, Bool, true, false, Option}
+use Rattle.sftp_server.proofs.Imports.{Some, None, if◌then◌else◌, refl, sym, ap, ◌∙◌, arith, ◌⊎◌, inl, inr, nat_lt}
+use Rattle.sftp_server.proofs.Imports.{true≢false, cases_Bool, and_parts, and_from, and_left, or_cases, or_left}
+use Rattle.sftp_server.proofs.Imports.{or_right, eqb-true, eqb-false, eq-eqb, ne_eqb, ltb-true, ltb-false, not-true}
+use Rattle.sftp_server.proofs.Imports.{and-false, and-true, ByteRange, Touched, untouched, reads_file, writes_file}
+use Rattle.sftp_server.proofs.Imports.{takes_names, everything, share, are_apart, Portion, portions_clash, is_on}
+use Rattle.sftp_server.proofs.Imports.{HasItsRange, IsPortion, resizes_by, resizes, any_below, is_behind_by, is_behind}
+use Rattle.sftp_server.proofs.Imports.{stands_in_way, IsClear, IsHindered, AreKnown, AreKnownBut, without, looked_at}
 
 -- ---- numbers below
 
@@ -47,11 +44,9 @@ same-below (suc k) test other same =
 -- ---- what is touched
 
 pub on-one : (m n : ℕ) (at : Touched) → is_on m at ≡ true → is_on n at ≡ true → m ≡ n
-on-one m n untouched is_m is_n = absurd (true≢false (sym is_m))
 on-one m n (reads_file x) is_m is_n = sym (eqb-true x m is_m) ∙ eqb-true x n is_n
 on-one m n (writes_file x) is_m is_n = sym (eqb-true x m is_m) ∙ eqb-true x n is_n
-on-one m n (takes_names handle) is_m is_n = absurd (true≢false (sym is_m))
-on-one m n everything is_m is_n = absurd (true≢false (sym is_m))
+on-one m n at is_m is_n = absurd cc
 
 share-same : (m n number : ℕ) → (m == number) ≡ true → (n == number) ≡ true → (m == n) ≡ true
 share-same m n number is_m is_n = eq-eqb m n (eqb-true m number is_m ∙ sym (eqb-true n number is_n))
@@ -59,21 +54,14 @@ share-same m n number is_m is_n = eq-eqb m n (eqb-true m number is_m ∙ sym (eq
 -- what shares something with what is on a file touches everything or is on that file
 pub shared-on : (number : ℕ) (at other : Touched) → share at other ≡ true → is_on number at ≡ true
     → (other ≡ everything) ⊎ (is_on number other ≡ true)
-shared-on number at everything shared on = inl refl
-shared-on number untouched other shared on = absurd (true≢false (sym on))
-shared-on number (takes_names handle) other shared on = absurd (true≢false (sym on))
-shared-on number everything other shared on = absurd (true≢false (sym on))
-shared-on number (reads_file n) untouched shared on = absurd (true≢false (sym shared))
-shared-on number (reads_file n) (reads_file m) shared on = absurd (true≢false (sym shared))
 shared-on number (reads_file n) (writes_file m) shared on =
     inr (eq-eqb m number (sym (eqb-true n m shared) ∙ eqb-true n number on))
-shared-on number (reads_file n) (takes_names handle) shared on = absurd (true≢false (sym shared))
-shared-on number (writes_file n) untouched shared on = absurd (true≢false (sym shared))
 shared-on number (writes_file n) (reads_file m) shared on =
     inr (eq-eqb m number (sym (eqb-true n m shared) ∙ eqb-true n number on))
 shared-on number (writes_file n) (writes_file m) shared on =
     inr (eq-eqb m number (sym (eqb-true n m shared) ∙ eqb-true n number on))
-shared-on number (writes_file n) (takes_names handle) shared on = absurd (true≢false (sym shared))
+shared-on number at everything shared on = inl refl
+shared-on number at other shared on = absurd cc
 
 -- ---- a request that may change the length of its file
 
@@ -304,17 +292,11 @@ module _ (pending : ℕ → Bool) (noted : ℕ → Portion) (k : ℕ) where
     | inl same ↦
         let none : resizes m (noted i) ≡ false = ap (λ x. resizes m (noted x)) (eqb-true i k same) ∙ keeps in
         ap (λ b. without pending k i && b) none
-        ∙ (by-false (without pending k i) ∙ sym (ap (λ b. pending i && b) none ∙ by-false (pending i)))
-    | inr other ↦ ap (λ b. (pending i && not b) && resizes m (noted i)) other ∙ ap (λ b. b && resizes m (noted i)) (by-true (pending i))
+        ∙ (and-false (without pending k i) ∙ sym (ap (λ b. pending i && b) none ∙ and-false (pending i)))
+    | inr other ↦
+        ap (λ b. (pending i && not b) && resizes m (noted i)) other
+        ∙ ap (λ b. b && resizes m (noted i)) (and-true (pending i))
   ]
-    where
-      by-false : (b : Bool) → (b && false) ≡ false
-      by-false true = refl
-      by-false false = refl
-
-      by-true : (b : Bool) → (b && true) ≡ b
-      by-true true = refl
-      by-true false = refl
 
   pub behind-without : (j : ℕ) (at : Touched) → ((m : ℕ) → is_on m at ≡ true → resizes m (noted k) ≡ false)
       → is_behind_by (without pending k) noted j at ≡ is_behind_by pending noted j at

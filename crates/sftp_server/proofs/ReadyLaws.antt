@@ -1,29 +1,18 @@
 -- What the notes of a queue say of what is ready, and of what is possible.
-use Rattle.std.proofs.Common.{◌≡◌, ◌+◌, ◌<◌, ◌≤◌, ◌++◌, ◌&&◌, ◌||◌, not, nat_lt, ℕ, zero, suc, Bool, true, false}
-use Rattle.std.proofs.Common.{List, [], ◌∷◌, ◌⊎◌, inl, inr}
-use Rattle.std.proofs.Common.{Option, Some, None, is_some, if◌then◌else◌, length, take, drop, slice_get}
-use Rattle.std.proofs.Common.{refl, sym, ap, ap₂, ◌∙◌, ◌-◌, arith, length-append, append_assoc}
-use Rattle.std.proofs.lemmas.Bool.{true≢false, ltb-true, ltb-false, and_from}
-use Rattle.std.proofs.lemmas.Option.{slice_get_within}
-use Rattle.std.proofs.lemmas.List.{take_all, drop_more, get_or_past}
-use Rattle.std.proofs.lemmas.List.Sums.{sum_by-cons}
-use Rattle.sftp_wire.specs.declared.packets.Request.{Request}
-use Rattle.sftp_handles.specs.State.{State}
-use Rattle.sftp_handles.specs.Clash.{Touched, touched, share, clash, everything}
-use Rattle.sftp_handles.specs.Ranges.{range, range_clash}
-use Rattle.sftp_server.specs.declared.cores.Choice.{Choice}
+use Rattle.sftp_server.proofs.Imports.{◌≡◌, ◌+◌, ◌<◌, ◌≤◌, ◌++◌, ◌&&◌, ◌||◌, not, nat_lt, ℕ, zero, suc, Bool, true}
+use Rattle.sftp_server.proofs.Imports.{false, List, [], ◌∷◌, ◌⊎◌, inl, inr, Option, Some, None, is_some, if◌then◌else◌}
+use Rattle.sftp_server.proofs.Imports.{length, take, drop, slice_get, refl, sym, ap, ap₂, ◌∙◌, ◌-◌, arith}
+use Rattle.sftp_server.proofs.Imports.{length-append, append_assoc, true≢false, ltb-true, ltb-false, and_from}
+use Rattle.sftp_server.proofs.Imports.{slice_get_within, take_all, drop_more, get_or_past, sum_by-cons, and-false}
+use Rattle.sftp_server.proofs.Imports.{or-false, Request, State, Touched, touched, share, clash, everything, range}
+use Rattle.sftp_server.proofs.Imports.{range_clash, Choice, Entry, Progress, Pending, Done, Sent, Note, Machine}
+use Rattle.sftp_server.proofs.Imports.{ClashOf, is_pending, is_free_of, ready_in, is_ready, pending_in, reply_of}
+use Rattle.sftp_server.proofs.Imports.{reply_in, reply_at, choices_at, choices_from, choices_of, portion_in}
+use Rattle.sftp_server.proofs.Imports.{portions_clash, stands_in_way, IsHindered, blank, note_at, ask_in, ask_at}
+use Rattle.sftp_server.proofs.Imports.{portion_at, portion_now, as_count, possible_count, pending_by, is_late}
+use Rattle.sftp_server.proofs.Imports.{IsStopped, IsShut, IsMarkedAsked, IsMarked, AreNotes}
 use Rattle.sftp_server.specs.declared.cores.Choice.TheVariants as choices
-use Rattle.sftp_server.specs.declared.queue.Entry.{Entry}
-use Rattle.sftp_server.specs.declared.queue.Progress.{Progress}
-use Rattle.sftp_server.specs.declared.queue.Progress.TheVariants.{Pending, Done, Sent}
-use Rattle.sftp_server.specs.declared.readiness.Note.{Note}
-use Rattle.sftp_server.specs.Machine.{Machine, ClashOf, is_pending, is_free_of, ready_in, is_ready}
-use Rattle.sftp_server.specs.Machine.{pending_in, reply_of, reply_in, reply_at}
-use Rattle.sftp_server.specs.Choices.{choices_at, choices_from, choices_of}
-use Rattle.sftp_server.specs.RangedNotes.{portion_in, portions_clash, stands_in_way, IsHindered}
-use Rattle.sftp_server.specs.Readiness.{blank, note_at, ask_in, ask_at, portion_at, portion_now, as_count}
-use Rattle.sftp_server.specs.Readiness.{possible_count, pending_by, is_late, IsStopped, IsShut, IsMarkedAsked, IsMarked}
-use Rattle.sftp_server.specs.Readiness.{AreNotes, IsOpened}
+use Rattle.sftp_server.specs.Readiness.{IsOpened}
 use Rattle.sftp_server.proofs.RangedNotes.{clear-is, hindered-is, clash-left, all-none}
 use Rattle.sftp_server.proofs.StillRanged.{portion-sound}
 use Rattle.sftp_server.proofs.DoneNotes.{all-touched}
@@ -53,11 +42,7 @@ free-not clash s [] (suc k) j request before blocks = absurd (true≢false (sym 
 free-not clash s (entry ∷ queue) (suc k) zero request before blocks = rw blocks refl
 free-not clash s (entry ∷ queue) (suc k) (suc j) request before blocks =
     rw (free-not clash s queue k j request (omega (arith, before)) blocks)
-    (and_false (not (is_pending entry.progress && clash s entry.request request)))
-  where
-    and_false : (b : Bool) → (b && false) ≡ false
-    and_false true = refl
-    and_false false = refl
+    (and-false (not (is_pending entry.progress && clash s entry.request request)))
 
 -- what blocks a request, by what both touch and which ranges they keep to
 blocks-portions : (s : State) (found : Option Entry) (request : Request)
@@ -173,10 +158,6 @@ pub possible-is : (machine : Machine State) (notes : List Note) (first opened wr
     → (k : ℕ) → (note_at notes k).possible ≡ (is_ready range_clash machine k || is_some (reply_at machine.queue k))
 possible-is machine notes first opened writers possible are is_opened k = by (note_at notes k).pending refl
   where
-    or_false : (b : Bool) → b ≡ (b || false)
-    or_false true = refl
-    or_false false = refl
-
     by : (b : Bool) → (note_at notes k).pending ≡ b
         → (note_at notes k).possible ≡ (is_ready range_clash machine k || is_some (reply_at machine.queue k))
     by true pending =
@@ -184,7 +165,7 @@ possible-is machine notes first opened writers possible are is_opened k = by (no
           ready-is machine.state machine.queue notes first opened writers possible are is_opened k,
           pending,
           pending-no_reply (slice_get machine.queue k) (sym (are.marks.asked.marked k) ∙ pending),
-        ) (or_false (note_at notes k).possible)
+        ) (sym (or-false (note_at notes k).possible))
     by false idle =
         rw (ready-is machine.state machine.queue notes first opened writers possible are is_opened k, idle)
         (are.marks.asked.replies k idle)
@@ -273,14 +254,14 @@ choice-here machine notes first opened writers possible are is_opened k rest is 
           is,
         ) refl
 
-possible-within : (notes : List Note) (k : ℕ) → (note_at notes k).possible ≡ true → k < length notes
+pub possible-within : (notes : List Note) (k : ℕ) → (note_at notes k).possible ≡ true → k < length notes
 possible-within notes k is = by (nat_lt k (length notes)) refl
   where
     by : (b : Bool) → nat_lt k (length notes) ≡ b → k < length notes
     by true less = ltb-true k (length notes) less
-    by false less =
+    by false past =
         absurd (true≢false (sym is ∙ ap (λ (n : Note). n.possible)
-        (get_or_past notes k blank (ltb-false k (length notes) less))))
+        (get_or_past notes k blank (ltb-false k (length notes) past))))
 
 -- the act of a number is at the position before which so many are possible, and at which one is
 pub choice-at : (machine : Machine State) (notes : List Note) (first opened writers possible : ℕ)

@@ -1,32 +1,16 @@
 -- What comes of an act of a script, and of the acts so far.
-use Rattle.std.proofs.Common.{◌≡◌, ◌≢◌, ◌<◌, ◌≤◌, ◌+◌, ◌^◌, ℕ, zero, suc, Bool, true, false, List}
-use Rattle.std.proofs.Common.{[], ◌∷◌, ◌++◌}
-use Rattle.std.proofs.Common.{Result, Ok, Err, IfSome, IsTrue, length, take, get_or, refl, sym, ap, subst, ◌∙◌, arith}
-use Rattle.std.proofs.Common.{append-nil, add-one}
-use Rattle.std.specs.Result.{OnOk}
+use Rattle.sftp_server.proofs.Imports.{◌≡◌, ◌≢◌, ◌<◌, ◌≤◌, ◌+◌, ◌^◌, ℕ, zero, suc, Bool, true, false, List, [], ◌∷◌}
+use Rattle.sftp_server.proofs.Imports.{◌++◌, Result, Ok, Err, IfSome, IsTrue, length, take, get_or, refl, sym, ap}
+use Rattle.sftp_server.proofs.Imports.{subst, ◌∙◌, arith, append-nil, add-one, OnOk, le-ltb, Ask, Request, IsAsk}
+use Rattle.sftp_server.proofs.Imports.{path_of, Tree, State, Good, Allowed, Event, Asked, Explained, BeginsFrom, window}
+use Rattle.sftp_server.proofs.Imports.{Act, Deliver, Refuse, Machine, at_start, taken, can_take, IsDelivery, AreActs}
+use Rattle.sftp_server.proofs.Imports.{Delivers, server_clash, started, IsRefusedFor, IsValue, AreDeliverable}
 use Rattle.std.proofs.Math.Seq.{take-suc}
-use Rattle.std.proofs.lemmas.Bool.{le-ltb}
 use Rattle.sftp_path.specs.declared.errors.NoMemory.{NoMemory}
-use Rattle.sftp_wire.specs.declared.packets.Ask.{Ask}
 use Rattle.sftp_wire.specs.declared.packets.Ask.TheVariants as asks
-use Rattle.sftp_wire.specs.declared.packets.Request.{Request}
 use Rattle.sftp_treefile.specs.TreeFile.{are_bytes}
-use Rattle.sftp_tree.specs.AskValues.{IsAsk}
-use Rattle.sftp_tree.specs.Requests.{path_of}
 use Rattle.sftp_tree.proofs.WellFormedTrees.Fields.{bytes-fit}
-use Rattle.sftp_tree.specs.Tree.{Tree}
-use Rattle.sftp_handles.specs.State.{State, Good}
-use Rattle.sftp_handles.specs.Allowed.{Allowed}
-use Rattle.sftp_transcript.specs.declared.events.Event.{Event}
-use Rattle.sftp_transcript.specs.declared.events.Event.TheVariants.{Asked}
-use Rattle.sftp_transcript.specs.Explained.{Explained, BeginsFrom}
-use Rattle.sftp_server.specs.declared.acts.Act.{Act}
-use Rattle.sftp_server.specs.declared.acts.Act.TheVariants.{Deliver}
-use Rattle.sftp_server.specs.declared.refusals.Refuse.{Refuse}
 use Rattle.sftp_server.specs.declared.refusals.Refuse.TheVariants as refuses
-use Rattle.sftp_server.specs.Machine.{Machine, at_start, taken, can_take, IsDelivery, AreActs}
-use Rattle.sftp_server.specs.Machine.{Delivers}
-use Rattle.sftp_server.specs.Core.{server_clash, started, IsRefusedFor, IsValue, AreDeliverable}
 use Rattle.sftp_server.specs.Scripts.{IsPerformed}
 use Rattle.sftp_server.proofs.Machines.Acts.{all-append, acts-more}
 use Rattle.sftp_server.proofs.Machines.Laws as core_laws
@@ -99,17 +83,17 @@ performed-refused request copy refuse before after old new (Ok it) same value wh
 
 pub acts-next : (start : State) (acts : List Act) (i next : ℕ) (act : Act) (mid after : Machine State)
     (old new : List Event) → i < length acts → act ≡ get_or acts i act → next ≡ i + 1
-    → AreActs Allowed server_clash (at_start start 1024) (take i acts) old mid → AreDeliverable (take i acts)
+    → AreActs Allowed server_clash (at_start start window) (take i acts) old mid → AreDeliverable (take i acts)
     → IsPerformed act mid after old new
-    → AreActs Allowed server_clash (at_start start 1024) (take next acts) new after × AreDeliverable (take next acts)
+    → AreActs Allowed server_clash (at_start start window) (take next acts) new after × AreDeliverable (take next acts)
 acts-next start acts i next act mid after old new some is next_is steps values performed =
     let one : take next acts ≡ take i acts ++ act ∷ [] =
     ap (λ (n : ℕ). take n acts) next_is ∙ (take-one ∙ ap (λ (a : Act). take i acts ++ a ∷ []) (sym is)) in
-    let more = acts-more Allowed server_clash (at_start start 1024) mid after
+    let more = acts-more Allowed server_clash (at_start start window) mid after
     (take i acts) old act performed.events steps performed.acted in
     let all = all-append (Delivers IsValue) (take i acts) (act ∷ []) values (performed.value, tt) in (
-      subst (λ (list : List Act). AreActs Allowed server_clash (at_start start 1024) list new after) (sym one) (subst
-          (λ (es : List Event). AreActs Allowed server_clash (at_start start 1024) (take i acts ++ act ∷ []) es after)
+      subst (λ (list : List Act). AreActs Allowed server_clash (at_start start window) list new after) (sym one) (subst
+          (λ (es : List Event). AreActs Allowed server_clash (at_start start window) (take i acts ++ act ∷ []) es after)
           (sym performed.appended) more),
       subst AreDeliverable (sym one) all,
     )
@@ -125,21 +109,21 @@ take-whole (act ∷ acts) (suc i) past = ap (λ (list : List Act). act ∷ list)
 
 -- all acts were done
 pub acts-whole : (start : State) (acts : List Act) (i : ℕ) (events : List Event) (core : Machine State)
-    → length acts ≤ i → AreActs Allowed server_clash (at_start start 1024) (take i acts) events core
-    → AreActs Allowed server_clash (at_start start 1024) acts events core
+    → length acts ≤ i → AreActs Allowed server_clash (at_start start window) (take i acts) events core
+    → AreActs Allowed server_clash (at_start start window) acts events core
 acts-whole start acts i events core past steps =
-    subst (λ (list : List Act). AreActs Allowed server_clash (at_start start 1024) list events core)
+    subst (λ (list : List Act). AreActs Allowed server_clash (at_start start window) list events core)
     (take-whole acts i past) steps
 
 pub acts-begin : (start : Tree) (acts : List Act) (events : List Event) (core : Machine State) → Good (started start)
-    → AreActs Allowed server_clash (at_start (started start) 1024) acts events core → AreDeliverable acts
+    → AreActs Allowed server_clash (at_start (started start) window) acts events core → AreDeliverable acts
     → BeginsFrom Allowed (started start) events
 acts-begin start acts events core good steps values =
     reached-begins start events core good record { acts = acts; deliverable = values; steps = steps }
 
 pub acts-explained : (start : Tree) (acts : List Act) (events : List Event) (core : Machine State)
-    → Good (started start) → AreActs Allowed server_clash (at_start (started start) 1024) acts events core
+    → Good (started start) → AreActs Allowed server_clash (at_start (started start) window) acts events core
     → AreDeliverable acts → core.queue ≡ [] → Explained Allowed (started start) events core.state
 acts-explained start acts events core good steps values empty =
-    core_laws.explained stays-good each-answered (started start) 1024 events core good (omega arith)
+    core_laws.explained stays-good each-answered (started start) window events core good (omega arith)
     record { acts = acts; deliverable = values; steps = steps } empty

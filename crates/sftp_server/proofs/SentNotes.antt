@@ -1,27 +1,19 @@
 -- How the notes of a queue change once a reply is sent.
-use Rattle.std.proofs.Common.{◌≡◌, ◌≢◌, ◌+◌, ◌-◌, ◌<◌, ◌≤◌, ◌==◌, nat_lt, ℕ, Bool, true, false, List, Option, Some}
-use Rattle.std.proofs.Common.{is_some, length, set, drop, slice_get, refl, sym, ap, subst, ◌∙◌, arith, ◌⊎◌, inl, inr}
-use Rattle.std.proofs.Common.{length-drop}
-use Rattle.std.proofs.lemmas.Bool.{ltb-true, ltb-false, and_parts, true≢false, cases_Bool, eqb-true, eqb-false}
-use Rattle.std.proofs.lemmas.List.{length-set, get_or-set_other}
-use Rattle.sftp_wire.specs.declared.packets.Reply.{Reply}
-use Rattle.sftp_handles.specs.State.{State}
-use Rattle.sftp_handles.specs.Clash.{touched}
-use Rattle.sftp_handles.specs.Ranges.{range}
-use Rattle.sftp_server.specs.declared.queue.Entry.{Entry}
-use Rattle.sftp_server.specs.declared.queue.Progress.TheVariants.{Sent}
-use Rattle.sftp_server.specs.declared.readiness.Note.{Note}
-use Rattle.sftp_server.specs.Machine.{is_pending_at, pending_in, reply_at, reply_in, from_unsent}
-use Rattle.sftp_server.specs.Queue.{with_progress}
-use Rattle.sftp_server.specs.RangedNotes.{Portion, portion_in, portions_clash, IsPortion, is_behind, AreKnown}
-use Rattle.sftp_server.specs.Readiness.{blank, note_at, portion_at, portion_now, is_in_way, possible_count}
-use Rattle.sftp_server.specs.Readiness.{pending_by, is_late, IsFree, IsBlocked, IsStopped, IsNoted, AreBlocked}
-use Rattle.sftp_server.specs.Readiness.{IsMarkedAsked, IsMarked, AreNotes, IsOpened}
+use Rattle.sftp_server.proofs.Imports.{◌≡◌, ◌≢◌, ◌+◌, ◌-◌, ◌<◌, ◌≤◌, ◌==◌, nat_lt, ℕ, Bool, true, false, List, Option}
+use Rattle.sftp_server.proofs.Imports.{Some, is_some, length, set, drop, slice_get, refl, sym, ap, subst, ◌∙◌, arith}
+use Rattle.sftp_server.proofs.Imports.{◌⊎◌, inl, inr, length-drop, ltb-true, ltb-false, and_parts, true≢false}
+use Rattle.sftp_server.proofs.Imports.{cases_Bool, eqb-true, eqb-false, length-set, get_or-set_other, Reply, State}
+use Rattle.sftp_server.proofs.Imports.{touched, range, Entry, Sent, Note, is_pending_at, pending_in, reply_at, reply_in}
+use Rattle.sftp_server.proofs.Imports.{from_unsent, with_progress, Portion, portion_in, portions_clash, IsPortion}
+use Rattle.sftp_server.proofs.Imports.{is_behind, AreKnown, blank, note_at, portion_at, portion_now, is_in_way}
+use Rattle.sftp_server.proofs.Imports.{possible_count, pending_by, is_late, IsFree, IsBlocked, IsStopped, IsNoted}
+use Rattle.sftp_server.proofs.Imports.{AreBlocked, IsMarkedAsked, IsMarked, AreNotes}
+use Rattle.sftp_server.specs.Readiness.{IsOpened}
 use Rattle.sftp_server.proofs.Queues.{length-progress}
 use Rattle.sftp_server.proofs.NotePlaces.{part-set, fails-set, fails-still, passed-before, count-set, other-progress}
-use Rattle.sftp_server.proofs.NotePlaces.{ask-progress, worked-here, reply-here, in_way-same, portion-set}
-use Rattle.sftp_server.proofs.NotePlaces.{reply-within, reply-worked, note-drop, get-drop, ask-drop, portion-drop}
-use Rattle.sftp_server.proofs.NotePlaces.{in_way-drop, late-drop, count-drop, front-drop, sent-front, sent-worked}
+use Rattle.sftp_server.proofs.NotePlaces.{ask-progress, worked-here, reply-here, in_way-same, portion-set, reply-within}
+use Rattle.sftp_server.proofs.NotePlaces.{reply-worked, note-drop, get-drop, ask-drop, portion-drop, in_way-drop}
+use Rattle.sftp_server.proofs.NotePlaces.{late-drop, count-drop, front-drop, sent-front, sent-worked}
 
 -- ---- a reply is sent
 

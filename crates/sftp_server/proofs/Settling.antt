@@ -1,28 +1,16 @@
 -- How the ranges of a file are looked at again, after a request was done that may have changed its length.
-use Rattle.std.proofs.Common.{◌≡◌, ◌≢◌, ◌==◌, ◌&&◌, ◌+◌, ◌<◌, ◌≤◌, nat_lt, ℕ, suc, Bool, true, false, List, Option}
-use Rattle.std.proofs.Common.{Some, None, if◌then◌else◌, length, set, refl, sym, ap, subst, ◌∙◌, inl, inr, arith, true≢false}
-use Rattle.std.proofs.lemmas.Bool.{ltb-true, ltb-false, cases_Bool, and_from, eq-eqb, eqb-true, eqb-false}
-use Rattle.std.proofs.lemmas.Option.{same_Some}
-use Rattle.std.proofs.lemmas.List.{length-set}
-use Rattle.std.proofs.lemmas.List.Sums.{sum_by-set}
-use Rattle.sftp_wire.specs.declared.packets.Ask.{Ask}
-use Rattle.sftp_handles.specs.declared.byte_range.ByteRange.{ByteRange}
-use Rattle.sftp_handles.specs.declared.touch.Touch.{Touch}
-use Rattle.sftp_handles.specs.declared.touch.Touch.TheVariants.{Nothing, ReadsFile, WritesFile, TakesNames, Everything}
-use Rattle.sftp_handles.specs.Ranges.{range}
-use Rattle.sftp_handles.specs.Touch.{touched_as}
-use Rattle.sftp_handles.specs.State.{State}
-use Rattle.sftp_server.specs.declared.queue.Entry.{Entry}
-use Rattle.sftp_server.specs.declared.readiness.Note.{Note}
-use Rattle.sftp_server.specs.RangedNotes.{Portion, is_on, IsPortion, resizes_by, resizes, is_behind_by, is_behind}
-use Rattle.sftp_server.specs.RangedNotes.{stands_in_way, AreKnownBut, looked_at}
-use Rattle.sftp_server.specs.Readiness.{blank, note_at, ask_at, touched_at, portion_at, is_in_way, as_count, IsFree}
-use Rattle.sftp_server.specs.Readiness.{only_reads, is_all, IsNoted, IsBlocked, pending_by, is_late}
-use Rattle.sftp_server.specs.Readiness.{IsStopped, AreBlockedBut, AreBlockedButOn, AreNotReadyOn}
-use Rattle.sftp_server.specs.Readiness.{HaveTheirRanges, portion_now, IsMarkedBut, IsPlaced, IsSettling, IsSettled}
-use Rattle.sftp_server.specs.Readiness.{touches_file, resized_file, resizes_noted, IsMeasured}
-use Rattle.sftp_server.proofs.Notes.{by_place, below, set-same, set-other, set-field, stopped-kept}
-use Rattle.sftp_server.proofs.Notes.{marks_but-alike}
+use Rattle.sftp_server.proofs.Imports.{◌≡◌, ◌≢◌, ◌==◌, ◌&&◌, ◌+◌, ◌<◌, ◌≤◌, nat_lt, ℕ, suc, Bool, true, false, List}
+use Rattle.sftp_server.proofs.Imports.{Option, Some, None, if◌then◌else◌, length, set, refl, sym, ap, subst, ◌∙◌, inl}
+use Rattle.sftp_server.proofs.Imports.{inr, arith, true≢false, ltb-true, ltb-false, cases_Bool, and_from, eq-eqb}
+use Rattle.sftp_server.proofs.Imports.{eqb-true, eqb-false, same_Some, length-set, sum_by-set, Ask, ByteRange, Touch}
+use Rattle.sftp_server.proofs.Imports.{Nothing, WritesFile, range, touched_as, State, Entry, Note, Portion, is_on}
+use Rattle.sftp_server.proofs.Imports.{IsPortion, resizes_by, resizes, is_behind_by, is_behind, stands_in_way}
+use Rattle.sftp_server.proofs.Imports.{AreKnownBut, looked_at, blank, note_at, ask_at, touched_at, portion_at}
+use Rattle.sftp_server.proofs.Imports.{is_in_way, as_count, IsFree, only_reads, is_all, IsNoted, IsBlocked, pending_by}
+use Rattle.sftp_server.proofs.Imports.{is_late, IsStopped, AreBlockedBut, AreBlockedButOn, AreNotReadyOn}
+use Rattle.sftp_server.proofs.Imports.{HaveTheirRanges, portion_now, IsMarkedBut, IsPlaced, IsSettling, IsSettled}
+use Rattle.sftp_server.proofs.Imports.{touches_file, resized_file, resizes_noted, IsMeasured}
+use Rattle.sftp_server.proofs.Notes.{by_place, below, set-same, set-other, set-field, stopped-kept, marks_but-alike}
 use Rattle.sftp_server.proofs.RangedNotes.{some-behind, behind-after, way-after, after-touched, known-passed}
 use Rattle.sftp_server.proofs.RangedNotes.{known-stopped, known-ended, known-looked}
 use Rattle.sftp_server.proofs.StillRanged.{portion-sound}
@@ -31,10 +19,7 @@ use Rattle.sftp_server.proofs.StillRanged.{portion-sound}
 
 pub on-touch : (number : ℕ) (touch : Touch) (ask : Ask) → is_on number (touched_as touch ask) ≡ touches_file number touch
 on-touch number Nothing ask = refl
-on-touch number (ReadsFile n) ask = refl
-on-touch number (WritesFile n) ask = refl
-on-touch number TakesNames ask = refl
-on-touch number Everything ask = refl
+on-touch number touch ask = refl
 
 pub resizes-file : (touch : Touch) (ask : Ask) (found : Option ByteRange) (number : ℕ)
     → resized_file touch found ≡ Some number → resizes_by number (touched_as touch ask) found ≡ true
@@ -46,21 +31,13 @@ resizes-file touch ask found number is = absurd cc
 
 pub resizes-nothing : (touch : Touch) (ask : Ask) (found : Option ByteRange) → resized_file touch found ≡ None
     → (number : ℕ) → resizes_by number (touched_as touch ask) found ≡ false
-resizes-nothing Nothing ask found is number = refl
-resizes-nothing (ReadsFile n) ask found is number = refl
 resizes-nothing (WritesFile n) ask None is number = absurd cc
-resizes-nothing (WritesFile n) ask (Some at) is number = refl
-resizes-nothing TakesNames ask found is number = refl
-resizes-nothing Everything ask found is number = refl
+resizes-nothing touch ask found is number = refl
 
 pub resizes-by_note : (touch : Touch) (ask : Ask) (found : Option ByteRange) (number : ℕ)
     → resizes_by number (touched_as touch ask) found ≡ resizes_noted number touch found
-resizes-by_note Nothing ask found number = refl
-resizes-by_note (ReadsFile n) ask found number = refl
 resizes-by_note (WritesFile n) ask None number = refl
-resizes-by_note (WritesFile n) ask (Some at) number = refl
-resizes-by_note TakesNames ask found number = refl
-resizes-by_note Everything ask found number = refl
+resizes-by_note touch ask found number = refl
 
 -- ---- one is measured
 

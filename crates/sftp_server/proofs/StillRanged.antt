@@ -1,17 +1,10 @@
 -- Which requests touch, after a step, what they touched before, and keep to the ranges that they kept to.
-use Rattle.std.proofs.Common.{◌≡◌, ◌≢◌, ℕ, true, false, Option, Some, None, refl, sym, ap, ◌∙◌, ◌⊎◌, inl, inr}
+use Rattle.sftp_server.proofs.Imports.{◌≡◌, ◌≢◌, ℕ, true, false, Option, Some, None, refl, sym, ap, ◌∙◌, ◌⊎◌, inl, inr}
+use Rattle.sftp_server.proofs.Imports.{true≢false, eq-eqb, eqb-true, Ask, Request, Reply, ByteRange, State, Allowed}
+use Rattle.sftp_server.proofs.Imports.{Touched, untouched, reads_file, writes_file, everything, share, touched, range}
+use Rattle.sftp_server.proofs.Imports.{may_resize, portion_in, is_on, HasItsRange, IsPortion, resizes_by, resizes}
 use Rattle.std.specs.Cmp.{nat_eq_equiv}
-use Rattle.std.proofs.lemmas.Bool.{true≢false, eq-eqb, eqb-true}
-use Rattle.sftp_wire.specs.declared.packets.Ask.{Ask}
-use Rattle.sftp_wire.specs.declared.packets.Request.{Request}
-use Rattle.sftp_wire.specs.declared.packets.Reply.{Reply}
-use Rattle.sftp_handles.specs.declared.byte_range.ByteRange.{ByteRange}
-use Rattle.sftp_handles.specs.State.{State}
-use Rattle.sftp_handles.specs.Allowed.{Allowed}
-use Rattle.sftp_handles.specs.Clash.{Touched, untouched, reads_file, writes_file, takes_names, everything, share, touched}
-use Rattle.sftp_handles.specs.Ranges.{range, may_resize}
 use Rattle.sftp_handles.proofs.RangesKept.{ranges-kept, other-ranges, range-touches}
-use Rattle.sftp_server.specs.RangedNotes.{portion_in, is_on, HasItsRange, IsPortion, resizes_by, resizes}
 use Rattle.sftp_server.proofs.RangedNotes.{all-none}
 
 -- ---- a range is one of the file that is touched
@@ -34,11 +27,7 @@ portion-sound s ask = sound-by s ask (range s ask) refl
 not-resizing : (at : Touched) (found : Option ByteRange) → ((number : ℕ) → resizes_by number at found ≡ false)
     → may_resize at found ≡ false
 not-resizing (writes_file n) None keeps = absurd (true≢false (sym (eq-eqb n n refl) ∙ keeps n))
-not-resizing untouched found keeps = refl
-not-resizing (reads_file n) found keeps = refl
-not-resizing (writes_file n) (Some at) keeps = refl
-not-resizing (takes_names handle) found keeps = refl
-not-resizing everything found keeps = refl
+not-resizing at found keeps = refl
 
 -- all requests keep to the ranges that they kept to
 pub ranges-still : (s end : State) (request : Request) (reply : Reply) (ask : Ask)
@@ -57,18 +46,14 @@ resizing-writes number at found is = absurd cc
 
 other-shares : (number : ℕ) (at : Touched) → is_on number at ≡ false → at ≢ everything
     → share (writes_file number) at ≡ false
-other-shares number untouched other part = refl
 other-shares number (reads_file n) other part = nat_eq_equiv.symm number n ∙ other
 other-shares number (writes_file n) other part = nat_eq_equiv.symm number n ∙ other
-other-shares number (takes_names handle) other part = refl
 other-shares number everything other part = absurd (part refl)
+other-shares number at other part = refl
 
 is-everything : (at : Touched) → (at ≡ everything) ⊎ (at ≡ everything → ⊥)
 is-everything everything = inl refl
-is-everything untouched = inr (λ is. true≢false (sym (ap (λ (t : Touched). share t untouched) is)))
-is-everything (reads_file n) = inr (λ is. true≢false (sym (ap (λ (t : Touched). share t untouched) is)))
-is-everything (writes_file n) = inr (λ is. true≢false (sym (ap (λ (t : Touched). share t untouched) is)))
-is-everything (takes_names handle) = inr (λ is. true≢false (sym (ap (λ (t : Touched). share t untouched) is)))
+is-everything at = inr (λ is. true≢false (sym (ap (λ (t : Touched). share t untouched) is)))
 
 -- the requests that are not on that file keep to the ranges that they kept to
 pub other-ranges-still : (s end : State) (request : Request) (reply : Reply) (ask : Ask) (number : ℕ)

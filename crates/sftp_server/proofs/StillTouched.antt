@@ -1,33 +1,19 @@
 -- A request that does not touch everything changes nothing of what requests touch.
-use Rattle.std.proofs.Common.{◌≡◌, ◌≢◌, ◌<◌, nat_lt, ℕ, zero, suc, Bool, true, false, List, [], ◌∷◌}
-use Rattle.std.proofs.Common.{Option, Some, None, length, refl, sym, ap, ◌∙◌, ◌⊎◌, inl, inr, arith}
-use Rattle.std.proofs.lemmas.Bool.{true≢false, ltb-true, ltb-false}
-use Rattle.sftp_wire.specs.declared.packets.Ask.{Ask}
+use Rattle.sftp_server.proofs.Imports.{◌≡◌, ◌≢◌, ◌<◌, nat_lt, ℕ, zero, suc, Bool, true, false, List, [], ◌∷◌, Option}
+use Rattle.sftp_server.proofs.Imports.{Some, None, length, refl, sym, ap, ◌∙◌, ◌⊎◌, inl, inr, arith, true≢false}
+use Rattle.sftp_server.proofs.Imports.{ltb-true, ltb-false, Ask, Request, Reply, asked_handle, Handles, open_at, State}
+use Rattle.sftp_server.proofs.Imports.{changed, after, after_by, Allowed, Refuses, Does, Touched, everything, touched}
+use Rattle.sftp_server.proofs.Imports.{touched_by, touched_through, may_change, Entry, Done, Note, is_pending_at}
+use Rattle.sftp_server.proofs.Imports.{with_progress, note_at, ask_at, IsNoted, IsDone, AreNotes, is_on, resizes_by}
+use Rattle.sftp_server.proofs.Imports.{ByteRange, range}
 use Rattle.sftp_wire.specs.declared.packets.Answer.{Answer}
-use Rattle.sftp_wire.specs.declared.packets.Request.{Request}
-use Rattle.sftp_wire.specs.declared.packets.Reply.{Reply}
-use Rattle.sftp_wire.specs.Spelling.{asked_handle}
-use Rattle.sftp_handles.specs.Handles.{Handles, open_at}
-use Rattle.sftp_handles.specs.State.{State}
 use Rattle.sftp_handles.specs.Seen.{seen}
-use Rattle.sftp_handles.specs.HandleRequests.{row_of, Change, nothing, rewrites, leaves, closes, change_of}
-use Rattle.sftp_handles.specs.Requests.{changed, after, after_by}
-use Rattle.sftp_handles.specs.Allowed.{Allowed, Refuses, Does}
-use Rattle.sftp_handles.specs.Clash.{Touched, everything, touched, touched_by, touched_through, may_change}
+use Rattle.sftp_handles.specs.HandleRequests.{row_of, Change, nothing, change_of}
 use Rattle.sftp_handles.proofs.Touches.{applied, change-touches, touched-stays}
 use Rattle.sftp_handles.proofs.Exchanges.{handle-of}
-use Rattle.sftp_server.specs.declared.queue.Entry.{Entry}
-use Rattle.sftp_server.specs.declared.queue.Progress.TheVariants.{Done}
-use Rattle.sftp_server.specs.declared.readiness.Note.{Note}
-use Rattle.sftp_server.specs.Machine.{is_pending_at}
-use Rattle.sftp_server.specs.Queue.{with_progress}
-use Rattle.sftp_server.specs.Readiness.{note_at, ask_at, IsNoted, IsDone, AreNotes}
-use Rattle.sftp_server.specs.RangedNotes.{is_on, resizes_by}
 use Rattle.sftp_server.proofs.RangedNotes.{resizes-on}
 use Rattle.sftp_server.proofs.StillRanged.{ranges-still, other-ranges-still}
 use Rattle.sftp_server.proofs.DoneNotes.{IsStep, done_notes, marked-done}
-use Rattle.sftp_handles.specs.declared.byte_range.ByteRange.{ByteRange}
-use Rattle.sftp_handles.specs.Ranges.{range}
 
 -- ---- a step
 
@@ -45,9 +31,7 @@ touched-same s t ask same = by (asked_handle ask)
 changed-handles : (s : State) (handle : List ℕ) (change : Change)
     → (changed s handle change).handles ≡ (applied s handle change).handles
 changed-handles s handle nothing = refl
-changed-handles s handle (rewrites number next) = refl
-changed-handles s handle (leaves left) = refl
-changed-handles s handle closes = refl
+changed-handles s handle change = refl
 
 touched-done : (s : State) (asked ask : Ask) (answer : Answer) (handle : List ℕ) → asked_handle asked ≡ Some handle
     → touched s asked ≢ everything → touched (after s asked answer) ask ≡ touched s ask

@@ -5,6 +5,7 @@ use Rattle.sftp_wire.specs.declared.packets.Packet.TheVariants.{Reply as reply_p
 use Rattle.sftp_wire.specs.declared.packets.Request.{Request}
 use Rattle.sftp_wire.specs.Spelling.{HasSpelling}
 use Rattle.sftp_transcript.specs.declared.events.Event.{Event}
+use Rattle.sftp_transcript.specs.Explained.{window as full_window}
 use Rattle.sftp_tree.specs.Tree.{Tree}
 use Rattle.sftp_handles.specs.State.{State, settled}
 use Rattle.sftp_handles.specs.Allowed.{Allowed}
@@ -47,11 +48,11 @@ HasGoodReply id Sent = Unit {0}
 abbrev pub IsSendable : Entry → Type 0
 IsSendable entry = HasGoodReply entry.request.id entry.progress
 
--- The window is 1 to 1,024, and the queue has at most that many requests, the first of which is not sent. Each reply of
--- the queue can be sent.
+-- The queue has at most a window of requests, the first of which is not sent. Each reply of the queue can be sent. The
+-- window is at least 1, and at most that of a session.
 pub record IsCore (window : ℕ) (queue : List Entry) : Type 0 where
   pub some : 1 ≤ window
-  pub bounded : window ≤ 1024
+  pub bounded : window ≤ full_window
   pub few : length queue ≤ window
   pub front : from_unsent queue ≡ queue
   pub sendable : AllByRecursion IsSendable queue

@@ -11,8 +11,8 @@ use Rattle.sftp_server.specs.declared.serving.Next.TheVariants.{Batch, End}
 use Rattle.sftp_server.specs.declared.taking.Front.{Front}
 use Rattle.sftp_server.specs.declared.taking.Front.TheVariants.{Taken, Full, Waiting, Fault}
 use Rattle.sftp_server.specs.Machine.{Machine}
-use Rattle.sftp_server.specs.Served.{closed_tree}
-use Rattle.sftp_server.specs.Sessions.{StreamBytes, Ahead, input_limit, IsRunning, IsEnding, Stops, tree_left}
+use Rattle.sftp_server.specs.Served.{closed_tree, StreamBytes}
+use Rattle.sftp_server.specs.Sessions.{Ahead, input_limit, IsRunning, IsEnding, Stops, tree_left}
 use Rattle.sftp_server.specs.Fronts.{fault_of}
 
 -- how a session ended, by its last state and its fault, if it has one

@@ -13,7 +13,8 @@ use Rattle.sftp_server.specs.declared.refusals.Refuse.TheVariants as refusals
 use Rattle.sftp_server.specs.declared.taking.Front.{Front}
 use Rattle.sftp_server.specs.declared.taking.Front.TheVariants.{Taken, Full, Waiting, Fault}
 use Rattle.sftp_server.specs.Machine.{Machine}
-use Rattle.sftp_server.specs.Sessions.{StreamBytes, stream_bytes, Ahead, IsRunning, Stops, tree_left}
+use Rattle.sftp_server.specs.Served.{StreamBytes, stream_bytes}
+use Rattle.sftp_server.specs.Sessions.{Ahead, IsRunning, Stops, tree_left}
 
 abbrev pub fault_of : Front → Option SessionFault
 fault_of Taken = None

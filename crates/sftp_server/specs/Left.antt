@@ -11,7 +11,9 @@ use Rattle.sftp_transcript.specs.Explained.{StepOf, Run, exchanges_of}
 use Rattle.sftp_tree.specs.Tree.{Tree}
 use Rattle.sftp_handles.specs.State.{State, settled}
 use Rattle.sftp_handles.specs.Allowed.{Allowed}
-use Rattle.sftp_server.specs.Served.{sent_by, closed_tree, IsListed, IsBeginning, IsCutInLast}
+use Rattle.sftp_server.specs.declared.ends.Ended.{Ended}
+use Rattle.sftp_server.specs.declared.ends.Ended.TheVariants as ends
+use Rattle.sftp_server.specs.Served.{sent_by, closed_tree, IsListed, IsBeginning, IsCutInLast, StreamBytes, Passed}
 
 -- The requests that were done, with their replies, out of all requests in the order asked: each whose reply was sent,
 -- with that reply, and some of the others, each with a reply.
@@ -53,3 +55,20 @@ pub record IsLeft (start : Tree) (input output log : List ℕ) (left : Option Tr
   pub written : IsBeginning output (sent_by Server packets)
   pub logged : IsCutInLast packets log
   pub tree : IsLeftAfter start packets left
+
+-- ---- what is promised of a call of `serve_keeping_tree`, beside what `Serves` says
+
+-- what was read, written and logged between two moments is that of a session on this tree that left this one, if any
+pub record Leaves (start : Tree) (past now : StreamBytes) (left : Option Tree) : Type 0 where
+  pub input : List ℕ
+  pub output : List ℕ
+  pub log : List ℕ
+  pub passed : Passed past now input output log
+  pub is_left : IsLeft start input output log left
+
+-- The tree that a session left, beside its end: none if the end has a tree.
+abbrev pub LeavesAt : Tree → StreamBytes → StreamBytes → Ended → Option Tree → Type 0
+LeavesAt start past now (ends.Finished end) left = left ≡ None
+LeavesAt start past now (ends.Fault end fault) left = left ≡ None
+LeavesAt start past now (ends.Io stream) left = Leaves start past now left
+LeavesAt start past now ends.NoMemory left = Leaves start past now left

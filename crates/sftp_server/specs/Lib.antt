@@ -1,15 +1,17 @@
+-- Words of public contracts.
 pub mod Machine
-pub mod Queue
-pub mod Choices
-pub mod Schedules
 pub mod Core
-pub mod Readiness
-pub mod RangedNotes
+pub mod Schedules
 pub mod Served
 pub mod Left
+pub mod Examples
+-- Words of private contracts alone.
+pub mod Queue
+pub mod Choices
+pub mod Readiness
+pub mod RangedNotes
 pub mod Sessions
 pub mod Fronts
 pub mod Ending
 pub mod Opening
 pub mod Scripts
-pub mod Examples

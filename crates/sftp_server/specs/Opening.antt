@@ -4,6 +4,7 @@ use Rattle.sftp_wire.specs.declared.packets.Packet.{Packet}
 use Rattle.sftp_wire.specs.declared.packets.Side.TheVariants.{Client}
 use Rattle.sftp_wire.specs.Reading.{front_of}
 use Rattle.sftp_transcript.specs.Records.{IsInit}
+use Rattle.sftp_transcript.specs.Explained.{window}
 use Rattle.sftp_tree.specs.Tree.{Tree}
 use Rattle.sftp_handles.specs.State.{Good}
 use Rattle.sftp_server.specs.declared.ends.SessionFault.TheVariants as faults
@@ -12,9 +13,8 @@ use Rattle.sftp_server.specs.declared.opening.First.{First}
 use Rattle.sftp_server.specs.declared.opening.First.TheVariants.{Init, Fault}
 use Rattle.sftp_server.specs.Machine.{at_start}
 use Rattle.sftp_server.specs.Core.{started}
-use Rattle.sftp_server.specs.Served.{IsUnopenedBy}
-use Rattle.sftp_server.specs.Sessions.{StreamBytes, stream_bytes, Ahead, Stops, tree_left, IsRunning, IsUnopenedYet}
-use Rattle.sftp_server.specs.Sessions.{BeginsWithGreeting}
+use Rattle.sftp_server.specs.Served.{IsUnopenedBy, StreamBytes, stream_bytes}
+use Rattle.sftp_server.specs.Sessions.{Ahead, Stops, tree_left, IsRunning, IsUnopenedYet, BeginsWithGreeting}
 
 -- what the bytes begin with; `over`: no more will come
 abbrev pub IsFirst : List ℕ → Type 0 → First → Type 0
@@ -48,6 +48,6 @@ OpensOn ahead0 ahead1 written0 written1 logged0 logged1 result =
     (start : Tree) (past : StreamBytes) (left : Option (List ℕ)) → Good (started start)
     → IsUnopenedYet past (stream_bytes left written0 logged0) ahead0
     → MatchResult result
-    (λ _. IsRunning start past (stream_bytes left written1 logged1) ahead1 (at_start (started start) 1024) None)
+    (λ _. IsRunning start past (stream_bytes left written1 logged1) ahead1 (at_start (started start) window) None)
     (λ stop. Stops start past (stream_bytes left written1 logged1) stop
-    (tree_left (at_start (started start) 1024)))
+    (tree_left (at_start (started start) window)))

@@ -1,8 +1,9 @@
 -- What a session of the server reads, writes and logs, and how it ends (draft-ietf-secsh-filexfer-02, sections 3 to 7).
 -- Own to this profile: the window, that an unreadable packet ends the session, and how sessions end.
-use Rattle.std.specs.Prelude.{◌≡◌, ◌≢◌, ◌⊎◌, ◌==◌, ◌||◌, ℕ, Bool, false, List, [], ◌∷◌, ◌++◌, length}
-use Rattle.std.specs.Prelude.{map, codes, Option, Some, None, Result, Ok, Err, IsTrue}
+use Rattle.std.specs.Prelude.{◌≡◌, ◌≢◌, ◌⊎◌, ◌==◌, ◌||◌, ℕ, Bool, true, false, List, [], ◌∷◌, ◌++◌, length}
+use Rattle.std.specs.Prelude.{map, Option, Some, None, Result, Ok, Err, IsTrue}
 use Rattle.std.specs.List.{flat_map, AllByRecursion}
+use Rattle.std.specs.Io.KnownBytes.{Appends, Consumes, IsAtEnd}
 use Rattle.sftp_wire.specs.declared.errors.Fault.{Fault}
 use Rattle.sftp_wire.specs.declared.errors.WireError.TheVariants.{Unreadable}
 use Rattle.sftp_wire.specs.declared.packets.Packet.{Packet}
@@ -15,6 +16,8 @@ use Rattle.sftp_wire.specs.Reading.{front_of}
 use Rattle.sftp_wire.specs.Framing.{place_after}
 use Rattle.sftp_transcript.specs.declared.events.Event.{Event}
 use Rattle.sftp_transcript.specs.declared.events.Event.TheVariants.{Asked, Replied}
+use Rattle.sftp_transcript.specs.Streams.{one_more}
+use Rattle.sftp_transcript.specs.Log.{Log}
 use Rattle.sftp_transcript.specs.Transcript.{packet_of, record_text, transcript_opening, IsEvent}
 use Rattle.sftp_transcript.specs.Records.{IsInit}
 use Rattle.sftp_transcript.specs.Explained.{Explained, BeginsFrom}
@@ -25,6 +28,7 @@ use Rattle.sftp_server.specs.declared.ends.Ended.{Ended}
 use Rattle.sftp_server.specs.declared.ends.Ended.TheVariants as ends
 use Rattle.sftp_server.specs.declared.ends.SessionFault.{SessionFault}
 use Rattle.sftp_server.specs.declared.ends.SessionFault.TheVariants as faults
+use Rattle.sftp_server.specs.declared.ends.Stream.{Stream}
 use Rattle.sftp_server.specs.declared.ends.Stream.TheVariants as streams
 
 -- ---- the packets of a session
@@ -212,3 +216,53 @@ Served start input over output log (ends.Fault end fault) =
     IsUnopened start input over output log end fault ⊎ IsFaulty start input over output log end fault
 Served start input over output log (ends.Io stream) = IsStopped start input output log (ends.Io stream)
 Served start input over output log ends.NoMemory = IsStopped start input output log ends.NoMemory
+
+-- ---- what is promised of a call of `serve`
+
+-- nothing was logged so far
+pub record IsUnused (log : Log) : Type 0 where
+  pub sound : log.broken ≡ None
+  pub unused : log.records ≡ 0
+
+-- the bytes that a session's input has left, those written, and those logged, each where they are known
+pub record StreamBytes : Type 0 where
+  pub left : Option (List ℕ)
+  pub written : Option (List ℕ)
+  pub logged : Option (List ℕ)
+
+abbrev pub stream_bytes : Option (List ℕ) → Option (List ℕ) → Option (List ℕ) → StreamBytes
+stream_bytes left written logged = record { left = left; written = written; logged = logged }
+
+-- between two moments these bytes were read, written and logged
+pub record Passed (past now : StreamBytes) (input output log : List ℕ) : Type 0 where
+  pub read : Consumes past.left now.left input
+  pub written : Appends past.written now.written output
+  pub logged : Appends past.logged now.logged log
+
+-- what was read, written and logged between two moments is that of a session on this tree that ended so
+pub record Serves (start : Tree) (past now : StreamBytes) (ended : Ended) : Type 0 where
+  pub input : List ℕ
+  pub output : List ℕ
+  pub log : List ℕ
+  pub passed : Passed past now input output log
+  pub served : Served start input (IsAtEnd now.left) output log ended
+
+abbrev pub is_same_stream : Stream → Stream → Bool
+is_same_stream streams.Reader streams.Reader = true
+is_same_stream streams.Reader streams.Writer = false
+is_same_stream streams.Reader streams.Log = false
+is_same_stream streams.Writer streams.Reader = false
+is_same_stream streams.Writer streams.Writer = true
+is_same_stream streams.Writer streams.Log = false
+is_same_stream streams.Log streams.Reader = false
+is_same_stream streams.Log streams.Writer = false
+is_same_stream streams.Log streams.Log = true
+
+abbrev pub failures_if : Bool → ℕ → ℕ
+failures_if true count = one_more count
+failures_if false count = count
+
+-- the failures of a stream after a session: one more if the session ended because of it, and no more if not
+abbrev pub CountsEnd : Stream → Ended → ℕ → ℕ → Type 0
+CountsEnd stream (ends.Io failed) old new = new ≡ failures_if (is_same_stream stream failed) old
+CountsEnd stream other old new = new ≡ old

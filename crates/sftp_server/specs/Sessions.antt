@@ -1,9 +1,9 @@
 -- A session of the server while it runs: what it read, wrote and logged since it began, and which requests it has
--- (draft-ietf-secsh-filexfer-02, sections 3 to 7).
-use Rattle.std.specs.Prelude.{◌≡◌, ◌≢◌, ◌⊎◌, ◌*◌, ℕ, Bool, true, false, List, [], ◌++◌, length}
+-- (draft-ietf-secsh-filexfer-02, sections 3 to 7). Words of private contracts: no public one reaches this file.
+use Rattle.std.specs.Prelude.{◌≡◌, ◌≢◌, ◌⊎◌, ℕ, false, List, [], ◌++◌, length}
 use Rattle.std.specs.Prelude.{Option, Some, None, Result, Err, MatchResult, IfErr, IsTrue, drop}
 use Rattle.std.specs.List.{AllByRecursion}
-use Rattle.std.specs.Io.KnownBytes.{Appends, Consumes, IsAtEnd, Keeps}
+use Rattle.std.specs.Io.KnownBytes.{Appends, IsAtEnd, Keeps}
 use Rattle.sftp_wire.specs.declared.errors.WireError.TheVariants.{Unreadable}
 use Rattle.sftp_wire.specs.declared.packets.Packet.{Packet}
 use Rattle.sftp_wire.specs.declared.packets.Side.TheVariants.{Client, Server}
@@ -11,9 +11,10 @@ use Rattle.sftp_wire.specs.Spelling.{packet_limit, spelling}
 use Rattle.sftp_wire.specs.Reading.{front_of}
 use Rattle.sftp_wire.specs.Framing.{place_after}
 use Rattle.sftp_transcript.specs.declared.events.Event.{Event}
-use Rattle.sftp_transcript.specs.Streams.{one_more, AppendsPart}
+use Rattle.sftp_transcript.specs.Streams.{AppendsPart}
 use Rattle.sftp_transcript.specs.Log.{Log, opened_text}
 use Rattle.sftp_transcript.specs.Transcript.{record_text, IsEvent}
+use Rattle.sftp_transcript.specs.Explained.{window}
 use Rattle.sftp_tree.specs.Tree.{Tree}
 use Rattle.sftp_handles.specs.State.{State, Good}
 use Rattle.sftp_server.specs.declared.ends.Ended.{Ended}
@@ -29,54 +30,17 @@ use Rattle.sftp_server.specs.declared.queue.Entry.{Entry}
 use Rattle.sftp_server.specs.Machine.{Machine, is_unsent}
 use Rattle.sftp_server.specs.Core.{started, IsReached}
 use Rattle.sftp_server.specs.Served.{session_packets, sent_by, recorded, IsGreeting, answered_last, BeginsWithId}
-use Rattle.sftp_server.specs.Served.{BeginsWithInit, EndsSession, Served, closed_tree}
-use Rattle.sftp_server.specs.Left.{IsLeft}
+use Rattle.sftp_server.specs.Served.{BeginsWithInit, EndsSession, closed_tree, StreamBytes, stream_bytes, Passed}
+use Rattle.sftp_server.specs.Served.{Serves, is_same_stream, failures_if}
+use Rattle.sftp_server.specs.Left.{Leaves, LeavesAt}
 
--- ---- the streams
+-- ---- the whole
 
 -- how many bytes are held at most: as many as the longest packet has. Each read asks for what is left of them
 abbrev pub input_limit : ℕ
 input_limit = packet_limit
 
--- the bytes that a session's input has left, those written, and those logged, each where they are known
-pub record StreamBytes : Type 0 where
-  pub left : Option (List ℕ)
-  pub written : Option (List ℕ)
-  pub logged : Option (List ℕ)
-
-abbrev pub stream_bytes : Option (List ℕ) → Option (List ℕ) → Option (List ℕ) → StreamBytes
-stream_bytes left written logged = record { left = left; written = written; logged = logged }
-
--- between two moments these bytes were read, written and logged
-pub record Passed (past now : StreamBytes) (input output log : List ℕ) : Type 0 where
-  pub read : Consumes past.left now.left input
-  pub written : Appends past.written now.written output
-  pub logged : Appends past.logged now.logged log
-
--- what was read, written and logged between two moments is that of a session on this tree that ended so
-pub record Serves (start : Tree) (past now : StreamBytes) (ended : Ended) : Type 0 where
-  pub input : List ℕ
-  pub output : List ℕ
-  pub log : List ℕ
-  pub passed : Passed past now input output log
-  pub served : Served start input (IsAtEnd now.left) output log ended
-
--- what was read, written and logged between two moments is that of a session on this tree that left this one, if any
-pub record Leaves (start : Tree) (past now : StreamBytes) (left : Option Tree) : Type 0 where
-  pub input : List ℕ
-  pub output : List ℕ
-  pub log : List ℕ
-  pub passed : Passed past now input output log
-  pub is_left : IsLeft start input output log left
-
--- The tree that a session left, beside its end: none if the end has a tree.
-abbrev pub LeavesAt : Tree → StreamBytes → StreamBytes → Ended → Option Tree → Type 0
-LeavesAt start past now (ends.Finished end) left = left ≡ None
-LeavesAt start past now (ends.Fault end fault) left = left ≡ None
-LeavesAt start past now (ends.Io stream) left = Leaves start past now left
-LeavesAt start past now ends.NoMemory left = Leaves start past now left
-
--- a session ended so, and left that
+-- a session ended so, and left this tree, if any
 abbrev pub IsSessionEnd : Tree → StreamBytes → StreamBytes → SessionEnd → Type 0
 IsSessionEnd start past now end =
     Serves start past now end.ended × LeavesAt start past now end.ended end.left
@@ -96,21 +60,6 @@ pub record Stops (start : Tree) (past now : StreamBytes) (stop : Stop) (left : O
 abbrev pub tree_left : Machine State → Option Tree
 tree_left core = Some (closed_tree core.state)
 
-abbrev pub is_same_stream : Stream → Stream → Bool
-is_same_stream streams.Reader streams.Reader = true
-is_same_stream streams.Reader streams.Writer = false
-is_same_stream streams.Reader streams.Log = false
-is_same_stream streams.Writer streams.Reader = false
-is_same_stream streams.Writer streams.Writer = true
-is_same_stream streams.Writer streams.Log = false
-is_same_stream streams.Log streams.Reader = false
-is_same_stream streams.Log streams.Writer = false
-is_same_stream streams.Log streams.Log = true
-
-abbrev pub failures_if : Bool → ℕ → ℕ
-failures_if true count = one_more count
-failures_if false count = count
-
 -- the failures of a stream after a session stopped: one more if the stream is why, and no more if not
 abbrev pub CountsStop : Stream → Stop → ℕ → ℕ → Type 0
 CountsStop stream (stops.Io failed) old new = new ≡ failures_if (is_same_stream stream failed) old
@@ -120,11 +69,6 @@ CountsStop stream stops.NoMemory old new = new ≡ old
 abbrev pub CountsCall : {A : Type 0} → Stream → Result A Stop → ℕ → ℕ → Type 0
 CountsCall stream result old new = MatchResult result (λ _. new ≡ old) (λ stop. CountsStop stream stop old new)
 
--- the same of the whole session
-abbrev pub CountsEnd : Stream → Ended → ℕ → ℕ → Type 0
-CountsEnd stream (ends.Io failed) old new = new ≡ failures_if (is_same_stream stream failed) old
-CountsEnd stream other old new = new ≡ old
-
 -- the call does not stop the session because of this stream
 abbrev pub Spares : {A : Type 0} → Stream → Result A Stop → Type 0
 Spares stream result = IfErr result (λ stop. stop ≢ stops.Io stream)
@@ -133,11 +77,6 @@ Spares stream result = IfErr result (λ stop. stop ≢ stops.Io stream)
 pub record IsLogging (log : Log) : Type 0 where
   pub sound : log.broken ≡ None
   pub begun : log.records ≢ 0
-
--- nothing was logged so far
-pub record IsUnused (log : Log) : Type 0 where
-  pub sound : log.broken ≡ None
-  pub unused : log.records ≡ 0
 
 -- ---- a session that is open
 
@@ -171,7 +110,7 @@ pub record IsRunning (start : Tree) (past now : StreamBytes) (ahead : Ahead) (co
   pub good : Good (started start)
   pub greeting : IsGreeting init
   pub spelled : AllByRecursion IsEvent events
-  pub reached : IsReached (started start) 1024 events core
+  pub reached : IsReached (started start) window events core
   pub passed : Passed past now (sent_by Client (session_packets init events) ++ ahead.held)
       (sent_by Server (session_packets init events)) (recorded (session_packets init events))
   pub place : ahead.place ≡ place_after 0 (length (sent_by Client (session_packets init events)))

@@ -1,6 +1,6 @@
-//! Exact copies of requests, and what holds of each value of their types. Callers learn that only where code reads the
-//! value, so functions that change nothing read it here, and their contracts say it: that bytes are bytes, and that
-//! numbers have their bits.
+//! Exact copies of requests, and what their types say of each value: that bytes are bytes, and that numbers have their
+//! bits. A proof learns that only of what code reads. So functions here read a request, change nothing, and state it in
+//! their contracts.
 ghost use Rattle.std.specs.Prelude.{◌≡◌, ◌<◌, ◌^◌, IfOk, OnOk, IfSome};
 ghost use Rattle.sftp_wire.specs.Spelling.{AreBytes, FitsTwo};
 ghost use Rattle.sftp_tree.specs.AskValues.{IsAsk, IsAttrs};

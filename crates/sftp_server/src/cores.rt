@@ -1,10 +1,11 @@
 //! The core of a server: takes requests, does them, and gives their replies
 //! (draft-ietf-secsh-filexfer-02, section 6.1).
-ghost use Rattle.std.specs.Prelude.{◌≡◌, ◌≢◌, ◌≤◌, [], true, false, length, IsTrue, IfOk, IfErr, OnOk, OnErr, IfSome};
+ghost use Rattle.std.specs.Prelude.{◌≡◌, ◌≢◌, ◌≤◌, [], false, length, IsTrue, IfOk, IfErr, OnOk, OnErr, IfSome};
 ghost use Rattle.std.specs.Prelude.{IfNone};
 ghost use Rattle.std.specs.Prelude.{◌↔◌, ◌<◌, nat_lt, Some, if◌then◌else◌, slice_get};
 ghost use Rattle.sftp_wire.specs.declared.packets.Packet.TheVariants.{Reply as reply_packet};
 ghost use Rattle.sftp_wire.specs.Spelling.{HasSpelling};
+ghost use Rattle.sftp_transcript.specs.Explained.{window as full_window};
 ghost use Rattle.sftp_handles.specs.State as states;
 ghost use Rattle.sftp_handles.specs.Allowed.{Allowed};
 ghost use Rattle.sftp_server.specs.declared.refusals.Did.TheVariants as did;
@@ -25,7 +26,7 @@ use sftp_tree::{NoMemory, Tree};
 use sftp_wire::{Reply, Request};
 use std::marker::Model;
 
-/// What a core may do next, by the position in its queue.
+/// What a core may do next, by a position in its queue.
 #[derive(Clone, Copy)]
 pub(crate) enum Choice {
     /// Do the request.
@@ -61,13 +62,13 @@ impl Model for Core {
 
 impl Core {
     /// A core on a tree, with nothing open and nothing asked; pins that the tree has are removed. Its queue takes up to
-    /// `window` requests, which is 1 to 1,024.
+    /// `window` requests, which is 1 to `sftp_transcript::WINDOW`.
     ///
     /// # Errors
     ///
     /// `NoMemory` if memory runs out.
     pub fn new(tree: Tree, window: usize) -> Result<Core, NoMemory>
-        requires { (1 ≤ window) × (window ≤ 1024) }
+        requires { (1 ≤ window) × (window ≤ full_window) }
         ensures start { IfOk result (λ core. core ≡ at_start (started tree) window) }
         ensures good { OnOk result (states.Good (started tree)) }
     {
@@ -84,8 +85,8 @@ impl Core {
     ///
     /// # Errors
     ///
-    /// They carry the request; the core is unchanged. `Full` if there is no room in the queue; otherwise `IdInUse` if a
-    /// request with this id is unanswered; `NoMemory` if memory runs out.
+    /// Each carries the request, and the core is unchanged. `Full` if there is no room in the queue; else `IdInUse` if
+    /// a request with this id is unanswered; `NoMemory` if memory runs out.
     pub fn deliver(&mut self, request: Request) -> Result<(), (Request, Refuse)>
         ensures could { OnOk result (IsTrue (can_take self.old request)) }
         ensures taken { OnOk result (self.new ≡ taken self.old request) }
@@ -125,7 +126,7 @@ impl Core {
         }
     }
 
-    /// Why no request of this id can be taken, memory aside.
+    /// Why a request with this id cannot be taken, memory aside.
     pub(crate) fn refusal(&self, id: u32) -> Option<Refuse>
         ensures full { (result ≡ Some full) ↔ (self.now.window ≤ length self.now.queue) }
         ensures in_use { (result ≡ Some in_use)

@@ -3,6 +3,7 @@
 ghost use Rattle.std.specs.Prelude.{◌≡◌, ℕ, ◌∷◌, ◌++◌, [], codes, length};
 ghost use Rattle.sftp_wire.specs.Examples.{hex, version_bytes};
 ghost use Rattle.sftp_transcript.specs.Examples.{handshake_bytes};
+ghost use Rattle.sftp_transcript.specs.Explained.{window};
 ghost use Rattle.sftp_tree.specs.Tree.{Tree};
 ghost use Rattle.sftp_tree.specs.Picture.{blank};
 ghost use Rattle.sftp_handles.specs.Allowed.{Allowed};
@@ -19,8 +20,8 @@ use sftp_wire::{Fault, WireError};
 /// then both are done in the order asked, and both succeed. Their replies are sent in the opposite order. The tree is
 /// blank again.
 pub fn work_keeps_the_order()
-    ensures { AreActs Allowed server_clash (at_start (started blank) 1024) made_and_removed answered_backwards
-        (at_start (started blank) 1024) }
+    ensures { AreActs Allowed server_clash (at_start (started blank) window) made_and_removed answered_backwards
+        (at_start (started blank) window) }
 {}
 
 /// An INIT of version 3 and nothing else: VERSION is written, the tree stays as it came, and the log has 143 bytes.

@@ -2,7 +2,7 @@
 //! contract.
 ghost use Rattle.std.specs.Prelude.{◌≡◌, ◌≤◌, ℕ, List, [], IsTrue};
 ghost use Rattle.sftp_transcript.specs.declared.events.Event.{Event};
-ghost use Rattle.sftp_transcript.specs.Explained.{Explained, BeginsFrom, in_window};
+ghost use Rattle.sftp_transcript.specs.Explained.{Explained, BeginsFrom, in_window, window as full_window};
 ghost use Rattle.sftp_handles.specs.State.{State, Good};
 ghost use Rattle.sftp_handles.specs.Allowed.{Allowed};
 ghost use Rattle.sftp_server.specs.Machine.{Machine};
@@ -19,16 +19,17 @@ use sftp_handles::laws::{good_stays_good, some_reply};
 /// lead to that state, one at a time in the order asked. The window is never exceeded, and the state stays good.
 pub fn sessions_are_explained()
     ensures begun { (start : State) (window : ℕ) (events : List Event) (core : Machine State) →
-        Good start → window ≤ 1024 → IsReached start window events core → BeginsFrom Allowed start events }
+        Good start → window ≤ full_window → IsReached start window events core → BeginsFrom Allowed start events }
     ensures explained { (start : State) (window : ℕ) (events : List Event) (core : Machine State) →
-        Good start → window ≤ 1024 → IsReached start window events core → core.queue ≡ [] →
+        Good start → window ≤ full_window → IsReached start window events core → core.queue ≡ [] →
         Explained Allowed start events core.state }
     ensures done { (start : State) (window : ℕ) (events : List Event) (core : Machine State) →
-        Good start → window ≤ 1024 → IsReached start window events core → LeadsTo Allowed start events core.state }
+        Good start → window ≤ full_window → IsReached start window events core →
+        LeadsTo Allowed start events core.state }
     ensures in_window { (start : State) (window : ℕ) (events : List Event) (core : Machine State) →
-        Good start → window ≤ 1024 → IsReached start window events core → IsTrue (in_window events) }
+        Good start → window ≤ full_window → IsReached start window events core → IsTrue (in_window events) }
     ensures good { (start : State) (window : ℕ) (events : List Event) (core : Machine State) →
-        Good start → window ≤ 1024 → IsReached start window events core → Good core.state }
+        Good start → window ≤ full_window → IsReached start window events core → Good core.state }
 {
     good_stays_good();
     some_reply();

@@ -9,8 +9,8 @@ ghost use Rattle.sftp_transcript.specs.Log.{opened_text};
 ghost use Rattle.sftp_transcript.specs.Transcript.{record_text};
 ghost use Rattle.sftp_server.specs.declared.ends.Stop.TheVariants as stops;
 ghost use Rattle.sftp_server.specs.declared.ends.Stream.TheVariants as streams;
-ghost use Rattle.sftp_server.specs.Sessions.{IsUnused, IsLogging, BeginsWithGreeting, ahead_without, CountsCall};
-ghost use Rattle.sftp_server.specs.Sessions.{Spares};
+ghost use Rattle.sftp_server.specs.Served.{IsUnused};
+ghost use Rattle.sftp_server.specs.Sessions.{IsLogging, BeginsWithGreeting, ahead_without, CountsCall, Spares};
 ghost use Rattle.sftp_server.specs.Opening.{IsFirst, IsInFront, IsGreetingOf, OpensOn, ReadsFirst};
 
 use crate::ends::{SessionFault, Stop, Stream};

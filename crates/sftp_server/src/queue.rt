@@ -33,11 +33,11 @@ pub struct Entry {
     pub progress: Progress,
 }
 
-/// The requests of a core, in the order asked. The first is not sent.
+/// The requests of a core, in the order asked. The reply of the first is not sent yet.
 #[derive(Drop)]
 pub(crate) struct Queue {
     entries: VecDeque<Entry>,
-    /// The ids of the unsent requests.
+    /// The ids of the requests whose replies are not sent yet.
     ids: IndexMap<u32, ()>,
 }
 
@@ -78,7 +78,7 @@ impl Queue {
         self.ids.contains_key(&id)
     }
 
-    /// Puts a request at the end, pending.
+    /// Adds a request at the end, pending.
     ///
     /// # Errors
     ///
@@ -148,8 +148,8 @@ impl Queue {
         drop(replace(&mut entry.progress, Progress::Done(reply)));
     }
 
-    /// The reply of the request at this position, which is then sent, if it is done and not sent. Requests at the front
-    /// that were sent leave the queue.
+    /// The reply of the request at this position if it is done and not sent; it is then marked as sent. Requests at the
+    /// front whose replies were sent leave the queue.
     pub(crate) fn send(&mut self, k: usize) -> Option<Reply>
         ensures reply { result ≡ reply_at self.old k }
         ensures sent { IfSome result (λ reply. self.new ≡ from_unsent (with_progress self.old k progress.Sent)) }
@@ -162,7 +162,7 @@ impl Queue {
     }
 }
 
-/// The id and the reply of the request at this position, which is then marked as sent, if it is done and not sent.
+/// The id and the reply of the request at this position if it is done and not sent; it is then marked as sent.
 fn take_reply(entries: &mut VecDeque<Entry>, k: usize) -> Option<(u32, Reply)>
     ensures reply { option_map (λ r. r.1) result ≡ reply_at entries.old.items k }
     ensures id { IfSome result (λ r. HasReply entries.old.items k r.0 r.1) }
@@ -182,7 +182,7 @@ fn take_reply(entries: &mut VecDeque<Entry>, k: usize) -> Option<(u32, Reply)>
     }
 }
 
-/// Takes the requests off the front that were sent.
+/// Removes from the front the requests whose replies were sent.
 fn drop_sent(entries: &mut VecDeque<Entry>)
     ensures { entries.new.items ≡ from_unsent entries.old.items }
 {
@@ -191,7 +191,7 @@ fn drop_sent(entries: &mut VecDeque<Entry>)
     }
 }
 
-/// Whether the first request was sent.
+/// Whether the reply of the first request was sent.
 fn is_sent_first(entries: &VecDeque<Entry>) -> bool
     ensures { result ≡ sent_in (slice_get entries.now.items 0) }
 {

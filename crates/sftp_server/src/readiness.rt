@@ -1,6 +1,6 @@
-//! Which requests of a queue are ready, known without going over those before.
+//! Which requests of a queue are ready, without a search through the requests before each.
 ghost use Rattle.std.specs.Prelude.{◌≡◌, ◌≢◌, ◌+◌, ◌-◌, ◌<◌, ◌≤◌, ◌&&◌, ◌++◌, ℕ, suc, [], ◌∷◌, true, false};
-ghost use Rattle.std.specs.Prelude.{IsTrue, IfOk, OnOk, length, take, drop, set};
+ghost use Rattle.std.specs.Prelude.{OnOk, length, take, drop, set};
 ghost use Rattle.std.specs.VecDeque.{deque_len, deque_capacity};
 ghost use Rattle.sftp_handles.specs.Clash.{touched, share};
 ghost use Rattle.sftp_handles.specs.Ranges as ranges;
@@ -8,7 +8,7 @@ ghost use Rattle.sftp_handles.specs.Ranges.{range};
 ghost use Rattle.sftp_handles.specs.Touch.{touched_as};
 ghost use Rattle.sftp_server.specs.Readiness.{blank, note_at, portion_at, ask_at, is_in_way, IsFree, IsBlockedBack};
 ghost use Rattle.sftp_server.specs.Readiness.{IsPlaced, AreAlike, possible_count, IsNoted, AreBlocked, AreBlockedBut};
-ghost use Rattle.sftp_server.specs.Readiness.{IsShut, IsMarked, AreNotes, IsOpened, IsTouched};
+ghost use Rattle.sftp_server.specs.Readiness.{IsShut, AreNotes, IsOpened, IsTouched};
 ghost use Rattle.sftp_server.specs.Readiness.{CanRefresh, IsSettling, IsSettled, IsMarkedBut, AreNotReadyOn};
 ghost use Rattle.sftp_server.specs.Readiness.{AreBlockedButOn};
 ghost use Rattle.sftp_server.specs.Readiness as words;
@@ -25,21 +25,21 @@ use std::collections::VecDeque;
 pub struct Note {
     /// What it touches, while it is open and pending.
     pub touch: Touch,
-    /// The range of its file that it keeps to, if it keeps to one. It may be out of date behind a pending request that
+    /// The range of its file that it keeps to, if any. It may be out of date while an earlier request is pending that
     /// may change the length of the file.
     pub range: Option<ByteRange>,
     /// It is not done yet.
     pub pending: bool,
-    /// It is ready, or it is done and its reply is not sent yet.
+    /// It is ready, or it is done and its reply is still to be sent.
     pub possible: bool,
-    /// How far back a pending request is that it waits for, if it waits for one.
+    /// If it waits for a pending request: how many positions back that one is.
     pub blocker: usize,
-    /// How far forward requests may be that wait for this one.
+    /// How many positions further on, at most, the requests are that wait for this one.
     pub waiter: usize,
 }
 
-/// A note for each request of a queue. The requests up to the first pending one that touches everything are open: no
-/// request after it can be ready, and what they touch stays until it is done.
+/// A note for each request of a queue. The requests up to the first pending one that touches everything are open. Until
+/// that one is done, no request behind it can be ready, and what the open ones touch does not change.
 #[derive(Drop)]
 pub(crate) struct Readiness {
     notes: VecDeque<Note>,
@@ -108,7 +108,7 @@ impl Readiness {
         let mut before = 0;
         let mut k = 0;
         'each: while k < self.notes.len() {
-            // Out of order no branch by `possible` is foreseen, so the flag is added.
+            // The flag is added and not tested: out of order the processor would often guess the branch wrong.
             let upto = before + as_count(self.notes[k].possible);
             if upto > number {
                 return k;
@@ -119,7 +119,7 @@ impl Readiness {
         unreachable!()
     }
 
-    /// Reserves memory for one note more.
+    /// Reserves memory for one more note.
     ///
     /// # Errors
     ///
@@ -157,7 +157,7 @@ impl Readiness {
         self.open_more(session, queue);
     }
 
-    /// Notes that the request at this position is done, and its reply is to be sent.
+    /// Notes that the request at this position is done; its reply is still to be sent.
     pub(crate) fn mark_done(&mut self, k: usize)
         requires { k < length self.old.notes.items }
         ensures notes { self.new.notes.items
@@ -170,7 +170,7 @@ impl Readiness {
         self.notes[k].pending = false;
     }
 
-    /// Looks again at the requests that may be ready since the one at this position is done.
+    /// Looks again at the requests that may have become ready because the one at this position is done.
     pub(crate) fn refresh(&mut self, session: &Session<SlabTable>, queue: &Queue, k: usize)
         requires { CanRefresh session.now queue.now self.old k }
         ensures notes { AreNotes session.now queue.now self.new.notes.items self.new.first_pending self.new.opened
@@ -183,7 +183,7 @@ impl Readiness {
         self.open_more(session, queue);
     }
 
-    /// Looks again at the requests on a file, if the one at `k`, which is done, may have changed the length of that.
+    /// If the request at `k`, which is done, may have changed the length of a file, looks again at the requests on it.
     fn settle(&mut self, session: &Session<SlabTable>, queue: &Queue, k: usize)
         requires { CanRefresh session.now queue.now self.old k }
         ensures settled { IsSettled session.now queue.now self.new.notes.items self.new.first_pending self.new.opened
@@ -216,7 +216,7 @@ impl Readiness {
         }
     }
 
-    /// Looks again at the requests on a file behind the one at `k`, up to and with the first that may still change the
+    /// Looks again at the requests on a file behind the one at `k`, as far as the first that may still change the
     /// length of the file: those behind that one are not ready anyway.
     fn settle_file(&mut self, session: &Session<SlabTable>, queue: &Queue, k: usize, file: FileNo)
         requires within { k < self.old.opened }
@@ -267,7 +267,7 @@ impl Readiness {
         self.resizes(q, file)
     }
 
-    /// Whether the request at this position is pending, and on the file by its note.
+    /// Whether, by its note, the request at this position is pending and on the file.
     fn is_on(&self, q: usize, file: FileNo) -> bool
         requires { q < length self.now.notes.items }
         ensures { result ≡ ((note_at self.now.notes.items q).pending
@@ -360,7 +360,7 @@ impl Readiness {
         note.pending && !note.possible && note.blocker == q - k
     }
 
-    /// Opens requests until one is pending that touches everything.
+    /// Opens requests as far as the first pending one that touches everything.
     fn open_more(&mut self, session: &Session<SlabTable>, queue: &Queue)
         requires { AreNotes session.now queue.now self.old.notes.items self.old.first_pending self.old.opened
             self.old.writers self.old.possible }
@@ -373,7 +373,7 @@ impl Readiness {
         }
     }
 
-    /// Whether one request more can be opened.
+    /// Whether one more request can be opened.
     fn can_open(&self) -> bool
         requires { self.now.opened ≤ length self.now.notes.items }
         ensures some { result ≡ true → self.now.opened < length self.now.notes.items }
@@ -401,7 +401,7 @@ impl Readiness {
         note.pending && is_all(&note.touch)
     }
 
-    /// Opens one request more.
+    /// Opens one more request.
     fn enter(&mut self, session: &Session<SlabTable>, queue: &Queue)
         requires notes { AreNotes session.now queue.now self.old.notes.items self.old.first_pending self.old.opened
             self.old.writers self.old.possible }
@@ -417,7 +417,7 @@ impl Readiness {
         self.place(queue, k);
     }
 
-    /// Notes what the request at this position touches, which is then open.
+    /// Notes what the request at this position touches. It is then open.
     fn touch(&mut self, session: &Session<SlabTable>, queue: &Queue, k: usize)
         requires here { k ≡ self.old.opened }
         requires within { k < length queue.now }
@@ -438,7 +438,7 @@ impl Readiness {
         self.opened = k + 1;
     }
 
-    /// Whether the request at this position changes nothing, by its note.
+    /// Whether, by its note, the request at this position changes nothing.
     fn only_reads(&self, k: usize) -> bool
         requires { k < length self.now.notes.items }
         ensures { result ≡ words.only_reads (note_at self.now.notes.items k).touch }
@@ -446,7 +446,7 @@ impl Readiness {
         only_reads(&self.notes[k].touch)
     }
 
-    /// Judges whether the open request at this position, which is pending, is ready.
+    /// Decides whether the open request at this position, which is pending, is ready.
     fn place(&mut self, queue: &Queue, k: usize)
         requires within { k < self.old.opened }
         requires noted { IsNoted queue.now self.old.notes.items self.old.first_pending self.old.opened self.old.writers
@@ -481,7 +481,7 @@ impl Readiness {
         self.possible += 1;
     }
 
-    /// Notes that the request at this position waits for the one that is so far back.
+    /// Notes that the request at this position waits for the one that is `back` positions before it.
     fn hold(&mut self, k: usize, back: usize)
         requires within { k < length self.old.notes.items }
         requires before { back ≤ k }
@@ -497,7 +497,8 @@ impl Readiness {
         earlier.waiter = earlier.waiter.max(back);
     }
 
-    /// How far back a pending request is that conflicts with the open one at this position, or 0 if none does.
+    /// How many positions back some pending request is that conflicts with the open one at this position, or 0 if none
+    /// does.
     fn look(&self, queue: &Queue, k: usize) -> usize
         requires within { k < self.now.opened }
         requires noted { IsNoted queue.now self.now.notes.items self.now.first_pending self.now.opened self.now.writers
@@ -519,7 +520,7 @@ impl Readiness {
         0
     }
 
-    /// A position before which all requests stand that may conflict with the one at `k`.
+    /// A position up to `k` such that each request that may conflict with the one at `k` stands before it.
     fn start(&self, k: usize) -> usize
         requires { k < length self.now.notes.items }
         ensures most { result ≤ k }
@@ -533,7 +534,7 @@ impl Readiness {
         }
     }
 
-    /// Whether the request at position `j` is pending and conflicts with the one at `k`, whose note `later` is.
+    /// Whether the request at position `j` is pending and conflicts with the one at `k`, whose note is `later`.
     fn is_in_way(&self, queue: &Queue, j: usize, k: usize, later: &Note) -> bool
         requires within { j < length queue.now }
         requires there { k < length queue.now }
@@ -543,14 +544,14 @@ impl Readiness {
             ≡ is_in_way queue.now self.now.notes.items j (portion_at queue.now self.now.notes.items k) }
     {
         let earlier = &self.notes[j];
-        // Ranges come first: of one file that is transferred, most are apart.
+        // Ranges are compared first: while one file is transferred, most of them are apart.
         if !earlier.pending || are_apart(earlier.range, later.range) {
             return false;
         }
         shares(queue, j, k, earlier.touch, later.touch)
     }
 
-    /// Passes the requests at the front that are not pending.
+    /// Moves the first pending position past the requests at the front that are not pending.
     fn pass(&mut self)
         requires front { self.old.first_pending ≤ length self.old.notes.items }
         requires passed { (k : ℕ) → k < self.old.first_pending → (note_at self.old.notes.items k).pending ≡ false }
@@ -568,7 +569,7 @@ impl Readiness {
         }
     }
 
-    /// Notes that the reply of the request at this position was sent, and that so many requests left the front.
+    /// Notes that the reply of the request at this position was sent, and that `count` requests left the front.
     pub(crate) fn mark_sent(&mut self, k: usize, count: usize)
         requires within { k < length self.old.notes.items }
         requires some { 1 ≤ self.old.possible }
@@ -600,7 +601,8 @@ fn portion_of(session: &Session<SlabTable>, queue: &Queue, k: usize) -> (Touch, 
     }
 }
 
-/// Whether the requests at two positions, which touch these, touch one thing and not both only read it.
+/// Whether the requests at two positions, which touch `earlier` and `later`, share something and not both only
+/// read it.
 fn shares(queue: &Queue, j: usize, k: usize, earlier: Touch, later: Touch) -> bool
     requires within { j < length queue.now }
     requires there { k < length queue.now }
@@ -616,7 +618,7 @@ fn shares(queue: &Queue, j: usize, k: usize, earlier: Touch, later: Touch) -> bo
     }
 }
 
-/// The same, whatever they touch.
+/// The same as `shares`, whatever they touch.
 fn shares_by_asks(queue: &Queue, j: usize, k: usize, earlier: Touch, later: Touch) -> bool
     requires within { j < length queue.now }
     requires there { k < length queue.now }
@@ -642,7 +644,7 @@ fn range_of(session: &Session<SlabTable>, queue: &Queue, k: usize) -> Option<Byt
     }
 }
 
-/// Whether both are ranges of one file that have no byte in common.
+/// Whether both are ranges of one file, with no byte in common.
 fn are_apart(range: Option<ByteRange>, other: Option<ByteRange>) -> bool
     ensures { result ≡ ranges.are_apart range other }
 {
@@ -662,7 +664,7 @@ fn as_count(possible: bool) -> usize
     possible as usize
 }
 
-/// Takes so many notes off the front.
+/// Removes `count` notes from the front.
 fn drop_front(notes: &mut VecDeque<Note>, count: usize)
     ensures { notes.new.items ≡ drop count notes.old.items }
 {

@@ -1,4 +1,4 @@
-//! In which order a server does what it may do.
+//! The order in which a server does what it may do.
 ghost use Rattle.std.specs.Prelude.{◌≡◌};
 ghost use Rattle.sftp_server.specs.Schedules.{next_state, upper_bits};
 

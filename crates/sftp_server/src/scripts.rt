@@ -1,38 +1,38 @@
 //! Acts of a server that are done one after the other.
-ghost use Rattle.std.specs.Prelude.{◌≡◌, ◌≢◌, ◌++◌, [], ◌∷◌, IfOk, IfErr, OnOk, OnErr};
+ghost use Rattle.std.specs.Prelude.{◌≡◌, ◌≢◌, ◌++◌, [], ◌∷◌, IfOk, OnOk};
 ghost use Rattle.sftp_handles.specs.Allowed.{Allowed};
 ghost use Rattle.sftp_transcript.specs.declared.events.Event.TheVariants.{Asked};
-ghost use Rattle.sftp_transcript.specs.Explained.{Explained, BeginsFrom};
+ghost use Rattle.sftp_transcript.specs.Explained.{Explained, BeginsFrom, window};
 ghost use Rattle.sftp_server.specs.declared.acts.Act.TheVariants as acts;
 ghost use Rattle.sftp_server.specs.declared.refusals.Refuse.TheVariants.{NoMemory as no_memory};
 ghost use Rattle.sftp_server.specs.Machine.{at_start, AreActs, IsAct};
-ghost use Rattle.sftp_server.specs.Core.{server_clash, started, IsValue};
+ghost use Rattle.sftp_server.specs.Core.{server_clash, started};
 ghost use Rattle.sftp_server.specs.Scripts.{IsPerformed};
 
 use crate::acts::Act;
 use crate::copying::copy_request;
 use crate::cores::Core;
 use crate::refusals::Refuse;
-use sftp_transcript::Event;
+use sftp_transcript::{Event, WINDOW};
 use sftp_tree::{NoMemory, Tree};
 use sftp_wire::Request;
 
-/// Does the acts in their order on a core of this tree, with nothing open and a window of 1,024 requests. Returns the
-/// events that they make, and the core after them. An act that is not possible, such as the delivery of a request whose
-/// id is in use, changes nothing and makes no event.
+/// Does the acts in their order on a core of this tree, with nothing open and a window of `sftp_transcript::WINDOW`
+/// requests. Returns the events that they make, and the core after them. An act that is not possible, such as the
+/// delivery of a request whose id is in use, changes nothing and makes no event.
 ///
 /// # Errors
 ///
 /// `NoMemory` if memory runs out.
 pub fn run_script(tree: Tree, acts: &[Act]) -> Result<(Vec<Event>, Core), NoMemory>
     ensures done { IfOk result (λ run.
-        AreActs Allowed server_clash (at_start (started tree) 1024) acts.now run.0.items run.1) }
+        AreActs Allowed server_clash (at_start (started tree) window) acts.now run.0.items run.1) }
     ensures begun { IfOk result (λ run. BeginsFrom Allowed (started tree) run.0.items) }
     ensures explained { IfOk result (λ run.
         run.1.queue ≡ [] → Explained Allowed (started tree) run.0.items run.1.state) }
 {
     let alloc = tree.allocator();
-    let mut core = Core::new(tree, 1_024)?;
+    let mut core = Core::new(tree, WINDOW)?;
     let mut events = Vec::new(alloc);
     'acts: for act in acts {
         match perform(act, &mut core, &mut events) {

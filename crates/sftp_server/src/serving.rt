@@ -5,9 +5,10 @@ ghost use Rattle.sftp_wire.specs.Reading.{front_of};
 ghost use Rattle.sftp_server.specs.declared.ends.Stream.TheVariants as streams;
 ghost use Rattle.sftp_server.specs.declared.taking.Front.TheVariants as fronts;
 ghost use Rattle.sftp_server.specs.declared.serving.Next.TheVariants as nexts;
-ghost use Rattle.sftp_server.specs.Sessions.{stream_bytes, IsUnused, IsLogging, Serves, CountsCall, CountsEnd};
-ghost use Rattle.sftp_server.specs.Sessions.{StreamBytes, input_limit, IsUnopenedYet, BeginsWithGreeting};
-ghost use Rattle.sftp_server.specs.Sessions.{LeavesAt, IsSessionEnd};
+ghost use Rattle.sftp_server.specs.Served.{stream_bytes, IsUnused, Serves, CountsEnd, StreamBytes};
+ghost use Rattle.sftp_server.specs.Left.{LeavesAt};
+ghost use Rattle.sftp_server.specs.Sessions.{IsLogging, CountsCall, input_limit, IsUnopenedYet, BeginsWithGreeting};
+ghost use Rattle.sftp_server.specs.Sessions.{IsSessionEnd};
 ghost use Rattle.sftp_server.specs.Ending.{closed_end, EndsOn, ReadsOn, RunsOut, GoesOn};
 
 use crate::cores::Core;
@@ -18,13 +19,10 @@ use crate::schedules::Schedule;
 use crate::sending::{flush, flush_log};
 use crate::taking::{Front, take_requests};
 use crate::working::work_off;
-use sftp_transcript::{Sink, Source, Writer};
+use sftp_transcript::{Sink, Source, WINDOW, Writer};
 use sftp_tree::Tree;
 use sftp_wire::PACKET_LIMIT;
 use std::alloc::Global;
-
-/// How many requests a session has at most from the oldest unanswered one to the newest. This profile's own.
-const WINDOW: usize = 1024;
 
 /// What an open session does after a batch of requests.
 #[derive(Clone, Copy)]
@@ -39,10 +37,10 @@ enum Next {
 /// sections 3 to 7). Once the session is open, pins that the tree has are removed.
 ///
 /// It reads an INIT, which has to be of version 3 or more, answers it by VERSION 3, and then answers each request. It
-/// takes requests as long as complete packets were read and the window of 1,024 requests has room; it then answers all
-/// that it took, passes the replies on, and reads again. A fault in the input ends the session once each request before
-/// it is answered. The log gets each packet of both sides, in the order in which requests were taken and replies were
-/// sent.
+/// takes requests as long as complete packets were read and the window, `sftp_transcript::WINDOW` requests, has room;
+/// it then answers all that it took, passes the replies on, and reads again. A fault in the input ends the session once
+/// each request before it is answered. The log gets each packet of both sides, in the order in which requests were
+/// taken and replies were sent.
 ///
 /// Where a stream fails or memory runs out, the session ends at once, with `Io` or `NoMemory`: what was written and
 /// logged is a beginning of what it would have been. Nothing is tried again.

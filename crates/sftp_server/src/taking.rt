@@ -18,7 +18,7 @@ use sftp_transcript::{Sink, Writer};
 use sftp_wire::{Packet, Request, Side, WireError, front};
 use std::alloc::Global;
 
-/// What was found in front of the bytes read.
+/// What was found at the front of the bytes read.
 #[derive(Clone, Copy)]
 pub(crate) enum Front {
     /// A request, which was taken.
@@ -27,7 +27,7 @@ pub(crate) enum Front {
     Full,
     /// No complete packet.
     Waiting,
-    /// What ends the session once each request is answered.
+    /// A fault, which ends the session once each request is answered.
     Fault(SessionFault),
 }
 
@@ -151,7 +151,7 @@ fn take_request<L: Sink>(
     }
 }
 
-/// What is found in front if a request of this id is not taken.
+/// What is found in front if a request with this id is not taken.
 fn refused(id: u32, refuse: Refuse) -> Result<Front, Stop>
     ensures { result ≡ found_refused id refuse }
 {

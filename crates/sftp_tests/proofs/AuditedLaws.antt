@@ -7,8 +7,7 @@ use Rattle.sftp_tree.specs.Tree.{Tree}
 use Rattle.sftp_tree.specs.Picture.{IsStart}
 use Rattle.sftp_server.specs.declared.ends.Ended.TheVariants.{Finished, Fault}
 use Rattle.sftp_server.specs.declared.ends.SessionFault.{SessionFault}
-use Rattle.sftp_server.specs.Served.{IsFinished, IsFaulty, IsUnopened, IsOpened, IsServed, Served}
-use Rattle.sftp_server.specs.Sessions.{StreamBytes, Serves}
+use Rattle.sftp_server.specs.Served.{IsFinished, IsFaulty, IsUnopened, IsOpened, IsServed, Served, StreamBytes, Serves}
 use Rattle.sftp_server.proofs.Sessions.Logged.{log-is-transcript}
 use Rattle.sftp_audit.specs.Audit.{Accounts}
 use Rattle.sftp_tests.specs.Audited.{IsLogged}

@@ -5,7 +5,7 @@ ghost use Rattle.sftp_tree.specs.Picture.{IsStart};
 ghost use Rattle.sftp_transcript.specs.declared.events.Event.{Event};
 ghost use Rattle.sftp_server.specs.declared.ends.Ended.TheVariants.{Finished, Fault};
 ghost use Rattle.sftp_server.specs.declared.ends.SessionFault.{SessionFault};
-ghost use Rattle.sftp_server.specs.Sessions.{StreamBytes, Serves};
+ghost use Rattle.sftp_server.specs.Served.{StreamBytes, Serves};
 ghost use Rattle.sftp_audit.specs.Audit.{Accounts};
 ghost use Rattle.sftp_tests.specs.Audited.{IsLogged};
 

@@ -1,6 +1,6 @@
 //! A session that is served from memory: a caller of `serve`.
 ghost use Rattle.std.specs.Prelude.{[], Some, Option, List, ℕ, IfOk};
-ghost use Rattle.sftp_server.specs.Sessions.{stream_bytes, Serves};
+ghost use Rattle.sftp_server.specs.Served.{stream_bytes, Serves};
 
 use sftp_server::{Ended, InOrder, serve};
 use sftp_transcript::{Memory, Tally, TranscriptError, Writer};

@@ -1,6 +1,6 @@
 //! The subcommand `serve`: the session of one client over a pair of streams.
 ghost use Rattle.std.specs.Prelude.{◌≡◌, IfOk};
-ghost use Rattle.sftp_server.specs.Sessions.{IsUnused};
+ghost use Rattle.sftp_server.specs.Served.{IsUnused};
 ghost use Rattle.sftp_tool.specs.declared.messages.Ending.TheVariants as endings;
 
 use crate::command_line::ServeOptions;

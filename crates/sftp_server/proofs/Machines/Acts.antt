@@ -1,32 +1,19 @@
 -- Each act keeps what a machine keeps.
-use Rattle.std.proofs.Common.{◌≡◌, not, nat_lt, ℕ, zero, suc, ◌<◌, ◌≤◌, Bool, true, false, List, [], ◌∷◌, ◌++◌}
-use Rattle.std.proofs.Common.{length, get_or, take, drop, slice_get, Option, Some, None, refl, sym, ap, ap₂, subst}
-use Rattle.std.proofs.Common.{subst₂, ◌∙◌, append_assoc, append-nil, arith}
-use Rattle.std.specs.List.{AllByRecursion}
-use Rattle.std.proofs.lemmas.Bool.{and_parts, ltb-true, not-true}
-use Rattle.std.proofs.lemmas.List.{map-append, take_at}
-use Rattle.sftp_wire.specs.declared.packets.Request.{Request}
-use Rattle.sftp_wire.specs.declared.packets.Reply.{Reply}
-use Rattle.sftp_transcript.specs.declared.events.Event.{Event}
-use Rattle.sftp_transcript.specs.declared.events.Event.TheVariants.{Asked, Replied}
-use Rattle.sftp_transcript.specs.Explained.{StepOf, Run, window}
-use Rattle.sftp_transcript.specs.Ledger.{Exchange, StandsFor}
-use Rattle.sftp_transcript.proofs.pairing.Standing.{stands_from_start}
-use Rattle.sftp_server.specs.declared.queue.Entry.{Entry}
-use Rattle.sftp_server.specs.declared.queue.Progress.{Progress}
-use Rattle.sftp_server.specs.declared.queue.Progress.TheVariants.{Pending, Done, Sent}
-use Rattle.sftp_server.specs.declared.acts.Act.{Act}
-use Rattle.sftp_server.specs.declared.acts.Act.TheVariants.{Deliver, Work, Send}
-use Rattle.sftp_server.specs.Machine.{Machine, ClashOf, at_start, taken, can_take, is_unsent, is_free_of, ready_in}
-use Rattle.sftp_server.specs.Machine.{is_ready, reply_at, from_unsent, IsWorked, IsSent, IsIdle, IsDelivery, IsWork}
-use Rattle.sftp_server.specs.Machine.{IsSend, IsAct, AreActs, Delivers}
+use Rattle.sftp_server.proofs.Imports.{◌≡◌, not, nat_lt, ℕ, zero, suc, ◌<◌, ◌≤◌, Bool, true, false, List, [], ◌∷◌, ◌++◌}
+use Rattle.sftp_server.proofs.Imports.{length, get_or, take, drop, slice_get, Option, Some, None, refl, sym, ap, ap₂}
+use Rattle.sftp_server.proofs.Imports.{subst, subst₂, ◌∙◌, append_assoc, append-nil, arith, AllByRecursion, and_parts}
+use Rattle.sftp_server.proofs.Imports.{ltb-true, not-true, map-append, take_at, Request, Reply, Event, Asked, Replied}
+use Rattle.sftp_server.proofs.Imports.{StepOf, Run, window, Exchange, StandsFor, stands_from_start, Entry, Progress}
+use Rattle.sftp_server.proofs.Imports.{Pending, Done, Sent, Act, Deliver, Work, Send, Machine, ClashOf, at_start, taken}
+use Rattle.sftp_server.proofs.Imports.{can_take, is_unsent, is_free_of, ready_in, is_ready, reply_at, from_unsent}
+use Rattle.sftp_server.proofs.Imports.{IsWorked, IsSent, IsIdle, IsDelivery, IsWork, IsSend, IsAct, AreActs, Delivers}
 use Rattle.sftp_server.proofs.Machines.Premises.{Premises}
 use Rattle.sftp_server.proofs.Machines.Histories.{Fate, Item, Pair, pending, done, sent, progress_of, entry_of}
 use Rattle.sftp_server.proofs.Machines.Histories.{entries_of, ledger_of, answered, sent_first, unsent_on, IsItem}
 use Rattle.sftp_server.proofs.Machines.Histories.{IsReplyFor, RunsOn, Follows}
 use Rattle.sftp_server.proofs.Machines.Runs.{runs-asked, runs-worked, runs-sent, runs-left}
-use Rattle.sftp_server.proofs.Machines.Ledgers.{stands-taken, ledger-worked, stands-sent, queue-left}
-use Rattle.sftp_server.proofs.Machines.Ledgers.{ledger-left, all-left}
+use Rattle.sftp_server.proofs.Machines.Ledgers.{stands-taken, ledger-worked, stands-sent, queue-left, ledger-left}
+use Rattle.sftp_server.proofs.Machines.Ledgers.{all-left}
 
 -- ---- lists
 

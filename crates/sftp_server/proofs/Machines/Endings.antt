@@ -1,17 +1,9 @@
 -- A machine can go on until each request is answered, and its session is then explained.
-use Rattle.std.proofs.Common.{◌≡◌, true, List, [], ◌∷◌, ◌++◌, Some, None, refl, sym, ap, subst, ◌∙◌}
-use Rattle.std.proofs.Common.{append_assoc, append-nil, inr}
-use Rattle.std.specs.List.{AllByRecursion}
-use Rattle.std.proofs.lemmas.Bool.{and_from}
-use Rattle.sftp_wire.specs.declared.packets.Request.{Request}
-use Rattle.sftp_wire.specs.declared.packets.Reply.{Reply}
-use Rattle.sftp_transcript.specs.declared.events.Event.{Event}
-use Rattle.sftp_transcript.specs.declared.events.Event.TheVariants.{Replied}
-use Rattle.sftp_transcript.specs.Transcript.{IsEvent}
-use Rattle.sftp_transcript.specs.Explained.{StepOf, Run, Explained, BeginsFrom, leading_pairs, exchanges_of, in_window}
-use Rattle.sftp_transcript.specs.Ledger.{Exchange, StandsFor, keeps_window}
-use Rattle.sftp_transcript.proofs.pairing.Standing.{stands_replied, complete}
-use Rattle.sftp_server.specs.Machine.{Machine, ClashOf}
+use Rattle.sftp_server.proofs.Imports.{◌≡◌, true, List, [], ◌∷◌, ◌++◌, Some, None, refl, sym, ap, subst, ◌∙◌}
+use Rattle.sftp_server.proofs.Imports.{append_assoc, append-nil, inr, AllByRecursion, and_from, Request, Reply, Event}
+use Rattle.sftp_server.proofs.Imports.{Replied, IsEvent, StepOf, Run, Explained, BeginsFrom, leading_pairs}
+use Rattle.sftp_server.proofs.Imports.{exchanges_of, in_window, Exchange, StandsFor, keeps_window, stands_replied}
+use Rattle.sftp_server.proofs.Imports.{complete, Machine, ClashOf}
 use Rattle.sftp_server.proofs.Machines.Premises.{Premises}
 use Rattle.sftp_server.proofs.Machines.Histories.{Item, Pair, pending, done, sent, entries_of, ledger_of, answered}
 use Rattle.sftp_server.proofs.Machines.Histories.{IsItem, Finishes, RunsOn, Follows}

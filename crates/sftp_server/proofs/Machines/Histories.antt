@@ -1,18 +1,8 @@
 -- The requests of a machine with all that is known of their replies, and what a machine keeps of them.
-use Rattle.std.proofs.Common.{◌≡◌, ◌⊎◌, ◌≤◌, List, [], ◌∷◌, ◌++◌, map, Option, Some, None}
-use Rattle.std.specs.List.{AllByRecursion}
-use Rattle.sftp_wire.specs.declared.packets.Packet.TheVariants.{Reply as reply_packet}
-use Rattle.sftp_wire.specs.declared.packets.Request.{Request}
-use Rattle.sftp_wire.specs.declared.packets.Reply.{Reply}
-use Rattle.sftp_wire.specs.Spelling.{HasSpelling}
-use Rattle.sftp_transcript.specs.declared.events.Event.{Event}
-use Rattle.sftp_transcript.specs.Explained.{StepOf, Run}
+use Rattle.sftp_server.proofs.Imports.{◌≡◌, ◌⊎◌, ◌≤◌, List, [], ◌∷◌, ◌++◌, map, Option, Some, None, AllByRecursion}
+use Rattle.sftp_server.proofs.Imports.{reply_packet, Request, Reply, HasSpelling, Event, StepOf, Run, Exchange}
+use Rattle.sftp_server.proofs.Imports.{StandsFor, Entry, Progress, Pending, Done, Sent, Machine}
 use Rattle.sftp_transcript.specs.Explained as explained
-use Rattle.sftp_transcript.specs.Ledger.{Exchange, StandsFor}
-use Rattle.sftp_server.specs.declared.queue.Entry.{Entry}
-use Rattle.sftp_server.specs.declared.queue.Progress.{Progress}
-use Rattle.sftp_server.specs.declared.queue.Progress.TheVariants.{Pending, Done, Sent}
-use Rattle.sftp_server.specs.Machine.{Machine}
 
 -- how far a request came; unlike in a queue, a reply that was sent is remembered
 pub data Fate : Type 0 where

@@ -1,12 +1,9 @@
 -- The requests that a machine has done, in the order asked, lead to its state.
-use Rattle.std.proofs.Common.{◌≡◌, List, [], ◌∷◌, ◌++◌, Some, None, refl, sym, ap, subst, ◌∙◌, append-nil, inl, inr}
-use Rattle.sftp_wire.specs.declared.packets.Request.{Request}
-use Rattle.sftp_transcript.specs.declared.events.Event.{Event}
-use Rattle.sftp_transcript.specs.Explained.{StepOf, exchanges_of, next_reply}
-use Rattle.sftp_transcript.specs.Ledger.{Exchange, with_replies}
-use Rattle.sftp_server.specs.Machine.{Machine}
-use Rattle.sftp_server.specs.Left.{AreDone, LeadsTo}
-use Rattle.sftp_server.proofs.Machines.Histories.{Item, Pair, pending, done, sent, ledger_of, answered, Finishes, Follows}
+use Rattle.sftp_server.proofs.Imports.{◌≡◌, List, [], ◌∷◌, ◌++◌, Some, None, refl, sym, ap, subst, ◌∙◌, append-nil, inl}
+use Rattle.sftp_server.proofs.Imports.{inr, Request, Event, StepOf, exchanges_of, next_reply, Exchange, with_replies}
+use Rattle.sftp_server.proofs.Imports.{Machine, AreDone, LeadsTo}
+use Rattle.sftp_server.proofs.Machines.Histories.{Item, Pair, pending, done, sent, ledger_of, answered, Finishes}
+use Rattle.sftp_server.proofs.Machines.Histories.{Follows}
 
 -- the requests done, with their replies
 abbrev done_of : List Item → List Pair

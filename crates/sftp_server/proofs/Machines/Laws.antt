@@ -1,17 +1,9 @@
 -- The laws of the core, from those of steps that do not clash.
-use Rattle.std.proofs.Common.{◌≡◌, ◌≤◌, ℕ, true, false, List, []}
-use Rattle.sftp_wire.specs.declared.packets.Request.{Request}
-use Rattle.sftp_wire.specs.declared.packets.Reply.{Reply}
-use Rattle.sftp_tree.specs.AskValues.{IsAsk}
-use Rattle.sftp_handles.specs.State.{State, Good}
-use Rattle.sftp_handles.specs.Allowed.{Allowed}
+use Rattle.sftp_server.proofs.Imports.{◌≡◌, ◌≤◌, ℕ, true, false, List, [], Request, Reply, IsAsk, State, Good, Allowed}
+use Rattle.sftp_server.proofs.Imports.{Event, Explained, BeginsFrom, in_window, full_window, Machine, at_start, IsSent}
+use Rattle.sftp_server.proofs.Imports.{server_clash, IsValue, IsReached, LeadsTo}
 use Rattle.sftp_handles.specs.Laws.{IsAskable, IsAnswerable}
 use Rattle.sftp_handles.proofs.SteadyRanges.{ranges-exchanged, still-free}
-use Rattle.sftp_transcript.specs.declared.events.Event.{Event}
-use Rattle.sftp_transcript.specs.Explained.{Explained, BeginsFrom, in_window}
-use Rattle.sftp_server.specs.Machine.{Machine, at_start, IsSent}
-use Rattle.sftp_server.specs.Core.{server_clash, IsValue, IsReached}
-use Rattle.sftp_server.specs.Left.{LeadsTo}
 use Rattle.sftp_server.proofs.Machines.Premises.{Premises, HasReply}
 use Rattle.sftp_server.proofs.Machines.Histories.{Follows, done, IsReplyFor}
 use Rattle.sftp_server.proofs.Machines.Acts.{follows-start, follows-acts, follows-reply}
@@ -58,43 +50,44 @@ module _ (stays : StaysGood) (total : IsTotal) where
   }
 
   follows : (start : State) (window : ℕ) (events : List Event) (core : Machine State) → Good start
-      → window ≤ 1024 → IsReached start window events core → Follows Allowed Good IsValue start core events
+      → window ≤ full_window → IsReached start window events core → Follows Allowed Good IsValue start core events
   follows start window events core good bound reached =
       let first = follows-start Allowed server_clash Good IsValue premises start window good bound in
       follows-acts Allowed server_clash Good IsValue premises start (at_start start window) [] reached.acts events core
       first reached.deliverable reached.steps
 
   pub begun : (start : State) (window : ℕ) (events : List Event) (core : Machine State) → Good start
-      → window ≤ 1024 → IsReached start window events core → BeginsFrom Allowed start events
+      → window ≤ full_window → IsReached start window events core → BeginsFrom Allowed start events
   begun start window events core good bound reached =
       endings.begins Allowed server_clash Good IsValue premises start core events
       (follows start window events core good bound reached)
 
   pub explained : (start : State) (window : ℕ) (events : List Event) (core : Machine State) → Good start
-      → window ≤ 1024 → IsReached start window events core → core.queue ≡ [] → Explained Allowed start events core.state
+      → window ≤ full_window → IsReached start window events core → core.queue ≡ []
+      → Explained Allowed start events core.state
   explained start window events core good bound reached empty =
       endings.explained Allowed server_clash Good IsValue premises start core events
       (follows start window events core good bound reached) empty
 
   -- the requests done so far, in the order asked, lead to the core's state
   pub leads-to : (start : State) (window : ℕ) (events : List Event) (core : Machine State) → Good start
-      → window ≤ 1024 → IsReached start window events core → LeadsTo Allowed start events core.state
+      → window ≤ full_window → IsReached start window events core → LeadsTo Allowed start events core.state
   leads-to start window events core good bound reached =
       kept.leads-to Allowed Good IsValue start core events (follows start window events core good bound reached)
 
   pub windowed : (start : State) (window : ℕ) (events : List Event) (core : Machine State) → Good start
-      → window ≤ 1024 → IsReached start window events core → in_window events ≡ true
+      → window ≤ full_window → IsReached start window events core → in_window events ≡ true
   windowed start window events core good bound reached =
       endings.in-window Allowed Good IsValue start core events (follows start window events core good bound reached)
 
   pub still-good : (start : State) (window : ℕ) (events : List Event) (core : Machine State) → Good start
-      → window ≤ 1024 → IsReached start window events core → Good core.state
+      → window ≤ full_window → IsReached start window events core → Good core.state
   still-good start window events core good bound reached =
       (follows start window events core good bound reached).good_state
 
   -- a reply that is sent has the id of its request, and can be encoded
   pub reply-for : (start : State) (window : ℕ) (events : List Event) (core : Machine State) (k : ℕ) (reply : Reply)
-      (after : Machine State) → Good start → window ≤ 1024 → IsReached start window events core
+      (after : Machine State) → Good start → window ≤ full_window → IsReached start window events core
       → (sent : IsSent core k reply after) → IsReplyFor sent.request (done reply)
   reply-for start window events core k reply after good bound reached =
       follows-reply Allowed server_clash Good IsValue premises start core events k reply after

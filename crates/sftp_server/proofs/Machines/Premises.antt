@@ -1,11 +1,5 @@
 -- What a machine has to keep so that its sessions are explained, in whatever order it does requests that do not clash.
-use Rattle.std.proofs.Common.{◌≡◌, false}
-use Rattle.sftp_wire.specs.declared.packets.Packet.TheVariants.{Reply as reply_packet}
-use Rattle.sftp_wire.specs.declared.packets.Request.{Request}
-use Rattle.sftp_wire.specs.declared.packets.Reply.{Reply}
-use Rattle.sftp_wire.specs.Spelling.{HasSpelling}
-use Rattle.sftp_transcript.specs.Explained.{StepOf}
-use Rattle.sftp_server.specs.Machine.{ClashOf}
+use Rattle.sftp_server.proofs.Imports.{◌≡◌, false, reply_packet, Request, Reply, HasSpelling, StepOf, ClashOf}
 
 -- some reply to the request is allowed and can be encoded
 pub record HasReply {S : Type 0} (step : StepOf S) (s : S) (request : Request) : Type 0 where

@@ -1,17 +1,9 @@
 -- What is reached from what was reached, by one act more.
-use Rattle.std.proofs.Common.{◌≡◌, ℕ, Bool, true, List, [], ◌∷◌, ◌++◌, Option, Some, refl, sym, subst}
-use Rattle.std.proofs.Common.{append-nil}
-use Rattle.sftp_wire.specs.declared.packets.Request.{Request}
-use Rattle.sftp_wire.specs.declared.packets.Reply.{Reply}
-use Rattle.sftp_handles.specs.State.{State}
-use Rattle.sftp_handles.specs.Allowed.{Allowed}
-use Rattle.sftp_transcript.specs.declared.events.Event.{Event}
-use Rattle.sftp_transcript.specs.declared.events.Event.TheVariants.{Asked, Replied}
-use Rattle.sftp_server.specs.declared.acts.Act.{Act}
-use Rattle.sftp_server.specs.declared.acts.Act.TheVariants.{Deliver, Work, Send}
-use Rattle.sftp_server.specs.Machine.{Machine, at_start, taken, can_take, is_ready, reply_at, IsWorked, IsSent, IsAct}
-use Rattle.sftp_server.specs.Machine.{IsDelivery, IsWork, IsSend, Delivers}
-use Rattle.sftp_server.specs.Core.{server_clash, IsValue, IsReached}
+use Rattle.sftp_server.proofs.Imports.{◌≡◌, ℕ, Bool, true, List, [], ◌∷◌, ◌++◌, Option, Some, refl, sym, subst}
+use Rattle.sftp_server.proofs.Imports.{append-nil, Request, Reply, State, Allowed, Event, Asked, Replied, Act, Deliver}
+use Rattle.sftp_server.proofs.Imports.{Work, Send, Machine, at_start, taken, can_take, is_ready, reply_at, IsWorked}
+use Rattle.sftp_server.proofs.Imports.{IsSent, IsAct, IsDelivery, IsWork, IsSend, Delivers, server_clash, IsValue}
+use Rattle.sftp_server.proofs.Imports.{IsReached}
 use Rattle.sftp_server.proofs.Machines.Acts.{all-append, acts-more}
 
 pub reached-start : (start : State) (window : ℕ) → IsReached start window [] (at_start start window)

@@ -1,15 +1,10 @@
 -- How the run of all requests goes on with each act.
-use Rattle.std.proofs.Common.{◌≡◌, ◌⊎◌, not, true, false, List, [], ◌∷◌, ◌++◌, refl, sym, ap, subst, ◌∙◌}
-use Rattle.std.proofs.Common.{append_assoc, inl, inr}
-use Rattle.std.specs.List.{AllByRecursion}
-use Rattle.std.proofs.lemmas.Bool.{and_parts, and_from, not-true, not_from_false}
-use Rattle.sftp_wire.specs.declared.packets.Request.{Request}
-use Rattle.sftp_wire.specs.declared.packets.Reply.{Reply}
-use Rattle.sftp_transcript.specs.Explained.{StepOf, Run}
-use Rattle.sftp_server.specs.Machine.{ClashOf, is_free_of}
+use Rattle.sftp_server.proofs.Imports.{◌≡◌, ◌⊎◌, not, true, false, List, [], ◌∷◌, ◌++◌, refl, sym, ap, subst, ◌∙◌}
+use Rattle.sftp_server.proofs.Imports.{append_assoc, inl, inr, AllByRecursion, and_parts, and_from, not-true}
+use Rattle.sftp_server.proofs.Imports.{not_from_false, Request, Reply, StepOf, Run, ClashOf, is_free_of}
 use Rattle.sftp_server.proofs.Machines.Premises.{Premises}
-use Rattle.sftp_server.proofs.Machines.Histories.{Item, Pair, pending, done, sent, entries_of, IsItem}
-use Rattle.sftp_server.proofs.Machines.Histories.{Finishes, RunsOn, sent_first, unsent_on}
+use Rattle.sftp_server.proofs.Machines.Histories.{Item, Pair, pending, done, sent, entries_of, IsItem, Finishes, RunsOn}
+use Rattle.sftp_server.proofs.Machines.Histories.{sent_first, unsent_on}
 
 -- ---- runs
 

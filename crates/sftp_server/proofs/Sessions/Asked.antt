@@ -1,45 +1,22 @@
 -- A request is taken in a running session, or a fault is found in front.
-use Rattle.std.proofs.Common.{◌≡◌, ◌<◌, ◌≤◌, ◌⊎◌, ℕ, ◌+◌, List, [], ◌∷◌}
-use Rattle.std.proofs.Common.{◌++◌, length, take, drop, Option, Some, None, Result, Ok, Err, IfOk, IfErr, OnOk, OnErr}
-use Rattle.std.proofs.Common.{IsTrue, inl, inr, refl, sym, ap, ◌∙◌, subst, subst₂, arith, append_assoc}
-use Rattle.std.specs.Io.KnownBytes.{Appends, Consumes}
-use Rattle.std.specs.List.{AllByRecursion}
-use Rattle.std.proofs.KnownBytes.{Appends-trans}
-use Rattle.std.proofs.lemmas.List.{length-append, take_at}
-use Rattle.sftp_wire.specs.declared.packets.Packet.{Packet}
-use Rattle.sftp_wire.specs.declared.packets.Packet.TheVariants.{Request as request_packet}
-use Rattle.sftp_wire.specs.declared.packets.Request.{Request}
-use Rattle.sftp_wire.specs.declared.packets.Side.TheVariants.{Client, Server}
-use Rattle.sftp_wire.specs.Spelling.{spelling, HasSpelling}
-use Rattle.sftp_wire.specs.Framing.{place_after}
-use Rattle.sftp_wire.specs.Reading.{StandsInFront}
-use Rattle.sftp_wire.proofs.StreamLaws.Front.{length-spelling}
-use Rattle.sftp_transcript.specs.declared.errors.TranscriptError.{TranscriptError}
-use Rattle.sftp_transcript.specs.declared.errors.TranscriptError.TheVariants.{Io}
-use Rattle.sftp_transcript.specs.declared.events.Event.{Event}
-use Rattle.sftp_transcript.specs.declared.events.Event.TheVariants.{Asked}
-use Rattle.sftp_transcript.specs.Streams.{AppendsPart}
-use Rattle.sftp_transcript.specs.Log.{Log, IsAppended, FailsToRecord}
-use Rattle.sftp_transcript.specs.Transcript.{record_text, IsEvent}
-use Rattle.sftp_tree.specs.Tree.{Tree}
+use Rattle.sftp_server.proofs.Imports.{◌≡◌, ◌<◌, ◌≤◌, ◌⊎◌, ℕ, ◌+◌, List, [], ◌∷◌, ◌++◌, length, take, drop, Option}
+use Rattle.sftp_server.proofs.Imports.{Some, None, Result, Ok, Err, IfOk, IfErr, OnOk, OnErr, IsTrue, inl, inr, refl}
+use Rattle.sftp_server.proofs.Imports.{sym, ap, ◌∙◌, subst, subst₂, arith, append_assoc, Appends, Consumes}
+use Rattle.sftp_server.proofs.Imports.{AllByRecursion, Appends-trans, length-append, take_at, Packet, request_packet}
+use Rattle.sftp_server.proofs.Imports.{Request, Client, Server, spelling, HasSpelling, place_after, StandsInFront}
+use Rattle.sftp_server.proofs.Imports.{length-spelling, TranscriptError, Io, Event, Asked, AppendsPart, Log, IsAppended}
+use Rattle.sftp_server.proofs.Imports.{FailsToRecord, record_text, IsEvent, window, Tree, State, SessionFault, Stop}
+use Rattle.sftp_server.proofs.Imports.{Front, Refuse, Machine, taken, can_take, is_unsent, started, IsValue, IsReached}
+use Rattle.sftp_server.proofs.Imports.{fault_of, found_refused, TakesOn, session_packets, sent_by, recorded, IsListed}
+use Rattle.sftp_server.proofs.Imports.{IsBeginning, IsCutInLast, StreamBytes, stream_bytes, Passed, Stops, tree_left}
+use Rattle.sftp_server.proofs.Imports.{IsLogging, Ahead, ahead_without, IsRunning, IsFaultAhead}
 use Rattle.sftp_tree.proofs.Requests.AskValues.{encoded-ask}
-use Rattle.sftp_handles.specs.State.{State}
 use Rattle.sftp_handles.proofs.TotalSteps.SpelledRequests.{spelled-askable}
-use Rattle.sftp_server.specs.declared.ends.SessionFault.{SessionFault}
 use Rattle.sftp_server.specs.declared.ends.SessionFault.TheVariants as faults
-use Rattle.sftp_server.specs.declared.ends.Stop.{Stop}
 use Rattle.sftp_server.specs.declared.ends.Stop.TheVariants as stops
 use Rattle.sftp_server.specs.declared.ends.Stream.TheVariants as streams
-use Rattle.sftp_server.specs.declared.taking.Front.{Front}
 use Rattle.sftp_server.specs.declared.taking.Front.TheVariants.{Taken, Fault}
-use Rattle.sftp_server.specs.declared.refusals.Refuse.{Refuse}
 use Rattle.sftp_server.specs.declared.refusals.Refuse.TheVariants as refusals
-use Rattle.sftp_server.specs.Machine.{Machine, taken, can_take, is_unsent}
-use Rattle.sftp_server.specs.Core.{started, IsValue, IsReached}
-use Rattle.sftp_server.specs.Fronts.{fault_of, found_refused, TakesOn}
-use Rattle.sftp_server.specs.Served.{session_packets, sent_by, recorded, IsListed, IsBeginning, IsCutInLast}
-use Rattle.sftp_server.specs.Sessions.{StreamBytes, stream_bytes, Passed, Stops, tree_left, IsLogging, Ahead}
-use Rattle.sftp_server.specs.Sessions.{ahead_without, IsRunning, IsFaultAhead}
 use Rattle.sftp_server.proofs.Machines.Reached.{reached-taken}
 use Rattle.sftp_server.proofs.Sessions.Lists.{asked-session, session-more, events-more}
 use Rattle.sftp_server.proofs.Sessions.Stops.{no-opening, reached-begins, reached-leaves, is-beginning}
@@ -93,9 +70,9 @@ module _ (start : Tree) (past : StreamBytes) (left written : Option (List ℕ)) 
   spelled-more : AllByRecursion IsEvent events
   spelled-more = events-more running.events (Asked request) running.spelled front.has_spelling
 
-  reached-more : IsReached (started start) 1024 events (taken core request)
+  reached-more : IsReached (started start) window events (taken core request)
   reached-more =
-      reached-taken (started start) 1024 running.events core request running.reached
+      reached-taken (started start) window running.events core request running.reached
       (request-value request front.has_spelling) can
 
   -- the packets of the client and the rest are the same bytes as before

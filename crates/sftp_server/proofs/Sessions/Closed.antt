@@ -1,36 +1,22 @@
 -- A session reads on, or comes to its end.
-use Rattle.std.proofs.Common.{◌≡◌, ◌≢◌, ◌==◌, ◌+◌, ◌*◌, ℕ, Bool, true, false, List, [], ◌∷◌, ◌++◌, length}
-use Rattle.std.proofs.Common.{Option, Some, None, Ok, refl, sym, ap, ◌∙◌, subst, subst₂, append_assoc, append-nil, inl, inr}
-use Rattle.std.proofs.Common.{true≢false, arith}
-use Rattle.std.proofs.lemmas.Bool.{eqb-true}
-use Rattle.std.specs.Io.KnownBytes.{Consumes, IsAtEnd, Keeps}
-use Rattle.std.proofs.KnownBytes.{Consumes-nil, Consumes-trans, Appends-nil, Keeps-refl}
-use Rattle.sftp_wire.specs.declared.errors.WireError.TheVariants.{TooLong, NotCanonical, NoMemory, Unreadable}
-use Rattle.sftp_wire.specs.declared.packets.Side.TheVariants.{Client, Server}
-use Rattle.sftp_wire.specs.Reading.{front_of}
-use Rattle.sftp_transcript.specs.declared.events.Event.{Event}
-use Rattle.sftp_tree.specs.Tree.{Tree}
-use Rattle.sftp_handles.specs.State.{State}
+use Rattle.sftp_server.proofs.Imports.{◌≡◌, ◌≢◌, ◌==◌, ◌+◌, ◌*◌, ℕ, Bool, true, false, List, [], ◌∷◌, ◌++◌, length}
+use Rattle.sftp_server.proofs.Imports.{Option, Some, None, Ok, refl, sym, ap, ◌∙◌, subst, subst₂, append_assoc}
+use Rattle.sftp_server.proofs.Imports.{append-nil, inl, inr, true≢false, arith, eqb-true, Consumes, IsAtEnd, Keeps}
+use Rattle.sftp_server.proofs.Imports.{Consumes-nil, Consumes-trans, Appends-nil, Keeps-refl, Unreadable}
+use Rattle.sftp_server.proofs.Imports.{Client, Server, front_of, Event, window, Tree, State, SessionFault, Stop, Entry}
+use Rattle.sftp_server.proofs.Imports.{Machine, is_unsent, started, session_packets, sent_by, recorded, EndsSession}
+use Rattle.sftp_server.proofs.Imports.{IsUnopenedBy, IsOpened, IsServed, closed_tree, StreamBytes, stream_bytes, Passed}
+use Rattle.sftp_server.proofs.Imports.{Serves, Leaves, LeavesAt, Ahead, IsRunning, IsEnding, input_limit, IsFaultAhead}
+use Rattle.sftp_server.proofs.Imports.{IsUnopenedYet, ended_by, Stops, tree_left, IsSessionEnd, closed_end}
 use Rattle.sftp_server.specs.declared.ends.Ended.TheVariants as ends
 use Rattle.sftp_server.specs.declared.ends.Ended.{Ended}
 use Rattle.sftp_server.specs.declared.ends.SessionEnd.{SessionEnd}
-use Rattle.sftp_server.specs.declared.ends.SessionFault.{SessionFault}
 use Rattle.sftp_server.specs.declared.ends.SessionFault.TheVariants as faults
 use Rattle.sftp_server.specs.declared.ends.Stream.TheVariants as streams
-use Rattle.sftp_server.specs.declared.ends.Stop.{Stop}
 use Rattle.sftp_server.specs.declared.ends.Stop.TheVariants as stops
-use Rattle.sftp_server.specs.declared.queue.Entry.{Entry}
-use Rattle.sftp_server.specs.Machine.{Machine, is_unsent}
-use Rattle.sftp_server.specs.Core.{started}
-use Rattle.sftp_server.specs.Served.{session_packets, sent_by, recorded, EndsSession, IsUnopenedBy, IsOpened, IsServed}
-use Rattle.sftp_server.specs.Served.{closed_tree}
-use Rattle.sftp_server.specs.Sessions.{StreamBytes, stream_bytes, Passed, Serves, Ahead, IsRunning, IsEnding}
-use Rattle.sftp_server.specs.Sessions.{input_limit, IsFaultAhead, IsUnopenedYet, ended_by, Stops, tree_left}
-use Rattle.sftp_server.specs.Sessions.{Leaves, LeavesAt, IsSessionEnd}
-use Rattle.sftp_server.specs.Ending.{closed_end}
 use Rattle.sftp_server.proofs.Machines.Laws.{explained}
-use Rattle.sftp_server.proofs.Sessions.Stops.{stays-good, each-answered, running-kept}
-use Rattle.sftp_server.proofs.Sessions.Stops.{stopped-reader, stopped-writer, stopped-log}
+use Rattle.sftp_server.proofs.Sessions.Stops.{stays-good, each-answered, running-kept, stopped-reader, stopped-writer}
+use Rattle.sftp_server.proofs.Sessions.Stops.{stopped-log}
 use Rattle.sftp_server.proofs.Sessions.Opened.{unopened-no_memory}
 
 -- ---- what streams passed
@@ -167,13 +153,10 @@ pub fault-ends : (events : List Event) (rest : List ℕ) (place : ℕ) (over : T
     → IsFaultAhead events [] rest place (Some fault) → EndsSession events rest place over fault
 unfolding is_unsent
 fault-ends events rest place over (faults.Wire (Unreadable fault at)) found = found
-fault-ends events rest place over (faults.Wire TooLong) found = absurd found
-fault-ends events rest place over (faults.Wire NotCanonical) found = absurd found
-fault-ends events rest place over (faults.Wire NoMemory) found = absurd found
 fault-ends events rest place over (faults.IdInUse id) found =
     (found.0, elim found.1 [ inl unsent ↦ absurd (true≢false (sym unsent)) | inr answered ↦ answered ])
 fault-ends events rest place over faults.BadInit found = found
-fault-ends events rest place over (faults.Cut at) found = absurd found
+fault-ends events rest place over other found = absurd found
 
 -- the session that found this fault ends, once each request is answered
 pub ending-fault : (start : Tree) (past now : StreamBytes) (ahead : Ahead) (core : Machine State) (fault : SessionFault)
@@ -220,7 +203,7 @@ served-by start past now core fault ending =
     let running = ending.running in
     record {
       last = core.state;
-      explained = explained stays-good each-answered (started start) 1024 running.events core running.good (omega arith)
+      explained = explained stays-good each-answered (started start) window running.events core running.good (omega arith)
           running.reached ending.answered;
       end_is = refl;
     }

@@ -1,20 +1,10 @@
 -- What the packets of a session and their records are with one event more, and what streams passed in two steps.
-use Rattle.std.proofs.Common.{◌≡◌, ℕ, List, [], ◌∷◌, ◌++◌, map, refl, sym, ap, ◌∙◌, append_assoc, append-nil}
-use Rattle.std.specs.List.{AllByRecursion}
-use Rattle.std.proofs.KnownBytes.{Appends-trans, Consumes-trans}
-use Rattle.std.proofs.lemmas.List.{map-append, flat_map_more}
-use Rattle.sftp_wire.specs.declared.packets.Packet.{Packet}
-use Rattle.sftp_wire.specs.declared.packets.Packet.TheVariants.{Request as request_packet, Reply as reply_packet}
-use Rattle.sftp_wire.specs.declared.packets.Request.{Request}
-use Rattle.sftp_wire.specs.declared.packets.Reply.{Reply}
-use Rattle.sftp_wire.specs.declared.packets.Side.{Side}
-use Rattle.sftp_wire.specs.declared.packets.Side.TheVariants.{Client, Server}
-use Rattle.sftp_wire.specs.Spelling.{spelling, side_of}
-use Rattle.sftp_transcript.specs.declared.events.Event.{Event}
-use Rattle.sftp_transcript.specs.declared.events.Event.TheVariants.{Asked, Replied}
-use Rattle.sftp_transcript.specs.Transcript.{packet_of, record_text, transcript_opening, IsEvent}
-use Rattle.sftp_server.specs.Served.{session_packets, spelled_if, sent_by, recorded, our_version}
-use Rattle.sftp_server.specs.Sessions.{StreamBytes, Passed}
+use Rattle.sftp_server.proofs.Imports.{◌≡◌, ℕ, List, [], ◌∷◌, ◌++◌, map, refl, sym, ap, ◌∙◌, append_assoc, append-nil}
+use Rattle.sftp_server.proofs.Imports.{AllByRecursion, Appends-trans, Consumes-trans, map-append, flat_map_more, Packet}
+use Rattle.sftp_server.proofs.Imports.{request_packet, reply_packet, Request, Reply, Side, Client, Server, spelling}
+use Rattle.sftp_server.proofs.Imports.{side_of, Event, Asked, Replied, packet_of, record_text, transcript_opening}
+use Rattle.sftp_server.proofs.Imports.{IsEvent, session_packets, spelled_if, sent_by, recorded, our_version}
+use Rattle.sftp_server.proofs.Imports.{StreamBytes, Passed}
 use Rattle.sftp_server.proofs.Machines.Acts.{all-append}
 
 -- ---- packets

@@ -1,15 +1,7 @@
 -- The log of a session is a transcript.
-use Rattle.std.proofs.Common.{◌≡◌, ℕ, ◌≤◌, List, [], ◌∷◌, ◌++◌, refl, ap, ◌∙◌, subst}
-use Rattle.std.specs.Prelude.{map, codes}
-use Rattle.std.specs.List.{flat_map}
-use Rattle.sftp_wire.specs.declared.packets.Packet.{Packet}
-use Rattle.sftp_wire.specs.declared.packets.Packet.TheVariants.{Init, Version, Request as request_packet}
-use Rattle.sftp_wire.specs.declared.packets.Packet.TheVariants.{Reply as reply_packet}
-use Rattle.sftp_wire.specs.Spelling.{HasSpelling, server_extensions}
-use Rattle.sftp_transcript.specs.declared.events.Event.{Event}
-use Rattle.sftp_transcript.specs.Transcript.{packet_of, record_text, event_record}
-use Rattle.sftp_transcript.specs.Transcript.{IsRecord}
-use Rattle.sftp_server.specs.Served.{our_version, IsGreeting, IsOpened}
+use Rattle.sftp_server.proofs.Imports.{◌≡◌, ℕ, ◌≤◌, List, [], ◌∷◌, ◌++◌, refl, ap, ◌∙◌, subst, map, flat_map, Packet}
+use Rattle.sftp_server.proofs.Imports.{Init, HasSpelling, server_extensions, Event, packet_of, record_text}
+use Rattle.sftp_server.proofs.Imports.{event_record, IsRecord, our_version, IsGreeting, IsOpened}
 use Rattle.sftp_server.proofs.Sessions.Opened.{version-spelled}
 
 records-are : (events : List Event) → flat_map record_text (map packet_of events) ≡ flat_map event_record events
@@ -26,9 +18,7 @@ record GreetingParts (init : Packet) : Type 0 where
 greeting-parts : (init : Packet) → IsGreeting init → GreetingParts init
 greeting-parts (Init version extensions) greeting =
     record { version = version; extensions = extensions; high_enough = greeting.0; init_is = refl }
-greeting-parts (Version version extensions) greeting = absurd greeting.0
-greeting-parts (request_packet request) greeting = absurd greeting.0
-greeting-parts (reply_packet reply) greeting = absurd greeting.0
+greeting-parts other greeting = absurd greeting.0
 
 pub log-is-transcript : (input output log : List ℕ) (init : Packet) (events : List Event) (rest : List ℕ)
     → IsOpened input output log init events rest → IsRecord events log

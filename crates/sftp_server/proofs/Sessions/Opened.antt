@@ -1,43 +1,25 @@
 -- A session is opened.
-use Rattle.std.proofs.Common.{◌≡◌, ◌⊎◌, ℕ, ◌<◌, ◌≤◌, List, [], ◌∷◌, ◌++◌, length, take, drop, codes, Option, Some, None}
-use Rattle.std.proofs.Common.{Result, Ok, Err, OnOk, IfErr, IfSome, MatchResult, refl, sym, ap, subst, ◌∙◌, inl, inr}
-use Rattle.std.proofs.Common.{append-nil, arith, lit<, lit≤}
-use Rattle.std.proofs.lemmas.List.{take_at, drop_at, length-append}
+use Rattle.sftp_server.proofs.Imports.{◌≡◌, ◌⊎◌, ℕ, ◌<◌, ◌≤◌, List, [], ◌∷◌, ◌++◌, length, take, drop, codes, Option}
+use Rattle.sftp_server.proofs.Imports.{Some, None, Result, Ok, Err, OnOk, IfErr, IfSome, MatchResult, refl, sym, ap}
+use Rattle.sftp_server.proofs.Imports.{subst, ◌∙◌, inl, inr, append-nil, arith, lit<, lit≤, take_at, drop_at}
+use Rattle.sftp_server.proofs.Imports.{length-append, Appends, Consumes, Keeps, Appends-trans, Consumes-kept, Packet}
+use Rattle.sftp_server.proofs.Imports.{Init, Version, Side, Client, Server, spelling, side_of, HasSpelling, FitsString}
+use Rattle.sftp_server.proofs.Imports.{posix_rename_name, hardlink_name, fsync_name, limits_name, front_of}
+use Rattle.sftp_server.proofs.Imports.{StandsInFront, place_after, none-leaves_room, AppendsPart, Log, opened_text}
+use Rattle.sftp_server.proofs.Imports.{record_text, transcript_opening, BeginsFrom, turn_after, in_window, exchanges_of}
+use Rattle.sftp_server.proofs.Imports.{leading_pairs, window, Tree, State, Good, settled, Allowed, bytes-by, Stop}
+use Rattle.sftp_server.proofs.Imports.{First, at_start, started, our_version, sent_by, spelled_if, recorded, IsGreeting}
+use Rattle.sftp_server.proofs.Imports.{IsNoGreeting, IsListed, closed_tree, IsCutInLast, StreamBytes, stream_bytes}
+use Rattle.sftp_server.proofs.Imports.{Passed, AreDone, IsAfterDone, Leaves, Stops, tree_left, IsLogging, Ahead}
+use Rattle.sftp_server.proofs.Imports.{input_limit, ahead_without, IsRunning, IsUnopenedYet, BeginsWithGreeting}
+use Rattle.sftp_server.proofs.Imports.{FailsToSend, IsFirst, IsInFront, IsGreetingOf}
 use Rattle.std.specs.Result.{IsErrAnd}
-use Rattle.std.specs.Io.KnownBytes.{Appends, Consumes, Keeps}
-use Rattle.std.proofs.KnownBytes.{Appends-trans, Consumes-kept}
-use Rattle.sftp_wire.specs.declared.packets.Packet.{Packet}
-use Rattle.sftp_wire.specs.declared.packets.Packet.TheVariants.{Init, Version, Request, Reply}
-use Rattle.sftp_wire.specs.declared.packets.Side.{Side}
-use Rattle.sftp_wire.specs.declared.packets.Side.TheVariants.{Client, Server}
-use Rattle.sftp_wire.specs.Spelling.{spelling, side_of, HasSpelling, FitsString}
-use Rattle.sftp_wire.specs.Spelling.{posix_rename_name, hardlink_name, fsync_name, limits_name}
-use Rattle.sftp_wire.specs.Reading.{front_of, StandsInFront}
-use Rattle.sftp_wire.specs.Framing.{place_after}
-use Rattle.sftp_wire.proofs.StreamLaws.Front.{none-leaves_room}
-use Rattle.sftp_transcript.specs.Streams.{AppendsPart}
-use Rattle.sftp_transcript.specs.Log.{Log, opened_text}
+use Rattle.sftp_wire.specs.declared.packets.Packet.TheVariants.{Request, Reply}
 use Rattle.sftp_transcript.specs.Records.{IsInit}
-use Rattle.sftp_transcript.specs.Transcript.{record_text, transcript_opening}
-use Rattle.sftp_transcript.specs.Explained.{BeginsFrom, turn_after, in_window, exchanges_of, leading_pairs}
-use Rattle.sftp_tree.specs.Tree.{Tree}
-use Rattle.sftp_handles.specs.State.{State, Good, settled}
-use Rattle.sftp_handles.specs.Allowed.{Allowed}
-use Rattle.sftp_handles.proofs.TotalSteps.PlaceTexts.{bytes-by}
 use Rattle.sftp_server.specs.declared.ends.SessionFault.TheVariants as faults
-use Rattle.sftp_server.specs.declared.ends.Stop.{Stop}
 use Rattle.sftp_server.specs.declared.ends.Stop.TheVariants as stops
 use Rattle.sftp_server.specs.declared.ends.Stream.TheVariants as streams
-use Rattle.sftp_server.specs.declared.opening.First.{First}
 use Rattle.sftp_server.specs.declared.opening.First.TheVariants as firsts
-use Rattle.sftp_server.specs.Machine.{at_start}
-use Rattle.sftp_server.specs.Core.{started}
-use Rattle.sftp_server.specs.Served.{our_version, sent_by, spelled_if, recorded, IsGreeting, IsNoGreeting, IsListed}
-use Rattle.sftp_server.specs.Served.{closed_tree, IsCutInLast}
-use Rattle.sftp_server.specs.Left.{AreDone, IsAfterDone}
-use Rattle.sftp_server.specs.Sessions.{StreamBytes, stream_bytes, Passed, Leaves, Stops, tree_left, IsLogging, Ahead}
-use Rattle.sftp_server.specs.Sessions.{input_limit, ahead_without, IsRunning, IsUnopenedYet, BeginsWithGreeting, FailsToSend}
-use Rattle.sftp_server.specs.Opening.{IsFirst, IsInFront, IsGreetingOf}
 use Rattle.sftp_server.proofs.Machines.Reached.{reached-start}
 use Rattle.sftp_server.proofs.Sessions.Lists.{sent-one, recorded-more}
 use Rattle.sftp_server.proofs.Sessions.Stops.{cut-whole, is-beginning, client-silent, server-sent, stopped-sending}
@@ -147,9 +129,7 @@ first-greeting bytes packet count (firsts.Init taken) found stands is = record {
 }
 first-greeting bytes packet count (firsts.Fault faults.BadInit) found stands is =
     inr (subst IsNoGreeting (sym found) is)
-first-greeting bytes packet count (firsts.Fault (faults.Wire error)) found stands is = absurd is
-first-greeting bytes packet count (firsts.Fault (faults.IdInUse id)) found stands is = absurd is
-first-greeting bytes packet count (firsts.Fault (faults.Cut at)) found stands is = absurd is
+first-greeting bytes packet count other found stands is = absurd is
 
 -- the same, as a call finds it
 pub first-found : (bytes held : List ℕ) (front : Option (Packet × ℕ)) (packet : Packet) (count : ℕ) (first : First)
@@ -227,7 +207,7 @@ init-logged past left written logged0 logged1 ahead count greets unopened logged
 
 -- the tree of a session in which no request was done
 abbrev pub first_left : Tree → Option Tree
-first_left start = tree_left (at_start (started start) 1024)
+first_left start = tree_left (at_start (started start) window)
 
 nothing-done : (start : Tree) → IsAfterDone start [] (closed_tree (started start))
 unfolding AreDone exchanges_of
@@ -378,7 +358,7 @@ pub version-sent : (start : Tree) (init : Packet) (past : StreamBytes)
     (left written0 written1 logged0 logged1 : Option (List ℕ)) (ahead : Ahead) → Good (started start)
     → IsInitLogged init past (stream_bytes left written0 logged0) ahead
     → Appends written0 written1 (spelling our_version) → Appends logged0 logged1 (record_text our_version)
-    → IsRunning start past (stream_bytes left written1 logged1) ahead (at_start (started start) 1024) None
+    → IsRunning start past (stream_bytes left written1 logged1) ahead (at_start (started start) window) None
 version-sent start init past left written0 written1 logged0 logged1 ahead good logged written recorded_too =
     record {
       init = init;
@@ -386,7 +366,7 @@ version-sent start init past left written0 written1 logged0 logged1 ahead good l
       good = good;
       greeting = logged.greeting;
       spelled = tt;
-      reached = reached-start (started start) 1024;
+      reached = reached-start (started start) window;
       passed = record {
         read = subst (λ (input : List ℕ). Consumes past.left left (input ++ ahead.held))
             (sym (client-silent (init ∷ []) our_version refl)) logged.passed.read;
@@ -412,7 +392,7 @@ pub version-done : (start : Tree) (init : Packet) (past : StreamBytes) (left wri
     → OnOk result (Appends log0.bytes log1.bytes (record_text packet))
     → IfErr result (λ stop. FailsToSend packet written0 written1 log0 log1 stop)
     → MatchResult result
-    (λ _. IsRunning start past (stream_bytes left written1 log1.bytes) ahead (at_start (started start) 1024) None)
+    (λ _. IsRunning start past (stream_bytes left written1 log1.bytes) ahead (at_start (started start) window) None)
     (λ stop. Stops start past (stream_bytes left written1 log1.bytes) stop (first_left start))
 version-done start init past left written0 written1 log0 log1 ahead packet (Ok done) good is logging logged written
     recorded_too fails =

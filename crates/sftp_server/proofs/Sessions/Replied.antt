@@ -1,41 +1,23 @@
 -- A request is done, or a reply is sent, in a running session.
-use Rattle.std.proofs.Common.{◌≡◌, ◌⊎◌, ◌==◌, ◌&&◌, ◌||◌, not, ℕ, Bool, true, false, List, [], ◌∷◌, ◌++◌, length, map}
-use Rattle.std.proofs.Common.{Option, Some, None, Result, Ok, Err, OnOk, OnErr, IfErr, IsTrue, if◌then◌else◌}
-use Rattle.std.proofs.Common.{inl, inr, refl, sym, ap, subst, subst₂, ◌∙◌, arith}
-use Rattle.std.specs.Io.KnownBytes.{Appends, Consumes}
-use Rattle.std.proofs.KnownBytes.{Appends-trans}
-use Rattle.std.specs.List.{AllByRecursion}
-use Rattle.sftp_wire.specs.declared.errors.WireError.TheVariants.{Unreadable}
-use Rattle.sftp_wire.specs.declared.packets.Packet.{Packet}
-use Rattle.sftp_wire.specs.declared.packets.Packet.TheVariants.{Reply as reply_packet}
-use Rattle.sftp_wire.specs.declared.packets.Request.{Request}
-use Rattle.sftp_wire.specs.declared.packets.Reply.{Reply}
-use Rattle.sftp_wire.specs.Framing.{place_after}
-use Rattle.sftp_wire.specs.Spelling.{spelling, HasSpelling}
-use Rattle.sftp_transcript.specs.declared.events.Event.{Event}
-use Rattle.sftp_transcript.specs.declared.events.Event.TheVariants.{Asked, Replied}
-use Rattle.sftp_transcript.specs.Log.{Log}
-use Rattle.sftp_transcript.specs.Transcript.{packet_of, record_text, IsEvent}
-use Rattle.sftp_tree.specs.Tree.{Tree}
-use Rattle.sftp_handles.specs.State.{State}
-use Rattle.sftp_handles.specs.Allowed.{Allowed}
-use Rattle.sftp_server.specs.declared.ends.SessionFault.{SessionFault}
+use Rattle.sftp_server.proofs.Imports.{◌≡◌, ◌⊎◌, ◌==◌, ◌&&◌, ◌||◌, not, ℕ, Bool, true, false, List, [], ◌∷◌, ◌++◌}
+use Rattle.sftp_server.proofs.Imports.{length, map, Option, Some, None, Result, Ok, Err, OnOk, OnErr, IfErr, IsTrue}
+use Rattle.sftp_server.proofs.Imports.{inl, inr, refl, sym, ap, subst, subst₂, ◌∙◌, arith, Appends, Consumes}
+use Rattle.sftp_server.proofs.Imports.{Appends-trans, or_left, or_right, or_cases, AllByRecursion, Unreadable, Packet}
+use Rattle.sftp_server.proofs.Imports.{reply_packet, Request, Reply, place_after, spelling, HasSpelling, Event, Asked}
+use Rattle.sftp_server.proofs.Imports.{Replied, Log, packet_of, record_text, IsEvent, window, Tree, State, Allowed}
+use Rattle.sftp_server.proofs.Imports.{SessionFault, Stop, Entry, Pending, Done, Sent, Machine, is_sent, is_unsent}
+use Rattle.sftp_server.proofs.Imports.{is_ready, reply_at, IsWorked, IsSent, server_clash, started, IsReached}
+use Rattle.sftp_server.proofs.Imports.{session_packets, our_version, answered_last, IsListed, StreamBytes, stream_bytes}
+use Rattle.sftp_server.proofs.Imports.{IsLeftAfter, IsLogging, Ahead, IsRunning, IsFaultAhead, FailsToSend, SendsOn}
+use Rattle.sftp_server.proofs.Imports.{tree_left}
 use Rattle.sftp_server.specs.declared.ends.SessionFault.TheVariants as faults
-use Rattle.sftp_server.specs.declared.ends.Stop.{Stop}
 use Rattle.sftp_server.specs.declared.ends.Stop.TheVariants as stops
-use Rattle.sftp_server.specs.declared.queue.Entry.{Entry}
-use Rattle.sftp_server.specs.declared.queue.Progress.TheVariants.{Pending, Done, Sent}
-use Rattle.sftp_server.specs.Machine.{Machine, is_sent, is_unsent, is_ready, reply_at, from_unsent, IsWorked, IsSent}
-use Rattle.sftp_server.specs.Core.{server_clash, started, IsReached}
-use Rattle.sftp_server.specs.Served.{session_packets, our_version, answered_last, IsListed}
-use Rattle.sftp_server.specs.Left.{IsLeftAfter}
-use Rattle.sftp_server.specs.Sessions.{StreamBytes, stream_bytes, IsLogging, Ahead, IsRunning}
-use Rattle.sftp_server.specs.Sessions.{IsFaultAhead, FailsToSend, SendsOn, tree_left}
+use Rattle.sftp_server.proofs.Queues.{is_unsent-front}
 use Rattle.sftp_server.proofs.Machines.Laws.{reply-for}
 use Rattle.sftp_server.proofs.Machines.Reached.{reached-worked, reached-sent}
 use Rattle.sftp_server.proofs.Sessions.Lists.{session-more, replied-session, events-more}
-use Rattle.sftp_server.proofs.Sessions.Stops.{stays-good, each-answered, reached-begins, running-listed}
-use Rattle.sftp_server.proofs.Sessions.Stops.{reached-leaves, stopped-no-memory, stopped-sending}
+use Rattle.sftp_server.proofs.Sessions.Stops.{stays-good, each-answered, reached-begins, running-listed, reached-leaves}
+use Rattle.sftp_server.proofs.Sessions.Stops.{stopped-no-memory, stopped-sending}
 
 -- ---- the unsent requests
 
@@ -49,17 +31,6 @@ unsent-worked id (entry ∷ front) request reply back =
     ap (λ (later : Bool). (not (is_sent entry.progress) && entry.request.id == id) || later)
     (unsent-worked id front request reply back)
 
-or-left : (a b : Bool) → a ≡ true → a || b ≡ true
-or-left a b is = ap (λ (x : Bool). x || b) is
-
-or-right : (a b : Bool) → b ≡ true → a || b ≡ true
-or-right true b is = refl
-or-right false b is = is
-
-or-cases : (a b : Bool) → a || b ≡ true → (a ≡ true) ⊎ (b ≡ true)
-or-cases true b is = inl refl
-or-cases false b is = inr is
-
 -- once a reply is sent, an id that was unsent is still unsent, or is that of its request
 unsent-sent : (id : ℕ) (front : List Entry) (request : Request) (reply : Reply) (back : List Entry)
     → is_unsent id (front ++ record { request = request; progress = Done reply } ∷ back) ≡ true
@@ -67,30 +38,18 @@ unsent-sent : (id : ℕ) (front : List Entry) (request : Request) (reply : Reply
     ⊎ (request.id == id ≡ true)
 unfolding is_unsent
 unsent-sent id [] request reply back unsent =
-    elim (or-cases (request.id == id) (is_unsent id back) unsent) [ inl here ↦ inr here | inr later ↦ inl later ]
+    elim (or_cases (request.id == id) (is_unsent id back) unsent) [ inl here ↦ inr here | inr later ↦ inl later ]
 unsent-sent id (entry ∷ front) request reply back unsent =
     let here : Bool = not (is_sent entry.progress) && entry.request.id == id in
     let old : Bool = is_unsent id (front ++ record { request = request; progress = Done reply } ∷ back) in
     let new : Bool = is_unsent id (front ++ record { request = request; progress = Sent } ∷ back) in
-    elim (or-cases here old unsent) [
-      | inl first ↦ inl (or-left here new first)
+    elim (or_cases here old unsent) [
+      | inl first ↦ inl (or_left here new first)
       | inr later ↦ elim (unsent-sent id front request reply back later) [
-        | inl still ↦ inl (or-right here new still)
+        | inl still ↦ inl (or_right here new still)
         | inr same ↦ inr same
       ]
     ]
-
--- the requests that leave the queue were sent
-unsent-left : (id : ℕ) (queue : List Entry) → is_unsent id (from_unsent queue) ≡ is_unsent id queue
-unfolding is_unsent from_unsent
-unsent-left id [] = refl
-unsent-left id (entry ∷ queue) = by (is_sent entry.progress) refl (unsent-left id queue)
-  where
-    by : (sent : Bool) → is_sent entry.progress ≡ sent → is_unsent id (from_unsent queue) ≡ is_unsent id queue
-        → is_unsent id (if is_sent entry.progress then from_unsent queue else entry ∷ queue)
-        ≡ ((not (is_sent entry.progress) && entry.request.id == id) || is_unsent id queue)
-    by true is rest = rw is rest
-    by false is rest = rw (is, is) refl
 
 -- ---- the ids answered last
 
@@ -132,12 +91,12 @@ used-sent : {core0 core1 : Machine State} {k : ℕ} {reply : Reply} (sent : IsSe
 used-sent {core0} {core1} {k} {reply} sent events same id (inl unsent) =
     elim (unsent-sent id sent.front sent.request reply sent.back (ap (is_unsent id) (sym sent.queue_is) ∙ unsent)) [
       | inl still ↦ inl (ap (λ (m : Machine State). is_unsent id m.queue) sent.marked
-          ∙ unsent-left id (sent.front ++ record { request = sent.request; progress = Sent } ∷ sent.back) ∙ still)
+          ∙ is_unsent-front id (sent.front ++ record { request = sent.request; progress = Sent } ∷ sent.back) ∙ still)
       | inr here ↦ inr (answered-more id false events reply
-          ∙ or-right (answered_last id false events) (reply.id == id) (ap (λ (n : ℕ). n == id) same ∙ here))
+          ∙ or_right (answered_last id false events) (reply.id == id) (ap (λ (n : ℕ). n == id) same ∙ here))
     ]
 used-sent {core0} {core1} {k} {reply} sent events same id (inr answered) =
-    inr (answered-more id false events reply ∙ or-left (answered_last id false events) (reply.id == id) answered)
+    inr (answered-more id false events reply ∙ or_left (answered_last id false events) (reply.id == id) answered)
 
 -- ---- a request is done
 
@@ -150,7 +109,7 @@ running-worked start past now ahead core0 core1 k fault running ready worked = r
   good = running.good;
   greeting = running.greeting;
   spelled = running.spelled;
-  reached = reached-worked (started start) 1024 running.events core0 core1 k running.reached ready worked;
+  reached = reached-worked (started start) window running.events core0 core1 k running.reached ready worked;
   passed = running.passed;
   place = running.place;
   found = fault-kept running.events running.events core0.queue core1.queue ahead.held ahead.place fault
@@ -176,14 +135,14 @@ module _ {start : Tree} {past now : StreamBytes} {ahead : Ahead} {core0 core1 : 
     (at : reply_at core0.queue k ≡ Some reply) (sent : IsSent core0 k reply core1) where
   for-request : (reply.id ≡ sent.request.id) × HasSpelling (reply_packet reply)
   for-request =
-      reply-for stays-good each-answered (started start) 1024 running.events core0 k reply core1 running.good
+      reply-for stays-good each-answered (started start) window running.events core0 k reply core1 running.good
       (omega arith) running.reached sent
 
   abbrev events : List Event
   events = running.events ++ Replied reply ∷ []
 
-  reached : IsReached (started start) 1024 events core1
-  reached = reached-sent (started start) 1024 running.events core0 core1 k reply running.reached at sent
+  reached : IsReached (started start) window events core1
+  reached = reached-sent (started start) window running.events core0 core1 k reply running.reached at sent
 
   spelled : AllByRecursion IsEvent events
   spelled = events-more running.events (Replied reply) running.spelled for-request.1

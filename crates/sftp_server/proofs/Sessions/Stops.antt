@@ -1,35 +1,20 @@
 -- A session that stops where a stream fails or memory runs out.
-use Rattle.std.proofs.Common.{◌≡◌, ◌≢◌, ℕ, Bool, if◌then◌else◌, List, [], ◌∷◌, ◌++◌, Option, refl, sym, ap, ◌∙◌}
-use Rattle.std.proofs.Common.{inl, inr, arith, append-nil, append_assoc, ne_eqb}
-use Rattle.std.specs.Io.KnownBytes.{Keeps}
-use Rattle.std.proofs.KnownBytes.{Appends-trans, Appends-kept, Consumes-kept, Keeps-refl}
-use Rattle.sftp_wire.specs.declared.packets.Packet.{Packet}
-use Rattle.sftp_wire.specs.declared.packets.Side.{Side}
-use Rattle.sftp_wire.specs.declared.packets.Side.TheVariants.{Client, Server}
-use Rattle.sftp_wire.specs.Spelling.{spelling, side_of}
-use Rattle.sftp_transcript.specs.declared.events.Event.{Event}
-use Rattle.sftp_transcript.specs.Explained.{BeginsFrom}
-use Rattle.sftp_transcript.specs.Log.{Log, opened_text}
-use Rattle.sftp_transcript.specs.Transcript.{record_text, transcript_opening}
-use Rattle.sftp_tree.specs.Tree.{Tree}
+use Rattle.sftp_server.proofs.Imports.{◌≡◌, ◌≢◌, ℕ, Bool, if◌then◌else◌, List, [], ◌∷◌, ◌++◌, Option, refl, sym, ap}
+use Rattle.sftp_server.proofs.Imports.{◌∙◌, inl, inr, arith, append-nil, append_assoc, ne_eqb, Keeps, Appends-trans}
+use Rattle.sftp_server.proofs.Imports.{Appends-kept, Consumes-kept, Keeps-refl, Packet, Side, Client, Server, spelling}
+use Rattle.sftp_server.proofs.Imports.{side_of, Event, BeginsFrom, window, Log, opened_text, record_text}
+use Rattle.sftp_server.proofs.Imports.{transcript_opening, Tree, State, Good, settled, Allowed, SessionFault, Stop}
+use Rattle.sftp_server.proofs.Imports.{Machine, started, IsReached, session_packets, sent_by, spelled_if, recorded}
+use Rattle.sftp_server.proofs.Imports.{opened_record, IsListed, IsBeginning, IsCutInLast, closed_tree, StreamBytes}
+use Rattle.sftp_server.proofs.Imports.{stream_bytes, Passed, IsAfterDone, IsLeftAfter, Leaves, IsLogging, Ahead}
+use Rattle.sftp_server.proofs.Imports.{IsRunning, FailsToSend, Stops, tree_left}
 use Rattle.sftp_tree.proofs.Walks.Places.{path-found}
 use Rattle.sftp_tree.proofs.Requests.Trees.{PathsLeadWell}
-use Rattle.sftp_handles.specs.State.{State, Good, settled}
-use Rattle.sftp_handles.specs.Allowed.{Allowed}
 use Rattle.sftp_handles.proofs.GoodLaws.{allowed-good}
 use Rattle.sftp_handles.proofs.FirstListings.{listing-fits}
 use Rattle.sftp_handles.proofs.TotalSteps.SomeReplies.{some-allowed}
-use Rattle.sftp_server.specs.declared.ends.SessionFault.{SessionFault}
-use Rattle.sftp_server.specs.declared.ends.Stop.{Stop}
 use Rattle.sftp_server.specs.declared.ends.Stop.TheVariants as stops
 use Rattle.sftp_server.specs.declared.ends.Stream.TheVariants as streams
-use Rattle.sftp_server.specs.Machine.{Machine}
-use Rattle.sftp_server.specs.Core.{started, IsReached}
-use Rattle.sftp_server.specs.Served.{session_packets, sent_by, spelled_if, recorded, opened_record, IsListed}
-use Rattle.sftp_server.specs.Served.{IsBeginning, IsCutInLast, closed_tree}
-use Rattle.sftp_server.specs.Left.{IsAfterDone, IsLeftAfter}
-use Rattle.sftp_server.specs.Sessions.{StreamBytes, stream_bytes, Passed, IsLogging, Ahead, IsRunning}
-use Rattle.sftp_server.specs.Sessions.{FailsToSend, Leaves, Stops, tree_left}
 use Rattle.sftp_server.proofs.Machines.Laws as core_laws
 use Rattle.sftp_server.proofs.Sessions.Lists.{sent-more, recorded-more}
 
@@ -76,9 +61,9 @@ pub each-answered : core_laws.IsTotal
 each-answered = some-allowed paths-lead
 
 pub reached-begins : (start : Tree) (events : List Event) (core : Machine State) → Good (started start)
-    → IsReached (started start) 1024 events core → BeginsFrom Allowed (settled start []) events
+    → IsReached (started start) window events core → BeginsFrom Allowed (settled start []) events
 reached-begins start events core good reached =
-    core_laws.begun stays-good each-answered (started start) 1024 events core good (omega arith) reached
+    core_laws.begun stays-good each-answered (started start) window events core good (omega arith) reached
 
 pub begun : {start : Tree} {past now : StreamBytes} {ahead : Ahead} {core : Machine State} {fault : Option SessionFault}
     → (running : IsRunning start past now ahead core fault) → BeginsFrom Allowed (settled start []) running.events
@@ -123,17 +108,17 @@ cut-whole (first ∷ packets) =
 -- ---- the tree of the requests done
 
 pub after-done : (start : Tree) (events : List Event) (core : Machine State) → Good (started start)
-    → IsReached (started start) 1024 events core → IsAfterDone start events (closed_tree core.state)
+    → IsReached (started start) window events core → IsAfterDone start events (closed_tree core.state)
 after-done start events core good reached =
     record {
       last = core.state;
-      leads = core_laws.leads-to stays-good each-answered (started start) 1024 events core good (omega arith) reached;
+      leads = core_laws.leads-to stays-good each-answered (started start) window events core good (omega arith) reached;
       end_is = refl;
     }
 
 -- a core that was reached leaves this tree
 pub reached-leaves : (start : Tree) (init : Packet) (events : List Event) (core : Machine State) → Good (started start)
-    → IsReached (started start) 1024 events core → IsLeftAfter start (session_packets init events) (tree_left core)
+    → IsReached (started start) window events core → IsLeftAfter start (session_packets init events) (tree_left core)
 reached-leaves start init events core good reached = (events, refl, after-done start events core good reached)
 
 -- ---- a session that stops between packets

@@ -1,28 +1,12 @@
 -- Sessions that are opened by an INIT of version 3: what makes one, and what their bytes say of them.
-use Rattle.std.proofs.Common.{◌≡◌, ℕ, List, [], ◌∷◌, ◌++◌, length, map, Some, Ok, refl, sym, ap}
-use Rattle.std.proofs.Common.{◌∙◌, arith, append_assoc, append-nil, lit<, lit≤}
-use Rattle.std.specs.List.{AllByRecursion}
-use Rattle.std.proofs.lemmas.List.{length-append}
-use Rattle.sftp_wire.specs.declared.packets.Packet.{Packet}
-use Rattle.sftp_wire.specs.declared.packets.Packet.TheVariants.{Init, Version, Request as request_packet}
-use Rattle.sftp_wire.specs.declared.packets.Packet.TheVariants.{Reply as reply_packet}
-use Rattle.sftp_wire.specs.declared.packets.Side.TheVariants.{Client, Server}
-use Rattle.sftp_wire.specs.Spelling.{spelling}
-use Rattle.sftp_wire.specs.Reading.{front_of}
-use Rattle.sftp_wire.specs.Framing.{place_after}
-use Rattle.sftp_wire.specs.Examples.{hex, version_bytes}
-use Rattle.sftp_wire.proofs.StreamLaws.Front.{front_again, spellings-apart, length-spelling}
-use Rattle.sftp_transcript.specs.declared.events.Event.{Event}
-use Rattle.sftp_transcript.specs.declared.events.Event.TheVariants.{Asked, Replied}
-use Rattle.sftp_transcript.specs.Transcript.{packet_of, IsEvent}
-use Rattle.sftp_transcript.specs.Explained.{turn_after, in_window, exchanges_of, leading_pairs}
-use Rattle.sftp_transcript.specs.Examples.{handshake_bytes}
+use Rattle.sftp_server.proofs.Imports.{◌≡◌, ℕ, List, [], ◌∷◌, ◌++◌, length, map, Some, Ok, refl, sym, ap, ◌∙◌, arith}
+use Rattle.sftp_server.proofs.Imports.{append_assoc, append-nil, lit<, lit≤, AllByRecursion, length-append, Packet}
+use Rattle.sftp_server.proofs.Imports.{Init, request_packet, reply_packet, Client, Server, spelling, front_of}
+use Rattle.sftp_server.proofs.Imports.{place_after, hex, version_bytes, front_again, spellings-apart, length-spelling}
+use Rattle.sftp_server.proofs.Imports.{Event, Asked, Replied, packet_of, IsEvent, turn_after, in_window, exchanges_of}
+use Rattle.sftp_server.proofs.Imports.{leading_pairs, handshake_bytes, get, retain, settled, pins_of, our_version}
+use Rattle.sftp_server.proofs.Imports.{session_packets, sent_by, IsGreeting, IsOpened, IsServed, init_bytes}
 use Rattle.sftp_tree.specs.Picture.{blank}
-use Rattle.sftp_path.specs.Table.{get, retain}
-use Rattle.sftp_handles.specs.State.{settled}
-use Rattle.sftp_handles.specs.Handles.{pins_of}
-use Rattle.sftp_server.specs.Served.{our_version, session_packets, sent_by, IsGreeting, IsOpened, IsServed}
-use Rattle.sftp_server.specs.Examples.{init_bytes}
 
 -- ---- what opens a session
 
@@ -99,9 +83,7 @@ only_opens more log rest (Init version extensions) events none is =
     let ended = no_events more rest events is.spelled none apart.1 (nothing_written (sent_by Server (map packet_of
     events)) is.written) in
     record { init_is = sym apart.0; no_events = ended.0; rest_is = ended.1 }
-only_opens more log rest (Version version extensions) events none is = absurd is.greeting.0
-only_opens more log rest (request_packet request) events none is = absurd is.greeting.0
-only_opens more log rest (reply_packet reply) events none is = absurd is.greeting.0
+only_opens more log rest other events none is = absurd is.greeting.0
 
 pub version_written : version_bytes ≡ [] → ⊥
 version_written none =

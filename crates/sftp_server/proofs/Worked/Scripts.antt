@@ -1,37 +1,23 @@
 -- Worked examples: what requests are allowed on the blank tree, and a script of acts.
-use Rattle.std.proofs.Common.{ℕ, ◌<◌, ◌≤◌, ◌^◌, List, [], ◌∷◌, codes, length, refl, inr, lit<, lit≤}
+use Rattle.sftp_server.proofs.Imports.{ℕ, ◌<◌, ◌≤◌, ◌^◌, List, [], ◌∷◌, codes, length, refl, inr, lit<, lit≤}
+use Rattle.sftp_server.proofs.Imports.{request_packet, reply_packet, Request, Reply, spelling, packet_limit}
+use Rattle.sftp_server.proofs.Imports.{HasSpelling, FitsString, no_attributes, retain, get, put, Tree, has_entries}
+use Rattle.sftp_server.proofs.Imports.{fits, led, plain_causes, path_causes, outcome, State, pins_of, causes, told_to}
+use Rattle.sftp_server.proofs.Imports.{answers, after, Allowed, clash, touched, range, range_clash, bytes-by, Explained}
+use Rattle.sftp_server.proofs.Imports.{turn_after, in_window, requests_before_reply, exchanges_of, leading_pairs}
+use Rattle.sftp_server.proofs.Imports.{next_reply, window, mkdir, rmdir, status, Entry, Progress, Pending, Done, Sent}
+use Rattle.sftp_server.proofs.Imports.{Machine, at_start, AreActs, IsWorked, IsSent, is_unsent, is_free_of, from_unsent}
+use Rattle.sftp_server.proofs.Imports.{server_clash, started, made_and_removed, answered_backwards, root_attributes}
+use Rattle.sftp_server.proofs.Imports.{stat_answered}
 use Rattle.sftp_wire.specs.declared.packets.Ask.TheVariants.{Mkdir, Rmdir, Stat}
 use Rattle.sftp_wire.specs.declared.packets.Answer.TheVariants.{Status, Attrs as attributes}
-use Rattle.sftp_wire.specs.declared.packets.Packet.TheVariants.{Request as request_packet, Reply as reply_packet}
-use Rattle.sftp_wire.specs.declared.packets.Request.{Request}
-use Rattle.sftp_wire.specs.declared.packets.Reply.{Reply}
-use Rattle.sftp_wire.specs.Spelling.{spelling, packet_limit, HasSpelling, FitsString}
-use Rattle.sftp_wire.specs.Examples.{no_attributes}
 use Rattle.sftp_path.specs.Place.{parts, components, is_good_path}
-use Rattle.sftp_path.specs.Table.{retain, get, put, without}
+use Rattle.sftp_path.specs.Table.{without}
 use Rattle.sftp_tree.specs.declared.nodes.Node.TheVariants.{Dir}
-use Rattle.sftp_tree.specs.Tree.{Tree, has_entries, fits}
 use Rattle.sftp_tree.specs.Walk.{meets, walk, walk_parts, reached}
 use Rattle.sftp_tree.specs.Causes.{no_causes, when, joined}
-use Rattle.sftp_tree.specs.Requests.{led, plain_causes, causes as path_causes, outcome}
 use Rattle.sftp_tree.specs.Picture.{blank}
-use Rattle.sftp_handles.specs.State.{State}
-use Rattle.sftp_handles.specs.Handles.{pins_of}
-use Rattle.sftp_handles.specs.Requests.{causes, told_to, answers, after}
-use Rattle.sftp_handles.specs.Allowed.{Allowed}
-use Rattle.sftp_handles.specs.Clash.{clash, touched}
-use Rattle.sftp_handles.specs.Ranges.{range, range_clash}
-use Rattle.sftp_handles.proofs.TotalSteps.PlaceTexts.{bytes-by}
-use Rattle.sftp_transcript.specs.Explained.{Explained, turn_after, in_window, requests_before_reply, exchanges_of}
-use Rattle.sftp_transcript.specs.Explained.{leading_pairs, next_reply}
-use Rattle.sftp_transcript.specs.Examples.{mkdir, rmdir, status}
 use Rattle.sftp_transcript.proofs.pairing.Turns.{Matching-from_ids}
-use Rattle.sftp_server.specs.declared.queue.Entry.{Entry}
-use Rattle.sftp_server.specs.declared.queue.Progress.{Progress}
-use Rattle.sftp_server.specs.declared.queue.Progress.TheVariants.{Pending, Done, Sent}
-use Rattle.sftp_server.specs.Machine.{Machine, at_start, AreActs, IsWorked, IsSent, is_unsent, is_free_of, from_unsent}
-use Rattle.sftp_server.specs.Core.{server_clash, started}
-use Rattle.sftp_server.specs.Examples.{made_and_removed, answered_backwards, root_attributes, stat_answered}
 
 -- ---- requests and replies
 
@@ -136,7 +122,7 @@ abbrev with_progress : Request → Progress → Entry
 with_progress request progress = record { request = request; progress = progress }
 
 abbrev machine : State → List Entry → Machine State
-machine state queue = record { state = state; window = 1024; queue = queue }
+machine state queue = record { state = state; window = window; queue = queue }
 
 abbrev both : Progress → Progress → List Entry
 both first second = with_progress make_a first ∷ with_progress remove_a second ∷ []
@@ -198,8 +184,8 @@ first_sends = record {
   marked = refl;
 }
 
-pub keeps_order : AreActs Allowed server_clash (at_start (started blank) 1024) made_and_removed answered_backwards
-    (at_start (started blank) 1024)
+pub keeps_order : AreActs Allowed server_clash (at_start (started blank) window) made_and_removed answered_backwards
+    (at_start (started blank) window)
 unfolding is_unsent is_free_of range_clash clash touched range
 keeps_order =
     let asked_first = mkdir 1 (codes "/a") in

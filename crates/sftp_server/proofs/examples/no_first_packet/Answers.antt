@@ -1,6 +1,4 @@
-use Rattle.std.proofs.Common.{refl, inl}
-use Rattle.sftp_wire.specs.Examples.{hex}
-use Rattle.sftp_wire.specs.Reading.{front_of}
+use Rattle.sftp_server.proofs.Imports.{refl, inl, hex, front_of}
 use Rattle.sftp_server.proofs.examples.no_first_packet.Goals as goal
 
 pub returns-clause-empty : goal.returns-clause-empty

@@ -1,6 +1,4 @@
-use Rattle.std.proofs.Common.{[], refl}
-use Rattle.sftp_wire.specs.Examples.{hex}
-use Rattle.sftp_wire.specs.declared.packets.Packet.TheVariants.{Init}
+use Rattle.sftp_server.proofs.Imports.{[], refl, hex, Init}
 use Rattle.sftp_server.proofs.Worked.Openings.{opened, unchanged}
 use Rattle.sftp_server.proofs.examples.nothing_asked.Goals as goal
 

@@ -1,14 +1,7 @@
 -- The first request is answered as the blank tree allows; the second has its id.
-use Rattle.std.proofs.Common.{[], refl, inr}
-use Rattle.sftp_wire.specs.declared.packets.Packet.TheVariants.{Init}
-use Rattle.sftp_wire.specs.Examples.{hex}
-use Rattle.sftp_wire.specs.Spelling.{spelling}
-use Rattle.sftp_path.specs.Table.{get, retain}
+use Rattle.sftp_server.proofs.Imports.{[], refl, inr, Init, hex, spelling, get, retain, pins_of, started, sent_by}
+use Rattle.sftp_server.proofs.Imports.{answered_last, stat_bytes, stat_answered}
 use Rattle.sftp_tree.specs.Picture.{blank}
-use Rattle.sftp_handles.specs.Handles.{pins_of}
-use Rattle.sftp_server.specs.Core.{started}
-use Rattle.sftp_server.specs.Served.{sent_by, answered_last}
-use Rattle.sftp_server.specs.Examples.{stat_bytes, stat_answered}
 use Rattle.sftp_server.proofs.Worked.Openings.{greeting}
 use Rattle.sftp_server.proofs.Worked.Scripts.{stat_root, stat_spelled, root_spelled, looked}
 use Rattle.sftp_server.proofs.examples.same_id_twice.Goals as goal

@@ -1,5 +1,4 @@
-use Rattle.std.proofs.Common.{inl, inr}
-use Rattle.sftp_server.specs.Sessions.{stream_bytes}
+use Rattle.sftp_server.proofs.Imports.{inl, inr, stream_bytes}
 use Rattle.sftp_server.proofs.Sessions.Opened.{unopened-kept, unopened-stopped, waits-room, stopped-so}
 use Rattle.sftp_server.proofs.opening.await_init.Goals as goal
 

@@ -1,7 +1,4 @@
-use Rattle.std.proofs.Common.{sym, subst}
-use Rattle.sftp_wire.specs.Spelling.{HasSpelling}
-use Rattle.sftp_server.specs.declared.ends.Stop.{Stop}
-use Rattle.sftp_server.specs.Sessions.{stream_bytes, Ahead, Stops}
+use Rattle.sftp_server.proofs.Imports.{sym, subst, HasSpelling, Stop, stream_bytes, Ahead, Stops}
 use Rattle.sftp_server.proofs.Sessions.Opened.{IsInitLogged, init-client, init-taken, init-logged, init-unlogged}
 use Rattle.sftp_server.proofs.Sessions.Opened.{init-no_memory, stopped-so, version-spelled, version-done, first_left}
 use Rattle.sftp_server.proofs.opening.greet.Goals as goal

@@ -1,4 +1,4 @@
-use Rattle.std.proofs.Common.{sym, ◌∙◌, arith}
+use Rattle.sftp_server.proofs.Imports.{sym, ◌∙◌, arith}
 use Rattle.sftp_server.proofs.Queues.{sent-first, unsent-first}
 use Rattle.sftp_server.proofs.queue.drop_sent.Goals as goal
 

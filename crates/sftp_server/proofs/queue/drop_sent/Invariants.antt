@@ -1,5 +1,4 @@
-use Rattle.std.proofs.Common.{◌≡◌, length}
-use Rattle.sftp_server.specs.Machine.{from_unsent}
+use Rattle.sftp_server.proofs.Imports.{◌≡◌, length, from_unsent}
 use Rattle.sftp_server.proofs.queue.drop_sent.Given as goal
 
 abbrev pub invariant-sent : goal.invariant-sent

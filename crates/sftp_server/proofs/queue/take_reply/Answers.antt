@@ -1,6 +1,4 @@
-use Rattle.std.proofs.Common.{refl}
-use Rattle.std.proofs.lemmas.Option.{slice_get_read}
-use Rattle.sftp_server.specs.declared.queue.Progress.TheVariants.{Sent}
+use Rattle.sftp_server.proofs.Imports.{refl, slice_get_read, Sent}
 use Rattle.sftp_server.proofs.Queues.{stored}
 use Rattle.sftp_server.proofs.queue.take_reply.Goals as goal
 

@@ -1,4 +1,4 @@
-use Rattle.std.proofs.Common.{◌≡◌, drop}
+use Rattle.sftp_server.proofs.Imports.{◌≡◌, drop}
 use Rattle.sftp_server.proofs.readiness.drop_front.Given as goal
 
 abbrev pub invariant-each : goal.invariant-each

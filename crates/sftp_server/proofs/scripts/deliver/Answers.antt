@@ -1,4 +1,4 @@
-use Rattle.std.proofs.Common.{refl}
+use Rattle.sftp_server.proofs.Imports.{refl}
 use Rattle.sftp_server.proofs.ScriptLaws.{performed-taken, performed-refused}
 use Rattle.sftp_server.proofs.scripts.deliver.Goals as goal
 

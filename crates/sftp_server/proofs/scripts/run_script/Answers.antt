@@ -1,5 +1,4 @@
-use Rattle.std.proofs.Common.{◌+◌, take, refl}
-use Rattle.sftp_server.specs.Core.{started}
+use Rattle.sftp_server.proofs.Imports.{◌+◌, take, refl, started}
 use Rattle.sftp_server.proofs.ScriptLaws.{acts-next, acts-whole, acts-begin, acts-explained}
 use Rattle.sftp_server.proofs.scripts.run_script.Goals as goal
 

@@ -1,9 +1,5 @@
 -- A fault ends the session, once the writer and the log were flushed.
-use Rattle.std.proofs.Common.{subst}
-use Rattle.std.proofs.lemmas.Result.{err_from_is_err_and}
-use Rattle.sftp_server.specs.declared.taking.Front.{Front}
-use Rattle.sftp_server.specs.Fronts.{fault_of}
-use Rattle.sftp_server.specs.Sessions.{stream_bytes, IsRunning}
+use Rattle.sftp_server.proofs.Imports.{subst, err_from_is_err_and, Front, fault_of, stream_bytes, IsRunning}
 use Rattle.sftp_server.proofs.Sessions.Closed.{writer-stops, log-stops, running-written, running-logged, ending-fault}
 use Rattle.sftp_server.proofs.serving.after_batch.Goals as goal
 

@@ -1,13 +1,9 @@
 -- After the writer's flush the session reads; at the end of the input it ends.
-use Rattle.std.proofs.Common.{None, subst, sym, arith, ◌≡◌, Ok}
-use Rattle.std.proofs.lemmas.Result.{err_from_is_err_and}
-use Rattle.sftp_wire.specs.declared.packets.Side.TheVariants.{Client}
-use Rattle.sftp_wire.specs.Reading.{front_of}
-use Rattle.sftp_wire.proofs.StreamLaws.Front.{none-leaves_room}
-use Rattle.sftp_server.specs.Sessions.{Ahead, stream_bytes}
+use Rattle.sftp_server.proofs.Imports.{None, subst, sym, arith, ◌≡◌, Ok, err_from_is_err_and, Client, front_of}
+use Rattle.sftp_server.proofs.Imports.{none-leaves_room, stream_bytes, Ahead}
 use Rattle.sftp_server.proofs.Sessions.Closed.{writer-stops, reader-stops, log-stops, running-written, running-more}
-use Rattle.sftp_server.proofs.Sessions.Closed.{running-logged, ending-whole, ending-cut, nothing-read}
-use Rattle.sftp_server.proofs.Sessions.Closed.{held-none, held-some}
+use Rattle.sftp_server.proofs.Sessions.Closed.{running-logged, ending-whole, ending-cut, nothing-read, held-none}
+use Rattle.sftp_server.proofs.Sessions.Closed.{held-some}
 use Rattle.sftp_server.proofs.serving.read_more.Goals as goal
 
 pub returns-in_err-flush-clause-running : goal.returns-in_err-flush-clause-running

@@ -1,10 +1,7 @@
 -- Once memory is there, the session is opened, served, and ends.
-use Rattle.std.proofs.Common.{Some, None, refl, subst, sym, ap, ◌∙◌}
-use Rattle.sftp_handles.specs.State.{State}
+use Rattle.sftp_server.proofs.Imports.{Some, None, refl, subst, sym, ap, ◌∙◌, window, State, Machine, at_start, started}
+use Rattle.sftp_server.proofs.Imports.{stream_bytes, IsRunning, tree_left}
 use Rattle.sftp_server.specs.declared.ends.Stop.TheVariants as stops
-use Rattle.sftp_server.specs.Machine.{Machine, at_start}
-use Rattle.sftp_server.specs.Core.{started}
-use Rattle.sftp_server.specs.Sessions.{stream_bytes, IsRunning, tree_left}
 use Rattle.sftp_server.proofs.Sessions.Closed.{unopened-stops, stopped-end, closed-session}
 use Rattle.sftp_server.proofs.serving.serve_from.Goals as goal
 
@@ -28,7 +25,7 @@ returns-in-Err-clause-served g c = λ past yet.
     let left = g.R.Source.left c.args.reader.now in
     let now = stream_bytes left (g.W.Sink.written c.greet.new.writer) c.greet.new.log.bytes in
     let call = c.leaving-in-Err in
-    let first : Machine State = at_start (started c.args.tree) 1024 in
+    let first : Machine State = at_start (started c.args.tree) window in
     stopped-end c.args.tree past now c.in-Err.stop (tree_left first) call.result call.ensures.ended
     (call.ensures.left ∙ ap Some c.into_tree.ensures ∙ ap (λ (core : Machine State). tree_left core) c.in-Ok.ensures.start)
     (c.in-Err.ensures.running c.args.tree past left c.in-Ok.ensures.good yet)

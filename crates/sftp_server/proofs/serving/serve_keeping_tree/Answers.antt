@@ -1,9 +1,6 @@
 -- The session begins with nothing read; it is opened, or its first packet ends it.
-use Rattle.std.proofs.Common.{[], None, subst, sym}
-use Rattle.std.specs.Io.KnownBytes.{IsAtEnd}
-use Rattle.sftp_server.specs.declared.opening.First.{First}
-use Rattle.sftp_server.specs.Opening.{IsFirst}
-use Rattle.sftp_server.specs.Sessions.{Ahead, stream_bytes, IsUnopenedYet}
+use Rattle.sftp_server.proofs.Imports.{[], None, subst, sym, IsAtEnd, First, IsFirst, stream_bytes, Ahead}
+use Rattle.sftp_server.proofs.Imports.{IsUnopenedYet}
 use Rattle.sftp_server.proofs.Sessions.Closed.{unopened-at_start, unopened-stops, unopened, stopped-end}
 use Rattle.sftp_server.proofs.serving.serve_keeping_tree.Goals as goal
 

@@ -1,7 +1,5 @@
 -- The session is open, each request is answered, and no stream failed.
-use Rattle.std.proofs.Common.{◌≡◌, [], None, length}
-use Rattle.sftp_tree.specs.Tree.{Tree}
-use Rattle.sftp_server.specs.Sessions.{StreamBytes, stream_bytes, IsLogging, IsRunning}
+use Rattle.sftp_server.proofs.Imports.{◌≡◌, [], None, length, Tree, StreamBytes, stream_bytes, IsLogging, IsRunning}
 use Rattle.sftp_server.proofs.Sessions.Closed.{bytes_left}
 use Rattle.sftp_server.proofs.serving.serve_requests.Given as goal
 

@@ -1,5 +1,4 @@
-use Rattle.std.proofs.Common.{take, refl, ap, ◌∙◌}
-use Rattle.sftp_wire.specs.declared.packets.Packet.TheVariants.{Request as request_packet}
+use Rattle.sftp_server.proofs.Imports.{take, refl, ap, ◌∙◌, request_packet}
 use Rattle.sftp_server.proofs.Sessions.Asked.{bytes-in-front, takes-delivered, takes-unlogged, delivered-falls}
 use Rattle.sftp_server.proofs.taking.log_request.Goals as goal
 

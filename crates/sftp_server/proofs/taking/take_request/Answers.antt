@@ -1,7 +1,4 @@
-use Rattle.std.proofs.Common.{Result, sym, subst}
-use Rattle.sftp_server.specs.declared.ends.Stop.{Stop}
-use Rattle.sftp_server.specs.declared.taking.Front.{Front}
-use Rattle.sftp_server.specs.Fronts.{TakesOn}
+use Rattle.sftp_server.proofs.Imports.{Result, sym, subst, Stop, Front, TakesOn}
 use Rattle.sftp_server.proofs.Sessions.Asked.{takes-refused}
 use Rattle.sftp_server.proofs.taking.take_request.Goals as goal
 

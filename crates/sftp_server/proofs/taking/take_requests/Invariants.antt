@@ -1,4 +1,4 @@
-use Rattle.std.proofs.Common.{length}
+use Rattle.sftp_server.proofs.Imports.{length}
 use Rattle.sftp_server.proofs.Sessions.Asked.{HasTaken}
 use Rattle.sftp_server.proofs.taking.take_requests.Given as goal
 

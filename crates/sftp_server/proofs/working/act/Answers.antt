@@ -1,10 +1,5 @@
 -- A request that is done leads on, and fewer acts are owed then.
-use Rattle.std.proofs.Common.{subst}
-use Rattle.std.proofs.lemmas.Result.{on_ok_weaker}
-use Rattle.sftp_handles.specs.Allowed.{Allowed}
-use Rattle.sftp_server.specs.declared.cores.Choice.{Choice}
-use Rattle.sftp_server.specs.Choices.{IsPossible}
-use Rattle.sftp_server.specs.Core.{server_clash}
+use Rattle.sftp_server.proofs.Imports.{subst, on_ok_weaker, Allowed, Choice, IsPossible, server_clash}
 use Rattle.sftp_server.proofs.ChoiceLaws.{worked-falls}
 use Rattle.sftp_server.proofs.Sessions.Replied.{worked-on}
 use Rattle.sftp_server.proofs.working.act.Goals as goal

@@ -1,6 +1,5 @@
 -- A reply that is sent leads on, and fewer acts are owed then.
-use Rattle.std.proofs.Common.{sym}
-use Rattle.std.proofs.lemmas.Result.{on_ok_weaker}
+use Rattle.sftp_server.proofs.Imports.{sym, on_ok_weaker}
 use Rattle.sftp_server.proofs.ChoiceLaws.{sent-falls}
 use Rattle.sftp_server.proofs.Sessions.Replied.{replied}
 use Rattle.sftp_server.proofs.working.send_reply.Goals as goal

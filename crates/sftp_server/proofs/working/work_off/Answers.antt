@@ -1,6 +1,5 @@
 -- Once nothing is possible, nothing is left; and each choice is possible.
-use Rattle.std.proofs.Common.{sym, ◌∙◌}
-use Rattle.sftp_server.specs.Core.{server_clash}
+use Rattle.sftp_server.proofs.Imports.{sym, ◌∙◌, server_clash}
 use Rattle.sftp_server.proofs.ChoiceLaws.{nothing-left, possible}
 use Rattle.sftp_server.proofs.working.work_off.Goals as goal
 

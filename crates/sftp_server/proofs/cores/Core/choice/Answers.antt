@@ -1,8 +1,5 @@
-use Rattle.std.proofs.Common.{◌<◌, ◌∙◌, true, false, length, subst, sym, arith}
-use Rattle.sftp_handles.specs.State.{State}
-use Rattle.sftp_server.specs.Machine.{Machine}
-use Rattle.sftp_server.specs.Choices.{choices_of}
-use Rattle.sftp_server.specs.Core.{server_clash}
+use Rattle.sftp_server.proofs.Imports.{◌<◌, ◌∙◌, true, false, length, subst, sym, arith, State, Machine, choices_of}
+use Rattle.sftp_server.proofs.Imports.{server_clash}
 use Rattle.sftp_server.proofs.CoreNotes.{count-noted, choice-noted}
 use Rattle.sftp_server.proofs.cores.Core.choice.Goals as goal
 

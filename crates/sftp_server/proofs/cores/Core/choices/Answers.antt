@@ -1,8 +1,4 @@
-use Rattle.std.proofs.Common.{◌≡◌, length, subst, ◌∙◌}
-use Rattle.sftp_handles.specs.State.{State}
-use Rattle.sftp_server.specs.Machine.{Machine}
-use Rattle.sftp_server.specs.Choices.{choices_of}
-use Rattle.sftp_server.specs.Core.{server_clash}
+use Rattle.sftp_server.proofs.Imports.{◌≡◌, length, subst, ◌∙◌, State, Machine, choices_of, server_clash}
 use Rattle.sftp_server.proofs.CoreNotes.{count-noted}
 use Rattle.sftp_server.proofs.cores.Core.choices.Goals as goal
 

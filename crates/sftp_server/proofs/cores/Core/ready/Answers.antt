@@ -1,4 +1,4 @@
-use Rattle.std.proofs.Common.{sym, ◌∙◌}
+use Rattle.sftp_server.proofs.Imports.{sym, ◌∙◌}
 use Rattle.sftp_server.proofs.CoreNotes.{ready-noted}
 use Rattle.sftp_server.proofs.cores.Core.ready.Goals as goal
 

@@ -1,7 +1,4 @@
-use Rattle.std.proofs.Common.{List, sym, ap}
-use Rattle.sftp_handles.specs.State.{State}
-use Rattle.sftp_server.specs.declared.queue.Entry.{Entry}
-use Rattle.sftp_server.specs.Machine.{Machine}
+use Rattle.sftp_server.proofs.Imports.{List, sym, ap, State, Entry, Machine}
 use Rattle.sftp_server.proofs.CoreSteps.{core-sent, sent-step, spelled-at}
 use Rattle.sftp_server.proofs.CoreNotes.{sent-shorter, keeps-sent}
 use Rattle.sftp_server.proofs.cores.Core.send.Goals as goal

@@ -1,8 +1,5 @@
-use Rattle.std.proofs.Common.{◌≡◌, ℕ, true, Some, refl, sym, subst, ◌∙◌}
-use Rattle.sftp_handles.specs.State.{State}
-use Rattle.sftp_server.specs.Machine.{Machine, is_ready}
-use Rattle.sftp_server.specs.Queue.{pending_at}
-use Rattle.sftp_server.specs.Core.{server_clash}
+use Rattle.sftp_server.proofs.Imports.{◌≡◌, ℕ, true, Some, refl, sym, subst, ◌∙◌, State, Machine, is_ready, pending_at}
+use Rattle.sftp_server.proofs.Imports.{server_clash}
 use Rattle.sftp_server.proofs.Queues.{is-pending, not-pending}
 use Rattle.sftp_server.proofs.CoreSteps.{worked-step, core-worked}
 use Rattle.sftp_server.proofs.CoreNotes.{ready-inside, keeps-done}

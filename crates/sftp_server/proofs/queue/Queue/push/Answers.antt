@@ -1,5 +1,4 @@
-use Rattle.std.proofs.Common.{◌≡◌, ◌||◌, ℕ, nat_eq, is_some, ◌∙◌, ap}
-use Rattle.std.specs.Map.{lookup}
+use Rattle.sftp_server.proofs.Imports.{◌≡◌, ◌||◌, ℕ, nat_eq, is_some, ◌∙◌, ap, lookup}
 use Rattle.sftp_server.proofs.Queues.{queue-pushed, some_or}
 use Rattle.sftp_server.proofs.queue.Queue.push.Goals as goal
 

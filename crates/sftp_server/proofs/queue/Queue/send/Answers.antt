@@ -1,5 +1,4 @@
-use Rattle.std.proofs.Common.{◌≡◌, ◌&&◌, not, ℕ, nat_eq, is_some, ap, ◌∙◌}
-use Rattle.std.specs.Map.{lookup}
+use Rattle.sftp_server.proofs.Imports.{◌≡◌, ◌&&◌, not, ℕ, nat_eq, is_some, ap, ◌∙◌, lookup}
 use Rattle.sftp_server.proofs.Queues.{queue-sent, struck_or}
 use Rattle.sftp_server.proofs.queue.Queue.send.Goals as goal
 

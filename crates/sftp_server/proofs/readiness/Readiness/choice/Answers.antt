@@ -1,4 +1,4 @@
-use Rattle.std.proofs.Common.{arith}
+use Rattle.sftp_server.proofs.Imports.{arith}
 use Rattle.sftp_server.proofs.Notes.{count-one, count-few}
 use Rattle.sftp_server.proofs.readiness.Readiness.choice.Goals as goal
 

@@ -1,5 +1,4 @@
-use Rattle.std.proofs.Common.{◌≡◌, ◌-◌, ◌≤◌, take, length}
-use Rattle.sftp_server.specs.Readiness.{possible_count}
+use Rattle.sftp_server.proofs.Imports.{◌≡◌, ◌-◌, ◌≤◌, take, length, possible_count}
 use Rattle.sftp_server.proofs.readiness.Readiness.choice.Given as goal
 
 abbrev pub invariant-each : goal.invariant-each

@@ -1,9 +1,6 @@
-use Rattle.std.proofs.Common.{List, suc, refl, subst}
-use Rattle.sftp_handles.specs.Ranges.{range}
-use Rattle.sftp_server.specs.declared.readiness.Note.{Note}
-use Rattle.sftp_server.specs.Readiness.{ask_at, IsPlaced}
-use Rattle.sftp_server.proofs.Notes.{entered, entered-noted, entered-blocked, entered-marks}
-use Rattle.sftp_server.proofs.Notes.{blocked-placed, marks-alike}
+use Rattle.sftp_server.proofs.Imports.{List, suc, refl, subst, range, Note, ask_at, IsPlaced}
+use Rattle.sftp_server.proofs.Notes.{entered, entered-noted, entered-blocked, entered-marks, blocked-placed}
+use Rattle.sftp_server.proofs.Notes.{marks-alike}
 use Rattle.sftp_server.proofs.readiness.Readiness.enter.Goals as goal
 
 pub place-requires-clause-noted : goal.place-requires-clause-noted

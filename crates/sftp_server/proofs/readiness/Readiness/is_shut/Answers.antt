@@ -1,4 +1,4 @@
-use Rattle.std.proofs.Common.{arith, sym, ◌∙◌}
+use Rattle.sftp_server.proofs.Imports.{arith, sym, ◌∙◌}
 use Rattle.sftp_server.proofs.Notes.{shut-at}
 use Rattle.sftp_server.proofs.readiness.Readiness.is_shut.Goals as goal
 

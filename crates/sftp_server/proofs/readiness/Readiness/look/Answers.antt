@@ -1,4 +1,4 @@
-use Rattle.std.proofs.Common.{◌-◌, sym, ◌∙◌, arith}
+use Rattle.sftp_server.proofs.Imports.{◌-◌, sym, ◌∙◌, arith}
 use Rattle.sftp_server.proofs.Notes.{free-lower}
 use Rattle.sftp_server.proofs.readiness.Readiness.look.Goals as goal
 

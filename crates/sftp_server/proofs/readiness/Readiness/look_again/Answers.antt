@@ -1,8 +1,6 @@
-use Rattle.std.proofs.Common.{◌&&◌, sym, ap, ◌∙◌}
-use Rattle.std.proofs.lemmas.Bool.{and_parts}
-use Rattle.sftp_server.specs.Readiness.{note_at, ask_at, touches_file}
-use Rattle.sftp_server.proofs.Settling.{on-touch, resizes-by_note, passed-over}
-use Rattle.sftp_server.proofs.Settling.{looked-noted, looked-pending, looked-waits, looked-reach, looked-settling}
+use Rattle.sftp_server.proofs.Imports.{◌&&◌, sym, ap, ◌∙◌, and_parts, note_at, ask_at, touches_file}
+use Rattle.sftp_server.proofs.Settling.{on-touch, resizes-by_note, passed-over, looked-noted, looked-pending}
+use Rattle.sftp_server.proofs.Settling.{looked-waits, looked-reach, looked-settling}
 use Rattle.sftp_server.proofs.readiness.Readiness.look_again.Goals as goal
 
 -- the request is not pending, or not on the file

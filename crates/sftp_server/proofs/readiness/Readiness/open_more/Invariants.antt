@@ -1,5 +1,4 @@
-use Rattle.std.proofs.Common.{◌-◌, length}
-use Rattle.sftp_server.specs.Readiness.{AreNotes}
+use Rattle.sftp_server.proofs.Imports.{◌-◌, length, AreNotes}
 use Rattle.sftp_server.proofs.readiness.Readiness.open_more.Given as goal
 
 abbrev pub invariant-closed : goal.invariant-closed

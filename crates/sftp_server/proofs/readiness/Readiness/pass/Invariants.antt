@@ -1,5 +1,4 @@
-use Rattle.std.proofs.Common.{◌≡◌, ◌-◌, ◌<◌, ◌≤◌, ℕ, false, length}
-use Rattle.sftp_server.specs.Readiness.{note_at}
+use Rattle.sftp_server.proofs.Imports.{◌≡◌, ◌-◌, ◌<◌, ◌≤◌, ℕ, false, length, note_at}
 use Rattle.sftp_server.proofs.readiness.Readiness.pass.Given as goal
 
 abbrev pub invariant-passed : goal.invariant-passed

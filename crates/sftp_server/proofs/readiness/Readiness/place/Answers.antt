@@ -1,4 +1,4 @@
-use Rattle.std.proofs.Common.{arith}
+use Rattle.sftp_server.proofs.Imports.{arith}
 use Rattle.sftp_server.proofs.Notes.{count-few, allowed-noted, allowed-placed, held-noted, held-placed}
 use Rattle.sftp_server.proofs.readiness.Readiness.place.Goals as goal
 

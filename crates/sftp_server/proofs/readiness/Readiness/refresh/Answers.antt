@@ -1,5 +1,4 @@
-use Rattle.std.proofs.Common.{◌+◌, suc, arith}
-use Rattle.sftp_server.specs.Readiness.{note_at}
+use Rattle.sftp_server.proofs.Imports.{◌+◌, suc, arith, note_at}
 use Rattle.sftp_server.proofs.Notes.{front-passed, blocked-by, marks-alike}
 use Rattle.sftp_server.proofs.Settling.{but-farther}
 use Rattle.sftp_server.proofs.readiness.Readiness.refresh.Goals as goal

@@ -1,5 +1,4 @@
-use Rattle.std.proofs.Common.{sym, ◌∙◌}
-use Rattle.sftp_server.specs.Readiness.{note_at, ask_at}
+use Rattle.sftp_server.proofs.Imports.{sym, ◌∙◌, note_at, ask_at}
 use Rattle.sftp_server.proofs.Settling.{resizes-file, resizes-nothing}
 use Rattle.sftp_server.proofs.readiness.Readiness.settle.Goals as goal
 

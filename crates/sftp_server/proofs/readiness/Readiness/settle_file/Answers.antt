@@ -1,5 +1,4 @@
-use Rattle.std.proofs.Common.{◌+◌, suc, arith, ◌∙◌}
-use Rattle.sftp_server.specs.Readiness.{note_at}
+use Rattle.sftp_server.proofs.Imports.{◌+◌, suc, arith, ◌∙◌, note_at}
 use Rattle.sftp_server.proofs.Settling.{settling-at, settled-stopped, settled-ended}
 use Rattle.sftp_server.proofs.readiness.Readiness.settle_file.Goals as goal
 

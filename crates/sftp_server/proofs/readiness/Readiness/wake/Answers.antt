@@ -1,5 +1,4 @@
-use Rattle.std.proofs.Common.{◌+◌, suc, ◌∙◌, arith}
-use Rattle.sftp_server.specs.Readiness.{note_at}
+use Rattle.sftp_server.proofs.Imports.{◌+◌, suc, ◌∙◌, arith, note_at}
 use Rattle.sftp_server.proofs.Notes.{but-passed-at, but-placed-at, but-end, alike-then}
 use Rattle.sftp_server.proofs.readiness.Readiness.wake.Goals as goal
 
