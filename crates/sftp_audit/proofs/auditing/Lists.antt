@@ -1,20 +1,11 @@
 -- Lists of exchanges: what an event adds, which of them are settled, and what they are without the numbers.
-use Rattle.std.proofs.Common.{◌≡◌, ◌==◌, ◌&&◌, ◌||◌, not, ℕ, suc, ◌+◌, ◌≤◌, min, Bool, true, false, cond, List, []}
-use Rattle.std.proofs.Common.{◌∷◌, ◌++◌, Option, Some, None, is_some, length, refl, sym, ap, ◌∙◌}
-use Rattle.std.proofs.Common.{◌⊎◌, arith, inl, inr}
-use Rattle.std.specs.Option.{option_map}
-use Rattle.std.proofs.lemmas.Bool.{eqb-true, eqb-false, eq-eqb, ne_eqb, cases_Bool}
-use Rattle.std.proofs.lemmas.List.{length-append, length-map, map-append, append-nil}
-use Rattle.sftp_wire.specs.declared.packets.Request.{Request}
-use Rattle.sftp_wire.specs.declared.packets.Reply.{Reply}
-use Rattle.sftp_transcript.specs.declared.events.Event.{Event}
-use Rattle.sftp_transcript.specs.declared.events.Event.TheVariants.{Asked, Replied}
-use Rattle.sftp_transcript.specs.Begun.{first_number, number_after_events}
-use Rattle.sftp_transcript.specs.Explained.{next_reply, exchanges_of, leading_pairs}
+use Rattle.sftp_audit.proofs.Imports.{◌≡◌, ◌==◌, ◌&&◌, ◌||◌, not, ℕ, suc, ◌+◌, ◌≤◌, min, Bool, true, false, cond, List}
+use Rattle.sftp_audit.proofs.Imports.{[], ◌∷◌, ◌++◌, Option, Some, None, is_some, length, refl, sym, ap, ◌∙◌, ◌⊎◌}
+use Rattle.sftp_audit.proofs.Imports.{arith, inl, inr, option_map, eqb-true, eqb-false, eq-eqb, ne_eqb, cases_Bool}
+use Rattle.sftp_audit.proofs.Imports.{length-append, length-map, map-append, append-nil, Request, Reply, Event, Asked}
+use Rattle.sftp_audit.proofs.Imports.{Replied, first_number, number_after_events, next_reply, exchanges_of}
+use Rattle.sftp_audit.proofs.Imports.{leading_pairs, one_more, largest_count, RecordedReply, Exchange}
 use Rattle.sftp_transcript.specs.Ledger as ledgers
-use Rattle.sftp_transcript.specs.Streams.{one_more, largest_count}
-use Rattle.sftp_audit.specs.declared.exchanges.RecordedReply.{RecordedReply}
-use Rattle.sftp_audit.specs.declared.exchanges.Exchange.{Exchange}
 use Rattle.sftp_audit.specs.Exchanges.{next_recorded, exchanges_from, recorded_exchanges, is_answered, unsettled}
 use Rattle.sftp_audit.specs.Exchanges.{AreAnswered, is_open, answered_by, with_reply, reply_of, bare, ledger_of}
 

@@ -1,26 +1,14 @@
 -- What an auditor refuses is lost: whatever else comes, the tree explains no such session.
-use Rattle.std.proofs.Common.{◌≡◌, ◌≢◌, ◌==◌, nat_lt, ℕ, ◌<◌, ◌≤◌, Bool, true, false, List, [], ◌∷◌, ◌++◌}
-use Rattle.std.proofs.Common.{Option, Some, None, if◌then◌else◌, refl, sym, ap, ◌∙◌, subst, append_assoc, arith}
-use Rattle.std.proofs.lemmas.Bool.{and_parts, and_from, ltb-true, lt-ltb, eq-eqb}
-use Rattle.sftp_wire.specs.declared.packets.Request.{Request}
-use Rattle.sftp_wire.specs.declared.packets.Reply.{Reply}
-use Rattle.sftp_profile.specs.State.{State}
-use Rattle.sftp_profile.specs.Permitted.{Permitted}
-use Rattle.sftp_transcript.specs.declared.events.Event.{Event}
-use Rattle.sftp_transcript.specs.declared.events.Event.TheVariants.{Asked, Replied}
-use Rattle.sftp_transcript.specs.Explained.{Turn, closed, waiting, broken, after_event, turn_after}
-use Rattle.sftp_transcript.specs.Explained.{next_reply}
-use Rattle.sftp_transcript.specs.Explained.{exchanges_of, leading_pairs, requests_before_reply, in_window, window, Run}
-use Rattle.sftp_transcript.specs.Explained.{Explained}
+use Rattle.sftp_audit.proofs.Imports.{◌≡◌, ◌≢◌, ◌==◌, nat_lt, ℕ, ◌<◌, ◌≤◌, Bool, true, false, List, [], ◌∷◌, ◌++◌}
+use Rattle.sftp_audit.proofs.Imports.{Option, Some, None, if◌then◌else◌, refl, sym, ap, ◌∙◌, subst, append_assoc, arith}
+use Rattle.sftp_audit.proofs.Imports.{and_parts, and_from, ltb-true, lt-ltb, eq-eqb, Request, Reply, State, Permitted}
+use Rattle.sftp_audit.proofs.Imports.{Event, Asked, Replied, Turn, closed, waiting, broken, after_event, turn_after}
+use Rattle.sftp_audit.proofs.Imports.{next_reply, exchanges_of, leading_pairs, requests_before_reply, in_window, window}
+use Rattle.sftp_audit.proofs.Imports.{Run, Explained, InTurn, Sound, in_turn_by, sound_by, Refusal, Exchange, Refuses}
+use Rattle.sftp_audit.proofs.Imports.{LacksReply, IsFirstWrong, permitted-one_end}
 use Rattle.sftp_transcript.specs.Ledger as ledgers
-use Rattle.sftp_transcript.specs.Sound.{InTurn, Sound}
-use Rattle.sftp_transcript.proofs.pairing.Soundness.{in_turn_by, sound_by}
-use Rattle.sftp_audit.specs.declared.errors.Refusal.{Refusal}
 use Rattle.sftp_audit.specs.declared.errors.Refusal.TheVariants as refusals
-use Rattle.sftp_audit.specs.declared.exchanges.Exchange.{Exchange}
 use Rattle.sftp_audit.specs.Exchanges.{recorded_exchanges, is_answered, is_open, ledger_of}
-use Rattle.sftp_audit.specs.Auditor.{Refuses, LacksReply, IsFirstWrong}
-use Rattle.sftp_profile.proofs.Permissions.{permitted-one_end}
 use Rattle.sftp_audit.proofs.steps.StepLaws.{run-one_end}
 use Rattle.sftp_audit.proofs.auditing.Lists.{ledger_of-recorded, is_open-unsettled, leading_pairs-settled}
 use Rattle.sftp_audit.proofs.auditing.Lists.{first_unsettled}

@@ -1,22 +1,16 @@
 -- How the index of the requests that wait follows the exchanges that are kept.
-use Rattle.std.proofs.Common.{◌≡◌, ◌==◌, ◌&&◌, ◌||◌, not, nat_eq, ℕ, zero, suc, ◌+◌, ◌%◌, ◌^◌, ◌<◌, ◌≤◌, ◌⊎◌, Bool}
-use Rattle.std.proofs.Common.{true, false, cond, List, [], ◌∷◌, ◌++◌, Option, Some, None, is_some, length, set, drop}
-use Rattle.std.proofs.Common.{slice_get, refl, sym, ap, ◌∙◌, subst, arith, inl, inr}
+use Rattle.sftp_audit.proofs.Imports.{◌≡◌, ◌==◌, ◌&&◌, ◌||◌, not, nat_eq, ℕ, zero, suc, ◌+◌, ◌%◌, ◌^◌, ◌<◌, ◌≤◌, ◌⊎◌}
+use Rattle.sftp_audit.proofs.Imports.{Bool, true, false, cond, List, [], ◌∷◌, ◌++◌, Option, Some, None, is_some, length}
+use Rattle.sftp_audit.proofs.Imports.{set, drop, slice_get, refl, sym, ap, ◌∙◌, subst, arith, inl, inr, option_map}
+use Rattle.sftp_audit.proofs.Imports.{or_parts, or_right, eqb-true, eqb-false, eq-eqb, ne_eqb, cases_Bool, cases_lt}
+use Rattle.sftp_audit.proofs.Imports.{true≢false, length-append, length-map, map-append, none-some, same_Some}
+use Rattle.sftp_audit.proofs.Imports.{slice_get-map, slice_get_within, Request, window, RecordedReply, Exchange}
+use Rattle.sftp_audit.proofs.Imports.{starts_answered, IsOrdinal, WaitsAt, IsIndexed}
 use Rattle.std.specs.Map.{lookup}
-use Rattle.std.specs.Option.{option_map}
-use Rattle.std.proofs.lemmas.Bool.{or_parts, or_right, eqb-true, eqb-false, eq-eqb, ne_eqb, cases_Bool, cases_lt}
-use Rattle.std.proofs.lemmas.Bool.{true≢false}
-use Rattle.std.proofs.lemmas.List.{length-append, length-map, map-append}
-use Rattle.std.proofs.lemmas.Option.{none-some, same_Some, slice_get-map, slice_get_within}
-use Rattle.sftp_wire.specs.declared.packets.Request.{Request}
-use Rattle.sftp_transcript.specs.Explained.{window}
 use Rattle.sftp_transcript.specs.Ledger.{AreApart}
 use Rattle.sftp_transcript.proofs.pairing.Standing.{AreApart-asked}
-use Rattle.sftp_audit.specs.declared.exchanges.RecordedReply.{RecordedReply}
-use Rattle.sftp_audit.specs.declared.exchanges.Exchange.{Exchange}
 use Rattle.sftp_audit.specs.Exchanges.{is_answered, is_open, answered_by, with_reply, bare, ledger_of}
 use Rattle.sftp_audit.proofs.auditing.Lists.{is_open-append, is_open-ledger}
-use Rattle.sftp_audit.specs.Ledger.{starts_answered, IsOrdinal, WaitsAt, IsIndexed}
 
 flipped : (a b : ℕ) → (a == b) ≡ false → (b == a) ≡ false
 flipped a b other = ne_eqb b a (λ e. eqb-false a b other (sym e))

@@ -1,24 +1,12 @@
 -- An event is refused for one reason at most: its turn and the window are one or the other, and of the replies that are
 -- not allowed one is the first.
-use Rattle.std.proofs.Common.{◌≡◌, ◌≢◌, ◌⊎◌, ℕ, true, List, [], ◌∷◌, ◌++◌, Option, Some, None, is_some, IsTrue, refl}
-use Rattle.std.proofs.Common.{sym, ap, subst, ◌∙◌, inl, inr}
-use Rattle.std.specs.Option.{option_map}
-use Rattle.sftp_wire.specs.declared.packets.Request.{Request}
-use Rattle.sftp_wire.specs.declared.packets.Reply.{Reply}
-use Rattle.sftp_profile.specs.State.{State}
-use Rattle.sftp_profile.specs.Permitted.{Permitted}
-use Rattle.sftp_transcript.specs.declared.events.Event.{Event}
-use Rattle.sftp_transcript.specs.declared.events.Event.TheVariants.{Asked, Replied}
-use Rattle.sftp_transcript.specs.Begun.{number_after_events}
-use Rattle.sftp_transcript.specs.Explained.{Turn, closed, waiting, turn_after, leading_pairs, Run}
-use Rattle.sftp_transcript.specs.Sound.{IsWaiting}
-use Rattle.sftp_audit.specs.declared.errors.Refusal.{Refusal}
+use Rattle.sftp_audit.proofs.Imports.{◌≡◌, ◌≢◌, ◌⊎◌, ℕ, true, List, [], ◌∷◌, ◌++◌, Option, Some, None, is_some, IsTrue}
+use Rattle.sftp_audit.proofs.Imports.{refl, sym, ap, subst, ◌∙◌, inl, inr, option_map, Request, Reply, State, Permitted}
+use Rattle.sftp_audit.proofs.Imports.{Event, Asked, Replied, number_after_events, Turn, closed, waiting, turn_after}
+use Rattle.sftp_audit.proofs.Imports.{leading_pairs, Run, IsWaiting, Refusal, RecordedReply, Exchange, IsFirstWrong}
+use Rattle.sftp_audit.proofs.Imports.{Refuses, permitted-one_end}
 use Rattle.sftp_audit.specs.declared.errors.Refusal.TheVariants as refusals
-use Rattle.sftp_audit.specs.declared.exchanges.RecordedReply.{RecordedReply}
-use Rattle.sftp_audit.specs.declared.exchanges.Exchange.{Exchange}
 use Rattle.sftp_audit.specs.Exchanges.{recorded_exchanges, is_answered, AreAnswered, reply_of, ledger_of}
-use Rattle.sftp_audit.specs.Auditor.{IsFirstWrong, Refuses}
-use Rattle.sftp_profile.proofs.Permissions.{permitted-one_end}
 
 -- ---- the first step of a run
 

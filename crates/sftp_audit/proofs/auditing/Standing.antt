@@ -1,36 +1,21 @@
 -- What an auditor keeps goes on with each event, and what it refuses has its reason.
-use Rattle.std.proofs.Common.{◌≡◌, ℕ, ◌<◌, ◌≤◌, Bool, true, false, List, [], ◌∷◌, ◌++◌, length, slice_get, Some, None}
-use Rattle.std.proofs.Common.{Ok, Err}
-use Rattle.std.proofs.Common.{Result, OnOk, IfErr, refl, sym, ap, ◌∙◌, subst, append_assoc}
-use Rattle.std.proofs.lemmas.List.{append-nil}
-use Rattle.sftp_wire.specs.declared.packets.Request.{Request}
-use Rattle.sftp_wire.specs.declared.packets.Reply.{Reply}
-use Rattle.sftp_profile.specs.State.{State}
-use Rattle.sftp_profile.specs.Permitted.{Permitted}
-use Rattle.sftp_transcript.specs.declared.events.Event.{Event}
-use Rattle.sftp_transcript.specs.declared.events.Event.TheVariants.{Asked, Replied}
-use Rattle.sftp_transcript.specs.Begun.{first_number, number_after_events}
-use Rattle.sftp_transcript.specs.Explained.{Run, Explained, exchanges_of, leading_pairs, window, turn_after, closed}
-use Rattle.sftp_transcript.specs.Explained.{broken}
-use Rattle.sftp_transcript.specs.Explained.{in_window}
-use Rattle.sftp_transcript.specs.Sound.{IsWaiting}
-use Rattle.sftp_transcript.specs.Streams.{one_more}
-use Rattle.sftp_audit.specs.declared.errors.Refusal.{Refusal}
+use Rattle.sftp_audit.proofs.Imports.{◌≡◌, ℕ, ◌<◌, ◌≤◌, Bool, true, false, List, [], ◌∷◌, ◌++◌, length, slice_get, Some}
+use Rattle.sftp_audit.proofs.Imports.{None, Ok, Err, Result, OnOk, refl, sym, ap, ◌∙◌, subst, append_assoc, append-nil}
+use Rattle.sftp_audit.proofs.Imports.{Request, Reply, State, Permitted, Event, Asked, Replied, first_number}
+use Rattle.sftp_audit.proofs.Imports.{number_after_events, Run, Explained, exchanges_of, leading_pairs, window}
+use Rattle.sftp_audit.proofs.Imports.{turn_after, closed, broken, in_window, IsWaiting, one_more, Refusal, Exchange}
+use Rattle.sftp_audit.proofs.Imports.{RecordedReply, RefusesRequest, RefusesReply, Audited, StandsFor, IsNoted, Refuses}
+use Rattle.sftp_audit.proofs.Imports.{RefusesToSettle, LacksReply, IsWrongIn, IsTold}
+use Rattle.std.proofs.Common.{IfErr}
 use Rattle.sftp_audit.specs.declared.errors.Refusal.TheVariants as refusals
-use Rattle.sftp_audit.specs.declared.exchanges.Exchange.{Exchange}
-use Rattle.sftp_audit.specs.declared.exchanges.RecordedReply.{RecordedReply}
-use Rattle.sftp_audit.specs.Exchanges.{recorded_exchanges, exchanges_from, unsettled, AreAnswered, is_open}
-use Rattle.sftp_audit.specs.Exchanges.{with_reply, ledger_of}
-use Rattle.sftp_audit.specs.Ledger.{RefusesRequest, RefusesReply}
-use Rattle.sftp_audit.specs.Auditor.{Audited, StandsFor, IsNoted, Refuses, RefusesToSettle, LacksReply, IsWrongIn, IsTold}
+use Rattle.sftp_audit.specs.Exchanges.{recorded_exchanges, exchanges_from, unsettled, AreAnswered, is_open, with_reply}
+use Rattle.sftp_audit.specs.Exchanges.{ledger_of}
 use Rattle.sftp_audit.proofs.auditing.Lists.{ledger_of-recorded, recorded-asked, recorded-replied, settled_parts}
 use Rattle.sftp_audit.proofs.auditing.Lists.{unsettled-answered, unsettled-asked, with_reply-answered}
-use Rattle.sftp_audit.proofs.auditing.Lists.{with_reply-append}
-use Rattle.sftp_audit.proofs.auditing.Lists.{is_open-unsettled, leading_pairs-settled, leading_pairs-unsettled}
-use Rattle.sftp_audit.proofs.auditing.Lists.{leading_pairs-asked, number_after_events-next}
+use Rattle.sftp_audit.proofs.auditing.Lists.{with_reply-append, is_open-unsettled, leading_pairs-settled}
+use Rattle.sftp_audit.proofs.auditing.Lists.{leading_pairs-unsettled, leading_pairs-asked, number_after_events-next}
 use Rattle.sftp_audit.proofs.auditing.Turns.{waits_if_open, closed_if_none, in_turn-asked, in_turn-replied}
-use Rattle.sftp_audit.proofs.auditing.Turns.{window-asked}
-use Rattle.sftp_audit.proofs.auditing.Turns.{window-replied, run-append}
+use Rattle.sftp_audit.proofs.auditing.Turns.{window-asked, window-replied, run-append}
 
 -- ---- nothing yet
 

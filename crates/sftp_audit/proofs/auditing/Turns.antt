@@ -1,25 +1,14 @@
 -- Events that are in turn and in time, and what their exchanges say of them.
-use Rattle.std.proofs.Common.{◌≡◌, ◌==◌, ◌&&◌, ◌||◌, ℕ, ◌<◌, ◌≤◌, Bool, true, false, cond, List, [], ◌∷◌}
-use Rattle.std.proofs.Common.{◌++◌, Option, Some, None, is_some, IsTrue, length, refl, sym, ap, subst, ◌∙◌}
-use Rattle.std.proofs.Common.{◌⊎◌, append_assoc, arith, inl, inr}
-use Rattle.std.specs.List.{AllByRecursion}
-use Rattle.std.specs.Option.{option_map}
-use Rattle.std.proofs.lemmas.Bool.{eqb-true, eq-eqb, cases_Bool}
-use Rattle.std.proofs.lemmas.List.{length-append, append-nil}
-use Rattle.sftp_wire.specs.declared.packets.Request.{Request}
-use Rattle.sftp_wire.specs.declared.packets.Reply.{Reply}
-use Rattle.sftp_transcript.specs.declared.events.Event.{Event}
-use Rattle.sftp_transcript.specs.declared.events.Event.TheVariants.{Asked, Replied}
-use Rattle.sftp_transcript.specs.Explained.{Turn, closed, waiting, broken, after_event, turn_after, next_reply}
-use Rattle.sftp_transcript.specs.Explained.{exchanges_of, in_window, window, StepOf, Run}
-use Rattle.sftp_transcript.specs.Sound.{InTurn, IsWaiting}
+use Rattle.sftp_audit.proofs.Imports.{◌≡◌, ◌==◌, ◌&&◌, ◌||◌, ℕ, ◌<◌, ◌≤◌, Bool, true, false, cond, List, [], ◌∷◌, ◌++◌}
+use Rattle.sftp_audit.proofs.Imports.{Option, Some, None, is_some, IsTrue, length, refl, sym, ap, subst, ◌∙◌, ◌⊎◌}
+use Rattle.sftp_audit.proofs.Imports.{append_assoc, arith, inl, inr, AllByRecursion, option_map, eqb-true, eq-eqb}
+use Rattle.sftp_audit.proofs.Imports.{cases_Bool, length-append, append-nil, Request, Reply, Event, Asked, Replied}
+use Rattle.sftp_audit.proofs.Imports.{Turn, closed, waiting, broken, after_event, turn_after, next_reply, exchanges_of}
+use Rattle.sftp_audit.proofs.Imports.{in_window, window, StepOf, Run, InTurn, IsWaiting, RecordedReply, Exchange}
 use Rattle.sftp_transcript.specs.Ledger as ledgers
 use Rattle.sftp_transcript.proofs.pairing.Standing.{stands_from_start, stands_asked, stands_replied, no_late_request}
 use Rattle.sftp_transcript.proofs.pairing.Standing.{keeps_window-answered, keeps_window-few, keeps_window-many}
-use Rattle.sftp_audit.specs.declared.exchanges.RecordedReply.{RecordedReply}
-use Rattle.sftp_audit.specs.declared.exchanges.Exchange.{Exchange}
-use Rattle.sftp_audit.specs.Exchanges.{recorded_exchanges, unsettled, AreAnswered, is_open, reply_of}
-use Rattle.sftp_audit.specs.Exchanges.{ledger_of}
+use Rattle.sftp_audit.specs.Exchanges.{recorded_exchanges, unsettled, AreAnswered, is_open, reply_of, ledger_of}
 use Rattle.sftp_audit.proofs.auditing.Lists.{ledger_of-recorded, ledger_of-append, ledger_of-length, settled_parts}
 use Rattle.sftp_audit.proofs.auditing.Lists.{unsettled-twice, first_unsettled, none_bare, is_open-ledger}
 

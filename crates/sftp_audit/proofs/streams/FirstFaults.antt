@@ -1,28 +1,14 @@
 -- An audit meets one fault first.
-use Rattle.std.proofs.Common.{◌≡◌, ◌≢◌, ◌⊎◌, inl, inr, ℕ, List, [], ◌∷◌, ◌++◌, length, refl, sym, ap, ◌∙◌, subst}
-use Rattle.std.proofs.Common.{append_assoc, arith}
-use Rattle.std.proofs.lemmas.List.{length-append}
-use Rattle.sftp_wire.proofs.StreamLaws.Front.{spellings-apart}
-use Rattle.sftp_tree.specs.Tree.{Tree}
-use Rattle.sftp_tree.specs.Picture.{IsStart}
-use Rattle.sftp_tree.proofs.TreeFiles.Files.{one_start}
-use Rattle.sftp_profile.specs.declared.profiles.Profile.{Profile}
-use Rattle.sftp_profile.specs.State.{State, begun}
-use Rattle.sftp_profile.specs.Permitted.{Permitted}
-use Rattle.sftp_transcript.specs.declared.errors.TranscriptError.{TranscriptError}
+use Rattle.sftp_audit.proofs.Imports.{◌≡◌, ◌≢◌, ◌⊎◌, inl, inr, ℕ, List, [], ◌∷◌, ◌++◌, length, refl, sym, ap, ◌∙◌}
+use Rattle.sftp_audit.proofs.Imports.{subst, append_assoc, arith, length-append, spellings-apart, Tree, IsStart}
+use Rattle.sftp_audit.proofs.Imports.{one_start, Profile, State, begun, Permitted, TranscriptError, Event, Sound}
+use Rattle.sftp_audit.proofs.Imports.{begins_each, faulty_records_none, records_are_one_lem, AuditError, Refusal}
+use Rattle.sftp_audit.proofs.Imports.{Exchange, Refuses, LacksReply, IsOldestOpen, RefusedAt, RefusedAtEnd, FaultAt}
+use Rattle.sftp_audit.proofs.Imports.{IsFirstFaultBy, IsTreeError, IsPlain}
 use Rattle.sftp_transcript.specs.declared.errors.TranscriptError.TheVariants as transcript_errors
-use Rattle.sftp_transcript.specs.declared.events.Event.{Event}
-use Rattle.sftp_transcript.specs.Sound.{Sound}
-use Rattle.sftp_transcript.proofs.transcripts.Beginnings.{begins_each, faulty_records_none}
 use Rattle.sftp_transcript.proofs.transcripts.FirstFaults.{Extends, beginnings_compared, one_fault, first_before_fault}
-use Rattle.sftp_transcript.proofs.transcripts.OneRecord.{records_are_one_lem}
-use Rattle.sftp_audit.specs.declared.errors.AuditError.{AuditError}
 use Rattle.sftp_audit.specs.declared.errors.AuditError.TheVariants as audit_errors
-use Rattle.sftp_audit.specs.declared.errors.Refusal.{Refusal}
 use Rattle.sftp_audit.specs.declared.errors.Refusal.TheVariants as refusals
-use Rattle.sftp_audit.specs.declared.exchanges.Exchange.{Exchange}
-use Rattle.sftp_audit.specs.Auditor.{Refuses, LacksReply, IsOldestOpen}
-use Rattle.sftp_audit.specs.Audit.{RefusedAt, RefusedAtEnd, FaultAt, IsFirstFaultBy, IsTreeError, IsPlain}
 use Rattle.sftp_audit.proofs.auditing.Lost.{refuses_unsound}
 use Rattle.sftp_audit.proofs.auditing.Refusals.{one_refusal}
 

@@ -1,25 +1,15 @@
 -- What an auditor is fed from a reader, event by event.
-use Rattle.std.proofs.Common.{◌≡◌, inl, inr, ℕ, ◌+◌, ◌-◌, ◌^◌, min, List, [], ◌∷◌, ◌++◌, length, Bool}
-use Rattle.std.proofs.Common.{Option, Some, None, if◌then◌else◌, refl, subst, arith}
-use Rattle.sftp_transcript.specs.declared.errors.TranscriptError.{TranscriptError}
+use Rattle.sftp_audit.proofs.Imports.{◌≡◌, inl, inr, ℕ, ◌+◌, ◌-◌, ◌^◌, min, List, [], ◌∷◌, ◌++◌, length, Bool, Option}
+use Rattle.sftp_audit.proofs.Imports.{Some, None, if◌then◌else◌, refl, subst, arith, TranscriptError, Event, Asked}
+use Rattle.sftp_audit.proofs.Imports.{Replied, BeginsRecord, ReadUpTo, HasGiven, GaveFrom, FaultOf, exchanges_of}
+use Rattle.sftp_audit.proofs.Imports.{Reading, IsRecord, record_from_beginning, State, Permitted, Refusal, Audited}
+use Rattle.sftp_audit.proofs.Imports.{StandsFor, Refuses, IsTold, IsNew, IsNoJudgement, WasFed, StopsFeed, IsToldOf}
+use Rattle.sftp_audit.proofs.Imports.{request_count, is_request, HasRefused, error_of_transcript, error_of_session}
 use Rattle.sftp_transcript.specs.declared.errors.TranscriptError.TheVariants as transcript_errors
-use Rattle.sftp_transcript.specs.declared.events.Event.{Event}
-use Rattle.sftp_transcript.specs.declared.events.Event.TheVariants.{Asked, Replied}
 use Rattle.sftp_transcript.specs.declared.stage.Stage.{Stage}
 use Rattle.sftp_transcript.specs.declared.stage.Stage.TheVariants as stages
-use Rattle.sftp_transcript.specs.Begun.{BeginsRecord, ReadUpTo, HasGiven, GaveFrom, FaultOf}
-use Rattle.sftp_transcript.specs.Explained.{exchanges_of}
-use Rattle.sftp_transcript.specs.Recorded.{Reading}
-use Rattle.sftp_transcript.specs.Transcript.{IsRecord}
-use Rattle.sftp_transcript.proofs.transcripts.Beginnings.{record_from_beginning}
-use Rattle.sftp_profile.specs.State.{State}
-use Rattle.sftp_profile.specs.Permitted.{Permitted}
-use Rattle.sftp_audit.specs.declared.errors.Refusal.{Refusal}
 use Rattle.sftp_audit.specs.declared.errors.Refusal.TheVariants as refusals
 use Rattle.sftp_audit.specs.Exchanges.{recorded_exchanges}
-use Rattle.sftp_audit.specs.Auditor.{Audited, StandsFor, Refuses, IsTold}
-use Rattle.sftp_audit.specs.Audit.{IsNew, IsNoJudgement, WasFed, StopsFeed, IsToldOf, request_count, is_request}
-use Rattle.sftp_audit.specs.Audit.{HasRefused, error_of_transcript, error_of_session}
 
 -- the events so far were given and fed, and so many of them are requests
 pub record IsFeeding (start : State) (transcript : List ℕ) (requests : ℕ) (auditor : Audited) (records : Reading)

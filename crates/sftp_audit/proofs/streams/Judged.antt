@@ -1,31 +1,18 @@
 -- What the parts of an audit say of the whole.
-use Rattle.std.proofs.Common.{◌≡◌, ◌≢◌, inl, inr, ℕ, List, [], ◌∷◌, ◌++◌, refl, sym, ap, ◌∙◌, subst, append_assoc}
-use Rattle.std.proofs.Common.{Bool, true, false, Some, None, Result, Ok, Err}
-use Rattle.std.specs.Result.{IfErr}
-use Rattle.sftp_wire.proofs.StreamLaws.Front.{spellings-apart}
-use Rattle.sftp_tree.specs.Tree.{Tree, trim}
-use Rattle.sftp_tree.specs.Picture.{IsStart}
-use Rattle.sftp_profile.specs.declared.profiles.Profile.{Profile}
-use Rattle.sftp_profile.specs.State.{State, begun}
-use Rattle.sftp_profile.specs.Permitted.{Permitted}
-use Rattle.sftp_transcript.specs.declared.errors.TranscriptError.{TranscriptError}
+use Rattle.sftp_audit.proofs.Imports.{◌≡◌, ◌≢◌, inl, inr, ℕ, List, [], ◌∷◌, ◌++◌, refl, sym, ap, ◌∙◌, subst}
+use Rattle.sftp_audit.proofs.Imports.{append_assoc, Bool, true, false, Some, None, Result, Ok, Err, IfErr}
+use Rattle.sftp_audit.proofs.Imports.{spellings-apart, Tree, trim, IsStart, Profile, State, begun, Permitted}
+use Rattle.sftp_audit.proofs.Imports.{TranscriptError, Event, Explained, Reading, begins_each, faulty_records_none}
+use Rattle.sftp_audit.proofs.Imports.{records_are_one_lem, AuditError, Refusal, Audited, LacksReply, AccountsBy}
+use Rattle.sftp_audit.proofs.Imports.{FaultAt, RefusedAt, IsFirstFaultBy, IsNoJudgement, IsTreeError, JudgesTree}
+use Rattle.sftp_audit.proofs.Imports.{IsToldOf, IsToldBy, ToldAt, error_of_tree, IsExcusedBy, IsNew, IsPlain, WasFed}
+use Rattle.sftp_audit.proofs.Imports.{StopsFeed, error_of_session}
 use Rattle.sftp_transcript.specs.declared.errors.TranscriptError.TheVariants as transcript_errors
-use Rattle.sftp_transcript.specs.declared.events.Event.{Event}
 use Rattle.sftp_transcript.specs.declared.stage.Stage.TheVariants as stages
-use Rattle.sftp_transcript.specs.Explained.{Explained}
-use Rattle.sftp_transcript.specs.Recorded.{Reading}
-use Rattle.sftp_transcript.proofs.transcripts.Beginnings.{begins_each, faulty_records_none}
-use Rattle.sftp_transcript.proofs.transcripts.OneRecord.{records_are_one_lem}
-use Rattle.sftp_audit.specs.declared.errors.AuditError.{AuditError}
 use Rattle.sftp_audit.specs.declared.errors.AuditError.TheVariants as audit_errors
-use Rattle.sftp_audit.specs.declared.errors.Refusal.{Refusal}
 use Rattle.sftp_audit.specs.declared.errors.Refusal.TheVariants as refusals
-use Rattle.sftp_audit.specs.Auditor.{Audited, LacksReply}
-use Rattle.sftp_audit.specs.Audit.{AccountsBy, FaultAt, RefusedAt, IsFirstFaultBy, IsNoJudgement}
 use Rattle.sftp_treefile.specs.declared.errors.TreeError.{TreeError}
 use Rattle.sftp_treefile.specs.declared.errors.TreeError.TheVariants as tree_errors
-use Rattle.sftp_audit.specs.Audit.{IsTreeError, JudgesTree, IsToldOf, IsToldBy, ToldAt, error_of_tree}
-use Rattle.sftp_audit.specs.Audit.{IsExcusedBy, IsNew, IsPlain, WasFed, StopsFeed, error_of_session}
 use Rattle.sftp_audit.proofs.auditing.Lost.{refuses_lost, lacks_lost}
 
 -- no run is accounted for

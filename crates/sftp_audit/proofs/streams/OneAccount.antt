@@ -1,17 +1,7 @@
 -- Bytes account for one run at most.
-use Rattle.std.proofs.Common.{◌≡◌, List, ℕ, [], sym, ap, ◌∙◌, subst}
-use Rattle.sftp_wire.proofs.StreamLaws.Front.{spellings-apart}
-use Rattle.sftp_tree.specs.Tree.{Tree, trim}
-use Rattle.sftp_tree.proofs.TreeFiles.Files.{one_start}
-use Rattle.sftp_profile.specs.declared.profiles.Profile.{Profile}
-use Rattle.sftp_profile.specs.Profiles.{strict}
-use Rattle.sftp_profile.specs.State.{State, begun}
-use Rattle.sftp_profile.specs.Permitted.{Permitted}
-use Rattle.sftp_profile.proofs.Permissions.{permitted-one_end}
-use Rattle.sftp_transcript.specs.declared.events.Event.{Event}
-use Rattle.sftp_transcript.specs.Explained.{Explained}
-use Rattle.sftp_transcript.proofs.transcripts.OneRecord.{records_are_one_lem}
-use Rattle.sftp_audit.specs.Audit.{Accounts, AccountsBy}
+use Rattle.sftp_audit.proofs.Imports.{◌≡◌, List, ℕ, [], sym, ap, ◌∙◌, subst, spellings-apart, Tree, trim, one_start}
+use Rattle.sftp_audit.proofs.Imports.{Profile, strict, State, begun, Permitted, permitted-one_end, Event, Explained}
+use Rattle.sftp_audit.proofs.Imports.{records_are_one_lem, Accounts, AccountsBy}
 use Rattle.sftp_audit.proofs.steps.StepLaws.{explained-one_end}
 use Rattle.sftp_audit.proofs.steps.StrictRuns.{strict-permits}
 use Rattle.sftp_audit.proofs.streams.StrictAccounts.{accounts-permitted}

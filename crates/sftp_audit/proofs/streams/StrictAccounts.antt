@@ -1,16 +1,7 @@
 -- What is accounted for strictly, and under a profile.
-use Rattle.std.proofs.Common.{◌≡◌, List, ℕ, Result, Ok, Err, sym, subst}
-use Rattle.std.specs.Result.{IfOk, IfErr}
-use Rattle.sftp_tree.specs.Tree.{Tree}
-use Rattle.sftp_profile.specs.declared.profiles.Profile.{Profile}
-use Rattle.sftp_profile.specs.Profiles.{strict}
-use Rattle.sftp_profile.specs.State.{bare}
-use Rattle.sftp_transcript.specs.declared.events.Event.{Event}
-use Rattle.sftp_transcript.specs.Recorded.{Reading}
-use Rattle.sftp_audit.specs.declared.errors.AuditError.{AuditError}
-use Rattle.sftp_audit.specs.Audit.{Accounts, AccountsBy, IsNew, started}
-use Rattle.sftp_audit.proofs.steps.StrictRuns.{PermitsAllowed, strict-permits}
-use Rattle.sftp_audit.proofs.steps.StrictRuns.{explained-permitted, explained-strict}
+use Rattle.sftp_audit.proofs.Imports.{◌≡◌, List, ℕ, Result, Ok, Err, sym, subst, IfOk, IfErr, Tree, Profile, strict}
+use Rattle.sftp_audit.proofs.Imports.{bare, Event, Reading, AuditError, Accounts, AccountsBy, IsNew, started}
+use Rattle.sftp_audit.proofs.steps.StrictRuns.{PermitsAllowed, strict-permits, explained-permitted, explained-strict}
 
 pub accounts-permitted : (profile : Profile) → PermitsAllowed profile → (tree transcript : List ℕ) (start : Tree)
     (events : List Event) (end : Tree) → Accounts tree transcript start events end

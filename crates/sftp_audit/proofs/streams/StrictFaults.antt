@@ -1,30 +1,14 @@
 -- What an audit meets first strictly, and under the strict profile.
-use Rattle.std.proofs.Common.{◌≡◌, ℕ, List, ◌⊎◌, Result, Ok, Err, inl, inr, sym, subst}
-use Rattle.std.specs.Result.{IfErr}
-use Rattle.sftp_tree.specs.Tree.{Tree}
+use Rattle.sftp_audit.proofs.Imports.{◌≡◌, ℕ, List, ◌⊎◌, Result, Ok, Err, inl, inr, sym, subst, IfErr, Tree, Allowed}
+use Rattle.sftp_audit.proofs.Imports.{Profile, strict, State, begun, bare, Permitted, strict-both, Event, Asked}
+use Rattle.sftp_audit.proofs.Imports.{Replied, StepOf, leading_pairs, Reading, Sound, AuditError, Refusal, Exchange}
+use Rattle.sftp_audit.proofs.Imports.{IsFirstWrong, Refuses, started, RefusedAt, RefusedAtEnd, IsFirstFaultOf}
+use Rattle.sftp_audit.proofs.Imports.{IsFirstFault, IsFirstFaultBy, IsNew}
 use Rattle.sftp_handles.specs.State as sessions
-use Rattle.sftp_handles.specs.Allowed.{Allowed}
-use Rattle.sftp_profile.specs.declared.profiles.Profile.{Profile}
-use Rattle.sftp_profile.specs.Profiles.{strict}
-use Rattle.sftp_profile.specs.State.{State, begun, bare}
-use Rattle.sftp_profile.specs.Permitted.{Permitted}
-use Rattle.sftp_profile.proofs.Permissions.{strict-both}
-use Rattle.sftp_transcript.specs.declared.events.Event.{Event}
-use Rattle.sftp_transcript.specs.declared.events.Event.TheVariants.{Asked, Replied}
-use Rattle.sftp_transcript.specs.Explained.{StepOf, leading_pairs}
-use Rattle.sftp_transcript.specs.Recorded.{Reading}
-use Rattle.sftp_transcript.specs.Sound.{Sound}
-use Rattle.sftp_audit.specs.declared.errors.AuditError.{AuditError}
 use Rattle.sftp_audit.specs.declared.errors.AuditError.TheVariants as audit_errors
-use Rattle.sftp_audit.specs.declared.errors.Refusal.{Refusal}
 use Rattle.sftp_audit.specs.declared.errors.Refusal.TheVariants as refusals
-use Rattle.sftp_audit.specs.declared.exchanges.Exchange.{Exchange}
 use Rattle.sftp_audit.specs.Exchanges.{ledger_of}
-use Rattle.sftp_audit.specs.Auditor.{IsFirstWrong, Refuses}
-use Rattle.sftp_audit.specs.Audit.{started, RefusedAt, RefusedAtEnd, IsFirstFaultOf, IsFirstFault, IsFirstFaultBy}
-use Rattle.sftp_audit.specs.Audit.{IsNew}
-use Rattle.sftp_audit.proofs.steps.StrictRuns.{run-permitted, run-strict, sound-permitted, sound-strict}
-use Rattle.sftp_audit.proofs.steps.StrictRuns.{strict-permits}
+use Rattle.sftp_audit.proofs.steps.StrictRuns.{run-permitted, run-strict, sound-permitted, sound-strict, strict-permits}
 
 -- what is sound for one machine is so for another, and what it finds wrong first the other does too
 record Carries {S T : Type 0} (step : StepOf S) (other : StepOf T) (start : S) (begin : T) : Type 0 where

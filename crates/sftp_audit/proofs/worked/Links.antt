@@ -1,21 +1,10 @@
 -- Worked examples with links: sessions on the blank tree that are explained, and sessions that are not.
-use Rattle.std.proofs.Common.{[], ◌∷◌, codes, refl}
-use Rattle.sftp_path.specs.Place.{parts, components, is_good_path}
-use Rattle.sftp_path.specs.Table.{retain, get, put}
-use Rattle.sftp_tree.specs.Tree.{fits}
-use Rattle.sftp_tree.specs.Walk.{meets, walk, walk_parts, reached}
-use Rattle.sftp_tree.specs.Causes.{no_causes, when, joined}
-use Rattle.sftp_tree.specs.Requests.{led, plain_causes, causes as path_causes, outcome}
-use Rattle.sftp_tree.specs.Picture.{blank}
-use Rattle.sftp_handles.specs.Handles.{pins_of}
-use Rattle.sftp_handles.specs.Requests.{causes, told_to, answers, after}
-use Rattle.sftp_handles.specs.Allowed.{Allowed, step}
-use Rattle.sftp_transcript.specs.Explained.{turn_after, next_reply, exchanges_of, leading_pairs, requests_before_reply}
-use Rattle.sftp_transcript.specs.Explained.{in_window, Explained}
-use Rattle.sftp_audit.specs.Audit.{started}
-use Rattle.sftp_transcript.specs.Examples.{of_link, with_no_permissions}
-use Rattle.sftp_audit.specs.Examples.{with_link, link_session, above_the_root}
-use Rattle.sftp_audit.specs.Examples.{Unexplained}
+use Rattle.sftp_audit.proofs.Imports.{[], ◌∷◌, codes, refl, parts, components, is_good_path, retain, get, put, fits}
+use Rattle.sftp_audit.proofs.Imports.{meets, walk, walk_parts, reached, no_causes, when, joined, led, plain_causes}
+use Rattle.sftp_audit.proofs.Imports.{path_causes, outcome, blank, pins_of, causes, told_to, answers, after, Allowed}
+use Rattle.sftp_audit.proofs.Imports.{step, turn_after, next_reply, exchanges_of, leading_pairs, requests_before_reply}
+use Rattle.sftp_audit.proofs.Imports.{in_window, Explained, started, of_link, with_no_permissions}
+use Rattle.sftp_audit.specs.Examples.{with_link, link_session, above_the_root, Unexplained}
 use Rattle.sftp_audit.proofs.worked.Runs.{explained_by, unexplained_by}
 
 pub made : Explained Allowed (started blank) (link_session (codes "x y" ∷ []) (of_link 3)) (started with_link)

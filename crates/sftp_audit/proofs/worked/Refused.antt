@@ -1,31 +1,16 @@
 -- Worked examples: what an auditor keeps, and what it refuses.
-use Rattle.std.proofs.Common.{◌≡◌, ℕ, List, [], ◌∷◌, codes, Some, None, refl, sym, ◌∙◌, inl, inr, arith}
-use Rattle.sftp_wire.specs.declared.packets.Request.{Request}
-use Rattle.sftp_wire.specs.declared.packets.Reply.{Reply}
+use Rattle.sftp_audit.proofs.Imports.{◌≡◌, ℕ, List, [], ◌∷◌, codes, Some, None, refl, sym, ◌∙◌, inl, inr, arith}
+use Rattle.sftp_audit.proofs.Imports.{Request, Reply, no_attributes, parts, components, is_good_path, retain, get, put}
+use Rattle.sftp_audit.proofs.Imports.{without, has_entries, fits, meets, walk, walk_parts, reached, no_causes, when}
+use Rattle.sftp_audit.proofs.Imports.{joined, led, plain_causes, path_causes, outcome, blank, pins_of, causes, told_to}
+use Rattle.sftp_audit.proofs.Imports.{answers, after, Allowed, step, strict, begun, closed, waiting, turn_after}
+use Rattle.sftp_audit.proofs.Imports.{next_reply, exchanges_of, leading_pairs, requests_before_reply, in_window, Run}
+use Rattle.sftp_audit.proofs.Imports.{Sound, mkdir, status, Exchange, started, RefusedAt, StandsFor, IsFirstWrong}
+use Rattle.sftp_audit.proofs.Imports.{Refuses, LacksReply}
 use Rattle.sftp_wire.specs.declared.packets.Ask.TheVariants.{Mkdir, Rmdir}
 use Rattle.sftp_wire.specs.declared.packets.Answer.TheVariants.{Status}
-use Rattle.sftp_wire.specs.Examples.{no_attributes}
-use Rattle.sftp_path.specs.Place.{parts, components, is_good_path}
-use Rattle.sftp_path.specs.Table.{retain, get, put, without}
-use Rattle.sftp_tree.specs.Tree.{has_entries, fits}
-use Rattle.sftp_tree.specs.Walk.{meets, walk, walk_parts, reached}
-use Rattle.sftp_tree.specs.Causes.{no_causes, when, joined}
-use Rattle.sftp_tree.specs.Requests.{led, plain_causes, causes as path_causes, outcome}
-use Rattle.sftp_tree.specs.Picture.{blank}
 use Rattle.sftp_handles.specs.State.{State}
-use Rattle.sftp_handles.specs.Handles.{pins_of}
-use Rattle.sftp_handles.specs.Requests.{causes, told_to, answers, after}
-use Rattle.sftp_handles.specs.Allowed.{Allowed, step}
-use Rattle.sftp_profile.specs.Profiles.{strict}
-use Rattle.sftp_profile.specs.State.{begun}
-use Rattle.sftp_transcript.specs.Explained.{closed, waiting, turn_after, next_reply, exchanges_of, leading_pairs}
-use Rattle.sftp_transcript.specs.Explained.{requests_before_reply, in_window, Run}
-use Rattle.sftp_transcript.specs.Sound.{Sound}
-use Rattle.sftp_transcript.specs.Examples.{mkdir, status}
 use Rattle.sftp_audit.specs.declared.errors.Refusal.TheVariants as refusals
-use Rattle.sftp_audit.specs.declared.exchanges.Exchange.{Exchange}
-use Rattle.sftp_audit.specs.Audit.{started, RefusedAt}
-use Rattle.sftp_audit.specs.Auditor.{StandsFor, IsFirstWrong, Refuses, LacksReply}
 use Rattle.sftp_audit.specs.Exchanges.{next_recorded, exchanges_from, recorded_exchanges, unsettled, ledger_of}
 use Rattle.sftp_audit.specs.Examples.{with_a, with_a_and_b, three_requests, backward_replies, two_backward_replies}
 use Rattle.sftp_audit.specs.Examples.{removal_done_bytes, last_answered, id_used_again, first_answered, second_waits}

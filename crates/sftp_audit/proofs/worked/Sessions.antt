@@ -1,21 +1,12 @@
 -- Worked examples: sessions on the blank tree that are explained, and sessions that are not.
-use Rattle.std.proofs.Common.{◌≡◌, [], refl, sym, ◌∙◌}
-use Rattle.sftp_wire.specs.Examples.{hex}
-use Rattle.sftp_path.specs.Place.{parts, components, is_good_path}
-use Rattle.sftp_path.specs.Table.{retain, get, put, without}
+use Rattle.sftp_audit.proofs.Imports.{◌≡◌, [], refl, sym, ◌∙◌, hex, parts, components, is_good_path, retain, get, put}
+use Rattle.sftp_audit.proofs.Imports.{without, has_entries, fits, meets, walk, walk_parts, reached, no_causes, when}
+use Rattle.sftp_audit.proofs.Imports.{joined, led, plain_causes, path_causes, outcome, picture, blank, pins_of, causes}
+use Rattle.sftp_audit.proofs.Imports.{told_to, answers, after, Allowed, step, closed, waiting, broken, turn_after}
+use Rattle.sftp_audit.proofs.Imports.{next_reply, exchanges_of, leading_pairs, requests_before_reply, in_window}
+use Rattle.sftp_audit.proofs.Imports.{Explained, started}
 use Rattle.sftp_treefile.specs.Limits.{are_own}
 use Rattle.sftp_treefile.specs.TreeFile.{spelled}
-use Rattle.sftp_tree.specs.Tree.{has_entries, fits}
-use Rattle.sftp_tree.specs.Walk.{meets, walk, walk_parts, reached}
-use Rattle.sftp_tree.specs.Causes.{no_causes, when, joined}
-use Rattle.sftp_tree.specs.Requests.{led, plain_causes, causes as path_causes, outcome}
-use Rattle.sftp_tree.specs.Picture.{picture, blank}
-use Rattle.sftp_handles.specs.Handles.{pins_of}
-use Rattle.sftp_handles.specs.Requests.{causes, told_to, answers, after}
-use Rattle.sftp_handles.specs.Allowed.{Allowed, step}
-use Rattle.sftp_transcript.specs.Explained.{closed, waiting, broken, turn_after, next_reply, exchanges_of, leading_pairs}
-use Rattle.sftp_transcript.specs.Explained.{requests_before_reply, in_window, Explained}
-use Rattle.sftp_audit.specs.Audit.{started}
 use Rattle.sftp_audit.specs.Examples.{with_a, with_a_and_b, with_a_and_b_bytes, backward_replies, one_unanswered}
 use Rattle.sftp_audit.specs.Examples.{one_answered_twice, same_directory_twice, data_for_mkdir, opendir_of_nothing}
 use Rattle.sftp_audit.specs.Examples.{Unexplained}

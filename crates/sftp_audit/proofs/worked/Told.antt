@@ -1,17 +1,8 @@
 -- Worked examples: a session that asks for the limits of the tree.
-use Rattle.std.proofs.Common.{refl}
-use Rattle.sftp_wire.specs.Examples.{hex}
-use Rattle.sftp_path.specs.Table.{retain, get}
-use Rattle.sftp_tree.specs.Tree.{raised}
-use Rattle.sftp_tree.specs.Causes.{no_causes, when}
-use Rattle.sftp_tree.specs.Requests.{led, outcome}
-use Rattle.sftp_tree.specs.Picture.{blank}
-use Rattle.sftp_handles.specs.Handles.{pins_of}
-use Rattle.sftp_handles.specs.Requests.{causes, told_to, answers, after, limits_data}
-use Rattle.sftp_handles.specs.Allowed.{Allowed, step}
-use Rattle.sftp_transcript.specs.Explained.{turn_after, next_reply, exchanges_of, leading_pairs, requests_before_reply}
-use Rattle.sftp_transcript.specs.Explained.{in_window, Explained}
-use Rattle.sftp_audit.specs.Audit.{started}
+use Rattle.sftp_audit.proofs.Imports.{refl, hex, retain, get, raised, no_causes, when, led, outcome, blank, pins_of}
+use Rattle.sftp_audit.proofs.Imports.{causes, told_to, answers, after, limits_data, Allowed, step, turn_after}
+use Rattle.sftp_audit.proofs.Imports.{next_reply, exchanges_of, leading_pairs, requests_before_reply, in_window}
+use Rattle.sftp_audit.proofs.Imports.{Explained, started}
 use Rattle.sftp_audit.specs.Examples.{limits_session, usual_limits_told, highest_limits_told, Unexplained}
 use Rattle.sftp_audit.proofs.worked.Runs.{explained_by, unexplained_by}
 

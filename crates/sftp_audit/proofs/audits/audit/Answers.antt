@@ -1,8 +1,6 @@
 -- The strict profile accounts for what is accounted for strictly.
-use Rattle.std.proofs.Common.{◌≡◌, ◌≢◌}
-use Rattle.sftp_tree.specs.Picture.{picture}
+use Rattle.sftp_audit.proofs.Imports.{◌≡◌, ◌≢◌, picture, request_count}
 use Rattle.sftp_audit.specs.declared.errors.AuditError.TheVariants.{NoMemory}
-use Rattle.sftp_audit.specs.Audit.{request_count}
 use Rattle.sftp_audit.proofs.streams.StrictAccounts.{accepted-strict, refused-strict}
 use Rattle.sftp_audit.proofs.streams.StrictFaults.{first-strict}
 use Rattle.sftp_audit.proofs.audits.audit.Goals as goal

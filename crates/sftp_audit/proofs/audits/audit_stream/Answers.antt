@@ -1,7 +1,5 @@
 -- The strict profile accounts for what is accounted for strictly.
-use Rattle.std.proofs.Common.{◌≡◌}
-use Rattle.sftp_tree.specs.Picture.{picture}
-use Rattle.sftp_audit.specs.Audit.{request_count, IsNoJudgement}
+use Rattle.sftp_audit.proofs.Imports.{◌≡◌, picture, request_count, IsNoJudgement}
 use Rattle.sftp_audit.proofs.streams.StrictAccounts.{accepted-strict_stream, refused-strict_stream}
 use Rattle.sftp_audit.proofs.streams.StrictFaults.{first-strict_stream}
 use Rattle.sftp_audit.proofs.audits.audit_stream.Goals as goal

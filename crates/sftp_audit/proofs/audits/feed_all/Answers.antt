@@ -1,13 +1,10 @@
 -- Each turn of the loop gives an event and feeds it; the feed ends where no event is left, or at an error.
-use Rattle.std.proofs.Common.{ℕ, Bool, Option, Some, [], ◌∷◌, ◌++◌, refl, subst, ◌∙◌, arith}
+use Rattle.sftp_audit.proofs.Imports.{ℕ, Bool, Option, Some, [], ◌∷◌, ◌++◌, refl, subst, ◌∙◌, arith}
+use Rattle.sftp_audit.proofs.Imports.{err_from_is_err_and, Event, GaveFrom, IsTold}
 use Rattle.std.proofs.lemmas.Grind.{common_steps}
-use Rattle.std.proofs.lemmas.Result.{err_from_is_err_and}
-use Rattle.sftp_transcript.specs.declared.events.Event.{Event}
-use Rattle.sftp_transcript.specs.Begun.{GaveFrom}
 use Rattle.sftp_audit.proofs.streams.Given.{IsFeeding, feeding-start, feeding-next, all-fed, stops-fault, stops-refused}
-use Rattle.sftp_audit.specs.Exchanges.{recorded_exchanges}
-use Rattle.sftp_audit.specs.Auditor.{IsTold}
 use Rattle.sftp_audit.proofs.streams.Given.{fault-refuses_nothing, refused-for_good, told-fault, told-refused}
+use Rattle.sftp_audit.specs.Exchanges.{recorded_exchanges}
 use Rattle.sftp_audit.proofs.audits.feed_all.Goals as goal
 
 pub events-init : goal.events-init

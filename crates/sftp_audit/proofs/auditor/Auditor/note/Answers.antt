@@ -1,9 +1,8 @@
 -- What is noted of an event, and why it is refused.
-use Rattle.std.proofs.Common.{refl}
-use Rattle.std.proofs.lemmas.Result.{err_from_is_err_and}
+use Rattle.sftp_audit.proofs.Imports.{refl, err_from_is_err_and}
 use Rattle.sftp_audit.proofs.auditing.Standing.{result-asked, refusal-asked, refusal-replied, result-settled}
-use Rattle.sftp_audit.proofs.auditing.Standing.{refusal-settled, state-asked, state-settled, state-replied}
-use Rattle.sftp_audit.proofs.auditing.Standing.{call-asked, call-replied, call-settled}
+use Rattle.sftp_audit.proofs.auditing.Standing.{refusal-settled, state-asked, state-settled, state-replied, call-asked}
+use Rattle.sftp_audit.proofs.auditing.Standing.{call-replied, call-settled}
 use Rattle.sftp_audit.proofs.auditor.Auditor.note.Goals as goal
 
 pub returns-in-Asked-clause-stands : goal.returns-in-Asked-clause-stands
