@@ -9,11 +9,8 @@ use Rattle.sftp_audit.proofs.Imports.{starts_answered, IsOrdinal, WaitsAt, IsInd
 use Rattle.std.specs.Map.{lookup}
 use Rattle.sftp_transcript.specs.Ledger.{AreApart}
 use Rattle.sftp_transcript.proofs.pairing.Standing.{AreApart-asked}
-use Rattle.sftp_audit.specs.Exchanges.{is_answered, is_open, answered_by, with_reply, bare, ledger_of}
-use Rattle.sftp_audit.proofs.auditing.Lists.{is_open-append, is_open-ledger}
-
-flipped : (a b : ℕ) → (a == b) ≡ false → (b == a) ≡ false
-flipped a b other = ne_eqb b a (λ e. eqb-false a b other (sym e))
+use Rattle.sftp_audit.specs.Exchanges.{is_answered, is_open, answered_by, with_reply, ledger_of, bare}
+use Rattle.sftp_audit.proofs.auditing.Lists.{flipped, is_open-append, is_open-ledger}
 
 -- ---- ordinals
 
@@ -90,13 +87,13 @@ still r x waits = by (not (is_answered x) && x.request.id == r.reply.id) refl
     by true is = absurd (true≢false (let f : is_some (Some r) ≡ false = rw is at waits in f))
     by false is = rw is refl
 
+and_false : (b : Bool) → (b && false) ≡ false
+and_false true = refl
+and_false false = refl
+
 -- so is one of another id
 other_id : (r : RecordedReply) (x : Exchange) → (x.request.id == r.reply.id) ≡ false → answered_by r x ≡ x
 other_id r x other = rw (other, and_false (not (is_answered x))) refl
-  where
-    and_false : (b : Bool) → (b && false) ≡ false
-    and_false true = refl
-    and_false false = refl
 
 open_replied : (id : ℕ) (r : RecordedReply) (x : Exchange)
     → (not (is_answered (answered_by r x)) && (answered_by r x).request.id == id)
@@ -330,7 +327,7 @@ module _ (xs : List Exchange) (index after : List (ℕ × ℕ)) (first : ℕ) (r
           let was = indexed.found id o (let f : lookup (nat_eq id) index ≡ Some o = rw miss at now in f) in
           let w = was.2 in
           let other : (w.exchange.request.id == r.reply.id) ≡ false =
-          rw w.same_id (flipped r.reply.id id miss) in (
+          rw w.same_id (flipped id r.reply.id ∙ miss) in (
             was.0,
             was.1,
             record {
@@ -347,10 +344,6 @@ module _ (xs : List Exchange) (index after : List (ℕ × ℕ)) (first : ℕ) (r
     where
       now : cond (nat_eq r.reply.id id) None (lookup (nat_eq id) index) ≡ None
       now = sym (changed id) ∙ none
-
-      and_false : (b : Bool) → (b && false) ≡ false
-      and_false true = refl
-      and_false false = refl
 
       by : (b : Bool) → nat_eq r.reply.id id ≡ b → is_open id (with_reply r xs) ≡ false
       by true hit = rw (is_open-replied id r xs, hit) (and_false (is_open id xs))

@@ -5,14 +5,9 @@ use Rattle.sftp_audit.proofs.Imports.{State, Permitted, follows_in, Run, leading
 use Rattle.sftp_audit.proofs.Imports.{IsFirstWrong, IsTold}
 use Rattle.sftp_audit.specs.Exchanges.{is_answered, AreAnswered, unsettled, ledger_of}
 use Rattle.sftp_audit.specs.declared.errors.Refusal.TheVariants as refusals
-use Rattle.sftp_audit.proofs.auditing.Lists.{unsettled-answered, leading_pairs-settled, leading_pairs-unsettled}
+use Rattle.sftp_audit.proofs.auditing.Lists.{answered-append, unsettled-answered, leading_pairs-settled}
+use Rattle.sftp_audit.proofs.auditing.Lists.{leading_pairs-unsettled}
 use Rattle.sftp_audit.proofs.auditing.Turns.{run-append}
-
--- ---- lists
-
-answered-append : (xs ys : List Exchange) → AreAnswered xs → AreAnswered ys → AreAnswered (xs ++ ys)
-answered-append [] ys front back = back
-answered-append (x ∷ xs) ys front back = (front.0, answered-append xs ys front.1 back)
 
 -- ---- those done so far
 

@@ -1,18 +1,17 @@
 -- What the parts of an audit say of the whole.
 use Rattle.sftp_audit.proofs.Imports.{◌≡◌, ◌≢◌, inl, inr, ℕ, List, [], ◌∷◌, ◌++◌, refl, sym, ap, ◌∙◌, subst}
-use Rattle.sftp_audit.proofs.Imports.{append_assoc, Bool, true, false, Some, None, Result, Ok, Err, IfErr}
-use Rattle.sftp_audit.proofs.Imports.{spellings-apart, Tree, trim, IsStart, Profile, State, begun, Permitted}
-use Rattle.sftp_audit.proofs.Imports.{TranscriptError, Event, Explained, Reading, begins_each, faulty_records_none}
-use Rattle.sftp_audit.proofs.Imports.{records_are_one_lem, AuditError, Refusal, Audited, LacksReply, AccountsBy}
-use Rattle.sftp_audit.proofs.Imports.{FaultAt, RefusedAt, IsFirstFaultBy, IsNoJudgement, IsTreeError, JudgesTree}
-use Rattle.sftp_audit.proofs.Imports.{IsToldOf, IsToldBy, ToldAt, error_of_tree, IsExcusedBy, IsNew, IsPlain, WasFed}
-use Rattle.sftp_audit.proofs.Imports.{StopsFeed, error_of_session}
+use Rattle.sftp_audit.proofs.Imports.{append_assoc, Bool, true, false, Some, None, Result, Ok, Err, spellings-apart}
+use Rattle.sftp_audit.proofs.Imports.{Tree, trim, IsStart, Profile, State, begun, Permitted, TranscriptError, Event}
+use Rattle.sftp_audit.proofs.Imports.{Explained, Reading, records_are_one_lem, AuditError, Refusal, Audited, LacksReply}
+use Rattle.sftp_audit.proofs.Imports.{AccountsBy, FaultAt, RefusedAt, IsFirstFaultBy, IsNoJudgement, IsTreeError}
+use Rattle.sftp_audit.proofs.Imports.{JudgesTree, IsToldOf, IsToldBy, ToldAt, IsExcusedBy, IsNew, IsPlain, WasFed}
+use Rattle.sftp_audit.proofs.Imports.{StopsFeed, error_of_session, begins_each, faulty_records_none}
+use Rattle.std.specs.Result.{IfErr}
 use Rattle.sftp_transcript.specs.declared.errors.TranscriptError.TheVariants as transcript_errors
 use Rattle.sftp_transcript.specs.declared.stage.Stage.TheVariants as stages
 use Rattle.sftp_audit.specs.declared.errors.AuditError.TheVariants as audit_errors
 use Rattle.sftp_audit.specs.declared.errors.Refusal.TheVariants as refusals
-use Rattle.sftp_treefile.specs.declared.errors.TreeError.{TreeError}
-use Rattle.sftp_treefile.specs.declared.errors.TreeError.TheVariants as tree_errors
+use Rattle.sftp_audit.proofs.streams.FirstFaults.{unlike_fault, unlike_refusal}
 use Rattle.sftp_audit.proofs.auditing.Lost.{refuses_lost, lacks_lost}
 
 -- no run is accounted for
@@ -58,17 +57,9 @@ pub feed-lost : (profile : Profile) (start : Tree) (tree transcript : List ℕ) 
 feed-lost profile start tree transcript (audit_errors.Tree error) only plain judged stops = absurd stops
 feed-lost profile start tree transcript audit_errors.NoMemory only plain judged stops = absurd (judged tt)
 feed-lost profile start tree transcript (audit_errors.Transcript error) only plain judged stops =
-    fault-lost profile (begun profile start) tree transcript error (unlike error plain) stops
-  where
-    unlike : (error : TranscriptError) → IsPlain (audit_errors.Transcript error) → error ≢ transcript_errors.NoMemory
-    unlike transcript_errors.NoMemory plain same = plain
-    unlike other plain same = absurd cc
+    fault-lost profile (begun profile start) tree transcript error (unlike_fault error plain) stops
 feed-lost profile start tree transcript (audit_errors.Refused refusal) only plain judged stops =
-    refused-lost profile start tree transcript refusal (unlike refusal plain) only stops
-  where
-    unlike : (refusal : Refusal) → IsPlain (audit_errors.Refused refusal) → refusal ≢ refusals.NoMemory
-    unlike refusals.NoMemory plain same = plain
-    unlike other plain same = absurd cc
+    refused-lost profile start tree transcript refusal (unlike_refusal refusal plain) only stops
 
 pub feed-first : (profile : Profile) (start : Tree) (tree transcript : List ℕ) (error : AuditError) → IsStart start tree
     → StopsFeed (begun profile start) transcript error → IsFirstFaultBy profile tree transcript error
@@ -83,8 +74,7 @@ pub judged-feed : (start : Tree) (tree : List ℕ) (error : AuditError) → IsSt
     → JudgesTree tree error
 judged-feed start tree (audit_errors.Tree error) is treeless = absurd (treeless tt)
 judged-feed start tree audit_errors.NoMemory is treeless = tt
-judged-feed start tree (audit_errors.Transcript error) is treeless = (start, is)
-judged-feed start tree (audit_errors.Refused refusal) is treeless = (start, is)
+judged-feed start tree other is treeless = (start, is)
 
 pub judged-end : (start : Tree) (tree : List ℕ) (refusal : Refusal) → IsStart start tree
     → JudgesTree tree (error_of_session refusal)
@@ -172,21 +162,11 @@ refused-memory profile tree bytes left failures reads records (Err error) same i
 
 -- ---- what is told
 
--- of a tree file nothing is told
-pub told-tree : (profile : Profile) (tree transcript : List ℕ) (told : Bool) (error : TreeError) → told ≡ true
-    → IsToldBy profile tree transcript told (error_of_tree error)
-told-tree profile tree transcript told tree_errors.NoMemory same = same
-told-tree profile tree transcript told other same = same
-
 told-kind : (profile : Profile) (start : Tree) (tree transcript : List ℕ) (told : Bool) (refusal : Refusal)
     → IsStart start tree → ToldAt (begun profile start) transcript true told refusal
     → IsToldBy profile tree transcript told (audit_errors.Refused refusal)
-told-kind profile start tree transcript told (refusals.UnknownReply number) found at = at.told
-told-kind profile start tree transcript told (refusals.IdInUse number) found at = at.told
-told-kind profile start tree transcript told (refusals.Window number) found at = at.told
 told-kind profile start tree transcript told (refusals.NotAllowed number) found at = (start, found, at)
-told-kind profile start tree transcript told (refusals.Unanswered number) found at = at.told
-told-kind profile start tree transcript told refusals.NoMemory found at = at.told
+told-kind profile start tree transcript told other found at = at.told
 
 pub told-feed : (profile : Profile) (start : Tree) (tree transcript : List ℕ) (before told : Bool) (error : AuditError)
     → before ≡ true → IsStart start tree → IsToldOf (begun profile start) transcript before told error
@@ -194,16 +174,10 @@ pub told-feed : (profile : Profile) (start : Tree) (tree transcript : List ℕ) 
 told-feed profile start tree transcript false told error is found at = absurd cc
 told-feed profile start tree transcript true told (audit_errors.Refused refusal) is found at =
     told-kind profile start tree transcript told refusal found at
-told-feed profile start tree transcript true told (audit_errors.Tree error) is found at = at
-told-feed profile start tree transcript true told (audit_errors.Transcript error) is found at = at
-told-feed profile start tree transcript true told audit_errors.NoMemory is found at = at
+told-feed profile start tree transcript true told other is found at = at
 
 -- at the end a request without a reply is all that can be wrong
 pub told-end : (profile : Profile) (tree transcript : List ℕ) (events : List Event) (told : Bool) (refusal : Refusal)
     → told ≡ true → LacksReply events refusal → IsToldBy profile tree transcript told (error_of_session refusal)
-told-end profile tree transcript events told (refusals.UnknownReply number) same lacks = same
-told-end profile tree transcript events told (refusals.IdInUse number) same lacks = same
-told-end profile tree transcript events told (refusals.Window number) same lacks = same
 told-end profile tree transcript events told (refusals.NotAllowed number) same lacks = absurd lacks
-told-end profile tree transcript events told (refusals.Unanswered number) same lacks = same
-told-end profile tree transcript events told refusals.NoMemory same lacks = same
+told-end profile tree transcript events told other same lacks = same

@@ -2,8 +2,7 @@
 use Rattle.sftp_audit.proofs.Imports.{◌≡◌, nat_lt, ℕ, ◌^◌, ◌<◌, ◌≤◌, ◌++◌, length, codes, List, [], ◌∷◌, IsTrue, refl}
 use Rattle.sftp_audit.proofs.Imports.{sym, ◌∙◌, lit<, lit≤, list_all, flat_map, AllByRecursion, and_parts, append-nil}
 use Rattle.sftp_audit.proofs.Imports.{hex, no_attributes, Event, IsEvent, IsRecord, event_record, transcript_opening}
-use Rattle.sftp_audit.proofs.Imports.{packet_of, BeginsRecord, mkdir, rmdir, status, handshake_bytes}
-use Rattle.std.proofs.Common.{ltb-true}
+use Rattle.sftp_audit.proofs.Imports.{packet_of, BeginsRecord, mkdir, rmdir, status, handshake_bytes, ltb-true}
 use Rattle.sftp_wire.specs.declared.packets.Packet.TheVariants.{Init, Version}
 use Rattle.sftp_wire.specs.Spelling.{spelling, packet_limit, server_extensions, AreBytes, FitsString, FitsPair}
 use Rattle.sftp_wire.specs.Spelling.{FitsAttrs, HasSpelling}
