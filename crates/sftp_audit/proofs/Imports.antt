@@ -12,8 +12,9 @@ pub use Rattle.std.specs.List.{AllByRecursion, list_all, flat_map, list_any}
 pub use Rattle.std.specs.Option.{option_map}
 pub use Rattle.sftp_audit.specs.Audit.{request_count, RefusedAt, RefusedAtEnd, FaultAt, IsFirstFaultBy, IsTreeError}
 pub use Rattle.sftp_audit.specs.Audit.{IsPlain, IsNew, IsNoJudgement, WasFed, StopsFeed, IsToldOf, is_request}
-pub use Rattle.sftp_audit.specs.Audit.{HasRefused, error_of_transcript, error_of_session, AccountsBy, JudgesTree}
-pub use Rattle.sftp_audit.specs.Audit.{IsToldBy, ToldAt, IsExcusedBy, Accounts, started, IsFirstFaultOf, IsFirstFault}
+pub use Rattle.sftp_audit.specs.Audit.{HasRefused, error_of_transcript, error_of_session, closed_tree, AccountsBy}
+pub use Rattle.sftp_audit.specs.Audit.{JudgesTree, IsToldBy, ToldAt, IsExcusedBy, Accounts, started, IsFirstFaultOf}
+pub use Rattle.sftp_audit.specs.Audit.{IsFirstFault}
 pub use Rattle.sftp_audit.specs.Auditor.{Refuses, LacksReply, IsFirstWrong, IsTold, Audited, StandsFor, RefusesToSettle}
 pub use Rattle.sftp_audit.specs.Auditor.{IsWrongIn, HasNoted, HasReason, StopsIn, Tells, IsOldestOpen}
 pub use Rattle.sftp_audit.specs.Ledger.{starts_answered, IsOrdinal, WaitsAt, IsIndexed, RefusesRequest, RefusesReply}
@@ -49,7 +50,7 @@ pub use Rattle.sftp_transcript.specs.declared.events.Event.TheVariants.{Asked, R
 pub use Rattle.sftp_tree.proofs.TreeFiles.Files.{one_start}
 pub use Rattle.sftp_tree.specs.Picture.{IsStart, blank}
 unfoldable pub use Rattle.sftp_tree.specs.Picture.{picture}
-pub use Rattle.sftp_tree.specs.Tree.{Tree, trim, raised}
+pub use Rattle.sftp_tree.specs.Tree.{Tree, raised}
 unfoldable pub use Rattle.sftp_tree.specs.Tree.{fits, has_entries}
 pub use Rattle.sftp_wire.proofs.StreamLaws.Front.{spellings-apart}
 pub use Rattle.sftp_wire.specs.Examples.{no_attributes}

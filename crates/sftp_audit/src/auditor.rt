@@ -1,6 +1,5 @@
 //! The auditor: it is fed the events of a session, one after the other, and sees each once.
 ghost use Rattle.std.specs.Prelude.{◌≡◌, ◌≤◌, List, [], length, Some, None, Ok, Err, OnOk, IfOk, IfErr};
-ghost use Rattle.sftp_tree.specs.Tree.{trim};
 ghost use Rattle.sftp_profile.specs.Profiles.{strict};
 ghost use Rattle.sftp_profile.specs.State.{State, begun};
 ghost use Rattle.sftp_profile.specs.Permitted.{Permitted};
@@ -8,6 +7,7 @@ ghost use Rattle.sftp_transcript.specs.declared.events.Event.{Event};
 ghost use Rattle.sftp_transcript.specs.Begun.{first_number};
 ghost use Rattle.sftp_transcript.specs.Explained.{Explained, window};
 ghost use Rattle.sftp_audit.specs.declared.errors.Refusal.{Refusal};
+ghost use Rattle.sftp_audit.specs.Audit.{closed_tree};
 ghost use Rattle.sftp_audit.specs.Auditor.{StandsFor, LacksReply, GoesOn, HasNoted, HasReason, StopsIn, Tells};
 
 use crate::errors::Refusal;
@@ -201,8 +201,7 @@ impl Auditor {
         ensures again { (refusal : Refusal) → self.refusal ≡ Some refusal → result ≡ Err refusal }
         // The events are explained, and the result is the tree where their run ends.
         ensures ended { IfOk result (λ end. (start : State) (events : List Event) → StandsFor start events self
-            → (last : State) × Explained Permitted start events last
-            × (end ≡ trim (record last.session.tree { pins = [] }))) }
+            → (last : State) × Explained Permitted start events last × (end ≡ closed_tree last.session)) }
         // Otherwise a request has no reply.
         ensures unanswered { IfErr result (λ refusal. (start : State) (events : List Event) →
             StandsFor start events self → LacksReply events refusal) }

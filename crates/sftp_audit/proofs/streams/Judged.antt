@@ -1,11 +1,11 @@
 -- What the parts of an audit say of the whole.
-use Rattle.sftp_audit.proofs.Imports.{◌≡◌, ◌≢◌, inl, inr, ℕ, List, [], ◌∷◌, ◌++◌, refl, sym, ap, ◌∙◌, subst}
-use Rattle.sftp_audit.proofs.Imports.{append_assoc, Bool, true, false, Some, None, Result, Ok, Err, spellings-apart}
-use Rattle.sftp_audit.proofs.Imports.{Tree, trim, IsStart, Profile, State, begun, Permitted, TranscriptError, Event}
-use Rattle.sftp_audit.proofs.Imports.{Explained, Reading, records_are_one_lem, AuditError, Refusal, Audited, LacksReply}
-use Rattle.sftp_audit.proofs.Imports.{AccountsBy, FaultAt, RefusedAt, IsFirstFaultBy, IsNoJudgement, IsTreeError}
-use Rattle.sftp_audit.proofs.Imports.{JudgesTree, IsToldOf, IsToldBy, ToldAt, IsExcusedBy, IsNew, IsPlain, WasFed}
-use Rattle.sftp_audit.proofs.Imports.{StopsFeed, error_of_session, begins_each, faulty_records_none}
+use Rattle.sftp_audit.proofs.Imports.{closed_tree, ◌≡◌, ◌≢◌, inl, inr, ℕ, List, [], ◌∷◌, ◌++◌, refl, sym, ap, ◌∙◌}
+use Rattle.sftp_audit.proofs.Imports.{subst, append_assoc, Bool, true, false, Some, None, Result, Ok, Err}
+use Rattle.sftp_audit.proofs.Imports.{spellings-apart, Tree, IsStart, Profile, State, begun, Permitted, TranscriptError}
+use Rattle.sftp_audit.proofs.Imports.{Event, Explained, Reading, records_are_one_lem, AuditError, Refusal, Audited}
+use Rattle.sftp_audit.proofs.Imports.{LacksReply, AccountsBy, FaultAt, RefusedAt, IsFirstFaultBy, IsNoJudgement}
+use Rattle.sftp_audit.proofs.Imports.{IsTreeError, JudgesTree, IsToldOf, IsToldBy, ToldAt, IsExcusedBy, IsNew, IsPlain}
+use Rattle.sftp_audit.proofs.Imports.{WasFed, StopsFeed, error_of_session, begins_each, faulty_records_none}
 use Rattle.std.specs.Result.{IfErr}
 use Rattle.sftp_transcript.specs.declared.errors.TranscriptError.TheVariants as transcript_errors
 use Rattle.sftp_transcript.specs.declared.stage.Stage.TheVariants as stages
@@ -116,8 +116,7 @@ end-first profile start tree transcript requests auditor other is was lacks = (
 pub accounts-fed : (profile : Profile) (start : Tree) (tree transcript : List ℕ) (requests : ℕ) (auditor : Audited)
     (end : Tree)
     → IsStart start tree → (was : WasFed (begun profile start) transcript requests auditor)
-    → (last : State) × Explained Permitted (begun profile start) was.events last
-    × (end ≡ trim (record last.session.tree { pins = [] }))
+    → (last : State) × Explained Permitted (begun profile start) was.events last × (end ≡ closed_tree last.session)
     → AccountsBy profile tree transcript start was.events end
 accounts-fed profile start tree transcript requests auditor end is was ended = record {
   start_is = is;

@@ -1,5 +1,5 @@
 -- Bytes account for one run at most.
-use Rattle.sftp_audit.proofs.Imports.{◌≡◌, List, ℕ, [], sym, ap, ◌∙◌, subst, spellings-apart, Tree, trim, one_start}
+use Rattle.sftp_audit.proofs.Imports.{closed_tree, ◌≡◌, List, ℕ, sym, ap, ◌∙◌, subst, spellings-apart, Tree, one_start}
 use Rattle.sftp_audit.proofs.Imports.{Profile, strict, State, begun, Permitted, permitted-one_end, Event, Explained}
 use Rattle.sftp_audit.proofs.Imports.{records_are_one_lem, Accounts, AccountsBy}
 use Rattle.sftp_audit.proofs.steps.StepLaws.{explained-one_end}
@@ -30,7 +30,7 @@ module _ (profile : Profile) (tree transcript : List ℕ) (s u : Tree) (events o
       let last : one.last ≡ other.last =
       explained-one_end Permitted permitted-one_end (begun profile s) events one.last other.last one.explained
       (moved one other) in
-      one.end_is ∙ ap (λ (end : State). trim (record end.session.tree { pins = [] })) last ∙ sym other.end_is
+      one.end_is ∙ ap (λ (end : State). closed_tree end.session) last ∙ sym other.end_is
 
 -- ---- strictly
 
