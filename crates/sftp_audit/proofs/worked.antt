@@ -1,3 +1,4 @@
+pub mod Computed
 pub mod Runs
 pub mod Sessions
 pub mod Links

@@ -32,6 +32,10 @@ use Rattle.sftp_audit.specs.Auditor.{Audited, StandsFor, Refuses, LacksReply, Is
 abbrev pub started : Tree → State
 started t = settled t []
 
+-- the tree of a session, once nothing is open
+abbrev pub closed_tree : State → Tree
+closed_tree s = trim (record s.tree { pins = [] })
+
 -- the tree file is the start, the transcript records the events, these are explained from the start to a last state,
 -- and the end is the tree of that state once nothing is open
 pub record Accounts (tree transcript : List ℕ) (start : Tree) (events : List Event) (end : Tree) : Type 0 where
@@ -39,7 +43,7 @@ pub record Accounts (tree transcript : List ℕ) (start : Tree) (events : List E
   pub events_are : IsRecord events transcript
   pub last : State
   pub explained : Explained Allowed (started start) events last
-  pub end_is : end ≡ trim (record last.tree { pins = [] })
+  pub end_is : end ≡ closed_tree last
 
 -- the same under a profile
 pub record AccountsBy (profile : Profile) (tree transcript : List ℕ) (start : Tree) (events : List Event)
@@ -48,7 +52,7 @@ pub record AccountsBy (profile : Profile) (tree transcript : List ℕ) (start : 
   pub events_are : IsRecord events transcript
   pub last : judges.State
   pub explained : Explained Permitted (judges.begun profile start) events last
-  pub end_is : end ≡ trim (record last.session.tree { pins = [] })
+  pub end_is : end ≡ closed_tree last.session
 
 -- the number of requests, capped at 2^64 - 1
 abbrev pub request_count : List Event → ℕ

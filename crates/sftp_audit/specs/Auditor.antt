@@ -99,3 +99,32 @@ RefusesToSettle start exchanges other = ⊥
 pub record IsNoted (start : State) (events : List Event) (a : Audited) : Type 0 where
   pub sound : Sound Permitted start events a.state
   pub kept : a.kept ≡ unsettled (recorded_exchanges events)
+
+-- ---- what an event comes to, whatever events the auditor stands for, and from whatever start
+
+-- it then stands for these events and this one
+abbrev pub GoesOn : Audited → Event → Audited → Type 0
+GoesOn old event new =
+    (start : State) (events : List Event) → StandsFor start events old → StandsFor start (events ++ event ∷ []) new
+
+-- it has noted this one, whatever the number
+abbrev pub HasNoted : Audited → Event → Audited → Type 0
+HasNoted old event new =
+    (start : State) (events : List Event) → StandsFor start events old → IsNoted start (events ++ event ∷ []) new
+
+-- the refusal of this one has its reason
+abbrev pub HasReason : Audited → Event → Refusal → Type 0
+HasReason old event refusal =
+    (start : State) (events : List Event) → StandsFor start events old → Refuses Permitted start events event refusal
+
+-- where the refusal is `NotAllowed`, this is the state in which the reply is not permitted
+abbrev pub StopsIn : Audited → Event → State → Refusal → Type 0
+StopsIn old event state refusal =
+    (start : State) (events : List Event) → StandsFor start events old
+    → IsWrongIn start (recorded_exchanges (events ++ event ∷ [])) state refusal
+
+-- where it is, this says whether the profile follows the request; otherwise it is what it was before
+abbrev pub Tells : Audited → Event → Bool → Bool → Refusal → Type 0
+Tells old event before after refusal =
+    (start : State) (events : List Event) → StandsFor start events old
+    → IsTold start (recorded_exchanges (events ++ event ∷ [])) before after refusal

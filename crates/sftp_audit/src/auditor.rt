@@ -1,6 +1,5 @@
 //! The auditor: it is fed the events of a session, one after the other, and sees each once.
-ghost use Rattle.std.specs.Prelude.{◌≡◌, ◌≤◌, List, [], ◌∷◌, ◌++◌, length, Some, None, Ok, Err, OnOk, IfOk, IfErr};
-ghost use Rattle.sftp_tree.specs.Tree.{trim};
+ghost use Rattle.std.specs.Prelude.{◌≡◌, ◌≤◌, List, [], length, Some, None, Ok, Err, OnOk, IfOk, IfErr};
 ghost use Rattle.sftp_profile.specs.Profiles.{strict};
 ghost use Rattle.sftp_profile.specs.State.{State, begun};
 ghost use Rattle.sftp_profile.specs.Permitted.{Permitted};
@@ -8,8 +7,8 @@ ghost use Rattle.sftp_transcript.specs.declared.events.Event.{Event};
 ghost use Rattle.sftp_transcript.specs.Begun.{first_number};
 ghost use Rattle.sftp_transcript.specs.Explained.{Explained, window};
 ghost use Rattle.sftp_audit.specs.declared.errors.Refusal.{Refusal};
-ghost use Rattle.sftp_audit.specs.Exchanges.{recorded_exchanges};
-ghost use Rattle.sftp_audit.specs.Auditor.{StandsFor, Refuses, LacksReply, IsWrongIn, IsTold, IsNoted};
+ghost use Rattle.sftp_audit.specs.Audit.{closed_tree};
+ghost use Rattle.sftp_audit.specs.Auditor.{StandsFor, LacksReply, GoesOn, HasNoted, HasReason, StopsIn, Tells};
 
 use crate::errors::Refusal;
 use crate::exchanges::RecordedReply;
@@ -100,15 +99,11 @@ impl Auditor {
     /// - `NoMemory` if memory runs out.
     pub fn feed(&mut self, event: Event) -> Result<(), Refusal>
         // It then stands for the events so far and this one.
-        ensures stands { OnOk result ((start : State) (events : List Event) →
-            StandsFor start events self.old → StandsFor start (events ++ event ∷ []) self.new) }
+        ensures stands { OnOk result (GoesOn self.old event self.new) }
         // A refusal has its reason.
-        ensures refused { IfErr result (λ refusal. (start : State) (events : List Event) →
-            StandsFor start events self.old → Refuses Permitted start events event refusal) }
+        ensures refused { IfErr result (HasReason self.old event) }
         // After `NotAllowed` the session is the one in which the reply is not permitted.
-        ensures wrong { IfErr result (λ refusal. (start : State) (events : List Event) →
-            StandsFor start events self.old
-            → IsWrongIn start (recorded_exchanges (events ++ event ∷ [])) self.new.state refusal) }
+        ensures wrong { IfErr result (StopsIn self.old event self.new.state) }
         // It is for good, and no request is kept.
         ensures for_good { IfErr result (λ refusal. (self.new.refusal ≡ Some refusal) × (self.new.kept ≡ [])) }
         ensures again { (refusal : Refusal) → self.old.refusal ≡ Some refusal → result ≡ Err refusal }
@@ -126,19 +121,13 @@ impl Auditor {
     /// Those of `feed`.
     pub fn feed_by(&mut self, event: Event, is_modelled: &mut bool) -> Result<(), Refusal>
         // It then stands for the events so far and this one.
-        ensures stands { OnOk result ((start : State) (events : List Event) →
-            StandsFor start events self.old → StandsFor start (events ++ event ∷ []) self.new) }
+        ensures stands { OnOk result (GoesOn self.old event self.new) }
         // A refusal has its reason.
-        ensures refused { IfErr result (λ refusal. (start : State) (events : List Event) →
-            StandsFor start events self.old → Refuses Permitted start events event refusal) }
+        ensures refused { IfErr result (HasReason self.old event) }
         // After `NotAllowed` the session is the one in which the reply is not permitted.
-        ensures wrong { IfErr result (λ refusal. (start : State) (events : List Event) →
-            StandsFor start events self.old
-            → IsWrongIn start (recorded_exchanges (events ++ event ∷ [])) self.new.state refusal) }
+        ensures wrong { IfErr result (StopsIn self.old event self.new.state) }
         // `is_modelled` says whether the profile follows the request.
-        ensures told { IfErr result (λ refusal. (start : State) (events : List Event) →
-            StandsFor start events self.old → IsTold start (recorded_exchanges (events ++ event ∷ []))
-            is_modelled.old is_modelled.new refusal) }
+        ensures told { IfErr result (Tells self.old event is_modelled.old is_modelled.new) }
         ensures untold { OnOk result (is_modelled.new ≡ is_modelled.old) }
         // It is for good, and no request is kept.
         ensures for_good { IfErr result (λ refusal. (self.new.refusal ≡ Some refusal) × (self.new.kept ≡ [])) }
@@ -169,16 +158,10 @@ impl Auditor {
     /// Those of `feed`.
     fn note(&mut self, event: Event, is_modelled: &mut bool) -> Result<(), Refusal>
         ensures same { (self.new.number ≡ self.old.number) × (self.new.refusal ≡ self.old.refusal) }
-        ensures stands { OnOk result ((start : State) (events : List Event) →
-            StandsFor start events self.old → IsNoted start (events ++ event ∷ []) self.new) }
-        ensures refused { IfErr result (λ refusal. (start : State) (events : List Event) →
-            StandsFor start events self.old → Refuses Permitted start events event refusal) }
-        ensures wrong { IfErr result (λ refusal. (start : State) (events : List Event) →
-            StandsFor start events self.old
-            → IsWrongIn start (recorded_exchanges (events ++ event ∷ [])) self.new.state refusal) }
-        ensures told { IfErr result (λ refusal. (start : State) (events : List Event) →
-            StandsFor start events self.old → IsTold start (recorded_exchanges (events ++ event ∷ []))
-            is_modelled.old is_modelled.new refusal) }
+        ensures stands { OnOk result (HasNoted self.old event self.new) }
+        ensures refused { IfErr result (HasReason self.old event) }
+        ensures wrong { IfErr result (StopsIn self.old event self.new.state) }
+        ensures told { IfErr result (Tells self.old event is_modelled.old is_modelled.new) }
         ensures untold { OnOk result (is_modelled.new ≡ is_modelled.old) }
     {
         match event {
@@ -218,8 +201,7 @@ impl Auditor {
         ensures again { (refusal : Refusal) → self.refusal ≡ Some refusal → result ≡ Err refusal }
         // The events are explained, and the result is the tree where their run ends.
         ensures ended { IfOk result (λ end. (start : State) (events : List Event) → StandsFor start events self
-            → (last : State) × Explained Permitted start events last
-            × (end ≡ trim (record last.session.tree { pins = [] }))) }
+            → (last : State) × Explained Permitted start events last × (end ≡ closed_tree last.session)) }
         // Otherwise a request has no reply.
         ensures unanswered { IfErr result (λ refusal. (start : State) (events : List Event) →
             StandsFor start events self → LacksReply events refusal) }

@@ -9,13 +9,11 @@ ghost use Rattle.sftp_audit.specs.Ledger.{starts_answered, IsOrdinal, IsIndexed,
 use crate::errors::Refusal;
 use crate::exchanges::{Exchange, RecordedReply};
 use indexmap::IndexMap;
+use sftp_transcript::WINDOW;
 use sftp_wire::{Reply, Request};
 use std::alloc::Global;
 use std::collections::VecDeque;
 use std::marker::Model;
-
-/// How many requests may be asked from an unanswered one on, itself included. This limit is this profile's own.
-pub const WINDOW: usize = 1_024;
 
 /// The exchanges that are kept, in the order asked. No two unanswered requests have one id.
 #[derive(Drop)]

@@ -1,26 +1,18 @@
 -- Lists of exchanges: what an event adds, which of them are settled, and what they are without the numbers.
-use Rattle.std.proofs.Common.{◌≡◌, ◌==◌, ◌&&◌, ◌||◌, not, ℕ, suc, ◌+◌, ◌≤◌, min, Bool, true, false, cond, List, []}
-use Rattle.std.proofs.Common.{◌∷◌, ◌++◌, Option, Some, None, is_some, length, refl, sym, ap, ◌∙◌}
-use Rattle.std.proofs.Common.{◌⊎◌, arith, inl, inr}
-use Rattle.std.specs.Option.{option_map}
-use Rattle.std.proofs.lemmas.Bool.{eqb-true, eqb-false, eq-eqb, ne_eqb, cases_Bool}
-use Rattle.std.proofs.lemmas.List.{length-append, length-map, map-append, append-nil}
-use Rattle.sftp_wire.specs.declared.packets.Request.{Request}
-use Rattle.sftp_wire.specs.declared.packets.Reply.{Reply}
-use Rattle.sftp_transcript.specs.declared.events.Event.{Event}
-use Rattle.sftp_transcript.specs.declared.events.Event.TheVariants.{Asked, Replied}
-use Rattle.sftp_transcript.specs.Begun.{first_number, number_after_events}
-use Rattle.sftp_transcript.specs.Explained.{next_reply, exchanges_of, leading_pairs}
-use Rattle.sftp_transcript.specs.Ledger as ledgers
+use Rattle.sftp_audit.proofs.Imports.{◌≡◌, ◌==◌, ◌&&◌, ◌||◌, not, ℕ, suc, ◌+◌, ◌≤◌, min, Bool, true, false, cond, List}
+use Rattle.sftp_audit.proofs.Imports.{[], ◌∷◌, ◌++◌, Option, Some, None, is_some, length, refl, sym, ap, ◌∙◌, ◌⊎◌}
+use Rattle.sftp_audit.proofs.Imports.{arith, inl, inr, option_map, eqb-true, eqb-false, eq-eqb, ne_eqb, cases_Bool}
+use Rattle.sftp_audit.proofs.Imports.{length-map, map-append, Request, Reply, Event, Asked, Replied, first_number}
+use Rattle.sftp_audit.proofs.Imports.{number_after_events, next_reply, exchanges_of, leading_pairs, RecordedReply}
+use Rattle.sftp_audit.proofs.Imports.{Exchange}
 use Rattle.sftp_transcript.specs.Streams.{one_more, largest_count}
-use Rattle.sftp_audit.specs.declared.exchanges.RecordedReply.{RecordedReply}
-use Rattle.sftp_audit.specs.declared.exchanges.Exchange.{Exchange}
+use Rattle.sftp_transcript.specs.Ledger as ledgers
 use Rattle.sftp_audit.specs.Exchanges.{next_recorded, exchanges_from, recorded_exchanges, is_answered, unsettled}
-use Rattle.sftp_audit.specs.Exchanges.{AreAnswered, is_open, answered_by, with_reply, reply_of, bare, ledger_of}
+use Rattle.sftp_audit.specs.Exchanges.{AreAnswered, is_open, answered_by, with_reply, reply_of, ledger_of, bare}
 
 -- ---- tests
 
-flipped : (a b : ℕ) → (a == b) ≡ (b == a)
+pub flipped : (a b : ℕ) → (a == b) ≡ (b == a)
 flipped a b = elim (cases_Bool (a == b)) [
   | inl same ↦ rw (same, eq-eqb b a (sym (eqb-true a b same))) refl
   | inr other ↦ rw (other, ne_eqb b a (λ e. eqb-false a b other (sym e))) refl
@@ -37,9 +29,6 @@ min-within n most within = omega arith
 min-at_most : (n most : ℕ) → min n most ≤ most
 min-at_most n most = omega arith
 
-min-next : (n k m most : ℕ) → m ≡ k + 1 → min (n + m) most ≡ min (min (n + k) most + 1) most
-min-next n k m most next = omega arith
-
 -- the number after the events, where the first one's record has a number
 abbrev number_from : ℕ → List Event → ℕ
 number_from number [] = number
@@ -54,12 +43,6 @@ number_from-min number (event ∷ events) within =
 
 number_from-first : (events : List Event) → number_from first_number events ≡ number_after_events events
 number_from-first events = number_from-min first_number events (omega arith)
-
-pub number_after_events-next : (events : List Event) (event : Event)
-    → number_after_events (events ++ event ∷ []) ≡ one_more (number_after_events events)
-number_after_events-next events event =
-    min-next first_number (length events) (length (events ++ event ∷ [])) largest_count
-    (length-append events (event ∷ []))
 
 -- ---- without the numbers
 
@@ -162,6 +145,12 @@ answered_by-later recorded request number None after is =
 both : (x y : Exchange) (xs ys : List Exchange) → x ≡ y → xs ≡ ys → x ∷ xs ≡ y ∷ ys
 both x y xs ys first others = cc
 
+pub same_head : {X : Type 0} (x y : X) (xs ys : List X) → x ∷ xs ≡ y ∷ ys → x ≡ y
+same_head x y xs ys same = cc
+
+pub same_tail : {X : Type 0} (x y : X) (xs ys : List X) → x ∷ xs ≡ y ∷ ys → xs ≡ ys
+same_tail x y xs ys same = cc
+
 exchanges_from-replied : (number : ℕ) (events : List Event) (reply : Reply)
     → exchanges_from number (events ++ Replied reply ∷ []) ≡ with_reply
     (record { reply = reply; number = number_from number events }) (exchanges_from number events)
@@ -210,6 +199,10 @@ settled_parts (x ∷ xs) = by (settled_parts xs) (cases_Bool (is_answered x))
         (x ∷ rest.0, (answered, rest.1), rw (unsettled-past x xs answered) (ap (λ (l : List Exchange). x ∷ l) rest.2))
     by rest (inr waits) = ([], tt, sym (unsettled-here x xs waits))
 
+pub answered-append : (xs ys : List Exchange) → AreAnswered xs → AreAnswered ys → AreAnswered (xs ++ ys)
+answered-append [] ys front back = back
+answered-append (x ∷ xs) ys front back = (front.0, answered-append xs ys front.1 back)
+
 pub unsettled-answered : (before xs : List Exchange) → AreAnswered before → unsettled (before ++ xs) ≡ unsettled xs
 unsettled-answered [] xs answered = refl
 unsettled-answered (x ∷ before) xs answered =
@@ -230,21 +223,13 @@ unsettled-asked (y ∷ xs) x waits = elim (cases_Bool (is_answered y)) [
   | inr first ↦ rw (unsettled-here y (xs ++ x ∷ []) first, unsettled-here y xs first) refl
 ]
 
-pub unsettled-length : (xs : List Exchange) → length (unsettled xs) ≤ length xs
-unsettled-length xs =
-    let parts = settled_parts xs in
-    omega (arith, ap length parts.2, length-append parts.0 (unsettled xs))
-
 -- the first of the unsettled ones waits
 pub first_unsettled : (xs : List Exchange) (x : Exchange) (others : List Exchange) → unsettled xs ≡ x ∷ others
     → is_answered x ≡ false
 first_unsettled [] x others is = absurd (let e : [] ≡ x ∷ others = sym unsettled-none ∙ is in cc)
 first_unsettled (y ∷ xs) x others is = elim (cases_Bool (is_answered y)) [
   | inl answered ↦ first_unsettled xs x others (sym (unsettled-past y xs answered) ∙ is)
-  | inr waits ↦
-      let e : y ∷ xs ≡ x ∷ others = sym (unsettled-here y xs waits) ∙ is in
-      let same : y ≡ x = cc in
-      rw (← same) waits
+  | inr waits ↦ rw (← same_head y x xs others (sym (unsettled-here y xs waits) ∙ is)) waits
 ]
 
 -- ---- who waits
@@ -300,20 +285,6 @@ with_reply-answered recorded [] answered = refl
 with_reply-answered recorded (x ∷ before) answered =
     rw (answered.0, with_reply-answered recorded before answered.1) refl
 
-with_reply-parts : (recorded : RecordedReply) (xs before : List Exchange) → AreAnswered before
-    → xs ≡ before ++ unsettled xs → with_reply recorded xs ≡ before ++ with_reply recorded (unsettled xs)
-with_reply-parts recorded xs before answered parts =
-    ap (with_reply recorded) parts ∙ with_reply-append recorded before (unsettled xs)
-    ∙ ap (λ (l : List Exchange). l ++ with_reply recorded (unsettled xs)) (with_reply-answered recorded before answered)
-
--- the settled ones keep what they have
-pub unsettled-replied : (recorded : RecordedReply) (xs : List Exchange)
-    → unsettled (with_reply recorded xs) ≡ unsettled (with_reply recorded (unsettled xs))
-unsettled-replied recorded xs =
-    let parts = settled_parts xs in
-    ap unsettled (with_reply-parts recorded xs parts.0 parts.1 parts.2)
-    ∙ unsettled-answered parts.0 (with_reply recorded (unsettled xs)) parts.1
-
 -- ---- the pairs that are settled
 
 leading_pairs-answered_one : (request : Request) (reply : Option RecordedReply) (others : List ledgers.Exchange)
@@ -352,22 +323,6 @@ leading_pairs-unsettled (x ∷ xs) = elim (cases_Bool (is_answered x)) [
 ]
 
 -- a request without a reply adds none
--- a reply adds the pairs that it settles
-pub leading_pairs-replied : (recorded : RecordedReply) (xs : List Exchange)
-    → leading_pairs (ledger_of (with_reply recorded xs)) ≡ leading_pairs (ledger_of xs)
-    ++ leading_pairs (ledger_of (with_reply recorded (unsettled xs)))
-leading_pairs-replied recorded xs =
-    let parts = settled_parts xs in
-    let later = leading_pairs (ledger_of (with_reply recorded (unsettled xs))) in
-    let front : leading_pairs (ledger_of xs) ≡ leading_pairs (ledger_of parts.0) =
-    ap (λ (l : List Exchange). leading_pairs (ledger_of l)) parts.2
-    ∙ leading_pairs-settled parts.0 (unsettled xs) parts.1
-    ∙ ap (λ (l : List (Request × Reply)). leading_pairs (ledger_of parts.0) ++ l) (leading_pairs-unsettled xs)
-    ∙ append-nil (leading_pairs (ledger_of parts.0)) in
-    ap (λ (l : List Exchange). leading_pairs (ledger_of l)) (with_reply-parts recorded xs parts.0 parts.1 parts.2)
-    ∙ leading_pairs-settled parts.0 (with_reply recorded (unsettled xs)) parts.1
-    ∙ ap (λ (l : List (Request × Reply)). l ++ later) (sym front)
-
 leading_pairs-waiting : (ledger : List ledgers.Exchange) (request : Request)
     → leading_pairs (ledger ++ (request, None) ∷ []) ≡ leading_pairs ledger
 unfolding leading_pairs

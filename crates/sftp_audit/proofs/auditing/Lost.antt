@@ -1,68 +1,17 @@
 -- What an auditor refuses is lost: whatever else comes, the tree explains no such session.
-use Rattle.std.proofs.Common.{◌≡◌, ◌≢◌, ◌==◌, nat_lt, ℕ, ◌<◌, ◌≤◌, Bool, true, false, List, [], ◌∷◌, ◌++◌}
-use Rattle.std.proofs.Common.{Option, Some, None, if◌then◌else◌, refl, sym, ap, ◌∙◌, subst, append_assoc, arith}
-use Rattle.std.proofs.lemmas.Bool.{and_parts, and_from, ltb-true, lt-ltb, eq-eqb}
-use Rattle.sftp_wire.specs.declared.packets.Request.{Request}
-use Rattle.sftp_wire.specs.declared.packets.Reply.{Reply}
-use Rattle.sftp_profile.specs.State.{State}
-use Rattle.sftp_profile.specs.Permitted.{Permitted}
-use Rattle.sftp_transcript.specs.declared.events.Event.{Event}
-use Rattle.sftp_transcript.specs.declared.events.Event.TheVariants.{Asked, Replied}
-use Rattle.sftp_transcript.specs.Explained.{Turn, closed, waiting, broken, after_event, turn_after}
-use Rattle.sftp_transcript.specs.Explained.{next_reply}
-use Rattle.sftp_transcript.specs.Explained.{exchanges_of, leading_pairs, requests_before_reply, in_window, window, Run}
-use Rattle.sftp_transcript.specs.Explained.{Explained}
-use Rattle.sftp_transcript.specs.Ledger as ledgers
-use Rattle.sftp_transcript.specs.Sound.{InTurn, Sound}
-use Rattle.sftp_transcript.proofs.pairing.Soundness.{in_turn_by, sound_by}
-use Rattle.sftp_audit.specs.declared.errors.Refusal.{Refusal}
-use Rattle.sftp_audit.specs.declared.errors.Refusal.TheVariants as refusals
-use Rattle.sftp_audit.specs.declared.exchanges.Exchange.{Exchange}
+use Rattle.sftp_audit.proofs.Imports.{◌≡◌, ◌≢◌, ◌==◌, ℕ, Bool, true, false, List, [], ◌∷◌, ◌++◌, Option, Some, None}
+use Rattle.sftp_audit.proofs.Imports.{if◌then◌else◌, refl, sym, ap, ◌∙◌, subst, eq-eqb, Request, Reply, State}
+use Rattle.sftp_audit.proofs.Imports.{Permitted, Event, Asked, Replied, closed, waiting, turn_after, next_reply}
+use Rattle.sftp_audit.proofs.Imports.{exchanges_of, leading_pairs, Run, Explained, Sound, sound_by, Refusal, Exchange}
+use Rattle.sftp_audit.proofs.Imports.{Refuses, LacksReply, IsFirstWrong, permitted-one_end}
 use Rattle.sftp_audit.specs.Exchanges.{recorded_exchanges, is_answered, is_open, ledger_of}
-use Rattle.sftp_audit.specs.Auditor.{Refuses, LacksReply, IsFirstWrong}
-use Rattle.sftp_profile.proofs.Permissions.{permitted-one_end}
+use Rattle.sftp_transcript.specs.Ledger as ledgers
+use Rattle.sftp_audit.specs.declared.errors.Refusal.TheVariants as refusals
 use Rattle.sftp_audit.proofs.steps.StepLaws.{run-one_end}
 use Rattle.sftp_audit.proofs.auditing.Lists.{ledger_of-recorded, is_open-unsettled, leading_pairs-settled}
 use Rattle.sftp_audit.proofs.auditing.Lists.{first_unsettled}
-use Rattle.sftp_audit.proofs.auditing.Turns.{waits_if_open, window-full, run-split, turn_after-append, in_turn-front}
-
--- ---- out of turn
-
--- no session goes on after an event that comes out of turn
-out_of_turn : (id : ℕ) (events more : List Event) → turn_after id closed events ≡ broken → InTurn (events ++ more) → ⊥
-out_of_turn id events more turn in_turn = in_turn-front events more in_turn id turn
-
--- the turn after one event more
-turn_behind : (id : ℕ) (events : List Event) (event : Event) (turn : Turn) → turn_after id closed events ≡ turn
-    → turn_after id closed (events ++ event ∷ []) ≡ after_event id event turn
-unfolding turn_after
-turn_behind id events event turn is =
-    turn_after-append id closed events (event ∷ []) ∙ ap (λ (t : Turn). after_event id event t) is
-
-one_more_event : (events : List Event) (event : Event) (more : List Event)
-    → (events ++ event ∷ []) ++ more ≡ events ++ event ∷ more
-one_more_event events event more = append_assoc events (event ∷ []) more
-
--- a request of an id that waits
-second_request : (events : List Event) (request : Request) (more : List Event)
-    → turn_after request.id closed events ≡ waiting → InTurn (events ++ Asked request ∷ more) → ⊥
-second_request events request more waits in_turn =
-    let same : (request.id == request.id) ≡ true = eq-eqb request.id request.id refl in
-    let turn : turn_after request.id closed (events ++ Asked request ∷ []) ≡ broken =
-    turn_behind request.id events (Asked request) waiting waits
-    ∙ ap (λ (b : Bool). if b then broken else waiting) same in
-    out_of_turn request.id (events ++ Asked request ∷ []) more turn
-    (subst InTurn (sym (one_more_event events (Asked request) more)) in_turn)
-
--- a reply of an id that does not wait
-reply_unasked : (events : List Event) (reply : Reply) (more : List Event) → turn_after reply.id closed events ≡ closed
-    → InTurn (events ++ Replied reply ∷ more) → ⊥
-reply_unasked events reply more shut in_turn =
-    let same : (reply.id == reply.id) ≡ true = eq-eqb reply.id reply.id refl in
-    let turn : turn_after reply.id closed (events ++ Replied reply ∷ []) ≡ broken =
-    turn_behind reply.id events (Replied reply) closed shut ∙ ap (λ (b : Bool). if b then broken else closed) same in
-    out_of_turn reply.id (events ++ Replied reply ∷ []) more turn
-    (subst InTurn (sym (one_more_event events (Replied reply) more)) in_turn)
+use Rattle.sftp_audit.proofs.auditing.Turns.{waits_if_open, window-full, run-split, one_more_event, second_request}
+use Rattle.sftp_audit.proofs.auditing.Turns.{reply_unasked}
 
 -- ---- replies that are still to come
 
@@ -138,54 +87,7 @@ run_before start xs ys last run =
     (subst (λ (l : List (Request × Reply)). Run Permitted start l last) found.are run) in
     (parts.0, parts.1)
 
--- ---- what explained events begin with is sound
-
-requests_before-more : (id : ℕ) (xs ys : List Event)
-    → requests_before_reply id xs ≤ requests_before_reply id (xs ++ ys)
-unfolding requests_before_reply
-requests_before-more id [] ys = omega arith
-requests_before-more id (Asked request ∷ xs) ys =
-    let rest : requests_before_reply id xs ≤ requests_before_reply id (xs ++ ys) = requests_before-more id xs ys in
-    omega arith
-requests_before-more id (Replied reply ∷ xs) ys = by (requests_before-more id xs ys) (reply.id == id)
-  where
-    by : requests_before_reply id xs ≤ requests_before_reply id (xs ++ ys) → (b : Bool)
-        → (if b then 0 else requests_before_reply id xs) ≤ (if b then 0 else requests_before_reply id (xs ++ ys))
-    by rest true = omega arith
-    by rest false = rest
-
-window_before : (xs ys : List Event) → in_window (xs ++ ys) ≡ true → in_window xs ≡ true
-unfolding in_window
-window_before [] ys inside = refl
-window_before (Asked request ∷ xs) ys inside =
-    let parts = and_parts (nat_lt (requests_before_reply request.id (xs ++ ys)) window) (in_window (xs ++ ys)) inside in
-    let far : requests_before_reply request.id (xs ++ ys) < window =
-    ltb-true (requests_before_reply request.id (xs ++ ys)) window parts.0 in
-    let near : requests_before_reply request.id xs < window = omega (arith, requests_before-more request.id xs ys) in
-    and_from (nat_lt (requests_before_reply request.id xs) window) (in_window xs)
-    (lt-ltb (requests_before_reply request.id xs) window near) (window_before xs ys parts.1)
-window_before (Replied reply ∷ xs) ys inside = window_before xs ys inside
-
--- the events of an explained session are sound up to each of them
-pub sound_prefix : (start : State) (events more : List Event) (last : State)
-    → Explained Permitted start (events ++ more) last → (mid : State) × Sound Permitted start events mid
-sound_prefix start events more last explained =
-    let found = run_before start events more last explained.run in (
-      found.0,
-      record {
-        in_turn = in_turn-front events more (in_turn_by (events ++ more) explained.matching);
-        within_window = window_before events more explained.within_window;
-        run = found.1;
-      },
-    )
-
 -- ---- a reply that is not allowed
-
-same_end : (pairs : List (Request × Reply)) (start a b : State) → Run Permitted start pairs a
-    → Run Permitted start pairs b
-    → a ≡ b
-same_end pairs start a b to_a to_b =
-    run-one_end Permitted permitted-one_end pairs start a b to_a to_b
 
 -- no run goes over the first reply that is not allowed
 run_stops : (start : State) (exchanges : List Exchange) (number : ℕ) (end : State)
@@ -205,7 +107,8 @@ run_stops start exchanges number end first run =
     ((first.request, first.reply) ∷ leading_pairs (ledger_of first.behind)) end
     (subst (λ (l : List (Request × Reply)). Run Permitted start l end) pairs run) in
     let mid : parts.0 ≡ first.mid =
-    same_end (leading_pairs (ledger_of first.before)) start parts.0 first.mid parts.1 first.run in
+    run-one_end Permitted permitted-one_end (leading_pairs (ledger_of first.before)) start parts.0 first.mid parts.1
+    first.run in
     first.wrong parts.2.0 (subst (λ (s : State). Permitted s first.request first.reply parts.2.0) mid parts.2.1)
 
 wrong_reply : (start : State) (events : List Event) (number : ℕ) (more : List Event) (last : State)
@@ -223,30 +126,19 @@ wrong_reply start events number more last first run =
 pub refuses_unsound : (start : State) (events : List Event) (event : Event) (refusal : Refusal) (end : State)
     → Sound Permitted start events end → Refuses Permitted start events event refusal → refusal ≢ refusals.NoMemory
     → (more : List Event) (last : State) → Sound Permitted start (events ++ event ∷ more) last → ⊥
-refuses_unsound start events (Asked request) (refusals.UnknownReply number) end sound refuses memory more last whole =
-    absurd refuses
+refuses_unsound start events event refusals.NoMemory end sound refuses memory more last whole = memory refl
 refuses_unsound start events (Asked request) (refusals.IdInUse number) end sound refuses memory more last whole =
     second_request events request more refuses.1 whole.in_turn
 refuses_unsound start events (Asked request) (refusals.Window number) end sound refuses memory more last whole =
     window-full events request sound.in_turn sound.within_window refuses.1 refuses.2 more whole.within_window
-refuses_unsound start events (Asked request) (refusals.NotAllowed number) end sound refuses memory more last whole =
-    absurd refuses
-refuses_unsound start events (Asked request) (refusals.Unanswered number) end sound refuses memory more last whole =
-    absurd refuses
-refuses_unsound start events (Asked request) refusals.NoMemory end sound refuses memory more last whole = memory refl
 refuses_unsound start events (Replied reply) (refusals.UnknownReply number) end sound refuses memory more last whole =
     reply_unasked events reply more refuses.1 whole.in_turn
-refuses_unsound start events (Replied reply) (refusals.IdInUse number) end sound refuses memory more last whole =
-    absurd refuses
-refuses_unsound start events (Replied reply) (refusals.Window number) end sound refuses memory more last whole =
-    absurd refuses
 refuses_unsound start events (Replied reply) (refusals.NotAllowed number) end sound refuses memory more last whole =
     wrong_reply start (events ++ Replied reply ∷ []) number more last refuses.1
     (subst (λ (all : List Event). Run Permitted start (leading_pairs (exchanges_of all)) last)
     (sym (one_more_event events (Replied reply) more)) whole.run)
-refuses_unsound start events (Replied reply) (refusals.Unanswered number) end sound refuses memory more last whole =
-    absurd refuses
-refuses_unsound start events (Replied reply) refusals.NoMemory end sound refuses memory more last whole = memory refl
+refuses_unsound start events (Asked request) other end sound refuses memory more last whole = absurd refuses
+refuses_unsound start events (Replied reply) other end sound refuses memory more last whole = absurd refuses
 
 -- No session that begins with an event that is refused is explained.
 pub refuses_lost : (start : State) (events : List Event) (event : Event) (refusal : Refusal) (end : State)
@@ -278,8 +170,4 @@ lacks_lost start events (refusals.Unanswered number) end sound lacks last explai
     let end_is : turn_after x.request.id closed events ≡ closed = explained.matching x.request.id in
     let same : waiting ≡ closed = sym waits ∙ end_is in
     absurd cc
-lacks_lost start events (refusals.UnknownReply number) end sound lacks last explained = lacks
-lacks_lost start events (refusals.IdInUse number) end sound lacks last explained = lacks
-lacks_lost start events (refusals.Window number) end sound lacks last explained = lacks
-lacks_lost start events (refusals.NotAllowed number) end sound lacks last explained = lacks
-lacks_lost start events refusals.NoMemory end sound lacks last explained = lacks
+lacks_lost start events other end sound lacks last explained = absurd lacks

@@ -1,25 +1,16 @@
 -- How the index of the requests that wait follows the exchanges that are kept.
-use Rattle.std.proofs.Common.{◌≡◌, ◌==◌, ◌&&◌, ◌||◌, not, nat_eq, ℕ, zero, suc, ◌+◌, ◌%◌, ◌^◌, ◌<◌, ◌≤◌, ◌⊎◌, Bool}
-use Rattle.std.proofs.Common.{true, false, cond, List, [], ◌∷◌, ◌++◌, Option, Some, None, is_some, length, set, drop}
-use Rattle.std.proofs.Common.{slice_get, refl, sym, ap, ◌∙◌, subst, arith, inl, inr}
+use Rattle.sftp_audit.proofs.Imports.{◌≡◌, ◌==◌, ◌&&◌, ◌||◌, not, nat_eq, ℕ, zero, suc, ◌+◌, ◌%◌, ◌^◌, ◌<◌, ◌≤◌, ◌⊎◌}
+use Rattle.sftp_audit.proofs.Imports.{Bool, true, false, cond, List, [], ◌∷◌, ◌++◌, Option, Some, None, is_some, length}
+use Rattle.sftp_audit.proofs.Imports.{set, drop, slice_get, refl, sym, ap, ◌∙◌, subst, arith, inl, inr, option_map}
+use Rattle.sftp_audit.proofs.Imports.{or_parts, or_right, eqb-true, eqb-false, eq-eqb, ne_eqb, cases_Bool, cases_lt}
+use Rattle.sftp_audit.proofs.Imports.{true≢false, length-append, length-map, map-append, none-some, same_Some}
+use Rattle.sftp_audit.proofs.Imports.{slice_get-map, slice_get_within, Request, window, RecordedReply, Exchange}
+use Rattle.sftp_audit.proofs.Imports.{starts_answered, IsOrdinal, WaitsAt, IsIndexed}
 use Rattle.std.specs.Map.{lookup}
-use Rattle.std.specs.Option.{option_map}
-use Rattle.std.proofs.lemmas.Bool.{or_parts, or_right, eqb-true, eqb-false, eq-eqb, ne_eqb, cases_Bool, cases_lt}
-use Rattle.std.proofs.lemmas.Bool.{true≢false}
-use Rattle.std.proofs.lemmas.List.{length-append, length-map, map-append}
-use Rattle.std.proofs.lemmas.Option.{none-some, same_Some, slice_get-map, slice_get_within}
-use Rattle.sftp_wire.specs.declared.packets.Request.{Request}
-use Rattle.sftp_transcript.specs.Explained.{window}
 use Rattle.sftp_transcript.specs.Ledger.{AreApart}
 use Rattle.sftp_transcript.proofs.pairing.Standing.{AreApart-asked}
-use Rattle.sftp_audit.specs.declared.exchanges.RecordedReply.{RecordedReply}
-use Rattle.sftp_audit.specs.declared.exchanges.Exchange.{Exchange}
-use Rattle.sftp_audit.specs.Exchanges.{is_answered, is_open, answered_by, with_reply, bare, ledger_of}
-use Rattle.sftp_audit.proofs.auditing.Lists.{is_open-append, is_open-ledger}
-use Rattle.sftp_audit.specs.Ledger.{starts_answered, IsOrdinal, WaitsAt, IsIndexed}
-
-flipped : (a b : ℕ) → (a == b) ≡ false → (b == a) ≡ false
-flipped a b other = ne_eqb b a (λ e. eqb-false a b other (sym e))
+use Rattle.sftp_audit.specs.Exchanges.{is_answered, is_open, answered_by, with_reply, ledger_of, bare}
+use Rattle.sftp_audit.proofs.auditing.Lists.{flipped, is_open-append, is_open-ledger}
 
 -- ---- ordinals
 
@@ -96,13 +87,13 @@ still r x waits = by (not (is_answered x) && x.request.id == r.reply.id) refl
     by true is = absurd (true≢false (let f : is_some (Some r) ≡ false = rw is at waits in f))
     by false is = rw is refl
 
+and_false : (b : Bool) → (b && false) ≡ false
+and_false true = refl
+and_false false = refl
+
 -- so is one of another id
 other_id : (r : RecordedReply) (x : Exchange) → (x.request.id == r.reply.id) ≡ false → answered_by r x ≡ x
 other_id r x other = rw (other, and_false (not (is_answered x))) refl
-  where
-    and_false : (b : Bool) → (b && false) ≡ false
-    and_false true = refl
-    and_false false = refl
 
 open_replied : (id : ℕ) (r : RecordedReply) (x : Exchange)
     → (not (is_answered (answered_by r x)) && (answered_by r x).request.id == id)
@@ -336,7 +327,7 @@ module _ (xs : List Exchange) (index after : List (ℕ × ℕ)) (first : ℕ) (r
           let was = indexed.found id o (let f : lookup (nat_eq id) index ≡ Some o = rw miss at now in f) in
           let w = was.2 in
           let other : (w.exchange.request.id == r.reply.id) ≡ false =
-          rw w.same_id (flipped r.reply.id id miss) in (
+          rw w.same_id (flipped id r.reply.id ∙ miss) in (
             was.0,
             was.1,
             record {
@@ -353,10 +344,6 @@ module _ (xs : List Exchange) (index after : List (ℕ × ℕ)) (first : ℕ) (r
     where
       now : cond (nat_eq r.reply.id id) None (lookup (nat_eq id) index) ≡ None
       now = sym (changed id) ∙ none
-
-      and_false : (b : Bool) → (b && false) ≡ false
-      and_false true = refl
-      and_false false = refl
 
       by : (b : Bool) → nat_eq r.reply.id id ≡ b → is_open id (with_reply r xs) ≡ false
       by true hit = rw (is_open-replied id r xs, hit) (and_false (is_open id xs))

@@ -1,24 +1,13 @@
 -- An event is refused for one reason at most: its turn and the window are one or the other, and of the replies that are
 -- not allowed one is the first.
-use Rattle.std.proofs.Common.{◌≡◌, ◌≢◌, ◌⊎◌, ℕ, true, List, [], ◌∷◌, ◌++◌, Option, Some, None, is_some, IsTrue, refl}
-use Rattle.std.proofs.Common.{sym, ap, subst, ◌∙◌, inl, inr}
-use Rattle.std.specs.Option.{option_map}
-use Rattle.sftp_wire.specs.declared.packets.Request.{Request}
-use Rattle.sftp_wire.specs.declared.packets.Reply.{Reply}
-use Rattle.sftp_profile.specs.State.{State}
-use Rattle.sftp_profile.specs.Permitted.{Permitted}
-use Rattle.sftp_transcript.specs.declared.events.Event.{Event}
-use Rattle.sftp_transcript.specs.declared.events.Event.TheVariants.{Asked, Replied}
-use Rattle.sftp_transcript.specs.Begun.{number_after_events}
-use Rattle.sftp_transcript.specs.Explained.{Turn, closed, waiting, turn_after, leading_pairs, Run}
-use Rattle.sftp_transcript.specs.Sound.{IsWaiting}
-use Rattle.sftp_audit.specs.declared.errors.Refusal.{Refusal}
-use Rattle.sftp_audit.specs.declared.errors.Refusal.TheVariants as refusals
-use Rattle.sftp_audit.specs.declared.exchanges.RecordedReply.{RecordedReply}
-use Rattle.sftp_audit.specs.declared.exchanges.Exchange.{Exchange}
+use Rattle.sftp_audit.proofs.Imports.{same_Some, ◌≡◌, ◌≢◌, ◌⊎◌, ℕ, true, List, [], ◌∷◌, ◌++◌, Option, Some, None}
+use Rattle.sftp_audit.proofs.Imports.{is_some, IsTrue, refl, sym, ap, subst, ◌∙◌, inl, inr, option_map, Request, Reply}
+use Rattle.sftp_audit.proofs.Imports.{State, Permitted, Event, Asked, Replied, number_after_events, Turn, closed}
+use Rattle.sftp_audit.proofs.Imports.{waiting, turn_after, leading_pairs, Run, IsWaiting, Refusal, RecordedReply}
+use Rattle.sftp_audit.proofs.Imports.{Exchange, IsFirstWrong, Refuses, permitted-one_end}
 use Rattle.sftp_audit.specs.Exchanges.{recorded_exchanges, is_answered, AreAnswered, reply_of, ledger_of}
-use Rattle.sftp_audit.specs.Auditor.{IsFirstWrong, Refuses}
-use Rattle.sftp_profile.proofs.Permissions.{permitted-one_end}
+use Rattle.sftp_audit.proofs.auditing.Lists.{same_head, same_tail}
+use Rattle.sftp_audit.specs.declared.errors.Refusal.TheVariants as refusals
 
 -- ---- the first step of a run
 
@@ -42,9 +31,6 @@ first_step : (start : State) (x : Exchange) (others : List Exchange) (end : Stat
     → Run Permitted start (leading_pairs (ledger_of (x ∷ others))) end → FirstStep start x others end
 first_step start x others end answered run = first_step_by start x others end x.reply refl answered run
 
-same_reply : (o : Option RecordedReply) (a b : RecordedReply) → o ≡ Some a → o ≡ Some b → a ≡ b
-same_reply o a b is_a is_b = cc
-
 -- a reply leads to one state
 same_mid : (start : State) (request : Request) (a b : RecordedReply) (to_a to_b : State) → a ≡ b
     → Permitted start request a.reply to_a → Permitted start request b.reply to_b → to_a ≡ to_b
@@ -65,15 +51,9 @@ not_wrong : (start mid : State) (x y : Exchange) (others : List Exchange) (end :
 not_wrong start mid x y others end here same wrong step =
     let wrong_y : IsWrong start y = subst (λ (m : State). IsWrong m y) here (subst (IsWrong mid) same wrong) in
     let reply : step.reply ≡ wrong_y.reply =
-    same_reply y.reply step.reply wrong_y.reply step.reply_is wrong_y.reply_is in
+    same_Some step.reply wrong_y.reply (sym step.reply_is ∙ wrong_y.reply_is) in
     wrong_y.wrong step.mid
     (subst (λ (r : RecordedReply). Permitted start y.request r.reply step.mid) reply step.allowed)
-
-same_head : (x y : Exchange) (xs ys : List Exchange) → x ∷ xs ≡ y ∷ ys → x ≡ y
-same_head x y xs ys same = cc
-
-same_tail : (x y : Exchange) (xs ys : List Exchange) → x ∷ xs ≡ y ∷ ys → xs ≡ ys
-same_tail x y xs ys same = cc
 
 one_wrong : (start : State) (b c : List Exchange) (x y : Exchange) (behind_b behind_c : List Exchange)
     (mid_b mid_c : State) → b ++ x ∷ behind_b ≡ c ++ y ∷ behind_c → AreAnswered b → AreAnswered c
@@ -94,7 +74,7 @@ one_wrong start (z ∷ b) (w ∷ c) x y behind_b behind_c mid_b mid_c same all_b
     let step_w = first_step start w c mid_c all_c.0 run_c in
     let step_c : FirstStep start z c mid_c = subst (λ (v : Exchange). FirstStep start v c mid_c) (sym first) step_w in
     let reply : step_b.reply ≡ step_c.reply =
-    same_reply z.reply step_b.reply step_c.reply step_b.reply_is step_c.reply_is in
+    same_Some step_b.reply step_c.reply (sym step_b.reply_is ∙ step_c.reply_is) in
     let mid : step_b.mid ≡ step_c.mid =
     same_mid start z.request step_b.reply step_c.reply step_b.mid step_c.mid reply step_b.allowed step_c.allowed in
     one_wrong step_b.mid b c x y behind_b behind_c mid_b mid_c
@@ -132,9 +112,7 @@ why_asked : (start : State) (events : List Event) (request : Request) (refusal :
 why_asked start events request (refusals.IdInUse number) why other = inl (ap refusals.IdInUse why.0, why.1)
 why_asked start events request (refusals.Window number) why other = inr (ap refusals.Window why.0, why.1)
 why_asked start events request refusals.NoMemory why other = absurd (other refl)
-why_asked start events request (refusals.UnknownReply number) why other = absurd why
-why_asked start events request (refusals.NotAllowed number) why other = absurd why
-why_asked start events request (refusals.Unanswered number) why other = absurd why
+why_asked start events request refusal why other = absurd why
 
 -- whether a turn is closed or waiting decides
 one_of_two : (turn : Turn) (a b in_use late : Refusal)
@@ -159,9 +137,7 @@ why_replied : (start : State) (events : List Event) (reply : Reply) (refusal : R
 why_replied start events reply (refusals.UnknownReply number) why other = inl (ap refusals.UnknownReply why.0, why.1)
 why_replied start events reply (refusals.NotAllowed number) why other = inr (number, refl, why.0, why.1)
 why_replied start events reply refusals.NoMemory why other = absurd (other refl)
-why_replied start events reply (refusals.IdInUse number) why other = absurd why
-why_replied start events reply (refusals.Window number) why other = absurd why
-why_replied start events reply (refusals.Unanswered number) why other = absurd why
+why_replied start events reply refusal why other = absurd why
 
 one_of_replies : (start : State) (events : List Event) (reply : Reply) (a b : Refusal)
     → WhyReplied start events reply a → WhyReplied start events reply b → a ≡ b

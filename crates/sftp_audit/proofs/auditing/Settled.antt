@@ -1,24 +1,13 @@
 -- How settling goes over the exchanges that are kept: each is done as soon as it and all before it have their replies.
-use Rattle.std.proofs.Common.{◌≡◌, Bool, true, List, [], ◌∷◌, ◌++◌, Option, Some, None, is_some, drop, slice_get}
-use Rattle.std.proofs.Common.{refl, sym, ap, ◌∙◌, append_assoc}
-use Rattle.std.proofs.lemmas.List.{append-nil}
-use Rattle.std.proofs.lemmas.Option.{none-some, same_Some}
-use Rattle.sftp_profile.specs.State.{State}
-use Rattle.sftp_profile.specs.Permitted.{Permitted, follows_in}
-use Rattle.sftp_transcript.specs.Explained.{Run, leading_pairs}
-use Rattle.sftp_audit.specs.declared.exchanges.RecordedReply.{RecordedReply}
-use Rattle.sftp_audit.specs.declared.exchanges.Exchange.{Exchange}
+use Rattle.sftp_audit.proofs.Imports.{◌≡◌, Bool, true, List, [], ◌∷◌, ◌++◌, Option, Some, None, is_some, drop}
+use Rattle.sftp_audit.proofs.Imports.{slice_get, refl, sym, ap, ◌∙◌, append_assoc, append-nil, none-some, same_Some}
+use Rattle.sftp_audit.proofs.Imports.{State, Permitted, follows_in, Run, leading_pairs, RecordedReply, Exchange}
+use Rattle.sftp_audit.proofs.Imports.{IsFirstWrong, IsTold}
 use Rattle.sftp_audit.specs.Exchanges.{is_answered, AreAnswered, unsettled, ledger_of}
 use Rattle.sftp_audit.specs.declared.errors.Refusal.TheVariants as refusals
-use Rattle.sftp_audit.specs.Auditor.{IsFirstWrong, IsTold}
-use Rattle.sftp_audit.proofs.auditing.Lists.{unsettled-answered, leading_pairs-settled, leading_pairs-unsettled}
+use Rattle.sftp_audit.proofs.auditing.Lists.{answered-append, unsettled-answered, leading_pairs-settled}
+use Rattle.sftp_audit.proofs.auditing.Lists.{leading_pairs-unsettled}
 use Rattle.sftp_audit.proofs.auditing.Turns.{run-append}
-
--- ---- lists
-
-answered-append : (xs ys : List Exchange) → AreAnswered xs → AreAnswered ys → AreAnswered (xs ++ ys)
-answered-append [] ys front back = back
-answered-append (x ∷ xs) ys front back = (front.0, answered-append xs ys front.1 back)
 
 -- ---- those done so far
 

@@ -1,36 +1,20 @@
 -- What an auditor keeps goes on with each event, and what it refuses has its reason.
-use Rattle.std.proofs.Common.{◌≡◌, ℕ, ◌<◌, ◌≤◌, Bool, true, false, List, [], ◌∷◌, ◌++◌, length, slice_get, Some, None}
-use Rattle.std.proofs.Common.{Ok, Err}
-use Rattle.std.proofs.Common.{Result, OnOk, IfErr, refl, sym, ap, ◌∙◌, subst, append_assoc}
-use Rattle.std.proofs.lemmas.List.{append-nil}
-use Rattle.sftp_wire.specs.declared.packets.Request.{Request}
-use Rattle.sftp_wire.specs.declared.packets.Reply.{Reply}
-use Rattle.sftp_profile.specs.State.{State}
-use Rattle.sftp_profile.specs.Permitted.{Permitted}
-use Rattle.sftp_transcript.specs.declared.events.Event.{Event}
-use Rattle.sftp_transcript.specs.declared.events.Event.TheVariants.{Asked, Replied}
-use Rattle.sftp_transcript.specs.Begun.{first_number, number_after_events}
-use Rattle.sftp_transcript.specs.Explained.{Run, Explained, exchanges_of, leading_pairs, window, turn_after, closed}
-use Rattle.sftp_transcript.specs.Explained.{broken}
-use Rattle.sftp_transcript.specs.Explained.{in_window}
-use Rattle.sftp_transcript.specs.Sound.{IsWaiting}
-use Rattle.sftp_transcript.specs.Streams.{one_more}
-use Rattle.sftp_audit.specs.declared.errors.Refusal.{Refusal}
+use Rattle.sftp_audit.proofs.Imports.{◌≡◌, ℕ, ◌<◌, ◌≤◌, Bool, true, false, List, [], ◌∷◌, ◌++◌, length, slice_get, Some}
+use Rattle.sftp_audit.proofs.Imports.{None, Ok, Err, Result, OnOk, refl, sym, ap, ◌∙◌, subst, append_assoc, append-nil}
+use Rattle.sftp_audit.proofs.Imports.{Request, Reply, State, Permitted, Event, Asked, Replied, first_number}
+use Rattle.sftp_audit.proofs.Imports.{number_after_events, Run, Explained, exchanges_of, leading_pairs, window}
+use Rattle.sftp_audit.proofs.Imports.{turn_after, closed, broken, in_window, IsWaiting, Refusal, Exchange}
+use Rattle.sftp_audit.proofs.Imports.{RecordedReply, RefusesRequest, RefusesReply, Audited, StandsFor, RefusesToSettle}
+use Rattle.sftp_audit.proofs.Imports.{LacksReply, IsWrongIn, IsTold, HasNoted, HasReason, StopsIn, Tells, IsFirstWrong}
+use Rattle.sftp_audit.specs.Exchanges.{recorded_exchanges, exchanges_from, unsettled, AreAnswered, is_open, with_reply}
+use Rattle.sftp_audit.specs.Exchanges.{ledger_of}
 use Rattle.sftp_audit.specs.declared.errors.Refusal.TheVariants as refusals
-use Rattle.sftp_audit.specs.declared.exchanges.Exchange.{Exchange}
-use Rattle.sftp_audit.specs.declared.exchanges.RecordedReply.{RecordedReply}
-use Rattle.sftp_audit.specs.Exchanges.{recorded_exchanges, exchanges_from, unsettled, AreAnswered, is_open}
-use Rattle.sftp_audit.specs.Exchanges.{with_reply, ledger_of}
-use Rattle.sftp_audit.specs.Ledger.{RefusesRequest, RefusesReply}
-use Rattle.sftp_audit.specs.Auditor.{Audited, StandsFor, IsNoted, Refuses, RefusesToSettle, LacksReply, IsWrongIn, IsTold}
-use Rattle.sftp_audit.proofs.auditing.Lists.{ledger_of-recorded, recorded-asked, recorded-replied, settled_parts}
-use Rattle.sftp_audit.proofs.auditing.Lists.{unsettled-answered, unsettled-asked, with_reply-answered}
-use Rattle.sftp_audit.proofs.auditing.Lists.{with_reply-append}
-use Rattle.sftp_audit.proofs.auditing.Lists.{is_open-unsettled, leading_pairs-settled, leading_pairs-unsettled}
-use Rattle.sftp_audit.proofs.auditing.Lists.{leading_pairs-asked, number_after_events-next}
+use Rattle.sftp_audit.proofs.auditing.Lists.{answered-append, ledger_of-recorded, recorded-asked, recorded-replied}
+use Rattle.sftp_audit.proofs.auditing.Lists.{settled_parts, unsettled-answered, unsettled-asked, with_reply-answered}
+use Rattle.sftp_audit.proofs.auditing.Lists.{with_reply-append, is_open-unsettled, leading_pairs-settled}
+use Rattle.sftp_audit.proofs.auditing.Lists.{leading_pairs-unsettled, leading_pairs-asked}
 use Rattle.sftp_audit.proofs.auditing.Turns.{waits_if_open, closed_if_none, in_turn-asked, in_turn-replied}
-use Rattle.sftp_audit.proofs.auditing.Turns.{window-asked}
-use Rattle.sftp_audit.proofs.auditing.Turns.{window-replied, run-append}
+use Rattle.sftp_audit.proofs.auditing.Turns.{window-asked, window-replied, run-append}
 
 -- ---- nothing yet
 
@@ -80,11 +64,10 @@ asked_pairs events request =
     ∙ leading_pairs-asked (recorded_exchanges events) one refl
     ∙ ap leading_pairs (ledger_of-recorded events)
 
-pub noted-asked : (start : State) (events : List Event) (request : Request) (old new : Audited)
-    → StandsFor start events old → is_open request.id old.kept ≡ false → length old.kept < window
+noted-asked : (request : Request) (old new : Audited) → is_open request.id old.kept ≡ false → length old.kept < window
     → new.kept ≡ old.kept ++ record { request = request; number = old.number; reply = None } ∷ []
-    → new.state ≡ old.state → IsNoted start (events ++ Asked request ∷ []) new
-noted-asked start events request old new stands none room kept same =
+    → new.state ≡ old.state → HasNoted old (Asked request) new
+noted-asked request old new none room kept same start events stands =
     let turn = closed_of start events old request.id stands none in
     let few : length (unsettled (recorded_exchanges events)) < window =
     subst (λ (xs : List Exchange). length xs < window) stands.kept room in
@@ -105,21 +88,36 @@ noted-asked start events request old new stands none room kept same =
       kept = are;
     }
 
+pub result-asked : {T : Type 0} (result : Result T Refusal) (request : Request) (old new : Audited)
+    → OnOk result (is_open request.id old.kept ≡ false) → OnOk result (length old.kept < window)
+    → OnOk result (new.kept ≡ old.kept ++ record { request = request; number = old.number; reply = None } ∷ [])
+    → new.state ≡ old.state → OnOk result (HasNoted old (Asked request) new)
+result-asked (Ok x) request old new none room kept same = noted-asked request old new none room kept same
+result-asked (Err e) request old new none room kept same = tt
+
 -- a request that is not taken is refused
-pub refused-asked : (start : State) (events : List Event) (request : Request) (old : Audited) (refusal : Refusal)
-    → StandsFor start events old → RefusesRequest old.kept request old.number refusal
-    → Refuses Permitted start events (Asked request) refusal
-refused-asked start events request old (refusals.UnknownReply number) stands r = absurd r
-refused-asked start events request old (refusals.IdInUse number) stands r =
+pub refused-asked : (request : Request) (old : Audited) (refusal : Refusal)
+    → RefusesRequest old.kept request old.number refusal → HasReason old (Asked request) refusal
+refused-asked request old (refusals.IdInUse number) r start events stands =
     (r.0 ∙ stands.number, waiting_of start events old request.id stands r.1)
-refused-asked start events request old (refusals.Window number) stands r = (
+refused-asked request old (refusals.Window number) r start events stands = (
   r.0 ∙ stands.number,
   closed_of start events old request.id stands r.1,
   subst (λ (xs : List Exchange). window ≤ length xs) stands.kept r.2,
 )
-refused-asked start events request old (refusals.NotAllowed number) stands r = absurd r
-refused-asked start events request old (refusals.Unanswered number) stands r = absurd r
-refused-asked start events request old refusals.NoMemory stands r = r
+refused-asked request old refusals.NoMemory r start events stands = r
+refused-asked request old other r start events stands = absurd r
+
+-- and no reply is wrong
+pub wrong-asked : (request : Request) (old : Audited) (state : State) (refusal : Refusal)
+    → RefusesRequest old.kept request old.number refusal → StopsIn old (Asked request) state refusal
+wrong-asked request old state (refusals.NotAllowed n) r start events stands = absurd r
+wrong-asked request old state other r start events stands = tt
+
+pub told-asked : (request : Request) (old : Audited) (told : Bool) (refusal : Refusal)
+    → RefusesRequest old.kept request old.number refusal → Tells old (Asked request) told told refusal
+told-asked request old told (refusals.NotAllowed n) r start events stands = absurd r
+told-asked request old told other r start events stands = refl
 
 -- ---- one reply more
 
@@ -157,16 +155,19 @@ answered_of start events reply old stands =
           (with_reply-answered (given old.number) parts.0 parts.1);
     }
 
-pub noted-replied : (start : State) (events : List Event) (reply : Reply) (old : Audited) (kept : List Exchange)
-    (new : Audited) → StandsFor start events old → is_open reply.id old.kept ≡ true
-    → kept ≡ with_reply (record { reply = reply; number = old.number }) old.kept → new.kept ≡ unsettled kept
-    → Run Permitted old.state (leading_pairs (ledger_of kept)) new.state
-    → IsNoted start (events ++ Replied reply ∷ []) new
-noted-replied start events reply old kept new stands waits replied settled run =
-    let turn = waiting_of start events old reply.id stands waits in
+-- a request of the reply's id waited, and these exchanges have the reply
+abbrev pub HasReply : Reply → Audited → List Exchange → Type 0
+HasReply reply old kept =
+    (is_open reply.id old.kept ≡ true) × (kept ≡ with_reply (record { reply = reply; number = old.number }) old.kept)
+
+noted-replied : (reply : Reply) (old : Audited) (kept : List Exchange) (new : Audited) → HasReply reply old kept
+    → new.kept ≡ unsettled kept → Run Permitted old.state (leading_pairs (ledger_of kept)) new.state
+    → HasNoted old (Replied reply) new
+noted-replied reply old kept new has settled run start events stands =
+    let turn = waiting_of start events old reply.id stands has.0 in
     let a = answered_of start events reply old stands in
     let all : recorded_exchanges (events ++ Replied reply ∷ []) ≡ a.before ++ kept =
-    a.recorded ∙ ap (λ (xs : List Exchange). a.before ++ xs) (sym replied) in
+    a.recorded ∙ ap (λ (xs : List Exchange). a.before ++ xs) (sym has.1) in
     let pairs : leading_pairs (ledger_of a.before) ++ leading_pairs (ledger_of kept)
     ≡ leading_pairs (exchanges_of (events ++ Replied reply ∷ [])) =
     sym (leading_pairs-settled a.before kept a.answered)
@@ -184,263 +185,94 @@ noted-replied start events reply old kept new stands waits replied settled run =
       kept = settled ∙ sym (unsettled-answered a.before kept a.answered) ∙ ap unsettled (sym all);
     }
 
--- a reply that is not taken is refused
-pub refused-replied : (start : State) (events : List Event) (reply : Reply) (old : Audited) (refusal : Refusal)
-    → StandsFor start events old → RefusesReply old.kept (record { reply = reply; number = old.number }) refusal
-    → Refuses Permitted start events (Replied reply) refusal
-refused-replied start events reply old (refusals.UnknownReply number) stands r =
+pub result-replied : {T : Type 0} (result : Result T Refusal) (reply : Reply) (old : Audited) (kept : List Exchange)
+    (new : Audited) → HasReply reply old kept → OnOk result (new.kept ≡ unsettled kept)
+    → OnOk result (Run Permitted old.state (leading_pairs (ledger_of kept)) new.state)
+    → OnOk result (HasNoted old (Replied reply) new)
+result-replied (Ok x) reply old kept new has settled run = noted-replied reply old kept new has settled run
+result-replied (Err e) reply old kept new has settled run = tt
+
+-- a reply that is not taken is refused, and it is not wrong
+pub refused-replied : (reply : Reply) (old : Audited) (refusal : Refusal)
+    → RefusesReply old.kept (record { reply = reply; number = old.number }) refusal
+    → HasReason old (Replied reply) refusal
+refused-replied reply old (refusals.UnknownReply number) r start events stands =
     (r.0 ∙ stands.number, closed_of start events old reply.id stands r.1)
-refused-replied start events reply old (refusals.IdInUse number) stands r = absurd r
-refused-replied start events reply old (refusals.Window number) stands r = absurd r
-refused-replied start events reply old (refusals.NotAllowed number) stands r = absurd r
-refused-replied start events reply old (refusals.Unanswered number) stands r = absurd r
-refused-replied start events reply old refusals.NoMemory stands r = absurd r
+refused-replied reply old other r start events stands = absurd r
 
--- each of two lists of answered exchanges
-both_answered : (xs ys : List Exchange) → AreAnswered xs → AreAnswered ys → AreAnswered (xs ++ ys)
-both_answered [] ys before behind = behind
-both_answered (x ∷ xs) ys before behind = (before.0, both_answered xs ys before.1 behind)
+pub wrong-replied : (reply : Reply) (old : Audited) (state : State) (refusal : Refusal)
+    → RefusesReply old.kept (record { reply = reply; number = old.number }) refusal
+    → StopsIn old (Replied reply) state refusal
+wrong-replied reply old state (refusals.UnknownReply n) r start events stands = tt
+wrong-replied reply old state other r start events stands = absurd r
 
--- what settling refuses is refused
-pub refused-settling : (start : State) (events : List Event) (reply : Reply) (old : Audited) (kept : List Exchange)
-    (refusal : Refusal) → StandsFor start events old → is_open reply.id old.kept ≡ true
-    → kept ≡ with_reply (record { reply = reply; number = old.number }) old.kept
-    → RefusesToSettle old.state kept refusal → Refuses Permitted start events (Replied reply) refusal
-refused-settling start events reply old kept (refusals.UnknownReply number) stands waits replied r = absurd r
-refused-settling start events reply old kept (refusals.IdInUse number) stands waits replied r = absurd r
-refused-settling start events reply old kept (refusals.Window number) stands waits replied r = absurd r
-refused-settling start events reply old kept (refusals.NotAllowed number) stands waits replied r =
+pub told-replied : (reply : Reply) (old : Audited) (told : Bool) (refusal : Refusal)
+    → RefusesReply old.kept (record { reply = reply; number = old.number }) refusal
+    → Tells old (Replied reply) told told refusal
+told-replied reply old told (refusals.UnknownReply n) r start events stands = refl
+told-replied reply old told other r start events stands = absurd r
+
+-- what settling finds wrong first is the first that is wrong of all
+first_wrong : (reply : Reply) (old : Audited) (kept : List Exchange) → HasReply reply old kept → (number : ℕ)
+    → IsFirstWrong Permitted old.state kept number → (start : State) (events : List Event) → StandsFor start events old
+    → IsFirstWrong Permitted start (recorded_exchanges (events ++ Replied reply ∷ [])) number
+first_wrong reply old kept has number r start events stands =
     let a = answered_of start events reply old stands in
-    let settled_pairs : List (Request × Reply) = leading_pairs (ledger_of a.before) in
-    let more_pairs : List (Request × Reply) = leading_pairs (ledger_of r.before) in
     let one : Exchange = record {
       request = r.request;
       number = r.asked_in;
       reply = Some (record { reply = r.reply; number = number });
-    } in (
-      waiting_of start events old reply.id stands waits,
-      record {
-        before = a.before ++ r.before;
-        request = r.request;
-        asked_in = r.asked_in;
-        reply = r.reply;
-        behind = r.behind;
-        exchanges_are = a.recorded ∙ ap (λ (xs : List Exchange). a.before ++ xs) (sym replied ∙ r.exchanges_are)
-            ∙ sym (append_assoc a.before r.before (one ∷ r.behind));
-        answered = both_answered a.before r.before a.answered r.answered;
-        mid = r.mid;
-        run = subst (λ (xs : List (Request × Reply)). Run Permitted start xs r.mid)
-            (sym (leading_pairs-settled a.before r.before a.answered))
-            (run-append Permitted start settled_pairs old.state more_pairs r.mid a.run r.run);
-        wrong = r.wrong;
-      },
-    )
-refused-settling start events reply old kept (refusals.Unanswered number) stands waits replied r = absurd r
-refused-settling start events reply old kept refusals.NoMemory stands waits replied r = r
+    } in
+    record {
+      before = a.before ++ r.before;
+      request = r.request;
+      asked_in = r.asked_in;
+      reply = r.reply;
+      behind = r.behind;
+      exchanges_are = a.recorded ∙ ap (λ (xs : List Exchange). a.before ++ xs) (sym has.1 ∙ r.exchanges_are)
+          ∙ sym (append_assoc a.before r.before (one ∷ r.behind));
+      answered = answered-append a.before r.before a.answered r.answered;
+      mid = r.mid;
+      run = subst (λ (xs : List (Request × Reply)). Run Permitted start xs r.mid)
+          (sym (leading_pairs-settled a.before r.before a.answered))
+          (run-append Permitted start (leading_pairs (ledger_of a.before)) old.state (leading_pairs (ledger_of r.before))
+          r.mid a.run r.run);
+      wrong = r.wrong;
+    }
 
--- an event that is not taken has no wrong reply
-pub wrong-asked : (start state : State) (events : List Event) (request : Request) (kept : List Exchange) (number : ℕ)
-    (refusal : Refusal) → RefusesRequest kept request number refusal
-    → IsWrongIn start (recorded_exchanges events) state refusal
-wrong-asked start state events request kept number (refusals.UnknownReply n) r = absurd r
-wrong-asked start state events request kept number (refusals.IdInUse n) r = tt
-wrong-asked start state events request kept number (refusals.Window n) r = tt
-wrong-asked start state events request kept number (refusals.NotAllowed n) r = absurd r
-wrong-asked start state events request kept number (refusals.Unanswered n) r = tt
-wrong-asked start state events request kept number refusals.NoMemory r = tt
+-- so what settling refuses is refused
+pub refused-settling : (reply : Reply) (old : Audited) (kept : List Exchange) → HasReply reply old kept
+    → (refusal : Refusal) → RefusesToSettle old.state kept refusal → HasReason old (Replied reply) refusal
+refused-settling reply old kept has (refusals.NotAllowed number) r start events stands =
+    (waiting_of start events old reply.id stands has.0, first_wrong reply old kept has number r start events stands)
+refused-settling reply old kept has refusals.NoMemory r start events stands = r
+refused-settling reply old kept has other r start events stands = absurd r
 
-pub wrong-replied : (start state : State) (events : List Event) (kept : List Exchange) (recorded : RecordedReply)
-    (refusal : Refusal) → RefusesReply kept recorded refusal
-    → IsWrongIn start (recorded_exchanges events) state refusal
-wrong-replied start state events kept recorded (refusals.UnknownReply n) r = tt
-wrong-replied start state events kept recorded (refusals.IdInUse n) r = tt
-wrong-replied start state events kept recorded (refusals.Window n) r = tt
-wrong-replied start state events kept recorded (refusals.NotAllowed n) r = absurd r
-wrong-replied start state events kept recorded (refusals.Unanswered n) r = tt
-wrong-replied start state events kept recorded refusals.NoMemory r = tt
+-- in the state in which it is, and with what is told of it
+pub wrong-settling : (reply : Reply) (old : Audited) (kept : List Exchange) (state : State) → HasReply reply old kept
+    → (refusal : Refusal) → IsWrongIn old.state kept state refusal → StopsIn old (Replied reply) state refusal
+unfolding first_wrong
+wrong-settling reply old kept state has (refusals.NotAllowed number) r start events stands =
+    (first_wrong reply old kept has number r.0 start events stands, r.1)
+wrong-settling reply old kept state has other r start events stands = tt
 
--- what settling finds wrong in a state is wrong in that state
-pub wrong-settling : (start state : State) (events : List Event) (reply : Reply) (old : Audited) (kept : List Exchange)
-    (refusal : Refusal) → StandsFor start events old → is_open reply.id old.kept ≡ true
-    → kept ≡ with_reply (record { reply = reply; number = old.number }) old.kept
-    → IsWrongIn old.state kept state refusal
-    → IsWrongIn start (recorded_exchanges (events ++ Replied reply ∷ [])) state refusal
-unfolding refused-settling
-wrong-settling start state events reply old kept (refusals.UnknownReply number) stands waits replied r = tt
-wrong-settling start state events reply old kept (refusals.IdInUse number) stands waits replied r = tt
-wrong-settling start state events reply old kept (refusals.Window number) stands waits replied r = tt
-wrong-settling start state events reply old kept (refusals.NotAllowed number) stands waits replied r =
-    ((refused-settling start events reply old kept (refusals.NotAllowed number) stands waits replied r.0).1, r.1)
-wrong-settling start state events reply old kept (refusals.Unanswered number) stands waits replied r = tt
-wrong-settling start state events reply old kept refusals.NoMemory stands waits replied r = tt
+pub told-settling : (reply : Reply) (old : Audited) (kept : List Exchange) (before after : Bool)
+    → HasReply reply old kept → (refusal : Refusal) → IsTold old.state kept before after refusal
+    → Tells old (Replied reply) before after refusal
+unfolding first_wrong
+told-settling reply old kept before after has (refusals.NotAllowed number) r start events stands =
+    (first_wrong reply old kept has number r.0 start events stands, r.1)
+told-settling reply old kept before after has other r start events stands = r
 
--- ---- the same, of what a call returns
+-- ---- the auditor as it was seen
 
--- the auditor is as it was seen
+-- what was seen, as its parts say it
+abbrev pub viewed : {old seen : Audited} → old ≡ seen → Audited
+viewed {old} view = old
+
 pub at_view : (start : State) (events : List Event) (seen old : Audited) → old ≡ seen → StandsFor start events seen
     → StandsFor start events old
 at_view start events seen old view stands = subst (StandsFor start events) (sym view) stands
-
-pub result-asked : {T : Type 0} (result : Result T Refusal) (event : Event) (request : Request)
-    (seen old new : Audited) → event ≡ Asked request → old ≡ seen → new.state ≡ old.state
-    → OnOk result (is_open request.id old.kept ≡ false) → OnOk result (length old.kept < window)
-    → OnOk result (new.kept ≡ old.kept ++ record { request = request; number = old.number; reply = None } ∷ [])
-    → OnOk result ((start : State) (events : List Event) → StandsFor start events seen
-    → IsNoted start (events ++ event ∷ []) new)
-result-asked (Ok x) event request seen old new is view same none room kept = λ start events stands.
-    subst (λ (e : Event). IsNoted start (events ++ e ∷ []) new) (sym is)
-    (noted-asked start events request old new (at_view start events seen old view stands) none room kept same)
-result-asked (Err e) event request seen old new is view same none room kept = tt
-
-pub refusal-asked : {T : Type 0} (result : Result T Refusal) (event : Event) (request : Request) (seen old : Audited)
-    → event ≡ Asked request → old ≡ seen → IfErr result (RefusesRequest old.kept request old.number)
-    → IfErr result (λ refusal. (start : State) (events : List Event) → StandsFor start events seen
-    → Refuses Permitted start events event refusal)
-refusal-asked (Ok x) event request seen old is view refused = tt
-refusal-asked (Err refusal) event request seen old is view refused = λ start events stands.
-    subst (λ (e : Event). Refuses Permitted start events e refusal) (sym is)
-    (refused-asked start events request old refusal (at_view start events seen old view stands) refused)
-
-pub refusal-replied : (event : Event) (reply : Reply) (seen old : Audited) (refusal : Refusal)
-    → event ≡ Replied reply → old ≡ seen
-    → RefusesReply old.kept (record { reply = reply; number = old.number }) refusal
-    → (start : State) (events : List Event) → StandsFor start events seen → Refuses Permitted start events event refusal
-refusal-replied event reply seen old refusal is view refused start events stands =
-    subst (λ (e : Event). Refuses Permitted start events e refusal) (sym is)
-    (refused-replied start events reply old refusal (at_view start events seen old view stands) refused)
-
-pub result-settled : {T : Type 0} (result : Result T Refusal) (event : Event) (reply : Reply)
-    (seen old : Audited) (kept : List Exchange) (new : Audited) → event ≡ Replied reply → old ≡ seen
-    → is_open reply.id old.kept ≡ true → kept ≡ with_reply (record { reply = reply; number = old.number }) old.kept
-    → OnOk result (new.kept ≡ unsettled kept)
-    → OnOk result (Run Permitted old.state (leading_pairs (ledger_of kept)) new.state)
-    → OnOk result ((start : State) (events : List Event) → StandsFor start events seen
-    → IsNoted start (events ++ event ∷ []) new)
-result-settled (Ok x) event reply seen old kept new is view waits replied settled run = λ start events stands.
-    subst (λ (e : Event). IsNoted start (events ++ e ∷ []) new) (sym is)
-    (let at = at_view start events seen old view stands in
-    noted-replied start events reply old kept new at waits replied settled run)
-result-settled (Err e) event reply seen old kept new is view waits replied settled run = tt
-
-pub refusal-settled : {T : Type 0} (result : Result T Refusal) (event : Event) (reply : Reply)
-    (seen old : Audited) (kept : List Exchange) → event ≡ Replied reply → old ≡ seen
-    → is_open reply.id old.kept ≡ true → kept ≡ with_reply (record { reply = reply; number = old.number }) old.kept
-    → IfErr result (RefusesToSettle old.state kept)
-    → IfErr result (λ refusal. (start : State) (events : List Event) → StandsFor start events seen
-    → Refuses Permitted start events event refusal)
-refusal-settled (Ok x) event reply seen old kept is view waits replied refused = tt
-refusal-settled (Err refusal) event reply seen old kept is view waits replied refused = λ start events stands.
-    subst (λ (e : Event). Refuses Permitted start events e refusal) (sym is)
-    (let at = at_view start events seen old view stands in
-    refused-settling start events reply old kept refusal at waits replied refused)
-
-pub state-asked : {T : Type 0} (result : Result T Refusal) (event : Event) (request : Request) (seen : Audited)
-    (kept : List Exchange) (number : ℕ) (state : State) → IfErr result (RefusesRequest kept request number)
-    → IfErr result (λ refusal. (start : State) (events : List Event) → StandsFor start events seen
-    → IsWrongIn start (recorded_exchanges (events ++ event ∷ [])) state refusal)
-state-asked (Ok x) event request seen kept number state refused = tt
-state-asked (Err refusal) event request seen kept number state refused = λ start events stands.
-    wrong-asked start state (events ++ event ∷ []) request kept number refusal refused
-
-pub state-replied : (event : Event) (reply : Reply) (seen : Audited) (kept : List Exchange) (number : ℕ) (state : State)
-    (refusal : Refusal) → RefusesReply kept (record { reply = reply; number = number }) refusal → (start : State)
-    (events : List Event) → StandsFor start events seen
-    → IsWrongIn start (recorded_exchanges (events ++ event ∷ [])) state refusal
-state-replied event reply seen kept number state refusal refused start events stands =
-    wrong-replied start state (events ++ event ∷ []) kept (record { reply = reply; number = number }) refusal refused
-
-pub state-settled : {T : Type 0} (result : Result T Refusal) (event : Event) (reply : Reply)
-    (seen old : Audited) (kept : List Exchange) (state : State) → event ≡ Replied reply → old ≡ seen
-    → is_open reply.id old.kept ≡ true → kept ≡ with_reply (record { reply = reply; number = old.number }) old.kept
-    → IfErr result (IsWrongIn old.state kept state)
-    → IfErr result (λ refusal. (start : State) (events : List Event) → StandsFor start events seen
-    → IsWrongIn start (recorded_exchanges (events ++ event ∷ [])) state refusal)
-state-settled (Ok x) event reply seen old kept state is view waits replied wrong = tt
-state-settled (Err refusal) event reply seen old kept state is view waits replied wrong = λ start events stands.
-    subst (λ (e : Event). IsWrongIn start (recorded_exchanges (events ++ e ∷ [])) state refusal) (sym is)
-    (let at = at_view start events seen old view stands in
-    wrong-settling start state events reply old kept refusal at waits replied wrong)
-
--- ---- whether the profile follows the request of a refusal
-
--- of an event that is not taken nothing is told
-told-asked : (start : State) (exchanges : List Exchange) (request : Request) (kept : List Exchange) (number : ℕ)
-    (before after : Bool) (refusal : Refusal) → after ≡ before → RefusesRequest kept request number refusal
-    → IsTold start exchanges before after refusal
-told-asked start exchanges request kept number before after (refusals.UnknownReply n) same r = same
-told-asked start exchanges request kept number before after (refusals.IdInUse n) same r = same
-told-asked start exchanges request kept number before after (refusals.Window n) same r = same
-told-asked start exchanges request kept number before after (refusals.NotAllowed n) same r = absurd r
-told-asked start exchanges request kept number before after (refusals.Unanswered n) same r = same
-told-asked start exchanges request kept number before after refusals.NoMemory same r = same
-
-told-replied : (start : State) (exchanges kept : List Exchange) (recorded : RecordedReply) (before after : Bool)
-    (refusal : Refusal) → after ≡ before → RefusesReply kept recorded refusal
-    → IsTold start exchanges before after refusal
-told-replied start exchanges kept recorded before after (refusals.UnknownReply n) same r = same
-told-replied start exchanges kept recorded before after (refusals.IdInUse n) same r = same
-told-replied start exchanges kept recorded before after (refusals.Window n) same r = same
-told-replied start exchanges kept recorded before after (refusals.NotAllowed n) same r = absurd r
-told-replied start exchanges kept recorded before after (refusals.Unanswered n) same r = same
-told-replied start exchanges kept recorded before after refusals.NoMemory same r = same
-
--- what settling tells, is told of the events
-told-settling : (start : State) (events : List Event) (reply : Reply) (old : Audited) (kept : List Exchange)
-    (before after : Bool) (refusal : Refusal) → StandsFor start events old → is_open reply.id old.kept ≡ true
-    → kept ≡ with_reply (record { reply = reply; number = old.number }) old.kept
-    → IsTold old.state kept before after refusal
-    → IsTold start (recorded_exchanges (events ++ Replied reply ∷ [])) before after refusal
-unfolding refused-settling
-told-settling start events reply old kept before after (refusals.UnknownReply number) stands waits replied r = r
-told-settling start events reply old kept before after (refusals.IdInUse number) stands waits replied r = r
-told-settling start events reply old kept before after (refusals.Window number) stands waits replied r = r
-told-settling start events reply old kept before after (refusals.NotAllowed number) stands waits replied r =
-    ((refused-settling start events reply old kept (refusals.NotAllowed number) stands waits replied r.0).1, r.1)
-told-settling start events reply old kept before after (refusals.Unanswered number) stands waits replied r = r
-told-settling start events reply old kept before after refusals.NoMemory stands waits replied r = r
-
-pub call-asked : {T : Type 0} (result : Result T Refusal) (event : Event) (request : Request) (seen : Audited)
-    (kept : List Exchange) (number : ℕ) (before after : Bool) → after ≡ before
-    → IfErr result (RefusesRequest kept request number)
-    → IfErr result (λ refusal. (start : State) (events : List Event) → StandsFor start events seen
-    → IsTold start (recorded_exchanges (events ++ event ∷ [])) before after refusal)
-call-asked (Ok x) event request seen kept number before after same refused = tt
-call-asked (Err refusal) event request seen kept number before after same refused = λ start events stands.
-    told-asked start (recorded_exchanges (events ++ event ∷ [])) request kept number before after refusal same refused
-
-pub call-replied : (event : Event) (reply : Reply) (seen : Audited) (kept : List Exchange) (number : ℕ)
-    (before after : Bool) (refusal : Refusal) → after ≡ before
-    → RefusesReply kept (record { reply = reply; number = number }) refusal → (start : State)
-    (events : List Event) → StandsFor start events seen
-    → IsTold start (recorded_exchanges (events ++ event ∷ [])) before after refusal
-call-replied event reply seen kept number before after refusal same refused start events stands =
-    told-replied start (recorded_exchanges (events ++ event ∷ [])) kept (record { reply = reply; number = number })
-    before after refusal same refused
-
-pub call-settled : {T : Type 0} (result : Result T Refusal) (event : Event) (reply : Reply)
-    (seen old : Audited) (kept : List Exchange) (before after : Bool) → event ≡ Replied reply → old ≡ seen
-    → is_open reply.id old.kept ≡ true → kept ≡ with_reply (record { reply = reply; number = old.number }) old.kept
-    → IfErr result (IsTold old.state kept before after)
-    → IfErr result (λ refusal. (start : State) (events : List Event) → StandsFor start events seen
-    → IsTold start (recorded_exchanges (events ++ event ∷ [])) before after refusal)
-call-settled (Ok x) event reply seen old kept before after is view waits replied told = tt
-call-settled (Err refusal) event reply seen old kept before after is view waits replied told = λ start events stands.
-    subst (λ (e : Event). IsTold start (recorded_exchanges (events ++ e ∷ [])) before after refusal) (sym is)
-    (let at = at_view start events seen old view stands in
-    told-settling start events reply old kept before after refusal at waits replied told)
-
--- ---- the number of the next record
-
--- what is noted is kept, once the number is one more
-pub stands-noted : (start : State) (events : List Event) (event : Event) (old new : Audited)
-    → StandsFor start events old → IsNoted start (events ++ event ∷ []) new → new.number ≡ one_more old.number
-    → new.refusal ≡ old.refusal → StandsFor start (events ++ event ∷ []) new
-stands-noted start events event old new stands noted number same = record {
-  sound = noted.sound;
-  kept = noted.kept;
-  number = number ∙ ap one_more stands.number ∙ sym (number_after_events-next events event);
-  unrefused = same ∙ stands.unrefused;
-}
 
 -- ---- the end
 

@@ -1,25 +1,15 @@
 -- Events that are in turn and in time, and what their exchanges say of them.
-use Rattle.std.proofs.Common.{◌≡◌, ◌==◌, ◌&&◌, ◌||◌, ℕ, ◌<◌, ◌≤◌, Bool, true, false, cond, List, [], ◌∷◌}
-use Rattle.std.proofs.Common.{◌++◌, Option, Some, None, is_some, IsTrue, length, refl, sym, ap, subst, ◌∙◌}
-use Rattle.std.proofs.Common.{◌⊎◌, append_assoc, arith, inl, inr}
-use Rattle.std.specs.List.{AllByRecursion}
-use Rattle.std.specs.Option.{option_map}
-use Rattle.std.proofs.lemmas.Bool.{eqb-true, eq-eqb, cases_Bool}
-use Rattle.std.proofs.lemmas.List.{length-append, append-nil}
-use Rattle.sftp_wire.specs.declared.packets.Request.{Request}
-use Rattle.sftp_wire.specs.declared.packets.Reply.{Reply}
-use Rattle.sftp_transcript.specs.declared.events.Event.{Event}
-use Rattle.sftp_transcript.specs.declared.events.Event.TheVariants.{Asked, Replied}
-use Rattle.sftp_transcript.specs.Explained.{Turn, closed, waiting, broken, after_event, turn_after, next_reply}
-use Rattle.sftp_transcript.specs.Explained.{exchanges_of, in_window, window, StepOf, Run}
-use Rattle.sftp_transcript.specs.Sound.{InTurn, IsWaiting}
+use Rattle.sftp_audit.proofs.Imports.{if◌then◌else◌, ◌≡◌, ◌==◌, ◌&&◌, ◌||◌, ℕ, ◌<◌, ◌≤◌, Bool, true, false, cond, List}
+use Rattle.sftp_audit.proofs.Imports.{[], ◌∷◌, ◌++◌, Option, Some, None, is_some, IsTrue, length, refl, sym, ap, subst}
+use Rattle.sftp_audit.proofs.Imports.{◌∙◌, ◌⊎◌, append_assoc, arith, inl, inr, AllByRecursion, option_map, eqb-true}
+use Rattle.sftp_audit.proofs.Imports.{eq-eqb, cases_Bool, length-append, append-nil, Request, Reply, Event, Asked}
+use Rattle.sftp_audit.proofs.Imports.{Replied, Turn, closed, waiting, broken, after_event, turn_after, next_reply}
+use Rattle.sftp_audit.proofs.Imports.{exchanges_of, in_window, window, StepOf, Run, InTurn, IsWaiting, RecordedReply}
+use Rattle.sftp_audit.proofs.Imports.{Exchange}
+use Rattle.sftp_audit.specs.Exchanges.{recorded_exchanges, unsettled, AreAnswered, is_open, reply_of, ledger_of}
 use Rattle.sftp_transcript.specs.Ledger as ledgers
 use Rattle.sftp_transcript.proofs.pairing.Standing.{stands_from_start, stands_asked, stands_replied, no_late_request}
 use Rattle.sftp_transcript.proofs.pairing.Standing.{keeps_window-answered, keeps_window-few, keeps_window-many}
-use Rattle.sftp_audit.specs.declared.exchanges.RecordedReply.{RecordedReply}
-use Rattle.sftp_audit.specs.declared.exchanges.Exchange.{Exchange}
-use Rattle.sftp_audit.specs.Exchanges.{recorded_exchanges, unsettled, AreAnswered, is_open, reply_of}
-use Rattle.sftp_audit.specs.Exchanges.{ledger_of}
 use Rattle.sftp_audit.proofs.auditing.Lists.{ledger_of-recorded, ledger_of-append, ledger_of-length, settled_parts}
 use Rattle.sftp_audit.proofs.auditing.Lists.{unsettled-twice, first_unsettled, none_bare, is_open-ledger}
 
@@ -53,6 +43,38 @@ pub in_turn-front : (xs ys : List Event) → InTurn (xs ++ ys) → InTurn xs
 in_turn-front xs ys whole id breaks =
     let stays = ap (λ (turn : Turn). turn_after id turn ys) breaks ∙ broken_stays id ys in
     whole id (turn_after-append id closed xs ys ∙ stays)
+
+-- ---- out of turn
+
+pub one_more_event : (events : List Event) (event : Event) (more : List Event)
+    → (events ++ event ∷ []) ++ more ≡ events ++ event ∷ more
+one_more_event events event more = append_assoc events (event ∷ []) more
+
+-- what holds of events holds of them however they are split
+split_later : (P : List Event → Type 0) (events : List Event) (event : Event) (more : List Event)
+    → P (events ++ event ∷ more) → P ((events ++ event ∷ []) ++ more)
+split_later P events event more holds = subst P (sym (one_more_event events event more)) holds
+
+-- no session goes on after an event that comes out of turn
+out_of_turn : (id : ℕ) (events : List Event) (event : Event) (more : List Event) (turn : Turn)
+    → turn_after id closed events ≡ turn → after_event id event turn ≡ broken → InTurn (events ++ event ∷ more) → ⊥
+out_of_turn id events event more turn is breaks in_turn =
+    in_turn-front (events ++ event ∷ []) more (split_later InTurn events event more in_turn) id
+    (turn_after-event id events event ∙ ap (λ (t : Turn). after_event id event t) is ∙ breaks)
+
+-- a request of an id that waits
+pub second_request : (events : List Event) (request : Request) (more : List Event)
+    → turn_after request.id closed events ≡ waiting → InTurn (events ++ Asked request ∷ more) → ⊥
+second_request events request more waits =
+    out_of_turn request.id events (Asked request) more waiting waits
+    (ap (λ (b : Bool). if b then broken else waiting) (eq-eqb request.id request.id refl))
+
+-- a reply of an id that does not wait
+pub reply_unasked : (events : List Event) (reply : Reply) (more : List Event)
+    → turn_after reply.id closed events ≡ closed → InTurn (events ++ Replied reply ∷ more) → ⊥
+reply_unasked events reply more shut =
+    out_of_turn reply.id events (Replied reply) more closed shut
+    (ap (λ (b : Bool). if b then broken else closed) (eq-eqb reply.id reply.id refl))
 
 -- ---- a request that waits, and its place
 
@@ -111,29 +133,21 @@ turn_of-closed ledger id none = ap (λ (b : Bool). cond b waiting closed) none
 -- in turn, a request is asked where none of its id waits
 free_if_in_turn : (ledger : List ledgers.Exchange) (seen : List Event) (request : Request) (more : List Event)
     → ledgers.StandsFor ledger seen → InTurn (seen ++ Asked request ∷ more) → ledgers.is_open request.id ledger ≡ false
-unfolding turn_after
 free_if_in_turn ledger seen request more stands in_turn = elim (cases_Bool (ledgers.is_open request.id ledger)) [
   | inl opened ↦
-      let turn : ledgers.turn_of ledger request.id ≡ waiting = turn_of-open ledger request.id opened in
-      let same : (request.id == request.id) ≡ true = eq-eqb request.id request.id refl in
-      let after : turn_after request.id (ledgers.turn_of ledger request.id) (Asked request ∷ more) ≡ broken =
-      rw (turn, same) (broken_stays request.id more) in
-      absurd (in_turn request.id (stands.turns_are request.id (Asked request ∷ more) ∙ after))
+      let waits = turn_by ledger seen request.id stands ∙ turn_of-open ledger request.id opened in
+      absurd (second_request seen request more waits in_turn)
   | inr none ↦ none
 ]
 
 -- and a reply comes where one waits
 open_if_in_turn : (ledger : List ledgers.Exchange) (seen : List Event) (reply : Reply) (more : List Event)
     → ledgers.StandsFor ledger seen → InTurn (seen ++ Replied reply ∷ more) → ledgers.is_open reply.id ledger ≡ true
-unfolding turn_after
 open_if_in_turn ledger seen reply more stands in_turn = elim (cases_Bool (ledgers.is_open reply.id ledger)) [
   | inl opened ↦ opened
   | inr none ↦
-      let turn : ledgers.turn_of ledger reply.id ≡ closed = turn_of-closed ledger reply.id none in
-      let same : (reply.id == reply.id) ≡ true = eq-eqb reply.id reply.id refl in
-      let after : turn_after reply.id (ledgers.turn_of ledger reply.id) (Replied reply ∷ more) ≡ broken =
-      rw (turn, same) (broken_stays reply.id more) in
-      absurd (in_turn reply.id (stands.turns_are reply.id (Replied reply ∷ more) ∙ after))
+      let shut = turn_by ledger seen reply.id stands ∙ turn_of-closed ledger reply.id none in
+      absurd (reply_unasked seen reply more shut in_turn)
 ]
 
 -- in time, the request is one that the window takes
@@ -175,19 +189,14 @@ stands_behind ledger seen (Asked request ∷ more) stands in_turn inside =
     let free = free_if_in_turn ledger seen request more stands in_turn in
     let kept = kept_if_in_time ledger seen request more stands inside in
     let next = stands_asked ledger seen request stands free kept in
-    let parts : (seen ++ Asked request ∷ []) ++ more ≡ seen ++ Asked request ∷ more =
-    append_assoc seen (Asked request ∷ []) more in
-    let turns : InTurn ((seen ++ Asked request ∷ []) ++ more) = subst InTurn (sym parts) in_turn in
-    let kept_later : IsTrue (in_window ((seen ++ Asked request ∷ []) ++ more)) = subst IsInside (sym parts) inside in
-    subst SomeStands parts
-    (stands_behind (ledger ++ (request, None) ∷ []) (seen ++ Asked request ∷ []) more next turns kept_later)
+    subst SomeStands (one_more_event seen (Asked request) more)
+    (stands_behind (ledger ++ (request, None) ∷ []) (seen ++ Asked request ∷ []) more next
+    (split_later InTurn seen (Asked request) more in_turn) (split_later IsInside seen (Asked request) more inside))
 stands_behind ledger seen (Replied reply ∷ more) stands in_turn inside =
     let next = replied_on ledger seen reply stands (open_if_in_turn ledger seen reply more stands in_turn) in
-    let parts : (seen ++ Replied reply ∷ []) ++ more ≡ seen ++ Replied reply ∷ more =
-    append_assoc seen (Replied reply ∷ []) more in
-    let turns : InTurn ((seen ++ Replied reply ∷ []) ++ more) = subst InTurn (sym parts) in_turn in
-    let kept_later : IsTrue (in_window ((seen ++ Replied reply ∷ []) ++ more)) = subst IsInside (sym parts) inside in
-    subst SomeStands parts (stands_behind next.0 (seen ++ Replied reply ∷ []) more next.1 turns kept_later)
+    subst SomeStands (one_more_event seen (Replied reply) more)
+    (stands_behind next.0 (seen ++ Replied reply ∷ []) more next.1
+    (split_later InTurn seen (Replied reply) more in_turn) (split_later IsInside seen (Replied reply) more inside))
 
 with_replies-none : (ledger : List ledgers.Exchange) → ledgers.with_replies ledger [] ≡ ledger
 unfolding ledgers.with_replies next_reply
@@ -245,10 +254,6 @@ none_if_closed events id in_turn inside shut = elim (cases_Bool (is_open id (rec
 ]
 
 -- ---- one event more, in turn
-
-asked_not_broken : (b : Bool) → cond b waiting closed ≡ broken → ⊥
-asked_not_broken true e = cc
-asked_not_broken false e = cc
 
 pub in_turn-asked : (events : List Event) (request : Request) → InTurn events
     → turn_after request.id closed events ≡ closed → InTurn (events ++ Asked request ∷ [])

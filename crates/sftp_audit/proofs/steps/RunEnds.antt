@@ -1,12 +1,9 @@
 -- The end of a run is computed: the state and the pairs decide it.
-use Rattle.std.proofs.Common.{◌≡◌, ◌==◌, Bool, true, false, List, [], ◌∷◌, Option, Some, None, if◌then◌else◌, refl}
-use Rattle.std.proofs.Common.{sym, ap, eqb-true, eq-eqb}
-use Rattle.sftp_wire.specs.declared.packets.Request.{Request}
-use Rattle.sftp_wire.specs.declared.packets.Reply.{Reply}
+use Rattle.sftp_audit.proofs.Imports.{◌≡◌, ◌==◌, Bool, true, false, List, [], ◌∷◌, Option, Some, None, if◌then◌else◌}
+use Rattle.sftp_audit.proofs.Imports.{refl, sym, ap, Request, Reply, Allowed, step, and_then, step-is_allowed}
+use Rattle.sftp_audit.proofs.Imports.{allowed-step, Run}
+use Rattle.std.proofs.Common.{eqb-true, eq-eqb}
 use Rattle.sftp_handles.specs.State.{State}
-use Rattle.sftp_handles.specs.Allowed.{Allowed, step, and_then}
-use Rattle.sftp_handles.proofs.Steps.{step-is_allowed, allowed-step}
-use Rattle.sftp_transcript.specs.Explained.{Run}
 
 -- where a request and a reply lead, if the reply is allowed
 abbrev pub step_end : State → Request → Reply → Option State

@@ -1,12 +1,7 @@
 -- Laws of runs: a start and the events fix the end, whatever the machine, if each step fixes the state after it.
-use Rattle.std.proofs.Common.{◌≡◌, List, [], ◌∷◌, Option, Some, sym, subst, ◌∙◌}
-use Rattle.sftp_wire.specs.declared.packets.Request.{Request}
-use Rattle.sftp_wire.specs.declared.packets.Reply.{Reply}
+use Rattle.sftp_audit.proofs.Imports.{◌≡◌, List, [], ◌∷◌, Option, Some, sym, subst, ◌∙◌, Request, Reply, Allowed, step}
+use Rattle.sftp_audit.proofs.Imports.{allowed-step, Event, exchanges_of, leading_pairs, StepOf, Run, Explained}
 use Rattle.sftp_handles.specs.State.{State}
-use Rattle.sftp_handles.specs.Allowed.{Allowed, step}
-use Rattle.sftp_handles.proofs.Steps.{allowed-step}
-use Rattle.sftp_transcript.specs.declared.events.Event.{Event}
-use Rattle.sftp_transcript.specs.Explained.{exchanges_of, leading_pairs, StepOf, Run, Explained}
 
 -- a state, a request and its reply fix the state after them
 abbrev pub HasOneEnd : {S : Type 0} → StepOf S → Type 0

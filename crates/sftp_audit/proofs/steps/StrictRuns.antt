@@ -1,17 +1,8 @@
 -- Runs that are allowed strictly, and runs under a profile.
-use Rattle.std.proofs.Common.{◌≡◌, List, [], ◌∷◌, refl, sym, ap, subst, ◌∙◌}
-use Rattle.sftp_wire.specs.declared.packets.Request.{Request}
-use Rattle.sftp_wire.specs.declared.packets.Reply.{Reply}
+use Rattle.sftp_audit.proofs.Imports.{◌≡◌, List, [], ◌∷◌, refl, sym, ap, subst, ◌∙◌, Request, Reply, Allowed, Profile}
+use Rattle.sftp_audit.proofs.Imports.{strict, State, bare, Permitted, strict-both, Event, exchanges_of, leading_pairs}
+use Rattle.sftp_audit.proofs.Imports.{Run, Explained, Sound}
 use Rattle.sftp_handles.specs.State as sessions
-use Rattle.sftp_handles.specs.Allowed.{Allowed}
-use Rattle.sftp_profile.specs.declared.profiles.Profile.{Profile}
-use Rattle.sftp_profile.specs.Profiles.{strict}
-use Rattle.sftp_profile.specs.State.{State, bare}
-use Rattle.sftp_profile.specs.Permitted.{Permitted}
-use Rattle.sftp_profile.proofs.Permissions.{strict-both}
-use Rattle.sftp_transcript.specs.declared.events.Event.{Event}
-use Rattle.sftp_transcript.specs.Explained.{exchanges_of, leading_pairs, Run, Explained}
-use Rattle.sftp_transcript.specs.Sound.{Sound}
 
 -- ---- a profile that permits what is allowed strictly
 

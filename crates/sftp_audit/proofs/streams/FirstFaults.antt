@@ -1,38 +1,19 @@
 -- An audit meets one fault first.
-use Rattle.std.proofs.Common.{◌≡◌, ◌≢◌, ◌⊎◌, inl, inr, ℕ, List, [], ◌∷◌, ◌++◌, length, refl, sym, ap, ◌∙◌, subst}
-use Rattle.std.proofs.Common.{append_assoc, arith}
-use Rattle.std.proofs.lemmas.List.{length-append}
-use Rattle.sftp_wire.proofs.StreamLaws.Front.{spellings-apart}
-use Rattle.sftp_tree.specs.Tree.{Tree}
-use Rattle.sftp_tree.specs.Picture.{IsStart}
-use Rattle.sftp_tree.proofs.TreeFiles.Files.{one_start}
-use Rattle.sftp_profile.specs.declared.profiles.Profile.{Profile}
-use Rattle.sftp_profile.specs.State.{State, begun}
-use Rattle.sftp_profile.specs.Permitted.{Permitted}
-use Rattle.sftp_transcript.specs.declared.errors.TranscriptError.{TranscriptError}
+use Rattle.sftp_audit.proofs.Imports.{◌≡◌, ◌≢◌, ◌⊎◌, inl, inr, ℕ, List, [], ◌∷◌, ◌++◌, length, refl, sym, ap, ◌∙◌}
+use Rattle.sftp_audit.proofs.Imports.{subst, append_assoc, arith, length-append, spellings-apart, Tree, IsStart}
+use Rattle.sftp_audit.proofs.Imports.{one_start, Profile, State, begun, Permitted, TranscriptError, Event, Sound}
+use Rattle.sftp_audit.proofs.Imports.{records_are_one_lem, AuditError, Refusal, Exchange, Refuses, LacksReply}
+use Rattle.sftp_audit.proofs.Imports.{IsOldestOpen, RefusedAt, RefusedAtEnd, FaultAt, IsFirstFaultBy, IsTreeError}
+use Rattle.sftp_audit.proofs.Imports.{IsPlain, begins_each, faulty_records_none}
 use Rattle.sftp_transcript.specs.declared.errors.TranscriptError.TheVariants as transcript_errors
-use Rattle.sftp_transcript.specs.declared.events.Event.{Event}
-use Rattle.sftp_transcript.specs.Sound.{Sound}
-use Rattle.sftp_transcript.proofs.transcripts.Beginnings.{begins_each, faulty_records_none}
 use Rattle.sftp_transcript.proofs.transcripts.FirstFaults.{Extends, beginnings_compared, one_fault, first_before_fault}
-use Rattle.sftp_transcript.proofs.transcripts.OneRecord.{records_are_one_lem}
-use Rattle.sftp_audit.specs.declared.errors.AuditError.{AuditError}
 use Rattle.sftp_audit.specs.declared.errors.AuditError.TheVariants as audit_errors
-use Rattle.sftp_audit.specs.declared.errors.Refusal.{Refusal}
 use Rattle.sftp_audit.specs.declared.errors.Refusal.TheVariants as refusals
-use Rattle.sftp_audit.specs.declared.exchanges.Exchange.{Exchange}
-use Rattle.sftp_audit.specs.Auditor.{Refuses, LacksReply, IsOldestOpen}
-use Rattle.sftp_audit.specs.Audit.{RefusedAt, RefusedAtEnd, FaultAt, IsFirstFaultBy, IsTreeError, IsPlain}
+use Rattle.sftp_audit.proofs.auditing.Lists.{same_head, same_tail}
 use Rattle.sftp_audit.proofs.auditing.Lost.{refuses_unsound}
 use Rattle.sftp_audit.proofs.auditing.Refusals.{one_refusal}
 
 -- ---- two refusals of events
-
-same_head : (x y : Event) (xs ys : List Event) → x ∷ xs ≡ y ∷ ys → x ≡ y
-same_head x y xs ys same = cc
-
-same_tail : (x y : Event) (xs ys : List Event) → x ∷ xs ≡ y ∷ ys → xs ≡ ys
-same_tail x y xs ys same = cc
 
 none_left : (ws more : List Event) (x : Event) → [] ≡ (ws ++ x ∷ []) ++ more → ⊥
 none_left ws more x same =
@@ -99,20 +80,12 @@ two_refused start transcript a b not_a not_b one other =
 one_lack_by : (events : List Event) (m n : ℕ) → IsOldestOpen events m → IsOldestOpen events n → m ≡ n
 one_lack_by events m n one other =
     let same : one.0 ∷ one.1 ≡ other.0 ∷ other.1 = sym one.2 ∙ other.2 in
-    let exchange : one.0 ≡ other.0 = first_of one.0 other.0 one.1 other.1 same in
-    one.3 ∙ ap (λ (x : Exchange). x.number) exchange ∙ sym other.3
-  where
-    first_of : (x y : Exchange) (xs ys : List Exchange) → x ∷ xs ≡ y ∷ ys → x ≡ y
-    first_of x y xs ys same = cc
+    one.3 ∙ ap (λ (x : Exchange). x.number) (same_head one.0 other.0 one.1 other.1 same) ∙ sym other.3
 
 why_lacks : (events : List Event) (refusal : Refusal) → LacksReply events refusal
     → (number : ℕ) × (refusal ≡ refusals.Unanswered number) × IsOldestOpen events number
 why_lacks events (refusals.Unanswered number) lacks = (number, refl, lacks)
-why_lacks events (refusals.UnknownReply number) lacks = absurd lacks
-why_lacks events (refusals.IdInUse number) lacks = absurd lacks
-why_lacks events (refusals.Window number) lacks = absurd lacks
-why_lacks events (refusals.NotAllowed number) lacks = absurd lacks
-why_lacks events refusals.NoMemory lacks = absurd lacks
+why_lacks events other lacks = absurd lacks
 
 one_lack : (events : List Event) (a b : Refusal) → LacksReply events a → LacksReply events b → a ≡ b
 one_lack events a b for_a for_b =
@@ -167,11 +140,11 @@ fault_alone start transcript error refusal apart not_memory at (inr atend) =
 
 -- ---- the first fault
 
-unlike_fault : (error : TranscriptError) → IsPlain (audit_errors.Transcript error) → error ≢ transcript_errors.NoMemory
+pub unlike_fault : (error : TranscriptError) → IsPlain (audit_errors.Transcript error) → error ≢ transcript_errors.NoMemory
 unlike_fault transcript_errors.NoMemory plain same = plain
 unlike_fault other plain same = absurd cc
 
-unlike_refusal : (refusal : Refusal) → IsPlain (audit_errors.Refused refusal) → refusal ≢ refusals.NoMemory
+pub unlike_refusal : (refusal : Refusal) → IsPlain (audit_errors.Refused refusal) → refusal ≢ refusals.NoMemory
 unlike_refusal refusals.NoMemory plain same = plain
 unlike_refusal other plain same = absurd cc
 
@@ -186,11 +159,9 @@ module _ (profile : Profile) (tree transcript : List ℕ) where
   one_first_fault a audit_errors.NoMemory for_a for_b plain_a plain_b not_a not_b = absurd (not_b refl)
   one_first_fault (audit_errors.Tree e) (audit_errors.Tree f) for_a for_b plain_a plain_b not_a not_b =
       inl (tt, tt)
-  one_first_fault (audit_errors.Tree e) (audit_errors.Transcript f) for_a for_b plain_a plain_b not_a not_b =
+  one_first_fault (audit_errors.Tree e) other for_a for_b plain_a plain_b not_a not_b =
       absurd (for_a (for_b.0, for_b.1))
-  one_first_fault (audit_errors.Tree e) (audit_errors.Refused f) for_a for_b plain_a plain_b not_a not_b =
-      absurd (for_a (for_b.0, for_b.1))
-  one_first_fault (audit_errors.Transcript e) (audit_errors.Tree f) for_a for_b plain_a plain_b not_a not_b =
+  one_first_fault other (audit_errors.Tree f) for_a for_b plain_a plain_b not_a not_b =
       absurd (for_b (for_a.0, for_a.1))
   one_first_fault (audit_errors.Transcript e) (audit_errors.Transcript f) for_a for_b plain_a plain_b not_a not_b =
       let same = one_fault transcript for_a.2.events for_b.2.events e f for_a.2.fault for_b.2.fault
@@ -201,8 +172,6 @@ module _ (profile : Profile) (tree transcript : List ℕ) where
       absurd
       (fault_alone (begun profile for_a.0) transcript e f (unlike_fault e plain_a) (unlike_refusal f plain_b) for_a.2
       (subst (λ (t : Tree). IsRefused (begun profile t) transcript f) start for_b.2))
-  one_first_fault (audit_errors.Refused e) (audit_errors.Tree f) for_a for_b plain_a plain_b not_a not_b =
-      absurd (for_b (for_a.0, for_a.1))
   one_first_fault (audit_errors.Refused e) (audit_errors.Transcript f) for_a for_b plain_a plain_b not_a not_b =
       let start : for_a.0 ≡ for_b.0 = same_start tree for_b.0 for_a.0 for_b.1 for_a.1 in
       absurd

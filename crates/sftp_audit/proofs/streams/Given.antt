@@ -1,25 +1,15 @@
 -- What an auditor is fed from a reader, event by event.
-use Rattle.std.proofs.Common.{◌≡◌, inl, inr, ℕ, ◌+◌, ◌-◌, ◌^◌, min, List, [], ◌∷◌, ◌++◌, length, Bool}
-use Rattle.std.proofs.Common.{Option, Some, None, if◌then◌else◌, refl, subst, arith}
-use Rattle.sftp_transcript.specs.declared.errors.TranscriptError.{TranscriptError}
-use Rattle.sftp_transcript.specs.declared.errors.TranscriptError.TheVariants as transcript_errors
-use Rattle.sftp_transcript.specs.declared.events.Event.{Event}
-use Rattle.sftp_transcript.specs.declared.events.Event.TheVariants.{Asked, Replied}
+use Rattle.sftp_audit.proofs.Imports.{◌≡◌, inl, inr, ℕ, ◌+◌, ◌-◌, ◌^◌, min, List, [], ◌∷◌, ◌++◌, length, Bool, Option}
+use Rattle.sftp_audit.proofs.Imports.{Some, None, if◌then◌else◌, refl, subst, arith, TranscriptError, Event, Asked}
+use Rattle.sftp_audit.proofs.Imports.{Replied, BeginsRecord, ReadUpTo, HasGiven, GaveFrom, FaultOf, exchanges_of}
+use Rattle.sftp_audit.proofs.Imports.{Reading, IsRecord, State, Permitted, Refusal, Audited, StandsFor, Refuses, IsTold}
+use Rattle.sftp_audit.proofs.Imports.{IsNew, IsNoJudgement, WasFed, StopsFeed, IsToldOf, request_count, is_request}
+use Rattle.sftp_audit.proofs.Imports.{HasRefused, error_of_transcript, error_of_session, record_from_beginning}
 use Rattle.sftp_transcript.specs.declared.stage.Stage.{Stage}
-use Rattle.sftp_transcript.specs.declared.stage.Stage.TheVariants as stages
-use Rattle.sftp_transcript.specs.Begun.{BeginsRecord, ReadUpTo, HasGiven, GaveFrom, FaultOf}
-use Rattle.sftp_transcript.specs.Explained.{exchanges_of}
-use Rattle.sftp_transcript.specs.Recorded.{Reading}
-use Rattle.sftp_transcript.specs.Transcript.{IsRecord}
-use Rattle.sftp_transcript.proofs.transcripts.Beginnings.{record_from_beginning}
-use Rattle.sftp_profile.specs.State.{State}
-use Rattle.sftp_profile.specs.Permitted.{Permitted}
-use Rattle.sftp_audit.specs.declared.errors.Refusal.{Refusal}
-use Rattle.sftp_audit.specs.declared.errors.Refusal.TheVariants as refusals
 use Rattle.sftp_audit.specs.Exchanges.{recorded_exchanges}
-use Rattle.sftp_audit.specs.Auditor.{Audited, StandsFor, Refuses, IsTold}
-use Rattle.sftp_audit.specs.Audit.{IsNew, IsNoJudgement, WasFed, StopsFeed, IsToldOf, request_count, is_request}
-use Rattle.sftp_audit.specs.Audit.{HasRefused, error_of_transcript, error_of_session}
+use Rattle.sftp_transcript.specs.declared.errors.TranscriptError.TheVariants as transcript_errors
+use Rattle.sftp_transcript.specs.declared.stage.Stage.TheVariants as stages
+use Rattle.sftp_audit.specs.declared.errors.Refusal.TheVariants as refusals
 
 -- the events so far were given and fed, and so many of them are requests
 pub record IsFeeding (start : State) (transcript : List ℕ) (requests : ℕ) (auditor : Audited) (records : Reading)
@@ -66,6 +56,12 @@ request_count-one_more events event old e =
     rw (exchanges-one_more events event) (omega (arith, e))
 
 -- ---- one step
+
+-- what was given is this event
+pub gave_event : (transcript : List ℕ) (seen : List Event) (given : Option Event) (records : Reading) (event : Event)
+    → given ≡ Some event → GaveFrom transcript seen given records → GaveFrom transcript seen (Some event) records
+gave_event transcript seen given records event is gave =
+    subst (λ (o : Option Event). GaveFrom transcript seen o records) is gave
 
 pub feeding-next : (start : State) (transcript : List ℕ) (requests : ℕ) (auditor auditor_now : Audited)
     (records records_now : Reading) (event : Event)
@@ -120,13 +116,9 @@ stops-fault start transcript requests auditor records other feeding (inr fault) 
 
 begun_by : (stage : Stage) (bytes : List ℕ) (seen : List Event) (event : Event) (ahead : List ℕ)
     → ReadUpTo stage bytes (seen ++ event ∷ []) ahead → BeginsRecord (seen ++ event ∷ []) bytes ahead
-begun_by stages.Opening bytes [] event ahead read = cc
-begun_by stages.Opening bytes (first ∷ seen) event ahead read = cc
-begun_by stages.Init bytes [] event ahead read = cc
-begun_by stages.Init bytes (first ∷ seen) event ahead read = cc
-begun_by stages.Version bytes [] event ahead read = cc
-begun_by stages.Version bytes (first ∷ seen) event ahead read = cc
 begun_by stages.Events bytes seen event ahead read = read
+begun_by stage bytes [] event ahead read = cc
+begun_by stage bytes (first ∷ seen) event ahead read = cc
 
 pub stops-refused : (start : State) (transcript : List ℕ) (requests : ℕ) (auditor : Audited)
     (records records_now : Reading) (event : Event) (refusal : Refusal)

@@ -1,31 +1,17 @@
 -- What the parts of an audit say of the whole.
-use Rattle.std.proofs.Common.{◌≡◌, ◌≢◌, inl, inr, ℕ, List, [], ◌∷◌, ◌++◌, refl, sym, ap, ◌∙◌, subst, append_assoc}
-use Rattle.std.proofs.Common.{Bool, true, false, Some, None, Result, Ok, Err}
+use Rattle.sftp_audit.proofs.Imports.{closed_tree, ◌≡◌, ◌≢◌, inl, inr, ℕ, List, [], ◌∷◌, ◌++◌, refl, sym, ap, ◌∙◌}
+use Rattle.sftp_audit.proofs.Imports.{subst, append_assoc, Bool, true, false, Some, None, Result, Ok, Err}
+use Rattle.sftp_audit.proofs.Imports.{spellings-apart, Tree, IsStart, Profile, State, begun, Permitted, TranscriptError}
+use Rattle.sftp_audit.proofs.Imports.{Event, Explained, Reading, records_are_one_lem, AuditError, Refusal, Audited}
+use Rattle.sftp_audit.proofs.Imports.{LacksReply, AccountsBy, FaultAt, RefusedAt, IsFirstFaultBy, IsNoJudgement}
+use Rattle.sftp_audit.proofs.Imports.{IsTreeError, JudgesTree, IsToldOf, IsToldBy, ToldAt, IsExcusedBy, IsNew, IsPlain}
+use Rattle.sftp_audit.proofs.Imports.{WasFed, StopsFeed, error_of_session, begins_each, faulty_records_none}
 use Rattle.std.specs.Result.{IfErr}
-use Rattle.sftp_wire.proofs.StreamLaws.Front.{spellings-apart}
-use Rattle.sftp_tree.specs.Tree.{Tree, trim}
-use Rattle.sftp_tree.specs.Picture.{IsStart}
-use Rattle.sftp_profile.specs.declared.profiles.Profile.{Profile}
-use Rattle.sftp_profile.specs.State.{State, begun}
-use Rattle.sftp_profile.specs.Permitted.{Permitted}
-use Rattle.sftp_transcript.specs.declared.errors.TranscriptError.{TranscriptError}
 use Rattle.sftp_transcript.specs.declared.errors.TranscriptError.TheVariants as transcript_errors
-use Rattle.sftp_transcript.specs.declared.events.Event.{Event}
 use Rattle.sftp_transcript.specs.declared.stage.Stage.TheVariants as stages
-use Rattle.sftp_transcript.specs.Explained.{Explained}
-use Rattle.sftp_transcript.specs.Recorded.{Reading}
-use Rattle.sftp_transcript.proofs.transcripts.Beginnings.{begins_each, faulty_records_none}
-use Rattle.sftp_transcript.proofs.transcripts.OneRecord.{records_are_one_lem}
-use Rattle.sftp_audit.specs.declared.errors.AuditError.{AuditError}
 use Rattle.sftp_audit.specs.declared.errors.AuditError.TheVariants as audit_errors
-use Rattle.sftp_audit.specs.declared.errors.Refusal.{Refusal}
 use Rattle.sftp_audit.specs.declared.errors.Refusal.TheVariants as refusals
-use Rattle.sftp_audit.specs.Auditor.{Audited, LacksReply}
-use Rattle.sftp_audit.specs.Audit.{AccountsBy, FaultAt, RefusedAt, IsFirstFaultBy, IsNoJudgement}
-use Rattle.sftp_treefile.specs.declared.errors.TreeError.{TreeError}
-use Rattle.sftp_treefile.specs.declared.errors.TreeError.TheVariants as tree_errors
-use Rattle.sftp_audit.specs.Audit.{IsTreeError, JudgesTree, IsToldOf, IsToldBy, ToldAt, error_of_tree}
-use Rattle.sftp_audit.specs.Audit.{IsExcusedBy, IsNew, IsPlain, WasFed, StopsFeed, error_of_session}
+use Rattle.sftp_audit.proofs.streams.FirstFaults.{unlike_fault, unlike_refusal}
 use Rattle.sftp_audit.proofs.auditing.Lost.{refuses_lost, lacks_lost}
 
 -- no run is accounted for
@@ -71,17 +57,9 @@ pub feed-lost : (profile : Profile) (start : Tree) (tree transcript : List ℕ) 
 feed-lost profile start tree transcript (audit_errors.Tree error) only plain judged stops = absurd stops
 feed-lost profile start tree transcript audit_errors.NoMemory only plain judged stops = absurd (judged tt)
 feed-lost profile start tree transcript (audit_errors.Transcript error) only plain judged stops =
-    fault-lost profile (begun profile start) tree transcript error (unlike error plain) stops
-  where
-    unlike : (error : TranscriptError) → IsPlain (audit_errors.Transcript error) → error ≢ transcript_errors.NoMemory
-    unlike transcript_errors.NoMemory plain same = plain
-    unlike other plain same = absurd cc
+    fault-lost profile (begun profile start) tree transcript error (unlike_fault error plain) stops
 feed-lost profile start tree transcript (audit_errors.Refused refusal) only plain judged stops =
-    refused-lost profile start tree transcript refusal (unlike refusal plain) only stops
-  where
-    unlike : (refusal : Refusal) → IsPlain (audit_errors.Refused refusal) → refusal ≢ refusals.NoMemory
-    unlike refusals.NoMemory plain same = plain
-    unlike other plain same = absurd cc
+    refused-lost profile start tree transcript refusal (unlike_refusal refusal plain) only stops
 
 pub feed-first : (profile : Profile) (start : Tree) (tree transcript : List ℕ) (error : AuditError) → IsStart start tree
     → StopsFeed (begun profile start) transcript error → IsFirstFaultBy profile tree transcript error
@@ -96,8 +74,7 @@ pub judged-feed : (start : Tree) (tree : List ℕ) (error : AuditError) → IsSt
     → JudgesTree tree error
 judged-feed start tree (audit_errors.Tree error) is treeless = absurd (treeless tt)
 judged-feed start tree audit_errors.NoMemory is treeless = tt
-judged-feed start tree (audit_errors.Transcript error) is treeless = (start, is)
-judged-feed start tree (audit_errors.Refused refusal) is treeless = (start, is)
+judged-feed start tree other is treeless = (start, is)
 
 pub judged-end : (start : Tree) (tree : List ℕ) (refusal : Refusal) → IsStart start tree
     → JudgesTree tree (error_of_session refusal)
@@ -139,8 +116,7 @@ end-first profile start tree transcript requests auditor other is was lacks = (
 pub accounts-fed : (profile : Profile) (start : Tree) (tree transcript : List ℕ) (requests : ℕ) (auditor : Audited)
     (end : Tree)
     → IsStart start tree → (was : WasFed (begun profile start) transcript requests auditor)
-    → (last : State) × Explained Permitted (begun profile start) was.events last
-    × (end ≡ trim (record last.session.tree { pins = [] }))
+    → (last : State) × Explained Permitted (begun profile start) was.events last × (end ≡ closed_tree last.session)
     → AccountsBy profile tree transcript start was.events end
 accounts-fed profile start tree transcript requests auditor end is was ended = record {
   start_is = is;
@@ -185,21 +161,11 @@ refused-memory profile tree bytes left failures reads records (Err error) same i
 
 -- ---- what is told
 
--- of a tree file nothing is told
-pub told-tree : (profile : Profile) (tree transcript : List ℕ) (told : Bool) (error : TreeError) → told ≡ true
-    → IsToldBy profile tree transcript told (error_of_tree error)
-told-tree profile tree transcript told tree_errors.NoMemory same = same
-told-tree profile tree transcript told other same = same
-
 told-kind : (profile : Profile) (start : Tree) (tree transcript : List ℕ) (told : Bool) (refusal : Refusal)
     → IsStart start tree → ToldAt (begun profile start) transcript true told refusal
     → IsToldBy profile tree transcript told (audit_errors.Refused refusal)
-told-kind profile start tree transcript told (refusals.UnknownReply number) found at = at.told
-told-kind profile start tree transcript told (refusals.IdInUse number) found at = at.told
-told-kind profile start tree transcript told (refusals.Window number) found at = at.told
 told-kind profile start tree transcript told (refusals.NotAllowed number) found at = (start, found, at)
-told-kind profile start tree transcript told (refusals.Unanswered number) found at = at.told
-told-kind profile start tree transcript told refusals.NoMemory found at = at.told
+told-kind profile start tree transcript told other found at = at.told
 
 pub told-feed : (profile : Profile) (start : Tree) (tree transcript : List ℕ) (before told : Bool) (error : AuditError)
     → before ≡ true → IsStart start tree → IsToldOf (begun profile start) transcript before told error
@@ -207,16 +173,10 @@ pub told-feed : (profile : Profile) (start : Tree) (tree transcript : List ℕ) 
 told-feed profile start tree transcript false told error is found at = absurd cc
 told-feed profile start tree transcript true told (audit_errors.Refused refusal) is found at =
     told-kind profile start tree transcript told refusal found at
-told-feed profile start tree transcript true told (audit_errors.Tree error) is found at = at
-told-feed profile start tree transcript true told (audit_errors.Transcript error) is found at = at
-told-feed profile start tree transcript true told audit_errors.NoMemory is found at = at
+told-feed profile start tree transcript true told other is found at = at
 
 -- at the end a request without a reply is all that can be wrong
 pub told-end : (profile : Profile) (tree transcript : List ℕ) (events : List Event) (told : Bool) (refusal : Refusal)
     → told ≡ true → LacksReply events refusal → IsToldBy profile tree transcript told (error_of_session refusal)
-told-end profile tree transcript events told (refusals.UnknownReply number) same lacks = same
-told-end profile tree transcript events told (refusals.IdInUse number) same lacks = same
-told-end profile tree transcript events told (refusals.Window number) same lacks = same
 told-end profile tree transcript events told (refusals.NotAllowed number) same lacks = absurd lacks
-told-end profile tree transcript events told (refusals.Unanswered number) same lacks = same
-told-end profile tree transcript events told refusals.NoMemory same lacks = same
+told-end profile tree transcript events told other same lacks = same

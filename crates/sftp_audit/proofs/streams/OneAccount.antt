@@ -1,17 +1,7 @@
 -- Bytes account for one run at most.
-use Rattle.std.proofs.Common.{◌≡◌, List, ℕ, [], sym, ap, ◌∙◌, subst}
-use Rattle.sftp_wire.proofs.StreamLaws.Front.{spellings-apart}
-use Rattle.sftp_tree.specs.Tree.{Tree, trim}
-use Rattle.sftp_tree.proofs.TreeFiles.Files.{one_start}
-use Rattle.sftp_profile.specs.declared.profiles.Profile.{Profile}
-use Rattle.sftp_profile.specs.Profiles.{strict}
-use Rattle.sftp_profile.specs.State.{State, begun}
-use Rattle.sftp_profile.specs.Permitted.{Permitted}
-use Rattle.sftp_profile.proofs.Permissions.{permitted-one_end}
-use Rattle.sftp_transcript.specs.declared.events.Event.{Event}
-use Rattle.sftp_transcript.specs.Explained.{Explained}
-use Rattle.sftp_transcript.proofs.transcripts.OneRecord.{records_are_one_lem}
-use Rattle.sftp_audit.specs.Audit.{Accounts, AccountsBy}
+use Rattle.sftp_audit.proofs.Imports.{closed_tree, ◌≡◌, List, ℕ, sym, ap, ◌∙◌, subst, spellings-apart, Tree, one_start}
+use Rattle.sftp_audit.proofs.Imports.{Profile, strict, State, begun, Permitted, permitted-one_end, Event, Explained}
+use Rattle.sftp_audit.proofs.Imports.{records_are_one_lem, Accounts, AccountsBy}
 use Rattle.sftp_audit.proofs.steps.StepLaws.{explained-one_end}
 use Rattle.sftp_audit.proofs.steps.StrictRuns.{strict-permits}
 use Rattle.sftp_audit.proofs.streams.StrictAccounts.{accounts-permitted}
@@ -40,7 +30,7 @@ module _ (profile : Profile) (tree transcript : List ℕ) (s u : Tree) (events o
       let last : one.last ≡ other.last =
       explained-one_end Permitted permitted-one_end (begun profile s) events one.last other.last one.explained
       (moved one other) in
-      one.end_is ∙ ap (λ (end : State). trim (record end.session.tree { pins = [] })) last ∙ sym other.end_is
+      one.end_is ∙ ap (λ (end : State). closed_tree end.session) last ∙ sym other.end_is
 
 -- ---- strictly
 

@@ -1,16 +1,7 @@
 -- What is accounted for strictly, and under a profile.
-use Rattle.std.proofs.Common.{◌≡◌, List, ℕ, Result, Ok, Err, sym, subst}
-use Rattle.std.specs.Result.{IfOk, IfErr}
-use Rattle.sftp_tree.specs.Tree.{Tree}
-use Rattle.sftp_profile.specs.declared.profiles.Profile.{Profile}
-use Rattle.sftp_profile.specs.Profiles.{strict}
-use Rattle.sftp_profile.specs.State.{bare}
-use Rattle.sftp_transcript.specs.declared.events.Event.{Event}
-use Rattle.sftp_transcript.specs.Recorded.{Reading}
-use Rattle.sftp_audit.specs.declared.errors.AuditError.{AuditError}
-use Rattle.sftp_audit.specs.Audit.{Accounts, AccountsBy, IsNew, started}
-use Rattle.sftp_audit.proofs.steps.StrictRuns.{PermitsAllowed, strict-permits}
-use Rattle.sftp_audit.proofs.steps.StrictRuns.{explained-permitted, explained-strict}
+use Rattle.sftp_audit.proofs.Imports.{◌≡◌, List, ℕ, sym, subst, Tree, Profile, strict, bare, Event, Accounts}
+use Rattle.sftp_audit.proofs.Imports.{AccountsBy, started}
+use Rattle.sftp_audit.proofs.steps.StrictRuns.{PermitsAllowed, strict-permits, explained-permitted, explained-strict}
 
 pub accounts-permitted : (profile : Profile) → PermitsAllowed profile → (tree transcript : List ℕ) (start : Tree)
     (events : List Event) (end : Tree) → Accounts tree transcript start events end
@@ -47,10 +38,9 @@ HasRunBy profile tree transcript OfEnd OfEvents =
     × OfEnd end × OfEvents events
 
 module _ (profile : Profile) (tree : List ℕ) (same : profile ≡ strict) where
-  run-strict : (transcript : List ℕ) (OfEnd : Tree → Type 0) (OfEvents : List Event → Type 0)
-      → HasRunBy profile tree transcript OfEnd OfEvents
-      → HasRun tree transcript OfEnd OfEvents
-  run-strict transcript OfEnd OfEvents told = (
+  pub has_run-strict : (transcript : List ℕ) (OfEnd : Tree → Type 0) (OfEvents : List Event → Type 0)
+      → HasRunBy profile tree transcript OfEnd OfEvents → HasRun tree transcript OfEnd OfEvents
+  has_run-strict transcript OfEnd OfEvents told = (
     told.0,
     told.1,
     told.2,
@@ -60,48 +50,11 @@ module _ (profile : Profile) (tree : List ℕ) (same : profile ≡ strict) where
     told.5,
   )
 
-  pub accepted-strict : {T : Type 0} (transcript : List ℕ) (OfEnd : T → Tree → Type 0)
-      (OfEvents : T → List Event → Type 0) (result : Result T AuditError)
-      → IfOk result (λ value. HasRunBy profile tree transcript (OfEnd value) (OfEvents value))
-      → IfOk result (λ value. HasRun tree transcript (OfEnd value) (OfEvents value))
-  accepted-strict transcript OfEnd OfEvents (Ok value) told = run-strict transcript (OfEnd value) (OfEvents value) told
-  accepted-strict transcript OfEnd OfEvents (Err error) told = tt
-
-  pub accepted-strict_stream : {T : Type 0} (records : Reading) (OfEnd : T → Tree → Type 0)
-      (OfEvents : T → List Event → Type 0) (result : Result T AuditError)
-      → IfOk result
-      (λ value. (transcript : List ℕ) → IsNew transcript records → HasRunBy profile tree transcript (OfEnd value)
-      (OfEvents value))
-      → IfOk result
-      (λ value. (transcript : List ℕ) → IsNew transcript records → HasRun tree transcript (OfEnd value)
-      (OfEvents value))
-  accepted-strict_stream records OfEnd OfEvents (Ok value) told =
-      λ transcript new. run-strict transcript (OfEnd value) (OfEvents value) (told transcript new)
-  accepted-strict_stream records OfEnd OfEvents (Err error) told = tt
-
   -- no run is accounted for
-  lost-strict : (transcript : List ℕ)
+  pub lost-strict : (transcript : List ℕ)
       → ((start : Tree) (events : List Event) (end : Tree) → AccountsBy profile tree transcript start events end → ⊥)
       → (start : Tree) (events : List Event) (end : Tree) → Accounts tree transcript start events end → ⊥
   lost-strict transcript none start events end told =
       none start events end
       (subst (λ (p : Profile). AccountsBy p tree transcript start events end) (sym same)
       (accounts-permitted strict strict-permits tree transcript start events end told))
-
-  pub refused-strict : {T : Type 0} (transcript : List ℕ) (When : AuditError → Type 0) (result : Result T AuditError)
-      → IfErr result (λ e. When e → (start : Tree) (events : List Event) (end : Tree)
-      → AccountsBy profile tree transcript start events end → ⊥)
-      → IfErr result (λ e. When e → (start : Tree) (events : List Event) (end : Tree)
-      → Accounts tree transcript start events end → ⊥)
-  refused-strict transcript When (Ok value) refused = tt
-  refused-strict transcript When (Err error) refused = λ when. lost-strict transcript (refused when)
-
-  pub refused-strict_stream : {T : Type 0} (records : Reading) (When : AuditError → Type 0)
-      (result : Result T AuditError)
-      → IfErr result (λ e. When e → (transcript : List ℕ) → IsNew transcript records
-      → (start : Tree) (events : List Event) (end : Tree) → AccountsBy profile tree transcript start events end → ⊥)
-      → IfErr result (λ e. When e → (transcript : List ℕ) → IsNew transcript records
-      → (start : Tree) (events : List Event) (end : Tree) → Accounts tree transcript start events end → ⊥)
-  refused-strict_stream records When (Ok value) refused = tt
-  refused-strict_stream records When (Err error) refused =
-      λ when transcript new. lost-strict transcript (refused when transcript new)

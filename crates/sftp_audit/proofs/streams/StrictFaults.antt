@@ -1,30 +1,13 @@
 -- What an audit meets first strictly, and under the strict profile.
-use Rattle.std.proofs.Common.{◌≡◌, ℕ, List, ◌⊎◌, Result, Ok, Err, inl, inr, sym, subst}
-use Rattle.std.specs.Result.{IfErr}
-use Rattle.sftp_tree.specs.Tree.{Tree}
-use Rattle.sftp_handles.specs.State as sessions
-use Rattle.sftp_handles.specs.Allowed.{Allowed}
-use Rattle.sftp_profile.specs.declared.profiles.Profile.{Profile}
-use Rattle.sftp_profile.specs.Profiles.{strict}
-use Rattle.sftp_profile.specs.State.{State, begun, bare}
-use Rattle.sftp_profile.specs.Permitted.{Permitted}
-use Rattle.sftp_profile.proofs.Permissions.{strict-both}
-use Rattle.sftp_transcript.specs.declared.events.Event.{Event}
-use Rattle.sftp_transcript.specs.declared.events.Event.TheVariants.{Asked, Replied}
-use Rattle.sftp_transcript.specs.Explained.{StepOf, leading_pairs}
-use Rattle.sftp_transcript.specs.Recorded.{Reading}
-use Rattle.sftp_transcript.specs.Sound.{Sound}
-use Rattle.sftp_audit.specs.declared.errors.AuditError.{AuditError}
-use Rattle.sftp_audit.specs.declared.errors.AuditError.TheVariants as audit_errors
-use Rattle.sftp_audit.specs.declared.errors.Refusal.{Refusal}
-use Rattle.sftp_audit.specs.declared.errors.Refusal.TheVariants as refusals
-use Rattle.sftp_audit.specs.declared.exchanges.Exchange.{Exchange}
+use Rattle.sftp_audit.proofs.Imports.{◌≡◌, ℕ, List, ◌⊎◌, inl, inr, sym, subst, Tree, Allowed, Profile, strict, State}
+use Rattle.sftp_audit.proofs.Imports.{begun, bare, Permitted, strict-both, Event, Replied, StepOf, leading_pairs, Sound}
+use Rattle.sftp_audit.proofs.Imports.{AuditError, Refusal, Exchange, IsFirstWrong, Refuses, started, RefusedAt}
+use Rattle.sftp_audit.proofs.Imports.{RefusedAtEnd, IsFirstFaultOf, IsFirstFault, IsFirstFaultBy}
 use Rattle.sftp_audit.specs.Exchanges.{ledger_of}
-use Rattle.sftp_audit.specs.Auditor.{IsFirstWrong, Refuses}
-use Rattle.sftp_audit.specs.Audit.{started, RefusedAt, RefusedAtEnd, IsFirstFaultOf, IsFirstFault, IsFirstFaultBy}
-use Rattle.sftp_audit.specs.Audit.{IsNew}
-use Rattle.sftp_audit.proofs.steps.StrictRuns.{run-permitted, run-strict, sound-permitted, sound-strict}
-use Rattle.sftp_audit.proofs.steps.StrictRuns.{strict-permits}
+use Rattle.sftp_handles.specs.State as sessions
+use Rattle.sftp_audit.specs.declared.errors.AuditError.TheVariants as audit_errors
+use Rattle.sftp_audit.specs.declared.errors.Refusal.TheVariants as refusals
+use Rattle.sftp_audit.proofs.steps.StrictRuns.{run-permitted, run-strict, sound-permitted, sound-strict, strict-permits}
 
 -- what is sound for one machine is so for another, and what it finds wrong first the other does too
 record Carries {S T : Type 0} (step : StepOf S) (other : StepOf T) (start : S) (begin : T) : Type 0 where
@@ -37,19 +20,9 @@ record Carries {S T : Type 0} (step : StepOf S) (other : StepOf T) (start : S) (
 refuses-carried : {S T : Type 0} (step : StepOf S) (other : StepOf T) (start : S) (begin : T)
     → Carries step other start begin → (events : List Event) (event : Event) (refusal : Refusal)
     → Refuses step start events event refusal → Refuses other begin events event refusal
-refuses-carried step other start begin carries events (Asked request) (refusals.UnknownReply number) why = absurd why
-refuses-carried step other start begin carries events (Asked request) (refusals.IdInUse number) why = why
-refuses-carried step other start begin carries events (Asked request) (refusals.Window number) why = why
-refuses-carried step other start begin carries events (Asked request) (refusals.NotAllowed number) why = absurd why
-refuses-carried step other start begin carries events (Asked request) (refusals.Unanswered number) why = absurd why
-refuses-carried step other start begin carries events (Asked request) refusals.NoMemory why = tt
-refuses-carried step other start begin carries events (Replied reply) (refusals.UnknownReply number) why = why
-refuses-carried step other start begin carries events (Replied reply) (refusals.IdInUse number) why = absurd why
-refuses-carried step other start begin carries events (Replied reply) (refusals.Window number) why = absurd why
 refuses-carried step other start begin carries events (Replied reply) (refusals.NotAllowed number) why =
     (why.0, carries.wrong _ number why.1)
-refuses-carried step other start begin carries events (Replied reply) (refusals.Unanswered number) why = absurd why
-refuses-carried step other start begin carries events (Replied reply) refusals.NoMemory why = tt
+refuses-carried step other start begin carries events event refusal why = why
 
 refused-carried : {S T : Type 0} (step : StepOf S) (other : StepOf T) (start : S) (begin : T)
     → Carries step other start begin → (transcript : List ℕ) (refusal : Refusal)
@@ -152,22 +125,8 @@ fault-strict = fault-carried Permitted Allowed (begun strict) started (λ start.
 
 -- ---- what an audit under the strict profile says
 
-module _ (profile : Profile) (tree : List ℕ) (same : profile ≡ strict) where
-  first_of : (transcript : List ℕ) (error : AuditError) → IsFirstFaultBy profile tree transcript error
-      → IsFirstFault tree transcript error
-  first_of transcript error first =
-      fault-strict tree transcript error
-      (subst (λ (p : Profile). IsFirstFaultBy p tree transcript error) same first)
-
-  pub first-strict : {T : Type 0} (transcript : List ℕ) (result : Result T AuditError)
-      → IfErr result (IsFirstFaultBy profile tree transcript) → IfErr result (IsFirstFault tree transcript)
-  first-strict transcript (Ok value) first = tt
-  first-strict transcript (Err error) first = first_of transcript error first
-
-  pub first-strict_stream : {T : Type 0} (records : Reading) (When : AuditError → Type 0) (result : Result T AuditError)
-      → IfErr result (λ e. When e → (transcript : List ℕ) → IsNew transcript records
-      → IsFirstFaultBy profile tree transcript e)
-      → IfErr result (λ e. When e → (transcript : List ℕ) → IsNew transcript records → IsFirstFault tree transcript e)
-  first-strict_stream records When (Ok value) first = tt
-  first-strict_stream records When (Err error) first =
-      λ when transcript new. first_of transcript error (first when transcript new)
+pub first-strict : (profile : Profile) (tree : List ℕ) → profile ≡ strict → (transcript : List ℕ) (error : AuditError)
+    → IsFirstFaultBy profile tree transcript error → IsFirstFault tree transcript error
+first-strict profile tree same transcript error first =
+    fault-strict tree transcript error
+    (subst (λ (p : Profile). IsFirstFaultBy p tree transcript error) same first)

@@ -1,33 +1,15 @@
 -- Worked examples through handles: a session that reads a file in parts.
-use Rattle.std.proofs.Common.{codes, refl}
-use Rattle.sftp_path.specs.Place.{parts, components, is_good_path}
-use Rattle.sftp_path.specs.Table.{retain, get, put, without}
-use Rattle.sftp_tree.specs.Tree.{fits}
-use Rattle.sftp_tree.specs.Walk.{meets, walk, walk_parts, reached}
-use Rattle.sftp_tree.specs.Causes.{no_causes, when, joined}
-use Rattle.sftp_tree.specs.Requests.{led, plain_causes, causes as path_causes, outcome}
-use Rattle.sftp_handles.specs.Handles.{pins_of}
-use Rattle.sftp_handles.specs.Seen.{seen}
-use Rattle.sftp_handles.specs.Requests.{causes, told_to, answers, after}
-use Rattle.sftp_handles.specs.Allowed.{Allowed, step}
-use Rattle.sftp_transcript.specs.Explained.{turn_after, next_reply, exchanges_of, leading_pairs, requests_before_reply}
-use Rattle.sftp_transcript.specs.Explained.{in_window, Explained}
-use Rattle.sftp_audit.specs.Audit.{started}
+use Rattle.sftp_audit.proofs.Imports.{codes, refl, Allowed, Explained, started}
 use Rattle.sftp_audit.specs.Examples.{with_five_letters, read_in_parts, Unexplained}
+use Rattle.sftp_audit.proofs.worked.Computed.{computed}
 use Rattle.sftp_audit.proofs.worked.Runs.{explained_by, unexplained_by}
 
 pub in_parts : Explained Allowed (started with_five_letters) (read_in_parts (codes "abc")) (started with_five_letters)
-unfolding
-    turn_after in_window requests_before_reply leading_pairs exchanges_of next_reply step causes answers after told_to
-    seen pins_of path_causes plain_causes no_causes when joined led outcome reached walk walk_parts meets is_good_path
-    components parts get put without fits retain
+unfolding computed
 in_parts =
     explained_by with_five_letters (read_in_parts (codes "abc")) with_five_letters
     (refl, (refl, (refl, (refl, (refl, (refl, (refl, (refl, (refl, (refl, tt)))))))))) refl refl
 
 pub other_byte : Unexplained with_five_letters (read_in_parts (codes "abd"))
-unfolding
-    leading_pairs exchanges_of next_reply step causes answers after told_to seen pins_of path_causes plain_causes
-    no_causes when joined led outcome reached walk walk_parts meets is_good_path components parts get put without fits
-    retain
+unfolding computed
 other_byte = unexplained_by with_five_letters (read_in_parts (codes "abd")) refl

@@ -1,19 +1,13 @@
 -- A worked example: the bytes of a transcript file record its events.
-use Rattle.std.proofs.Common.{◌≡◌, nat_lt, ℕ, ◌^◌, ◌<◌, ◌≤◌, ◌++◌, length, codes, List, []}
-use Rattle.std.proofs.Common.{◌∷◌, IsTrue, refl, sym, ◌∙◌, lit<, lit≤, ltb-true}
-use Rattle.std.specs.List.{list_all, flat_map, AllByRecursion}
-use Rattle.std.proofs.lemmas.Bool.{and_parts}
-use Rattle.std.proofs.lemmas.List.{append-nil}
+use Rattle.sftp_audit.proofs.Imports.{◌≡◌, nat_lt, ℕ, ◌^◌, ◌<◌, ◌≤◌, ◌++◌, length, codes, List, [], ◌∷◌, IsTrue, refl}
+use Rattle.sftp_audit.proofs.Imports.{sym, ◌∙◌, lit<, lit≤, list_all, flat_map, AllByRecursion, and_parts, append-nil}
+use Rattle.sftp_audit.proofs.Imports.{hex, no_attributes, Event, IsEvent, IsRecord, event_record, transcript_opening}
+use Rattle.sftp_audit.proofs.Imports.{packet_of, BeginsRecord, mkdir, rmdir, status, handshake_bytes, ltb-true}
 use Rattle.sftp_wire.specs.declared.packets.Packet.TheVariants.{Init, Version}
 use Rattle.sftp_wire.specs.Spelling.{spelling, packet_limit, server_extensions, AreBytes, FitsString, FitsPair}
 use Rattle.sftp_wire.specs.Spelling.{FitsAttrs, HasSpelling}
-use Rattle.sftp_wire.specs.Examples.{hex, no_attributes}
-use Rattle.sftp_transcript.specs.declared.events.Event.{Event}
-use Rattle.sftp_transcript.specs.Transcript.{IsEvent, IsRecord, event_record, transcript_opening, packet_of}
-use Rattle.sftp_transcript.specs.Begun.{BeginsRecord}
-use Rattle.sftp_transcript.specs.Examples.{mkdir, rmdir, status, handshake_bytes}
-use Rattle.sftp_audit.specs.Examples.{backward_replies, backward_replies_bytes, removal_done_bytes}
-use Rattle.sftp_audit.specs.Examples.{limits_session, usual_limits_told, limits_bytes}
+use Rattle.sftp_audit.specs.Examples.{backward_replies, backward_replies_bytes, removal_done_bytes, limits_session}
+use Rattle.sftp_audit.specs.Examples.{usual_limits_told, limits_bytes}
 
 bytes_by : (bytes : List ℕ) → IsTrue (list_all (λ b. nat_lt b 256) bytes) → AreBytes bytes
 bytes_by [] is = tt

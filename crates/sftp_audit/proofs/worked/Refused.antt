@@ -1,32 +1,13 @@
 -- Worked examples: what an auditor keeps, and what it refuses.
-use Rattle.std.proofs.Common.{◌≡◌, ℕ, List, [], ◌∷◌, codes, Some, None, refl, sym, ◌∙◌, inl, inr, arith}
-use Rattle.sftp_wire.specs.declared.packets.Request.{Request}
-use Rattle.sftp_wire.specs.declared.packets.Reply.{Reply}
+use Rattle.sftp_audit.proofs.Imports.{◌≡◌, ℕ, List, [], ◌∷◌, codes, Some, None, refl, sym, ◌∙◌, inl, inr, arith}
+use Rattle.sftp_audit.proofs.Imports.{Request, Reply, no_attributes, blank, Allowed, strict, begun, closed, waiting}
+use Rattle.sftp_audit.proofs.Imports.{turn_after, leading_pairs, Run, Sound, mkdir, status, Exchange, started}
+use Rattle.sftp_audit.proofs.Imports.{RefusedAt, StandsFor, IsFirstWrong, Refuses, LacksReply}
 use Rattle.sftp_wire.specs.declared.packets.Ask.TheVariants.{Mkdir, Rmdir}
 use Rattle.sftp_wire.specs.declared.packets.Answer.TheVariants.{Status}
-use Rattle.sftp_wire.specs.Examples.{no_attributes}
-use Rattle.sftp_path.specs.Place.{parts, components, is_good_path}
-use Rattle.sftp_path.specs.Table.{retain, get, put, without}
-use Rattle.sftp_tree.specs.Tree.{has_entries, fits}
-use Rattle.sftp_tree.specs.Walk.{meets, walk, walk_parts, reached}
-use Rattle.sftp_tree.specs.Causes.{no_causes, when, joined}
-use Rattle.sftp_tree.specs.Requests.{led, plain_causes, causes as path_causes, outcome}
-use Rattle.sftp_tree.specs.Picture.{blank}
+use Rattle.sftp_audit.specs.Exchanges.{recorded_exchanges, unsettled, ledger_of}
 use Rattle.sftp_handles.specs.State.{State}
-use Rattle.sftp_handles.specs.Handles.{pins_of}
-use Rattle.sftp_handles.specs.Requests.{causes, told_to, answers, after}
-use Rattle.sftp_handles.specs.Allowed.{Allowed, step}
-use Rattle.sftp_profile.specs.Profiles.{strict}
-use Rattle.sftp_profile.specs.State.{begun}
-use Rattle.sftp_transcript.specs.Explained.{closed, waiting, turn_after, next_reply, exchanges_of, leading_pairs}
-use Rattle.sftp_transcript.specs.Explained.{requests_before_reply, in_window, Run}
-use Rattle.sftp_transcript.specs.Sound.{Sound}
-use Rattle.sftp_transcript.specs.Examples.{mkdir, status}
 use Rattle.sftp_audit.specs.declared.errors.Refusal.TheVariants as refusals
-use Rattle.sftp_audit.specs.declared.exchanges.Exchange.{Exchange}
-use Rattle.sftp_audit.specs.Audit.{started, RefusedAt}
-use Rattle.sftp_audit.specs.Auditor.{StandsFor, IsFirstWrong, Refuses, LacksReply}
-use Rattle.sftp_audit.specs.Exchanges.{next_recorded, exchanges_from, recorded_exchanges, unsettled, ledger_of}
 use Rattle.sftp_audit.specs.Examples.{with_a, with_a_and_b, three_requests, backward_replies, two_backward_replies}
 use Rattle.sftp_audit.specs.Examples.{removal_done_bytes, last_answered, id_used_again, first_answered, second_waits}
 use Rattle.sftp_audit.specs.Examples.{auditor_with}
@@ -34,20 +15,21 @@ use Rattle.sftp_audit.proofs.auditing.Refusals.{one_refusal}
 use Rattle.sftp_audit.proofs.steps.RunEnds.{run-of_run_end, no_run-of_run_end}
 use Rattle.sftp_audit.proofs.steps.StrictRuns.{sound-permitted, strict-permits}
 use Rattle.sftp_audit.proofs.streams.StrictFaults.{refuses-permitted}
+use Rattle.sftp_audit.proofs.worked.Computed.{computed}
 use Rattle.sftp_audit.proofs.worked.Records.{removal_done_begins}
 use Rattle.sftp_audit.proofs.worked.Runs.{sound_by}
 
 -- ---- the replies come backwards
 
 two_replies_sound : Sound Allowed (started blank) (two_backward_replies 0) (started blank)
-unfolding turn_after in_window requests_before_reply leading_pairs exchanges_of next_reply
+unfolding computed
 two_replies_sound =
     sound_by blank (two_backward_replies 0) blank
     (inr refl, (inl refl, (inl refl, (inl refl, (inl refl, tt))))) refl refl
 
 pub nothing_settled : StandsFor (begun strict blank) (two_backward_replies 0)
     (auditor_with blank (recorded_exchanges (two_backward_replies 0)) 8)
-unfolding exchanges_from next_recorded unsettled
+unfolding computed
 nothing_settled = record {
   sound =
       sound-permitted strict strict-permits (started blank) (two_backward_replies 0) (started blank)
@@ -79,21 +61,16 @@ first_two_done =
 
 -- after the first two requests the directory is not empty
 first_two_run : Run Allowed (started blank) (leading_pairs (ledger_of first_two_done)) (started with_a_and_b)
-unfolding
-    leading_pairs step causes answers after told_to pins_of path_causes plain_causes no_causes when joined led outcome
-    reached walk
-    walk_parts meets is_good_path components parts get put without has_entries fits retain
+unfolding computed
 first_two_run = run-of_run_end (started blank) (leading_pairs (ledger_of first_two_done)) (started with_a_and_b) refl
 
 not_removed : (end : State) → Allowed (started with_a_and_b) removal removal_done end → ⊥
-unfolding
-    step causes answers after told_to pins_of path_causes plain_causes no_causes when joined led outcome reached walk
-    walk_parts meets is_good_path components parts get put without has_entries fits retain
+unfolding computed
 not_removed end allowed =
     no_run-of_run_end (started with_a_and_b) ((removal, removal_done) ∷ []) refl end (end, allowed, refl)
 
 removal_is_wrong : IsFirstWrong Allowed (started blank) (recorded_exchanges (backward_replies 0)) 6
-unfolding exchanges_from next_recorded
+unfolding computed
 removal_is_wrong = record {
   before = first_two_done;
   request = removal;
@@ -156,12 +133,12 @@ pub not_late : ¬ Refuses Allowed (started blank) three_requests (mkdir 1 (codes
 not_late late = let e : waiting ≡ closed = sym first_waits ∙ late.1 in cc
 
 id_used_again_sound : Sound Allowed (started blank) id_used_again (started blank)
-unfolding turn_after in_window requests_before_reply leading_pairs exchanges_of next_reply
+unfolding computed
 id_used_again_sound =
     sound_by blank id_used_again blank (inr refl, (inr refl, (inr refl, (inr refl, (inr refl, tt))))) refl refl
 
 pub used_again : StandsFor (begun strict blank) id_used_again (auditor_with blank (recorded_exchanges id_used_again) 8)
-unfolding exchanges_from next_recorded unsettled
+unfolding computed
 used_again = record {
   sound = sound-permitted strict strict-permits (started blank) id_used_again (started blank) id_used_again_sound;
   kept = refl;
@@ -172,14 +149,11 @@ used_again = record {
 -- ---- the oldest request that waits
 
 first_answered_sound : Sound Allowed (started blank) first_answered (started with_a)
-unfolding
-    turn_after in_window requests_before_reply leading_pairs exchanges_of next_reply step causes answers after told_to
-    pins_of path_causes plain_causes no_causes when joined led outcome reached walk
-    walk_parts meets is_good_path components parts get put without has_entries fits retain
+unfolding computed
 first_answered_sound = sound_by blank first_answered with_a (inl refl, (inr refl, (inl refl, tt))) refl refl
 
 pub settled : StandsFor (begun strict blank) first_answered (auditor_with with_a second_waits 6)
-unfolding exchanges_from next_recorded unsettled
+unfolding computed
 settled = record {
   sound = sound-permitted strict strict-permits (started blank) first_answered (started with_a) first_answered_sound;
   kept = refl;
@@ -188,7 +162,7 @@ settled = record {
 }
 
 second_left : unsettled (recorded_exchanges first_answered) ≡ second_waits
-unfolding exchanges_from next_recorded unsettled
+unfolding computed
 second_left = refl
 
 pub unanswered : LacksReply first_answered (refusals.Unanswered 4)

@@ -1,14 +1,9 @@
 -- Sessions by what is computed of them: turns, window, and where the run ends.
-use Rattle.std.proofs.Common.{◌≡◌, ◌≢◌, ◌==◌, ◌||◌, ◌⊎◌, ℕ, Bool, true, false, List, [], ◌∷◌, Some, None, IsTrue, refl}
-use Rattle.std.proofs.Common.{subst, eqb-true, inl, inr}
-use Rattle.std.specs.List.{list_any, AllByRecursion}
-use Rattle.sftp_tree.specs.Tree.{Tree}
-use Rattle.sftp_handles.specs.Allowed.{Allowed}
-use Rattle.sftp_transcript.specs.declared.events.Event.{Event}
-use Rattle.sftp_transcript.specs.Explained.{closed, turn_after, exchanges_of, leading_pairs, in_window, Explained}
-use Rattle.sftp_transcript.specs.Explained.{Turn, waiting, broken}
-use Rattle.sftp_transcript.specs.Sound.{InTurn, Sound}
-use Rattle.sftp_audit.specs.Audit.{started}
+use Rattle.sftp_audit.proofs.Imports.{◌≡◌, ◌≢◌, ◌==◌, ◌||◌, ◌⊎◌, ℕ, Bool, true, false, List, [], ◌∷◌, Some, None}
+use Rattle.sftp_audit.proofs.Imports.{IsTrue, refl, subst, inl, inr, list_any, AllByRecursion, Tree, Allowed, Event}
+use Rattle.sftp_audit.proofs.Imports.{closed, turn_after, exchanges_of, leading_pairs, in_window, Explained, Turn}
+use Rattle.sftp_audit.proofs.Imports.{waiting, broken, InTurn, Sound, started}
+use Rattle.std.proofs.Common.{eqb-true}
 use Rattle.sftp_audit.specs.Examples.{Unexplained}
 use Rattle.sftp_transcript.proofs.pairing.Turns.{ids_of, turn_after-others, Matching-from_ids}
 use Rattle.sftp_audit.proofs.steps.RunEnds.{run_end, run-of_run_end, no_run-of_run_end}

@@ -1,39 +1,24 @@
 -- Worked examples: sessions on the blank tree that are explained, and sessions that are not.
-use Rattle.std.proofs.Common.{◌≡◌, [], refl, sym, ◌∙◌}
-use Rattle.sftp_wire.specs.Examples.{hex}
-use Rattle.sftp_path.specs.Place.{parts, components, is_good_path}
-use Rattle.sftp_path.specs.Table.{retain, get, put, without}
+use Rattle.sftp_audit.proofs.Imports.{◌≡◌, [], refl, sym, ◌∙◌, hex, get, picture, blank, Allowed, closed, waiting}
+use Rattle.sftp_audit.proofs.Imports.{broken, turn_after, Explained, started}
 use Rattle.sftp_treefile.specs.Limits.{are_own}
 use Rattle.sftp_treefile.specs.TreeFile.{spelled}
-use Rattle.sftp_tree.specs.Tree.{has_entries, fits}
-use Rattle.sftp_tree.specs.Walk.{meets, walk, walk_parts, reached}
-use Rattle.sftp_tree.specs.Causes.{no_causes, when, joined}
-use Rattle.sftp_tree.specs.Requests.{led, plain_causes, causes as path_causes, outcome}
-use Rattle.sftp_tree.specs.Picture.{picture, blank}
-use Rattle.sftp_handles.specs.Handles.{pins_of}
-use Rattle.sftp_handles.specs.Requests.{causes, told_to, answers, after}
-use Rattle.sftp_handles.specs.Allowed.{Allowed, step}
-use Rattle.sftp_transcript.specs.Explained.{closed, waiting, broken, turn_after, next_reply, exchanges_of, leading_pairs}
-use Rattle.sftp_transcript.specs.Explained.{requests_before_reply, in_window, Explained}
-use Rattle.sftp_audit.specs.Audit.{started}
 use Rattle.sftp_audit.specs.Examples.{with_a, with_a_and_b, with_a_and_b_bytes, backward_replies, one_unanswered}
 use Rattle.sftp_audit.specs.Examples.{one_answered_twice, same_directory_twice, data_for_mkdir, opendir_of_nothing}
 use Rattle.sftp_audit.specs.Examples.{Unexplained}
+use Rattle.sftp_audit.proofs.worked.Computed.{computed}
 use Rattle.sftp_audit.proofs.worked.Runs.{explained_by, unexplained_by}
 
 -- ---- no events
 
 pub nothing_asked : Explained Allowed (started blank) [] (started blank)
-unfolding turn_after exchanges_of leading_pairs in_window
+unfolding computed
 nothing_asked = record { matching = λ id. refl; within_window = refl; run = refl }
 
 -- ---- the replies come backwards
 
 pub backwards : Explained Allowed (started blank) (backward_replies 4) (started with_a_and_b)
-unfolding
-    turn_after in_window requests_before_reply leading_pairs exchanges_of next_reply step causes answers after told_to
-    pins_of path_causes plain_causes no_causes when joined led outcome reached walk walk_parts meets is_good_path
-    components parts get put without has_entries fits retain
+unfolding computed
 backwards =
     explained_by blank (backward_replies 4) with_a_and_b (refl, (refl, (refl, (refl, (refl, (refl, tt)))))) refl refl
 
@@ -43,18 +28,12 @@ backwards_picture = refl
 
 -- the removal would have to succeed after what came before it in the order asked
 pub removed : Unexplained blank (backward_replies 0)
-unfolding
-    leading_pairs exchanges_of next_reply step causes answers after told_to pins_of path_causes plain_causes no_causes
-    when joined led outcome reached walk walk_parts meets is_good_path components parts get put without has_entries fits
-    retain
+unfolding computed
 removed = unexplained_by blank (backward_replies 0) refl
 
 -- in the order in which the replies came the removal would be of what is absent
 pub in_order_of_arrival : Unexplained blank (backward_replies 2)
-unfolding
-    leading_pairs exchanges_of next_reply step causes answers after told_to pins_of path_causes plain_causes no_causes
-    when joined led outcome reached walk walk_parts meets is_good_path components parts get put without has_entries fits
-    retain
+unfolding computed
 in_order_of_arrival = unexplained_by blank (backward_replies 2) refl
 
 -- ---- turns that do not close
@@ -82,31 +61,19 @@ answered_twice end e = broken_open (sym first_breaks ∙ e.matching 1)
 -- ---- one place in two spellings
 
 pub taken : Explained Allowed (started blank) (same_directory_twice 4) (started with_a)
-unfolding
-    turn_after in_window requests_before_reply leading_pairs exchanges_of next_reply step causes answers after told_to
-    pins_of path_causes plain_causes no_causes when joined led outcome reached walk walk_parts meets is_good_path
-    components parts get put without has_entries fits retain
+unfolding computed
 taken = explained_by blank (same_directory_twice 4) with_a (refl, (refl, (refl, (refl, tt)))) refl refl
 
 pub not_absent : Unexplained blank (same_directory_twice 2)
-unfolding
-    leading_pairs exchanges_of next_reply step causes answers after told_to pins_of path_causes plain_causes no_causes
-    when joined led outcome reached walk walk_parts meets is_good_path components parts get put without has_entries fits
-    retain
+unfolding computed
 not_absent = unexplained_by blank (same_directory_twice 2) refl
 
 -- ---- packets of other kinds
 
 pub other_reply : Unexplained blank data_for_mkdir
-unfolding
-    leading_pairs exchanges_of next_reply step causes answers after told_to pins_of path_causes plain_causes no_causes
-    when joined led outcome reached walk walk_parts meets is_good_path components parts get put without has_entries fits
-    retain
+unfolding computed
 other_reply = unexplained_by blank data_for_mkdir refl
 
 pub not_there : Explained Allowed (started blank) opendir_of_nothing (started blank)
-unfolding
-    turn_after in_window requests_before_reply leading_pairs exchanges_of next_reply step causes answers after told_to
-    pins_of path_causes plain_causes no_causes when joined led outcome reached walk walk_parts meets is_good_path
-    components parts get put without has_entries fits retain
+unfolding computed
 not_there = explained_by blank opendir_of_nothing blank (refl, (refl, tt)) refl refl

@@ -1,40 +1,21 @@
 -- Worked examples: a session that asks for the limits of the tree.
-use Rattle.std.proofs.Common.{refl}
-use Rattle.sftp_wire.specs.Examples.{hex}
-use Rattle.sftp_path.specs.Table.{retain, get}
-use Rattle.sftp_tree.specs.Tree.{raised}
-use Rattle.sftp_tree.specs.Causes.{no_causes, when}
-use Rattle.sftp_tree.specs.Requests.{led, outcome}
-use Rattle.sftp_tree.specs.Picture.{blank}
-use Rattle.sftp_handles.specs.Handles.{pins_of}
-use Rattle.sftp_handles.specs.Requests.{causes, told_to, answers, after, limits_data}
-use Rattle.sftp_handles.specs.Allowed.{Allowed, step}
-use Rattle.sftp_transcript.specs.Explained.{turn_after, next_reply, exchanges_of, leading_pairs, requests_before_reply}
-use Rattle.sftp_transcript.specs.Explained.{in_window, Explained}
-use Rattle.sftp_audit.specs.Audit.{started}
+use Rattle.sftp_audit.proofs.Imports.{refl, raised, blank, Allowed, Explained, started}
 use Rattle.sftp_audit.specs.Examples.{limits_session, usual_limits_told, highest_limits_told, Unexplained}
+use Rattle.sftp_audit.proofs.worked.Computed.{computed}
 use Rattle.sftp_audit.proofs.worked.Runs.{explained_by, unexplained_by}
 
 pub usual : Explained Allowed (started blank) (limits_session usual_limits_told) (started blank)
-unfolding
-    turn_after in_window requests_before_reply leading_pairs exchanges_of next_reply step causes answers after told_to
-    limits_data hex pins_of no_causes when led outcome get retain
+unfolding computed
 usual = explained_by blank (limits_session usual_limits_told) blank (refl, (refl, tt)) refl refl
 
 pub highest : Explained Allowed (started (raised blank)) (limits_session highest_limits_told) (started (raised blank))
-unfolding
-    turn_after in_window requests_before_reply leading_pairs exchanges_of next_reply step causes answers after told_to
-    limits_data hex pins_of no_causes when led outcome get retain
+unfolding computed
 highest = explained_by (raised blank) (limits_session highest_limits_told) (raised blank) (refl, (refl, tt)) refl refl
 
 pub too_high : Unexplained blank (limits_session highest_limits_told)
-unfolding
-    leading_pairs exchanges_of next_reply step causes answers after told_to limits_data hex pins_of no_causes when led
-    outcome get retain
+unfolding computed
 too_high = unexplained_by blank (limits_session highest_limits_told) refl
 
 pub too_low : Unexplained (raised blank) (limits_session usual_limits_told)
-unfolding
-    leading_pairs exchanges_of next_reply step causes answers after told_to limits_data hex pins_of no_causes when led
-    outcome get retain
+unfolding computed
 too_low = unexplained_by (raised blank) (limits_session usual_limits_told) refl

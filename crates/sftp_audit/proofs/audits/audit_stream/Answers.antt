@@ -1,23 +1,28 @@
 -- The strict profile accounts for what is accounted for strictly.
-use Rattle.std.proofs.Common.{◌≡◌}
-use Rattle.sftp_tree.specs.Picture.{picture}
-use Rattle.sftp_audit.specs.Audit.{request_count, IsNoJudgement}
-use Rattle.sftp_audit.proofs.streams.StrictAccounts.{accepted-strict_stream, refused-strict_stream}
-use Rattle.sftp_audit.proofs.streams.StrictFaults.{first-strict_stream}
+use Rattle.sftp_audit.proofs.Imports.{◌≡◌, IfOk-weaker, IfErr-weaker, picture, request_count}
+use Rattle.sftp_audit.proofs.streams.StrictAccounts.{has_run-strict, lost-strict}
+use Rattle.sftp_audit.proofs.streams.StrictFaults.{first-strict}
 use Rattle.sftp_audit.proofs.audits.audit_stream.Goals as goal
 
 pub returns-clause-accepted : goal.returns-clause-accepted
 returns-clause-accepted g c =
-    accepted-strict_stream c.strict.result c.args.tree.now c.strict.ensures c.args.records.now
-    (λ accepted end. accepted.tree.items ≡ picture end) (λ accepted events. accepted.requests ≡ request_count events)
-    c.audit_stream_by.result c.audit_stream_by.ensures.accepted
+    IfOk-weaker c.audit_stream_by.result _ _
+    (λ accepted told transcript new.
+    has_run-strict c.strict.result c.args.tree.now c.strict.ensures transcript
+    (λ end. accepted.tree.items ≡ picture end) (λ events. accepted.requests ≡ request_count events)
+    (told transcript new))
+    c.audit_stream_by.ensures.accepted
 
 pub returns-clause-refused : goal.returns-clause-refused
 returns-clause-refused g c =
-    refused-strict_stream c.strict.result c.args.tree.now c.strict.ensures c.args.records.now
-    (λ e. IsNoJudgement e → ⊥) c.audit_stream_by.result c.audit_stream_by.ensures.refused
+    IfErr-weaker c.audit_stream_by.result _ _
+    (λ e refused judged transcript new.
+    lost-strict c.strict.result c.args.tree.now c.strict.ensures transcript (refused judged transcript new))
+    c.audit_stream_by.ensures.refused
 
 pub returns-clause-first : goal.returns-clause-first
 returns-clause-first g c =
-    first-strict_stream c.strict.result c.args.tree.now c.strict.ensures c.args.records.now
-    (λ e. IsNoJudgement e → ⊥) c.audit_stream_by.result c.audit_stream_by.ensures.first
+    IfErr-weaker c.audit_stream_by.result _ _
+    (λ e first judged transcript new.
+    first-strict c.strict.result c.args.tree.now c.strict.ensures transcript e (first judged transcript new))
+    c.audit_stream_by.ensures.first

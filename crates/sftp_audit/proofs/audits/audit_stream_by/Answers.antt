@@ -1,9 +1,7 @@
 -- The events are fed to an auditor from the tree that was read, and the end is the tree where their run ends.
-use Rattle.std.proofs.Common.{true, refl}
-use Rattle.std.proofs.lemmas.Result.{err_from_is_err_and}
-use Rattle.sftp_profile.specs.State.{begun}
-use Rattle.sftp_audit.proofs.streams.Judged.{feed-lost, feed-first, judged-feed, judged-end}
-use Rattle.sftp_audit.proofs.streams.Judged.{end-lost, end-first, accounts-fed, told-feed, told-end}
+use Rattle.sftp_audit.proofs.Imports.{true, refl, err_from_is_err_and, begun}
+use Rattle.sftp_audit.proofs.streams.Judged.{feed-lost, feed-first, judged-feed, judged-end, end-lost, end-first}
+use Rattle.sftp_audit.proofs.streams.Judged.{accounts-fed, told-feed, told-end}
 use Rattle.sftp_audit.proofs.audits.audit_stream_by.Goals as goal
 
 pub returns-in-Err-clause-refused : goal.returns-in-Err-clause-refused

@@ -1,13 +1,10 @@
 -- Each turn of the loop gives an event and feeds it; the feed ends where no event is left, or at an error.
-use Rattle.std.proofs.Common.{ℕ, Bool, Option, Some, [], ◌∷◌, ◌++◌, refl, subst, ◌∙◌, arith}
+use Rattle.sftp_audit.proofs.Imports.{ℕ, Bool, [], ◌∷◌, ◌++◌, refl, subst, ◌∙◌, arith, err_from_is_err_and, IsTold}
 use Rattle.std.proofs.lemmas.Grind.{common_steps}
-use Rattle.std.proofs.lemmas.Result.{err_from_is_err_and}
-use Rattle.sftp_transcript.specs.declared.events.Event.{Event}
-use Rattle.sftp_transcript.specs.Begun.{GaveFrom}
-use Rattle.sftp_audit.proofs.streams.Given.{IsFeeding, feeding-start, feeding-next, all-fed, stops-fault, stops-refused}
 use Rattle.sftp_audit.specs.Exchanges.{recorded_exchanges}
-use Rattle.sftp_audit.specs.Auditor.{IsTold}
-use Rattle.sftp_audit.proofs.streams.Given.{fault-refuses_nothing, refused-for_good, told-fault, told-refused}
+use Rattle.sftp_audit.proofs.streams.Given.{gave_event, IsFeeding, feeding-start, feeding-next, all-fed, stops-fault}
+use Rattle.sftp_audit.proofs.streams.Given.{stops-refused, fault-refuses_nothing, refused-for_good, told-fault}
+use Rattle.sftp_audit.proofs.streams.Given.{told-refused}
 use Rattle.sftp_audit.proofs.audits.feed_all.Goals as goal
 
 pub events-init : goal.events-init
@@ -35,8 +32,7 @@ pub events-preserved : goal.events-preserved
 events-preserved g c = record {
   feeding = λ start transcript new stands.
       let feeding = c.events.invariant.feeding start transcript new stands in
-      let gave : GaveFrom transcript feeding.seen (Some c.in-Some.event) c.next.new.self =
-      subst (λ (given : Option Event). GaveFrom transcript feeding.seen given c.next.new.self) c.in-Some.is
+      let gave = gave_event transcript feeding.seen _ c.next.new.self c.in-Some.event c.in-Some.is
       (c.in_ok-event.ensures.first transcript feeding.ahead feeding.seen feeding.given) in
       let fed =
       feeding-next start transcript c.events.requests c.events.auditor c.feed_by.new.self c.events.records
@@ -52,8 +48,7 @@ returns-in_err-feed_by-clause-stopped g c =
     let p = err_from_is_err_and c.from_residual-in_err-feed_by.result c.from_residual-in_err-feed_by.ensures.1 in
     rw (p.1, p.2) (λ judged start transcript new stands.
     let feeding = c.events.invariant.feeding start transcript new stands in
-    let gave : GaveFrom transcript feeding.seen (Some c.in-Some.event) c.next.new.self =
-    subst (λ (given : Option Event). GaveFrom transcript feeding.seen given c.next.new.self) c.in-Some.is
+    let gave = gave_event transcript feeding.seen _ c.next.new.self c.in-Some.event c.in-Some.is
     (c.in_ok-event.ensures.first transcript feeding.ahead feeding.seen feeding.given) in
     stops-refused start transcript c.events.requests c.events.auditor c.events.records c.next.new.self c.in-Some.event
     c.in_err-feed_by.field-0.0 feeding gave (c.in_err-feed_by.ensures.refused start feeding.seen feeding.stands))
@@ -75,8 +70,7 @@ returns-in_err-feed_by-clause-told g c =
     let p = err_from_is_err_and c.from_residual-in_err-feed_by.result c.from_residual-in_err-feed_by.ensures.1 in
     rw (p.1, p.2) (λ judged start transcript new stands.
     let feeding = c.events.invariant.feeding start transcript new stands in
-    let gave : GaveFrom transcript feeding.seen (Some c.in-Some.event) c.next.new.self =
-    subst (λ (given : Option Event). GaveFrom transcript feeding.seen given c.next.new.self) c.in-Some.is
+    let gave = gave_event transcript feeding.seen _ c.next.new.self c.in-Some.event c.in-Some.is
     (c.in_ok-event.ensures.first transcript feeding.ahead feeding.seen feeding.given) in
     told-refused start transcript c.events.requests c.events.auditor c.events.records c.next.new.self c.in-Some.event
     c.args.is_modelled.now c.feed_by.new.is_modelled c.in_err-feed_by.field-0.0 feeding gave

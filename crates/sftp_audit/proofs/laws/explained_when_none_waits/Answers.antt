@@ -1,5 +1,4 @@
-use Rattle.sftp_handles.specs.Allowed.{Allowed}
-use Rattle.sftp_transcript.proofs.pairing.Soundness.{sound_by, settled_by, explained_by}
+use Rattle.sftp_audit.proofs.Imports.{Allowed, sound_by, settled_by, explained_by}
 use Rattle.sftp_audit.proofs.laws.explained_when_none_waits.Goals as goal
 
 pub returns : goal.returns

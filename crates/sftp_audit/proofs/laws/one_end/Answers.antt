@@ -1,4 +1,4 @@
-use Rattle.sftp_handles.specs.Allowed.{Allowed}
+use Rattle.sftp_audit.proofs.Imports.{Allowed}
 use Rattle.sftp_audit.proofs.steps.StepLaws.{explained-one_end, allowed-one_end}
 use Rattle.sftp_audit.proofs.laws.one_end.Goals as goal
 

@@ -1,5 +1,4 @@
-use Rattle.sftp_profile.specs.Permitted.{Permitted}
-use Rattle.sftp_profile.proofs.Permissions.{permitted-one_end}
+use Rattle.sftp_audit.proofs.Imports.{Permitted, permitted-one_end}
 use Rattle.sftp_audit.proofs.steps.StepLaws.{explained-one_end}
 use Rattle.sftp_audit.proofs.laws.one_end_by.Goals as goal
 

@@ -1,4 +1,4 @@
-use Rattle.sftp_profile.specs.Profiles.{strict}
+use Rattle.sftp_audit.proofs.Imports.{strict}
 use Rattle.sftp_audit.proofs.streams.FirstFaults.{one_first_fault}
 use Rattle.sftp_audit.proofs.streams.StrictFaults.{fault-permitted}
 use Rattle.sftp_audit.proofs.laws.one_first_fault.Goals as goal

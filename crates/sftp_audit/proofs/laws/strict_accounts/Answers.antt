@@ -1,4 +1,4 @@
-use Rattle.sftp_profile.specs.Profiles.{strict}
+use Rattle.sftp_audit.proofs.Imports.{strict}
 use Rattle.sftp_audit.proofs.streams.StrictAccounts.{accounts-permitted, accounts-strict}
 use Rattle.sftp_audit.proofs.steps.StrictRuns.{strict-permits}
 use Rattle.sftp_audit.proofs.laws.strict_accounts.Goals as goal

@@ -1,8 +1,6 @@
-use Rattle.std.proofs.Common.{refl, arith}
-use Rattle.std.proofs.lemmas.List.{length-drop}
-use Rattle.sftp_audit.proofs.auditing.Settled.{done-start, done-more, done-wrong, done-wrong_in, done-told}
-use Rattle.sftp_audit.proofs.auditing.Settled.{done-kept, done-ran}
-use Rattle.sftp_audit.proofs.auditing.Settled.{unsettled-waits, unsettled-none}
+use Rattle.sftp_audit.proofs.Imports.{refl, arith, length-drop}
+use Rattle.sftp_audit.proofs.auditing.Settled.{done-start, done-more, done-wrong, done-wrong_in, done-told, done-kept}
+use Rattle.sftp_audit.proofs.auditing.Settled.{done-ran, unsettled-waits, unsettled-none}
 use Rattle.sftp_audit.proofs.settling.settle.Goals as goal
 
 pub settle-init : goal.settle-init

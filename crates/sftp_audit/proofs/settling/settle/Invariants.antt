@@ -1,4 +1,4 @@
-use Rattle.std.proofs.Common.{◌≡◌, ◌≤◌, length}
+use Rattle.sftp_audit.proofs.Imports.{◌≡◌, ◌≤◌, length}
 use Rattle.sftp_audit.proofs.auditing.Settled.{IsDoneTo}
 use Rattle.sftp_audit.proofs.settling.settle.Given as goal
 

@@ -1,6 +1,5 @@
 -- A fresh auditor stands for no events.
-use Rattle.std.proofs.Common.{refl}
-use Rattle.sftp_profile.specs.State.{begun}
+use Rattle.sftp_audit.proofs.Imports.{refl, begun}
 use Rattle.sftp_audit.proofs.auditing.Standing.{stands_from_start}
 use Rattle.sftp_audit.proofs.auditor.Auditor.by.Goals as goal
 

@@ -1,5 +1,5 @@
 -- Where the first exchange is missing, none waits.
-use Rattle.std.proofs.Common.{sym}
+use Rattle.sftp_audit.proofs.Imports.{sym}
 use Rattle.sftp_audit.proofs.auditing.Standing.{at_view, explained-settled, lacks_reply}
 use Rattle.sftp_audit.proofs.auditor.Auditor.finish.Goals as goal
 

@@ -1,74 +1,79 @@
 -- What is noted of an event, and why it is refused.
-use Rattle.std.proofs.Common.{refl}
-use Rattle.std.proofs.lemmas.Result.{err_from_is_err_and}
-use Rattle.sftp_audit.proofs.auditing.Standing.{result-asked, refusal-asked, refusal-replied, result-settled}
-use Rattle.sftp_audit.proofs.auditing.Standing.{refusal-settled, state-asked, state-settled, state-replied}
-use Rattle.sftp_audit.proofs.auditing.Standing.{call-asked, call-replied, call-settled}
+use Rattle.sftp_audit.proofs.Imports.{refl, err_from_is_err_and, IfErr-weaker}
+use Rattle.sftp_audit.proofs.auditing.Standing.{result-asked, refused-asked, wrong-asked, told-asked, result-replied}
+use Rattle.sftp_audit.proofs.auditing.Standing.{refused-replied, wrong-replied, told-replied, refused-settling}
+use Rattle.sftp_audit.proofs.auditing.Standing.{wrong-settling, told-settling, viewed}
 use Rattle.sftp_audit.proofs.auditor.Auditor.note.Goals as goal
 
 pub returns-in-Asked-clause-stands : goal.returns-in-Asked-clause-stands
 returns-in-Asked-clause-stands c =
-    result-asked c.ask.result c.args.event c.in-Asked.request c.args.self.now _ _ c.in-Asked.is c.self.view_is refl
-    c.ask.ensures.apart c.ask.ensures.in_time c.ask.ensures.noted
+    rw (c.in-Asked.is, ← c.self.view_is)
+    (result-asked c.ask.result c.in-Asked.request (viewed c.self.view_is) _ c.ask.ensures.apart c.ask.ensures.in_time
+    c.ask.ensures.noted refl)
 
 pub returns-in-Asked-clause-refused : goal.returns-in-Asked-clause-refused
 returns-in-Asked-clause-refused c =
-    refusal-asked c.ask.result c.args.event c.in-Asked.request c.args.self.now _ c.in-Asked.is c.self.view_is
-    c.ask.ensures.refused
+    rw (c.in-Asked.is, ← c.self.view_is)
+    (IfErr-weaker c.ask.result _ _ (refused-asked c.in-Asked.request (viewed c.self.view_is)) c.ask.ensures.refused)
 
 pub returns-in-Asked-clause-wrong : goal.returns-in-Asked-clause-wrong
 returns-in-Asked-clause-wrong c =
-    state-asked c.ask.result c.args.event c.in-Asked.request c.args.self.now _ _ _
-    c.ask.ensures.refused
+    rw (c.in-Asked.is, ← c.self.view_is)
+    (IfErr-weaker c.ask.result _ _ (wrong-asked c.in-Asked.request (viewed c.self.view_is) _) c.ask.ensures.refused)
 
-pub returns-in_err-answer-in-Replied-clause-wrong : goal.returns-in_err-answer-in-Replied-clause-wrong
-returns-in_err-answer-in-Replied-clause-wrong c =
-    let p = err_from_is_err_and c.from_residual.result c.from_residual.ensures.1 in
-    let e = c.in_err-answer-in-Replied in
-    let wrong = state-replied c.args.event c.in-Replied.reply c.args.self.now _ _ _ e.field-0.0
-    e.ensures.refused in
-    rw (p.1, p.2) wrong
-
-pub returns-in_ok-answer-in-Replied-clause-wrong : goal.returns-in_ok-answer-in-Replied-clause-wrong
-returns-in_ok-answer-in-Replied-clause-wrong c =
-    state-settled c.settle.result c.args.event c.in-Replied.reply c.args.self.now _ c.answer.new.self _ c.in-Replied.is
-    c.self.view_is c.in_ok-answer-in-Replied.ensures.waited c.in_ok-answer-in-Replied.ensures.noted
-    c.settle.ensures.wrong
+pub returns-in-Asked-clause-told : goal.returns-in-Asked-clause-told
+returns-in-Asked-clause-told c =
+    rw (c.in-Asked.is, ← c.self.view_is)
+    (IfErr-weaker c.ask.result _ _ (told-asked c.in-Asked.request (viewed c.self.view_is) _) c.ask.ensures.refused)
 
 pub returns-in_err-answer-in-Replied-clause-refused : goal.returns-in_err-answer-in-Replied-clause-refused
 returns-in_err-answer-in-Replied-clause-refused c =
     let p = err_from_is_err_and c.from_residual.result c.from_residual.ensures.1 in
     let e = c.in_err-answer-in-Replied in
-    let refused = refusal-replied c.args.event c.in-Replied.reply c.args.self.now _ e.field-0.0 c.in-Replied.is
-    c.self.view_is e.ensures.refused in
-    rw (p.1, p.2) refused
+    rw (p.1, p.2, c.in-Replied.is, ← c.self.view_is)
+    (refused-replied c.in-Replied.reply (viewed c.self.view_is) e.field-0.0 e.ensures.refused)
 
-pub returns-in_ok-answer-in-Replied-clause-stands : goal.returns-in_ok-answer-in-Replied-clause-stands
-returns-in_ok-answer-in-Replied-clause-stands c =
-    result-settled c.settle.result c.args.event c.in-Replied.reply c.args.self.now _ c.answer.new.self _ c.in-Replied.is
-    c.self.view_is c.in_ok-answer-in-Replied.ensures.waited c.in_ok-answer-in-Replied.ensures.noted
-    c.settle.ensures.kept c.settle.ensures.ran
-
-pub returns-in_ok-answer-in-Replied-clause-refused : goal.returns-in_ok-answer-in-Replied-clause-refused
-returns-in_ok-answer-in-Replied-clause-refused c =
-    refusal-settled c.settle.result c.args.event c.in-Replied.reply c.args.self.now _ c.answer.new.self c.in-Replied.is
-    c.self.view_is c.in_ok-answer-in-Replied.ensures.waited c.in_ok-answer-in-Replied.ensures.noted
-    c.settle.ensures.refused
-
-pub returns-in-Asked-clause-told : goal.returns-in-Asked-clause-told
-returns-in-Asked-clause-told c =
-    call-asked c.ask.result c.args.event c.in-Asked.request c.args.self.now _ _ _ _ refl c.ask.ensures.refused
+pub returns-in_err-answer-in-Replied-clause-wrong : goal.returns-in_err-answer-in-Replied-clause-wrong
+returns-in_err-answer-in-Replied-clause-wrong c =
+    let p = err_from_is_err_and c.from_residual.result c.from_residual.ensures.1 in
+    let e = c.in_err-answer-in-Replied in
+    rw (p.1, p.2, c.in-Replied.is, ← c.self.view_is)
+    (wrong-replied c.in-Replied.reply (viewed c.self.view_is) _ e.field-0.0 e.ensures.refused)
 
 pub returns-in_err-answer-in-Replied-clause-told : goal.returns-in_err-answer-in-Replied-clause-told
 returns-in_err-answer-in-Replied-clause-told c =
     let p = err_from_is_err_and c.from_residual.result c.from_residual.ensures.1 in
     let e = c.in_err-answer-in-Replied in
-    let told = call-replied c.args.event c.in-Replied.reply c.args.self.now _ _ c.args.is_modelled.now
-    c.args.is_modelled.now e.field-0.0 refl e.ensures.refused in
-    rw (p.1, p.2) told
+    rw (p.1, p.2, c.in-Replied.is, ← c.self.view_is)
+    (told-replied c.in-Replied.reply (viewed c.self.view_is) _ e.field-0.0 e.ensures.refused)
+
+pub returns-in_ok-answer-in-Replied-clause-stands : goal.returns-in_ok-answer-in-Replied-clause-stands
+returns-in_ok-answer-in-Replied-clause-stands c =
+    let e = c.in_ok-answer-in-Replied.ensures in
+    rw (c.in-Replied.is, ← c.self.view_is)
+    (result-replied c.settle.result c.in-Replied.reply (viewed c.self.view_is) c.answer.new.self _ (e.waited, e.noted)
+    c.settle.ensures.kept c.settle.ensures.ran)
+
+pub returns-in_ok-answer-in-Replied-clause-refused : goal.returns-in_ok-answer-in-Replied-clause-refused
+returns-in_ok-answer-in-Replied-clause-refused c =
+    let e = c.in_ok-answer-in-Replied.ensures in
+    rw (c.in-Replied.is, ← c.self.view_is)
+    (IfErr-weaker c.settle.result _ _
+    (refused-settling c.in-Replied.reply (viewed c.self.view_is) c.answer.new.self (e.waited, e.noted))
+    c.settle.ensures.refused)
+
+pub returns-in_ok-answer-in-Replied-clause-wrong : goal.returns-in_ok-answer-in-Replied-clause-wrong
+returns-in_ok-answer-in-Replied-clause-wrong c =
+    let e = c.in_ok-answer-in-Replied.ensures in
+    rw (c.in-Replied.is, ← c.self.view_is)
+    (IfErr-weaker c.settle.result _ _
+    (wrong-settling c.in-Replied.reply (viewed c.self.view_is) c.answer.new.self _ (e.waited, e.noted))
+    c.settle.ensures.wrong)
 
 pub returns-in_ok-answer-in-Replied-clause-told : goal.returns-in_ok-answer-in-Replied-clause-told
 returns-in_ok-answer-in-Replied-clause-told c =
-    call-settled c.settle.result c.args.event c.in-Replied.reply c.args.self.now _ c.answer.new.self _ _ c.in-Replied.is
-    c.self.view_is c.in_ok-answer-in-Replied.ensures.waited c.in_ok-answer-in-Replied.ensures.noted
-    c.settle.ensures.told
+    let e = c.in_ok-answer-in-Replied.ensures in
+    rw (c.in-Replied.is, ← c.self.view_is)
+    (IfErr-weaker c.settle.result _ _
+    (told-settling c.in-Replied.reply (viewed c.self.view_is) c.answer.new.self _ _ (e.waited, e.noted))
+    c.settle.ensures.told)

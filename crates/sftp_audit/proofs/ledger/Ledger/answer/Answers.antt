@@ -1,6 +1,4 @@
-use Rattle.std.proofs.Common.{sym, refl, arith}
-use Rattle.std.proofs.lemmas.Bool.{true≢false}
-use Rattle.std.proofs.lemmas.Option.{slice_get_read}
+use Rattle.sftp_audit.proofs.Imports.{sym, refl, arith, true≢false, slice_get_read}
 use Rattle.sftp_audit.proofs.auditing.Places.{held, held-within, held-open, held-stored, indexed-replied}
 use Rattle.sftp_audit.proofs.ledger.Ledger.answer.Goals as goal
 

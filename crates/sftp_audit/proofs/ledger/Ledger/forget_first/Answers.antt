@@ -1,4 +1,4 @@
-use Rattle.std.proofs.Common.{arith}
+use Rattle.sftp_audit.proofs.Imports.{arith}
 use Rattle.sftp_audit.proofs.auditing.Places.{indexed-popped}
 use Rattle.sftp_audit.proofs.ledger.Ledger.forget_first.Goals as goal
 
