@@ -16,7 +16,7 @@ pub use Rattle.sftp_audit.specs.Audit.{HasRefused, error_of_transcript, error_of
 pub use Rattle.sftp_audit.specs.Audit.{JudgesTree, IsToldBy, ToldAt, IsExcusedBy, Accounts, started, IsFirstFaultOf}
 pub use Rattle.sftp_audit.specs.Audit.{IsFirstFault}
 pub use Rattle.sftp_audit.specs.Auditor.{Refuses, LacksReply, IsFirstWrong, IsTold, Audited, StandsFor, RefusesToSettle}
-pub use Rattle.sftp_audit.specs.Auditor.{IsWrongIn, HasNoted, HasReason, StopsIn, Tells, IsOldestOpen}
+pub use Rattle.sftp_audit.specs.Auditor.{IsWrongIn, HasNoted, HasReason, StopsIn, Reports, IsOldestOpen}
 pub use Rattle.sftp_audit.specs.Ledger.{starts_answered, IsOrdinal, WaitsAt, IsIndexed, RefusesRequest, RefusesReply}
 pub use Rattle.sftp_audit.specs.declared.errors.AuditError.{AuditError}
 pub use Rattle.sftp_audit.specs.declared.errors.Refusal.{Refusal}

@@ -124,7 +124,7 @@ StopsIn old event state refusal =
     → IsWrongIn start (recorded_exchanges (events ++ event ∷ [])) state refusal
 
 -- where it is, this says whether the profile follows the request; otherwise it is what it was before
-abbrev pub Tells : Audited → Event → Bool → Bool → Refusal → Type 0
-Tells old event before after refusal =
+abbrev pub Reports : Audited → Event → Bool → Bool → Refusal → Type 0
+Reports old event before after refusal =
     (start : State) (events : List Event) → StandsFor start events old
     → IsTold start (recorded_exchanges (events ++ event ∷ [])) before after refusal

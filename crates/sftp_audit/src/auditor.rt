@@ -8,7 +8,7 @@ ghost use Rattle.sftp_transcript.specs.Begun.{first_number};
 ghost use Rattle.sftp_transcript.specs.Explained.{Explained, window};
 ghost use Rattle.sftp_audit.specs.declared.errors.Refusal.{Refusal};
 ghost use Rattle.sftp_audit.specs.Audit.{closed_tree};
-ghost use Rattle.sftp_audit.specs.Auditor.{StandsFor, LacksReply, GoesOn, HasNoted, HasReason, StopsIn, Tells};
+ghost use Rattle.sftp_audit.specs.Auditor.{StandsFor, LacksReply, GoesOn, HasNoted, HasReason, StopsIn, Reports};
 
 use crate::errors::Refusal;
 use crate::exchanges::RecordedReply;
@@ -127,7 +127,7 @@ impl Auditor {
         // After `NotAllowed` the session is the one in which the reply is not permitted.
         ensures wrong { IfErr result (StopsIn self.old event self.new.state) }
         // `is_modelled` says whether the profile follows the request.
-        ensures told { IfErr result (Tells self.old event is_modelled.old is_modelled.new) }
+        ensures told { IfErr result (Reports self.old event is_modelled.old is_modelled.new) }
         ensures untold { OnOk result (is_modelled.new ≡ is_modelled.old) }
         // It is for good, and no request is kept.
         ensures for_good { IfErr result (λ refusal. (self.new.refusal ≡ Some refusal) × (self.new.kept ≡ [])) }
@@ -161,7 +161,7 @@ impl Auditor {
         ensures stands { OnOk result (HasNoted self.old event self.new) }
         ensures refused { IfErr result (HasReason self.old event) }
         ensures wrong { IfErr result (StopsIn self.old event self.new.state) }
-        ensures told { IfErr result (Tells self.old event is_modelled.old is_modelled.new) }
+        ensures told { IfErr result (Reports self.old event is_modelled.old is_modelled.new) }
         ensures untold { OnOk result (is_modelled.new ≡ is_modelled.old) }
     {
         match event {

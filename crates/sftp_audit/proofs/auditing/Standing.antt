@@ -5,7 +5,8 @@ use Rattle.sftp_audit.proofs.Imports.{Request, Reply, State, Permitted, Event, A
 use Rattle.sftp_audit.proofs.Imports.{number_after_events, Run, Explained, exchanges_of, leading_pairs, window}
 use Rattle.sftp_audit.proofs.Imports.{turn_after, closed, broken, in_window, IsWaiting, Refusal, Exchange}
 use Rattle.sftp_audit.proofs.Imports.{RecordedReply, RefusesRequest, RefusesReply, Audited, StandsFor, RefusesToSettle}
-use Rattle.sftp_audit.proofs.Imports.{LacksReply, IsWrongIn, IsTold, HasNoted, HasReason, StopsIn, Tells, IsFirstWrong}
+use Rattle.sftp_audit.proofs.Imports.{LacksReply, IsWrongIn, IsTold, HasNoted, HasReason, StopsIn, Reports}
+use Rattle.sftp_audit.proofs.Imports.{IsFirstWrong}
 use Rattle.sftp_audit.specs.Exchanges.{recorded_exchanges, exchanges_from, unsettled, AreAnswered, is_open, with_reply}
 use Rattle.sftp_audit.specs.Exchanges.{ledger_of}
 use Rattle.sftp_audit.specs.declared.errors.Refusal.TheVariants as refusals
@@ -115,7 +116,7 @@ wrong-asked request old state (refusals.NotAllowed n) r start events stands = ab
 wrong-asked request old state other r start events stands = tt
 
 pub told-asked : (request : Request) (old : Audited) (told : Bool) (refusal : Refusal)
-    → RefusesRequest old.kept request old.number refusal → Tells old (Asked request) told told refusal
+    → RefusesRequest old.kept request old.number refusal → Reports old (Asked request) told told refusal
 told-asked request old told (refusals.NotAllowed n) r start events stands = absurd r
 told-asked request old told other r start events stands = refl
 
@@ -208,7 +209,7 @@ wrong-replied reply old state other r start events stands = absurd r
 
 pub told-replied : (reply : Reply) (old : Audited) (told : Bool) (refusal : Refusal)
     → RefusesReply old.kept (record { reply = reply; number = old.number }) refusal
-    → Tells old (Replied reply) told told refusal
+    → Reports old (Replied reply) told told refusal
 told-replied reply old told (refusals.UnknownReply n) r start events stands = refl
 told-replied reply old told other r start events stands = absurd r
 
@@ -258,7 +259,7 @@ wrong-settling reply old kept state has other r start events stands = tt
 
 pub told-settling : (reply : Reply) (old : Audited) (kept : List Exchange) (before after : Bool)
     → HasReply reply old kept → (refusal : Refusal) → IsTold old.state kept before after refusal
-    → Tells old (Replied reply) before after refusal
+    → Reports old (Replied reply) before after refusal
 unfolding first_wrong
 told-settling reply old kept before after has (refusals.NotAllowed number) r start events stands =
     (first_wrong reply old kept has number r.0 start events stands, r.1)
