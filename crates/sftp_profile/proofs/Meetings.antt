@@ -168,7 +168,8 @@ given-outcome s end ask due items ok is found = record {
   kept = found.kept;
 }
 
-pub none-given : (s : State) (ask : Ask) (items : List NameItem) → (length items == 0) ≡ true → IsGiven s ask items true s
+pub none-given : (s : State) (ask : Ask) (items : List NameItem) → (length items == 0) ≡ true
+    → IsGiven s ask items true s
 none-given s ask items is = record {
   is = ap (λ b. under s (if b then Some s.session else strictly.step s.session ask (replies.Name items))) is;
   kept = λ e. refl;

@@ -179,7 +179,8 @@ strict-allowed s request reply end p =
     let found =
     under-session (bare strict s) (permitted strict s request.ask reply.answer) end
     (sym (stateless-judged (bare strict s) request.ask reply.answer refl)
-    ∙ (ap (λ ask. judged (bare strict s) ask reply.answer) (sym (put-same strict s.tree request.ask refl)) ∙ p.step)) in (
+    ∙ (ap (λ ask. judged (bare strict s) ask reply.answer) (sym (put-same strict s.tree request.ask refl))
+    ∙ p.step)) in (
       found.1,
       step-is_allowed s request reply end.session p.same_id
           (sym (strict-permitted s request.ask reply.answer) ∙ found.0),
@@ -226,9 +227,6 @@ strict-result s request reply end same (Ok ok) allowed never kept =
     strict-outcome s request reply end same ok allowed never kept
 strict-result s request reply end same (Err e) allowed never kept = tt
 
-pub none-outcome : (found : Option State) (s : State) → found ≡ None → Outcome found s false s
-none-outcome found s is = record { is = is; kept = λ e. refl }
-
 -- the first of two is found
 pub first-outcome : (at : State) (a b : Option sessions.State) (s end : State) (ok : Bool) → ok ≡ true
     → Outcome (under at a) s ok end → Outcome (under at (first_of a b)) s true end
@@ -259,14 +257,6 @@ second-result first second s now end result true is_false found next = absurd cc
 
 -- ---- one request after another
 
--- a SETSTAT that may be refused
-pub set-outcome : (a : Option sessions.State) (s end : State) (ok : Bool) → Outcome (under s a) s ok end
-    → under s (first_of a (Some s.session)) ≡ Some end
-set-outcome (Some here) s end true found = found.is
-set-outcome None s end true found = absurd (let is = found.is in cc)
-set-outcome (Some here) s end false found = absurd (let is = found.is in cc)
-set-outcome None s end false found = ap Some (sym (found.kept refl))
-
 -- the last session counts
 under-again : (s : State) (here : sessions.State) (o : Option sessions.State) → under (under_same s here) o ≡ under s o
 under-again s here (Some session) = refl
@@ -287,14 +277,6 @@ then-outcome at (Some here) next s mid end true is_true found leads = record {
 then-outcome at None next s mid end true is_true found leads = absurd (let is = found.is in cc)
 then-outcome at a next s mid end false is_true found leads = absurd cc
 
--- what comes first is not found
-pub never-outcome : (at : State) (a : Option sessions.State) (next : sessions.State → Option sessions.State)
-    (s mid : State) (ok : Bool) → ok ≡ false → Outcome (under at a) s ok mid
-    → Outcome (under at (strictly.and_then a next)) s false mid
-never-outcome at (Some here) next s mid false is_false found = absurd (let is = found.is in cc)
-never-outcome at None next s mid false is_false found = record { is = refl; kept = found.kept }
-never-outcome at a next s mid true is_false found = absurd cc
-
 -- the other request with what comes with it
 pub follow-outcome : (s mid end : State) (ask : Ask) (answer : Answer) (ok : Bool) → ok ≡ true
     → IsTaken s ask answer ok mid → IsFollowed mid ask answer end → IsTakenFor s ask answer true end
@@ -306,21 +288,6 @@ follow-outcome s mid end ask answer true is_true found follows =
     (subst
     (λ (p : Profile). under mid (with_followed (followed p ask) answer mid.session) ≡ Some end) same follows)
 follow-outcome s mid end ask answer false is_true found follows = absurd cc
-
-pub unfollowed-outcome : (s mid : State) (ask : Ask) (answer : Answer) (ok : Bool) → ok ≡ false
-    → IsTaken s ask answer ok mid → IsTakenFor s ask answer false mid
-unfollowed-outcome s mid ask answer ok is_false found =
-    never-outcome s (taken s.profile s.session (asked s.profile s.session.tree ask) answer)
-    (with_followed (followed s.profile ask) answer) s mid ok is_false found
-
--- nothing comes with it where the flags of OPEN are judged as they stand
-pub follow-never : (s mid : State) (ask : Ask) (answer : Answer) (ok : Bool) → ok ≡ true
-    → IsTaken s ask answer ok mid → IsTrue mid.profile.flags → s.profile.flags ≡ false → mid ≡ s
-follow-never s mid ask answer true is_true found on off =
-    let same : mid.profile ≡ s.profile =
-    under-profile s (taken s.profile s.session (asked s.profile s.session.tree ask) answer) mid found.is in
-    absurd (let flags = ap (λ (p : Profile). p.flags) same in cc)
-follow-never s mid ask answer false is_true found on off = absurd cc
 
 -- ---- what passes as it stands
 

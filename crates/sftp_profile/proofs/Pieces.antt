@@ -1,28 +1,24 @@
 -- A file that is read piece by piece: what is compared of each piece, and what is left.
-use Rattle.std.proofs.Common.{◌≡◌, ◌≤◌, ◌<◌, ◌+◌, ◌-◌, ◌∙◌, ℕ, zero, suc, Bool, true, false, List, [], ◌∷◌, Option, Some}
-use Rattle.std.proofs.Common.{None, length, take, drop, refl, sym, ap, subst, IsTrue, arith, length-drop, leb-true}
-use Rattle.std.specs.Prelude.{◌&&◌, ◌||◌, not, min, nat_eq, nat_le, nat_lt, if◌then◌else◌}
+use Rattle.std.proofs.Common.{◌≡◌, ◌≤◌, ◌<◌, ◌+◌, ◌-◌, ◌∙◌, ℕ, zero, suc, Bool, true, false, List, [], ◌∷◌}
+use Rattle.std.proofs.Common.{Some, None, length, take, drop, refl, sym, ap, subst, IsTrue, arith}
+use Rattle.std.proofs.Common.{length-drop, leb-true}
+use Rattle.std.specs.Prelude.{◌&&◌, ◌||◌, not, min, nat_eq, nat_le, nat_lt}
 use Rattle.std.proofs.lemmas.List.{length-take, drop-take}
 use Rattle.std.proofs.Math.Seq.{drop-nil}
-use Rattle.std.proofs.lemmas.Bool.{ltb-true, lt-ltb, le-leb}
-use Rattle.sftp_wire.specs.declared.attributes.Attrs.{Attrs}
+use Rattle.std.proofs.lemmas.Bool.{ltb-true, le-leb}
 use Rattle.sftp_wire.specs.declared.packets.Ask.TheVariants.{Read, Fstat}
 use Rattle.sftp_treefile.specs.declared.limits.TreeLimits.{TreeLimits}
 use Rattle.sftp_path.specs.Place.{same_bytes}
 use Rattle.sftp_tree.specs.declared.causes.Cause.{Cause}
 use Rattle.sftp_tree.specs.declared.causes.Cause.TheVariants.{NotOpenFor}
-use Rattle.sftp_tree.specs.Tree.{Tree, IsKept, limits}
+use Rattle.sftp_tree.specs.Tree.{limits}
 use Rattle.sftp_tree.specs.Causes.{no_causes, when, only, is_none}
-use Rattle.sftp_tree.specs.Attributes.{shown_content}
-use Rattle.sftp_tree.specs.FileChanges.{bytes_at}
 use Rattle.sftp_tree.proofs.CauseLaws.Sets.{none-each}
 use Rattle.sftp_handles.specs.State.{State}
 use Rattle.sftp_handles.specs.Seen.{Seen, absent, other_kind, something, file, listing, a_file, seen}
-use Rattle.sftp_handles.specs.HandleRequests.{row_of, causes_of, said_of, read_from, may_read}
-use Rattle.sftp_handles.specs.Requests.{causes, said_to}
-use Rattle.sftp_handles.specs.Replies.{gives, ended, shows}
-use Rattle.sftp_handles.specs.Found.{read_said}
-use Rattle.sftp_profile.specs.Reads.{Goes, are_read, is_count, most, is_readable, stand_at, stand_in, piece_of, size_of}
+use Rattle.sftp_handles.specs.HandleRequests.{row_of, causes_of, may_read}
+use Rattle.sftp_handles.specs.Requests.{causes}
+use Rattle.sftp_profile.specs.Reads.{Goes, is_count, most, is_readable, stand_in, piece_of, size_of}
 
 -- ---- lists
 
@@ -90,8 +86,9 @@ module _ (most at count : ℕ) (rest bytes piece : List ℕ) (is_piece : piece �
 -- ---- of what a handle is open on
 
 -- the piece is as the bytes are, so the rest decides
-pub pieces-right : (bounds : TreeLimits) (at count : ℕ) (found : Seen) (rest piece : List ℕ) → piece ≡ piece_of bounds at found
-    → count ≡ min (length piece) (length rest) → same_bytes (take count rest) (take count piece) ≡ true
+pub pieces-right : (bounds : TreeLimits) (at count : ℕ) (found : Seen) (rest piece : List ℕ)
+    → piece ≡ piece_of bounds at found → count ≡ min (length piece) (length rest)
+    → same_bytes (take count rest) (take count piece) ≡ true
     → stand_in at found rest ≡ stand_in (at + count) found (drop count rest)
 pieces-right bounds at count (file number flags content) rest piece is_piece counted same =
     split _ at count rest content.bytes piece is_piece counted
@@ -103,8 +100,9 @@ pieces-right bounds at count something rest piece is_piece counted same = refl
 pieces-right bounds at count (listing left) rest piece is_piece counted same = refl
 
 -- the piece is not as the bytes are
-pub pieces-wrong : (bounds : TreeLimits) (at count : ℕ) (found : Seen) (rest piece : List ℕ) → piece ≡ piece_of bounds at found
-    → count ≡ min (length piece) (length rest) → same_bytes (take count rest) (take count piece) ≡ false
+pub pieces-wrong : (bounds : TreeLimits) (at count : ℕ) (found : Seen) (rest piece : List ℕ)
+    → piece ≡ piece_of bounds at found → count ≡ min (length piece) (length rest)
+    → same_bytes (take count rest) (take count piece) ≡ false
     → stand_in at found rest ≡ false
 pieces-wrong bounds at count (file number flags content) rest piece is_piece counted other =
     split _ at count rest content.bytes piece is_piece counted
@@ -129,14 +127,6 @@ piece-goes bounds at count found rest piece there some has is_piece counted same
   decides = sym (pieces-right bounds at count found rest piece is_piece counted same);
 }
 
--- nothing is left to compare
-pub pieces-done : (at : ℕ) (found : Seen) (end : ℕ) → IsTrue (is_readable found end) → stand_in at found [] ≡ true
-pieces-done at (file number flags content) end is = refl
-pieces-done at absent end is = absurd cc
-pieces-done at other_kind end is = absurd cc
-pieces-done at something end is = absurd cc
-pieces-done at (listing left) end is = absurd cc
-
 both : (a b : Bool) → IsTrue (a && b) → IsTrue a × IsTrue b
 both true true is = (refl, refl)
 both true false is = absurd cc
@@ -147,20 +137,6 @@ may-of may inside is = (both may inside is).0
 
 inside-of : (may : Bool) (end size : ℕ) → IsTrue (may && nat_le end size) → end ≤ size
 inside-of may end size is = leb-true end size (both may (nat_le end size) is).1
-
--- a piece has bytes where some are left, and a READ may give one or more
-pub pieces-some : (bounds : TreeLimits) (at : ℕ) (found : Seen) (piece : List ℕ) → 0 < bounds.read_bytes
-    → IsTrue (is_readable found (at + 1)) → piece ≡ piece_of bounds at found → 0 < length piece
-pieces-some bounds at (file number flags content) piece some is is_piece =
-    let inside : at + 1 ≤ length content.bytes = inside-of (may_read flags) (at + 1) (length content.bytes) is in
-    let taken : length piece ≡ min (min 4294967295 bounds.read_bytes) (length (drop at content.bytes)) =
-    ap length is_piece ∙ length-take _ (drop at content.bytes) in
-    let left : length (drop at content.bytes) ≡ length content.bytes - at = length-drop at content.bytes in
-    omega (arith, inside, taken, left, some)
-pieces-some bounds at absent piece some is is_piece = absurd cc
-pieces-some bounds at other_kind piece some is is_piece = absurd cc
-pieces-some bounds at something piece some is is_piece = absurd cc
-pieces-some bounds at (listing left) piece some is is_piece = absurd cc
 
 -- one byte is left where some are
 pub readable-fewer : (found : Seen) (at count : ℕ) → 0 < count → IsTrue (is_readable found (at + count))
@@ -179,31 +155,6 @@ readable-fewer (listing left) at count some is = absurd cc
 
 -- ---- what the session says of a file that is open to be read
 
--- of its bytes
-pub pieces-said : (bounds : TreeLimits) (handle : List ℕ) (at : ℕ) (found : Seen) (given : Option (List ℕ))
-    → IsTrue (is_readable found (at + 1)) → said_of bounds (row_of (Read handle at 4294967295)) found ≡ read_said given
-    → given ≡ Some (piece_of bounds at found)
-pieces-said bounds handle at (file number flags content) (Some bytes) is said =
-    let within : at + 1 ≤ length content.bytes =
-    inside-of (may_read flags) (at + 1) (length content.bytes) is in
-    let inside : nat_lt at (length content.bytes) ≡ true =
-    lt-ltb at (length content.bytes) (omega (arith, within)) in
-    let gave : read_from bounds at 4294967295 content ≡ gives (bytes_at bounds at 4294967295 content.bytes) =
-    ap (λ b. if b then gives (bytes_at bounds at 4294967295 content.bytes) else ended) inside in
-    cc
-pieces-said bounds handle at (file number flags content) None is said =
-    let within : at + 1 ≤ length content.bytes =
-    inside-of (may_read flags) (at + 1) (length content.bytes) is in
-    let inside : nat_lt at (length content.bytes) ≡ true =
-    lt-ltb at (length content.bytes) (omega (arith, within)) in
-    let gave : read_from bounds at 4294967295 content ≡ gives (bytes_at bounds at 4294967295 content.bytes) =
-    ap (λ b. if b then gives (bytes_at bounds at 4294967295 content.bytes) else ended) inside in
-    absurd cc
-pieces-said bounds handle at absent given is said = absurd cc
-pieces-said bounds handle at other_kind given is said = absurd cc
-pieces-said bounds handle at something given is said = absurd cc
-pieces-said bounds handle at (listing left) given is said = absurd cc
-
 and-false : (b : Bool) → (b && false) ≡ false
 and-false true = refl
 and-false false = refl
@@ -212,7 +163,8 @@ never-refused : (bounds : TreeLimits) (handle : List ℕ) (at len end : ℕ) (fo
     → IsTrue (is_readable found end) → causes_of bounds (row_of (Read handle at len)) found c ≡ false
 unfolding when no_causes
 never-refused bounds handle at len end (file number flags content) c is =
-    ap (λ b. only NotOpenFor c && not b || false) (may-of (may_read flags) (nat_le end (length content.bytes)) is) ∙ ap (λ b. b || false) (and-false (only NotOpenFor c))
+    ap (λ b. only NotOpenFor c && not b || false) (may-of (may_read flags) (nat_le end (length content.bytes)) is)
+    ∙ ap (λ b. b || false) (and-false (only NotOpenFor c))
 never-refused bounds handle at len end absent c is = absurd cc
 never-refused bounds handle at len end other_kind c is = absurd cc
 never-refused bounds handle at len end something c is = absurd cc
@@ -281,42 +233,7 @@ readable-file s handle offset len size count free sized counted =
     readable-by (limits s.tree) handle offset len size count (seen s a_file handle)
     (none-each (causes s (Read handle offset len)) free NotOpenFor) sized counted
 
--- what a READ may give of it
-pub read-is : (bounds : TreeLimits) (offset len size : ℕ) (found : Seen) (given : List ℕ) → size_of found ≡ Some size
-    → are_read bounds offset len found given
-    ≡ (is_count bounds size offset len (length given) && stand_in offset found given)
-read-is bounds offset len size (file number flags content) given sized =
-    let length_is : length content.bytes ≡ size = some-is (length content.bytes) size sized in
-    ap (λ n. is_count bounds n offset len (length given) && stand_at offset content.bytes given) length_is
-read-is bounds offset len size absent given sized = absurd cc
-read-is bounds offset len size other_kind given sized = absurd cc
-read-is bounds offset len size something given sized = absurd cc
-read-is bounds offset len size (listing left) given sized = absurd cc
-
-pub read-none : (bounds : TreeLimits) (offset len : ℕ) (found : Seen) (given : List ℕ) → size_of found ≡ None
-    → are_read bounds offset len found given ≡ false
-read-none bounds offset len (file number flags content) given sized = absurd cc
-read-none bounds offset len absent given sized = refl
-read-none bounds offset len other_kind given sized = refl
-read-none bounds offset len something given sized = refl
-read-none bounds offset len (listing left) given sized = refl
-
 -- ---- of its size
-
-said-size : (bounds : TreeLimits) (handle : List ℕ) (found : Seen) (attrs : Attrs)
-    → said_of bounds (row_of (Fstat handle)) found ≡ shows (Some attrs) → size_of found ≡ attrs.size
-said-size bounds handle (file number flags content) attrs said =
-    let same : shown_content content ≡ attrs = cc in
-    ap (λ (a : Attrs). a.size) same
-said-size bounds handle absent attrs said = absurd cc
-said-size bounds handle other_kind attrs said = absurd cc
-said-size bounds handle something attrs said = absurd cc
-said-size bounds handle (listing []) attrs said = absurd cc
-said-size bounds handle (listing (e ∷ es)) attrs said = absurd cc
-
-pub shown-size : (s : State) (handle : List ℕ) (attrs : Attrs)
-    → said_to s (Fstat handle) (Some handle) ≡ shows (Some attrs) → attrs.size ≡ size_of (seen s a_file handle)
-shown-size s handle attrs said = sym (said-size (limits s.tree) handle (seen s a_file handle) attrs said)
 
 no-size : (bounds : TreeLimits) (handle : List ℕ) (found : Seen) (c : Cause)
     → IsTrue (causes_of bounds (row_of (Fstat handle)) found c) → None ≡ size_of found
@@ -331,9 +248,3 @@ pub refused-size : (s : State) (handle : List ℕ) (c : Cause) → IsTrue (cause
     → None ≡ size_of (seen s a_file handle)
 unfolding causes
 refused-size s handle c is = no-size (limits s.tree) handle (seen s a_file handle) c is
-
--- ---- the limit of a READ
-
--- it is one byte or more
-pub cap-some : (t : Tree) → IsKept t → 0 < (limits t).read_bytes
-cap-some t kept = omega (arith, kept.well_formed.limits.read_bytes.0)

@@ -30,7 +30,7 @@ asked profile t other = None
 abbrev pub emptied : Attrs
 emptied = record { size = Some 0; owner = None; permissions = None; times = None; extended = None }
 
--- the SETSTAT that comes with an OPEN which empties a file, and does neither make it nor write it
+-- the SETSTAT that comes with an OPEN which empties a file, unless it both makes and writes it
 abbrev pub followed : Profile → Ask → Option Ask
 followed profile (asks.Open path pflags attrs) =
     if profile.flags && empties pflags then Some (asks.Setstat path emptied) else None

@@ -48,7 +48,7 @@ impl Directory {
         self.fresh.strike(name);
     }
 
-    /// Notes that a name is gone, if it is one.
+    /// Notes that a name is gone, if there is one.
     fn lose(&mut self, name: Option<&Name>)
         ensures { self.new ≡ spec.lost self.old (option_copied name.entry) }
     {
@@ -58,7 +58,7 @@ impl Directory {
         }
     }
 
-    /// Notes that a name is new, if it is one.
+    /// Notes that a name is new, if there is one.
     ///
     /// # Errors
     ///
@@ -211,7 +211,7 @@ fn name_below<'a>(top: &Place, place: &'a Place) -> Option<&'a Name>
     }
 }
 
-/// Whether the first number is the one behind the second.
+/// Whether the first number is one more than the second.
 fn is_next(next: usize, number: usize) -> bool
     ensures { result ≡ (next == number + 1) }
 {

@@ -3,29 +3,48 @@ ghost use Rattle.std.specs.Prelude.{◌≡◌, ◌≤◌};
 ghost use Rattle.sftp_wire.specs.Reading.{has_flag};
 ghost use Rattle.sftp_profile.specs.Flags as spec;
 
-/// The flags without those that say nothing beside the others, and with that to read if there is none to write.
+/// READ, a flag of OPEN (draft, section 6.3): the file is opened to be read.
+pub(crate) const READ: u32 = 0x01;
+
+/// WRITE: to be written.
+const WRITE: u32 = 0x02;
+
+/// APPEND: what is written goes to the end.
+const APPEND: u32 = 0x04;
+
+/// CREAT: a file is made if there is none.
+const CREAT: u32 = 0x08;
+
+/// TRUNC: the file is emptied.
+pub(crate) const TRUNC: u32 = 0x10;
+
+/// EXCL: nothing may be there.
+pub(crate) const EXCL: u32 = 0x20;
+
+/// The flags that a file system goes by: READ is added where WRITE is missing, and flags without an effect beside the
+/// others are left out.
 pub(crate) fn mended_flags(flags: u32) -> u32
     ensures { result ≡ spec.mended_flags flags }
 {
-    let reads = has(flags, 1);
-    let writes = has(flags, 2);
-    let appends = has(flags, 4);
-    let creates = has(flags, 8);
-    let truncates = has(flags, 16);
-    let excludes = has(flags, 32);
-    flag_if(reads || !writes, 1)
-        + flag_if(writes, 2)
-        + flag_if(writes && appends, 4)
-        + flag_if(creates, 8)
-        + flag_if(truncates && (creates && writes), 16)
-        + flag_if(creates && excludes, 32)
+    let reads = has(flags, READ);
+    let writes = has(flags, WRITE);
+    let appends = has(flags, APPEND);
+    let creates = has(flags, CREAT);
+    let truncates = has(flags, TRUNC);
+    let excludes = has(flags, EXCL);
+    flag_if(reads || !writes, READ)
+        + flag_if(writes, WRITE)
+        + flag_if(writes && appends, APPEND)
+        + flag_if(creates, CREAT)
+        + flag_if(truncates && (creates && writes), TRUNC)
+        + flag_if(creates && excludes, EXCL)
 }
 
-/// Whether a file is emptied that is not both made and written.
+/// Whether a file is emptied, and not both made and written.
 pub(crate) fn empties(flags: u32) -> bool
     ensures { result ≡ spec.empties flags }
 {
-    has(flags, 16) && !(has(flags, 8) && has(flags, 2))
+    has(flags, TRUNC) && !(has(flags, CREAT) && has(flags, WRITE))
 }
 
 /// Whether a flag is set.

@@ -239,19 +239,22 @@ impl Judge {
         Ok(false)
     }
 
-    /// Does the SETSTAT that comes with an OPEN, if one does, the OPEN gave a handle, and nothing refuses it.
+    /// Does the SETSTAT that comes with an OPEN, if there is one, the OPEN gave a handle, and nothing refuses it.
     ///
     /// # Errors
     ///
-    /// `NoMemory` if memory runs out, which takes a profile with `flags`.
+    /// `NoMemory` if memory runs out, which happens only if the profile has `flags`.
     fn follow(&mut self, ask: &Ask, answer: &Answer) -> Result<(), NoMemory>
         ensures ok { OnOk result (IsFollowed self.old ask.now answer.now self.new) }
         ensures flags { OnErr result (IsTrue self.old.profile.flags) }
     {
-        let Some(set) = followed(self.profile, ask)? else {
+        let Some(ask) = followed(self.profile, ask)? else {
             return Ok(());
         };
-        self.set(set, answer)
+        let request = Request { id: 0, ask };
+        let set = self.set(&request, answer);
+        drop(request);
+        set
     }
 
     /// Does a SETSTAT, if the answer gives a handle and nothing refuses it.
@@ -259,25 +262,23 @@ impl Judge {
     /// # Errors
     ///
     /// `NoMemory` if memory runs out.
-    fn set(&mut self, ask: Ask, answer: &Answer) -> Result<(), NoMemory>
-        ensures { OnOk result (IsSet self.old ask answer.now self.new) }
+    fn set(&mut self, request: &Request, answer: &Answer) -> Result<(), NoMemory>
+        ensures { OnOk result (IsSet self.old request.now.ask answer.now self.new) }
     {
         if !is_handle(answer) {
             return Ok(());
         }
-        let request = Request { id: 0, ask };
         let reply = Reply {
-            id: 0,
+            id: request.id,
             answer: done(self.alloc),
         };
-        let accepted = self.judge_strictly(&request, &reply);
-        drop(request);
+        let accepted = self.judge_strictly(request, &reply);
         drop(reply);
         accepted?;
         Ok(())
     }
 
-    /// Whether the reply is allowed for the request that the profile takes this one for, but for what is free.
+    /// Whether the reply is allowed for the request that the profile takes this one for, but for what is free of it.
     ///
     /// # Errors
     ///
@@ -295,7 +296,7 @@ impl Judge {
         accepted
     }
 
-    /// Whether the answer is allowed for the request, or is but for what is free.
+    /// Whether the answer is allowed for the request, but for what is free of it.
     ///
     /// # Errors
     ///
@@ -348,7 +349,7 @@ impl Judge {
         self.passes_in(ask, answer)
     }
 
-    /// Whether the profile lets an answer pass in this session, where it does not anyway.
+    /// Whether the profile lets an answer pass in this session, though not in every one.
     ///
     /// # Errors
     ///

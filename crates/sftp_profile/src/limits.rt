@@ -8,7 +8,7 @@ use sftp_wire::Ask;
 /// The fewest bytes of a path that a file system may find too long.
 const LONG: usize = 1024;
 
-/// The first byte of a file that a file system may not have.
+/// The first offset in a file that a file system may refuse.
 const FAR: u64 = 0x8000_0000;
 
 /// Whether a path or a link's target of the request is long, or it reads or writes far bytes.

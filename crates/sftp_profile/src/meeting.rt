@@ -53,7 +53,7 @@ impl Judge {
         note_of(self.session.tree(), ask, answer)
     }
 
-    /// Notes it.
+    /// Takes a note of what happened to directories.
     ///
     /// # Errors
     ///
@@ -79,11 +79,20 @@ impl Judge {
         requires { reply.now.id ≡ request.now.id }
         ensures { IfOk result (λ ok. IsNoted self.old request.now.ask reply.now.answer there ok self.new) }
     {
-        if !self.meet(request, reply)? {
-            return Ok(false);
+        match self.meet(request, reply) {
+            Ok(true) => {
+                self.take_note(there, &reply.answer)?;
+                Ok(true)
+            }
+            Ok(false) => {
+                drop(there);
+                Ok(false)
+            }
+            Err(error) => {
+                drop(there);
+                Err(error)
+            }
         }
-        self.take_note(there, &reply.answer)?;
-        Ok(true)
     }
 
     /// Whether the answer to a request is permitted, on a directory that is open or on anything else.
@@ -111,7 +120,7 @@ impl Judge {
         is_barred(directory_of(self.directories.as_slice(), ask), ask)
     }
 
-    /// Whether an answer refuses such a READDIR.
+    /// Whether an answer refuses READDIR through the handle of OPEN.
     fn refuses_kind(&self, answer: &Answer) -> bool
         ensures { result ≡ through.refuses_kind self.now.profile answer.now }
     {
@@ -150,7 +159,7 @@ impl Judge {
         self.take_listed(request, reply)
     }
 
-    /// Whether an answer passes after which the session is as before.
+    /// Whether an answer passes that leaves the session as it is.
     fn passes_directory(&self, ask: &Ask, answer: &Answer) -> bool
         ensures { result ≡ through.passes_directory self.now.profile
             (through.directory_of self.now.directories ask.now) ask.now answer.now }

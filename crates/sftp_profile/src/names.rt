@@ -5,7 +5,7 @@ ghost use Rattle.sftp_profile.specs.Profiles as spec;
 
 use crate::profiles::{NewOwner, Profile};
 
-/// The names of all departures.
+/// The names of all departures, in the order of `Departure`.
 pub const NAMES: &[&str] = &[
     "codes",
     "slash",
@@ -114,24 +114,7 @@ fn every_departure() -> [Departure; 16]
 fn name_of(departure: Departure) -> &'static [u8]
     ensures { result.now ≡ names.name_of departure }
 {
-    match departure {
-        Departure::Codes => b"codes".as_slice(),
-        Departure::Slash => b"slash".as_slice(),
-        Departure::Limits => b"limits".as_slice(),
-        Departure::Flags => b"flags".as_slice(),
-        Departure::HardlinkLink => b"hardlink-link".as_slice(),
-        Departure::Realpath => b"realpath".as_slice(),
-        Departure::Read => b"read".as_slice(),
-        Departure::EmptySetstat => b"empty-setstat".as_slice(),
-        Departure::Dots => b"dots".as_slice(),
-        Departure::DirSize => b"dir-size".as_slice(),
-        Departure::SetId => b"set-id".as_slice(),
-        Departure::LinkAttrs => b"link-attrs".as_slice(),
-        Departure::OpenDir => b"open-dir".as_slice(),
-        Departure::Listing => b"listing".as_slice(),
-        Departure::Made => b"made".as_slice(),
-        Departure::Extensions => b"extensions".as_slice(),
-    }
+    NAMES[departure as usize].as_bytes()
 }
 
 /// The first of these departures that has this name.

@@ -11,15 +11,13 @@ ghost use Rattle.sftp_profile.specs.Directories.{given_by};
 ghost use Rattle.sftp_profile.specs.Notes as spec;
 
 use crate::directories::{Directory, Shift, close, enter, shift_all};
+use crate::flags::{EXCL, has};
 use crate::refusals::has_code;
 use sftp_handles::Listing;
 use sftp_path::{Name, Place};
 use sftp_tree::{Item, NoMemory, Refused, Ticks, Tree};
 use sftp_wire::{Answer, Ask, ByteString, NameItem};
 use std::alloc::Global;
-
-/// EXCL, in the flags of OPEN.
-const EXCL: u32 = 0x20;
 
 /// What there is to note of a request and its answer.
 #[derive(Drop)]
@@ -258,7 +256,7 @@ fn shift_of(tree: &Tree, ask: &Ask) -> Result<Shift, NoMemory>
     }
 }
 
-/// What comes where a path leads.
+/// The shift by a request that makes an entry where a path leads.
 ///
 /// # Errors
 ///
@@ -270,7 +268,7 @@ fn come(tree: &Tree, path: &ByteString) -> Result<Shift, NoMemory>
     Ok(Shift { gone: None, come })
 }
 
-/// What is gone from where a path leads.
+/// The shift by a request that removes the entry where a path leads.
 ///
 /// # Errors
 ///
@@ -282,7 +280,7 @@ fn gone(tree: &Tree, path: &ByteString) -> Result<Shift, NoMemory>
     Ok(Shift { gone, come: None })
 }
 
-/// What is moved from where one path leads to where another does.
+/// The shift by a request that moves an entry from where one path leads to where another does.
 ///
 /// # Errors
 ///
@@ -302,7 +300,7 @@ fn moved(tree: &Tree, old: &ByteString, new: &ByteString) -> Result<Shift, NoMem
     Ok(Shift { gone, come })
 }
 
-/// Whether two places are one.
+/// Whether two places are the same.
 fn is_same(a: Option<&Place>, b: Option<&Place>) -> bool
     ensures { result ≡ spec.is_same (option_copied a.entry) (option_copied b.entry) }
 {
@@ -313,7 +311,7 @@ fn is_same(a: Option<&Place>, b: Option<&Place>) -> bool
     }
 }
 
-/// What an OPEN makes, if nothing is where its path leads.
+/// The shift by an OPEN, which makes a file if nothing is where its path leads.
 ///
 /// # Errors
 ///
@@ -322,7 +320,7 @@ fn made(tree: &Tree, path: &ByteString, pflags: u32) -> Result<Shift, NoMemory>
     ensures { IfOk result (λ shift. shift
         ≡ record { gone = None; come = spec.made_at tree.now (not (excludes pflags)) path.now }) }
 {
-    let come = made_at(tree, pflags & EXCL != EXCL, path)?;
+    let come = made_at(tree, !has(pflags, EXCL), path)?;
     Ok(Shift { gone: None, come })
 }
 
@@ -379,7 +377,7 @@ fn place_of(alloc: Global, names: &[Name]) -> Result<Place, NoMemory>
     Ok(place)
 }
 
-/// Notes it.
+/// Takes a note of what happened to directories.
 ///
 /// # Errors
 ///

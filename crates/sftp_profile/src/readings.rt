@@ -115,7 +115,7 @@ fn link_at(tree: &Tree, path: &[u8]) -> Result<Option<Vec<u8>>, NoMemory>
     }
 }
 
-/// The SETSTAT that comes with an OPEN which empties a file, and does neither make it nor write it.
+/// The SETSTAT that comes with an OPEN which empties a file, unless it both makes and writes it.
 ///
 /// # Errors
 ///

@@ -128,7 +128,7 @@ fn stand_in(session: &Session<GivenTable>, handle: &[u8], offset: u64, given: &[
     true
 }
 
-/// How many bytes one READ of a file gives from here on, of as many as these are; `None` if they are others than these.
+/// How many of these bytes one READ of a file gives from here on; `None` if the file has others.
 fn same_count(session: &Session<GivenTable>, handle: &[u8], at: u64, rest: &[u8]) -> Option<usize>
     requires there { IsTrue (spec.is_readable (seen session.now a_file handle.now) (at + length rest.now)) }
     requires some { 0 < length rest.now }

@@ -2,10 +2,7 @@
 ghost use Rattle.std.specs.Prelude.{◌≡◌, [], false, IfOk};
 ghost use Rattle.std.specs.Option.{option_map};
 ghost use Rattle.std.specs.Iterator.{YieldsFirstRef};
-ghost use Rattle.sftp_wire.specs.declared.packets.Ask.TheVariants.{Realpath};
-ghost use Rattle.sftp_path.specs.Place.{components, is_absolute};
-ghost use Rattle.sftp_tree.specs.Causes.{is_none};
-ghost use Rattle.sftp_tree.specs.Requests.{causes};
+ghost use Rattle.sftp_path.specs.Place.{components};
 ghost use Rattle.sftp_handles.specs.Replies.{is_named, is_one_name};
 ghost use Rattle.sftp_profile.specs.Realpaths as spec;
 
@@ -191,8 +188,7 @@ fn lexed(alloc: Global, path: &[u8]) -> Result<Option<Place>, NoMemory>
     Ok(Some(place))
 }
 
-/// Goes from a place to a component: nowhere by `.`, up by `..`, and down by a name. It says whether it is one of
-/// these.
+/// Goes from a place by a component: `.` stays, `..` goes up, and a name goes down. Returns whether it is one of these.
 ///
 /// # Errors
 ///

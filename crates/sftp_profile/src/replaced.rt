@@ -4,7 +4,7 @@ ghost use Rattle.sftp_wire.specs.declared.packets.Ask.TheVariants as asks;
 ghost use Rattle.sftp_profile.specs.Notes.{led_to};
 ghost use Rattle.sftp_profile.specs.Replaced as spec;
 
-use crate::flags::has;
+use crate::flags::{EXCL, has};
 use crate::notes::led_to;
 use crate::profiles::{NewOwner, Profile};
 use sftp_path::Place;
@@ -15,13 +15,10 @@ use sftp_wire::{Ask, Attrs, ByteString};
 const PERMISSION_BITS: u32 = 0o7777;
 
 /// The permissions of a directory that is made without any.
-const DIRECTORY: u32 = 0o777;
+const NEW_DIRECTORY: u32 = 0o777;
 
 /// The permissions of a file that is made without any.
-const FILE: u32 = 0o666;
-
-/// EXCL, in the flags of OPEN.
-const EXCL: u32 = 32;
+const NEW_FILE: u32 = 0o666;
 
 /// The request that stands for this one; `None` if the profile does not replace it.
 ///
@@ -65,7 +62,7 @@ fn replaced_mkdir(
     }
     let owner = owner_where(profile, tree, false, path.as_slice(), attrs.owner)?;
     let path = path.clone()?;
-    let attrs = made_attributes(profile, DIRECTORY, owner, attrs)?;
+    let attrs = made_attributes(profile, NEW_DIRECTORY, owner, attrs)?;
     Ok(Some(Ask::Mkdir { path, attrs }))
 }
 
@@ -90,7 +87,7 @@ fn replaced_open(
     let follow = !has(pflags, EXCL);
     let owner = owner_where(profile, tree, follow, path.as_slice(), attrs.owner)?;
     let path = path.clone()?;
-    let attrs = made_attributes(profile, FILE, owner, attrs)?;
+    let attrs = made_attributes(profile, NEW_FILE, owner, attrs)?;
     Ok(Some(Ask::Open {
         path,
         pflags,

@@ -91,7 +91,7 @@ fn is_of_room(ask: &Ask, cause: Cause) -> bool
     }
 }
 
-/// Whether of the paths of a SYMLINK it is the target that is bad.
+/// Whether the request is a SYMLINK with a bad target and a good path of its own.
 fn has_bad_target(ask: &Ask) -> bool
     ensures { result ≡ spec.has_bad_target ask.now }
 {

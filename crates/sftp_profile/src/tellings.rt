@@ -11,6 +11,12 @@ use sftp_tree::NoMemory;
 use sftp_wire::{Answer, Ask, Attrs, ByteString, NameItem, Names};
 use std::alloc::Global;
 
+/// The type of a directory, in permissions.
+pub(crate) const DIRECTORY: u32 = 4;
+
+/// The type of a link, in permissions.
+const LINK: u32 = 10;
+
 /// The bits that give a program its file's user or group.
 const ID_BITS: u32 = 0o6000;
 
@@ -145,7 +151,7 @@ pub(crate) fn mended(
     ensures { IfOk result (λ attributes. attributes ≡ spec.mended profile (option_copied shown.entry) attrs.now) }
 {
     let mut copy = attrs.clone()?;
-    if profile.dir_size && is_type(4, copy.permissions) {
+    if profile.dir_size && is_type(DIRECTORY, copy.permissions) {
         copy.size = Some(0);
     }
     let Some(shown) = shown else {
@@ -169,7 +175,7 @@ fn take_id(profile: Profile, shown: &Attrs, attrs: &mut Attrs)
 fn take_link(profile: Profile, shown: &Attrs, attrs: &mut Attrs)
     ensures { attrs.new ≡ spec.with_link profile shown.now attrs.old }
 {
-    if profile.link_attrs && is_type(10, shown.permissions) && is_type(10, attrs.permissions) {
+    if profile.link_attrs && is_type(LINK, shown.permissions) && is_type(LINK, attrs.permissions) {
         attrs.owner = shown.owner;
         attrs.permissions = shown.permissions;
     }

@@ -9,23 +9,14 @@ ghost use Rattle.sftp_profile.specs.Refusals.{is_handle};
 ghost use Rattle.sftp_profile.specs.Through as spec;
 
 use crate::directories::{Directory, directory_at};
-use crate::flags::{has, mended_flags};
+use crate::flags::{READ, TRUNC, has, mended_flags};
 use crate::profiles::Profile;
 use crate::refusals::{has_code, is_handle, is_refusal};
-use crate::tellings::is_type;
+use crate::tellings::{DIRECTORY, is_type};
 use sftp_path::absolute;
 use sftp_tree::NoMemory;
 use sftp_wire::{Answer, Ask, Attrs, ByteString};
 use std::alloc::Global;
-
-/// READ, in the flags of OPEN.
-const READ: u32 = 1;
-
-/// The type of a directory, in permissions.
-const DIRECTORY: u32 = 4;
-
-/// TRUNC, in the flags of OPEN.
-const TRUNC: u32 = 16;
 
 /// The handle that a request names.
 fn asked_handle(ask: &Ask) -> Option<&[u8]>
@@ -53,7 +44,7 @@ pub(crate) fn directory_of<'a>(directories: &'a [Directory], ask: &Ask) -> Optio
     }
 }
 
-/// Whether it has been removed.
+/// Whether the directory has been removed.
 fn is_removed(found: Option<&Directory>) -> bool
     ensures { result ≡ spec.is_removed (option_copied found.entry) }
 {
@@ -83,7 +74,7 @@ pub(crate) fn is_barred(found: Option<&Directory>, ask: &Ask) -> bool
     }
 }
 
-/// Whether an answer refuses such a READDIR.
+/// Whether an answer refuses READDIR through the handle of OPEN.
 pub(crate) fn refuses_kind(profile: Profile, answer: &Answer) -> bool
     ensures { result ≡ spec.refuses_kind profile answer.now }
 {
@@ -224,7 +215,7 @@ fn text_of(alloc: Global, found: Option<&Directory>) -> Result<Option<ByteString
     Ok(Some(ByteString::new(absolute(alloc, place.names())?)))
 }
 
-/// Whether an answer passes after which the session is as before.
+/// Whether an answer passes that leaves the session as it is.
 pub(crate) fn passes_directory(
     profile: Profile,
     found: Option<&Directory>,
@@ -251,8 +242,7 @@ fn passes_open_dir(found: Option<&Directory>, ask: &Ask, answer: &Answer) -> boo
     }
 }
 
-/// Whether a READDIR says that the end was reached, where no name is left that was there all the time, or refuses a
-/// directory that was removed.
+/// Whether the request is READDIR through the handle of OPENDIR, and the answer ends the listing.
 fn passes_listing(found: Option<&Directory>, ask: &Ask, answer: &Answer) -> bool
     ensures { result ≡ spec.passes_listing (option_copied found.entry) ask.now answer.now }
 {
@@ -262,7 +252,8 @@ fn passes_listing(found: Option<&Directory>, ask: &Ask, answer: &Answer) -> bool
     }
 }
 
-/// The same of the handle of a listing.
+/// Whether an answer says that the end was reached, where no name is left that was there all the time, or refuses a
+/// directory that was removed.
 fn ends(found: Option<&Directory>, answer: &Answer) -> bool
     ensures { result ≡ spec.ends (option_copied found.entry) answer.now }
 {

@@ -11,7 +11,8 @@ returns-then-is_stateless c =
     let answer = c.args.reply.now.answer in
     IfOk-weaker c.permit.result (λ ok. IsPermitted s ask answer ok c.permit.new.self)
     (λ ok. IsJudged s ask answer ok c.permit.new.self)
-    (λ ok found. stateless-outcome s c.permit.new.self ask answer ok (sym c.is_stateless.ensures ∙ c.if-is_stateless.true) found)
+    (λ ok found.
+    stateless-outcome s c.permit.new.self ask answer ok (sym c.is_stateless.ensures ∙ c.if-is_stateless.true) found)
     c.permit.ensures.ok
 
 pub returns : goal.returns

@@ -1,12 +1,13 @@
 use Rattle.sftp_profile.proofs.Meetings.{unmet-outcome, met-outcome}
 use Rattle.sftp_profile.proofs.judges.Judge.judge_and_note.Goals as goal
 
-pub returns-then-not-branch : goal.returns-then-not-branch
-returns-then-not-branch c =
+pub returns-in-Ok-false : goal.returns-in-Ok-false
+returns-in-Ok-false c =
     unmet-outcome c.args.self.now c.meet.new.self c.args.request.now.ask c.args.reply.now.answer c.args.there
-    c.in_ok-meet.field-0 c.if-not-branch.true c.in_ok-meet.ensures
+    c.in-Ok-false.field-0 c.in-Ok-false.field-0-test c.in-Ok-false.ensures
 
-pub returns : goal.returns
-returns c =
+pub returns-in_ok-take_note-in-Ok-true : goal.returns-in_ok-take_note-in-Ok-true
+returns-in_ok-take_note-in-Ok-true c =
     met-outcome c.args.self.now c.meet.new.self c.take_note.new.self c.args.request.now.ask c.args.reply.now.answer
-    c.args.there c.in_ok-meet.field-0 c.if-not-branch.false c.in_ok-meet.ensures c.in_ok-take_note.ensures
+    c.args.there c.in-Ok-true.field-0 c.in-Ok-true.field-0-test c.in-Ok-true.ensures
+    c.in_ok-take_note-in-Ok-true.ensures

@@ -42,7 +42,8 @@ returns c =
     (under s
     (first_of
     (if s.profile.open_dir
-    then taken_as s.profile s.session (stands_for s.profile (directory_of s.directories ask) ask answer) answer else None)
+    then taken_as s.profile s.session (stands_for s.profile (directory_of s.directories ask) ask answer) answer
+    else None)
     (if s.profile.listing then listed_as s.profile s.session (directory_of s.directories ask) ask answer else None))) s
     ok end)
     (λ ok. IsByDirectory s ask answer ok end)
@@ -52,7 +53,8 @@ returns c =
     (second-result
     (λ x.
     if x.profile.open_dir
-    then taken_as x.profile x.session (stands_for x.profile (directory_of x.directories ask) ask answer) answer else None)
+    then taken_as x.profile x.session (stands_for x.profile (directory_of x.directories ask) ask answer) answer
+    else None)
     (λ x. if x.profile.listing then listed_as x.profile x.session (directory_of x.directories ask) ask answer else None)
     s c.take_standing.new.self end c.take_listed.result c.in_ok-take_standing.field-0 c.if-branch.false
     c.in_ok-take_standing.ensures c.take_listed.ensures)

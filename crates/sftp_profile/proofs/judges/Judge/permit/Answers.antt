@@ -18,6 +18,6 @@ returns-clause-ok c =
     let s = c.args.self.now in
     let ask = c.args.request.now.ask in
     let answer = c.args.reply.now.answer in
-    second-result (λ x. strictly.step x.session ask answer) (λ x. forgiven x.profile x.session ask answer) s c.judge_strictly.new.self
-    c.forgive.new.self c.forgive.result c.in_ok-judge_strictly.field-0 c.if-branch.false
+    second-result (λ x. strictly.step x.session ask answer) (λ x. forgiven x.profile x.session ask answer) s
+    c.judge_strictly.new.self c.forgive.new.self c.forgive.result c.in_ok-judge_strictly.field-0 c.if-branch.false
     c.in_ok-judge_strictly.ensures.ok c.forgive.ensures.ok

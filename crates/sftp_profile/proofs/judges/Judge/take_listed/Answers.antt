@@ -11,7 +11,8 @@ use Rattle.sftp_profile.proofs.judges.Judge.take_listed.Goals as goal
 
 pub returns-then-not-lists_changes : goal.returns-then-not-lists_changes
 returns-then-not-lists_changes c =
-    off-outcome c.args.self.now c.args.self.now.profile.listing _ (sym c.lists_changes.ensures ∙ c.if-not-lists_changes.true)
+    off-outcome c.args.self.now c.args.self.now.profile.listing _
+    (sym c.lists_changes.ensures ∙ c.if-not-lists_changes.true)
 
 pub returns-in_default : goal.returns-in_default
 returns-in_default c =
@@ -20,7 +21,8 @@ returns-in_default c =
     let answer = c.args.reply.now.answer in
     on-outcome s s s.profile.listing _ _ (sym c.lists_changes.ensures ∙ c.if-not-lists_changes.false)
     (no-given s ask
-    (due_items s.profile s.session (directory_of s.directories ask) ask (unwrap_or (told s.profile s.session ask answer) answer))
+    (due_items s.profile s.session (directory_of s.directories ask) ask
+    (unwrap_or (told s.profile s.session ask answer) answer))
     (sym c.in_ok-items.ensures ∙ ap (option_map (λ v. v.items)) c.in_default.is))
 
 pub returns : goal.returns
@@ -34,7 +36,8 @@ returns c =
     (λ ok found.
     on-outcome s end s.profile.listing _ ok (sym c.lists_changes.ensures ∙ c.if-not-lists_changes.false)
     (given-outcome s end ask
-    (due_items s.profile s.session (directory_of s.directories ask) ask (unwrap_or (told s.profile s.session ask answer) answer))
+    (due_items s.profile s.session (directory_of s.directories ask) ask
+    (unwrap_or (told s.profile s.session ask answer) answer))
     c.in-Some.items.items ok
     (sym c.in_ok-items.ensures ∙ ap (option_map (λ v. v.items)) c.in-Some.is) found))
     c.give.ensures
