@@ -157,6 +157,7 @@ fn show<'a, R: Files + AllocGlobal, O: Write>(
     }
 }
 
+// Slow to prove: ten calls that may fail, each of which borrows streams.
 fn perform_request<'a, R: Files + AllocGlobal, I: Read, O: Write, E: Write>(
     rt: &R,
     request: &Request<'a>,

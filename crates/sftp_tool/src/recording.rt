@@ -25,15 +25,20 @@ impl<L: Write + Drop> Recording<L> {
         name: Option<&'a str>,
     ) -> Result<Recording<L>, Failure<'a>> {
         match name {
-            Some(name) => match fs::create(rt, name) {
-                Ok(file) => match BufWriter::new(rt.alloc(), file) {
-                    Ok(writer) => Ok(Recording::File(writer)),
-                    Err(error) => Err(Failure::writing(name, &error)),
-                },
+            Some(name) => match create(rt, name) {
+                Ok(writer) => Ok(Recording::File(writer)),
                 Err(error) => Err(Failure::writing(name, &error)),
             },
             None => Ok(Recording::Nowhere),
         }
+    }
+}
+
+/// A writer to a new file of that name.
+fn create<R: Files + AllocGlobal>(rt: &R, name: &str) -> io::Result<BufWriter<R::File>> {
+    match fs::create(rt, name) {
+        Ok(file) => BufWriter::new(rt.alloc(), file),
+        Err(error) => Err(error),
     }
 }
 

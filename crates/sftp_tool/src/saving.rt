@@ -76,33 +76,40 @@ fn replace_at<R: Files + AllocGlobal>(rt: &R, path: &str, bytes: &[u8]) -> io::R
 /// Makes a file beside the one at this path, and returns its path too. No file with its name was there.
 fn new_file<R: Files + AllocGlobal>(rt: &R, path: &str) -> io::Result<(String, R::File)> {
     for number in 1..TRIES {
-        if let Some(made) = try_new_file(rt, path, number)? {
-            return Ok(made);
+        let made = try_new_file(rt, path, number);
+        if !is_taken(&made) {
+            return made;
         }
+        drop(made);
     }
     Err(io::Error::from(ErrorKind::AlreadyExists))
 }
 
-/// Makes the file with the name of this number beside the one at this path, unless there is one.
+/// Makes the file with the name of this number beside the one at this path. It is an error if there is one.
 fn try_new_file<R: Files + AllocGlobal>(
     rt: &R,
     path: &str,
     number: u32,
-) -> io::Result<Option<(String, R::File)>> {
+) -> io::Result<(String, R::File)> {
     let fresh = fresh_path(rt.alloc(), path, number)?;
     match OpenOptions::new()
         .write(true)
         .create_new(true)
         .open(rt, fresh.as_str())
     {
-        Ok(file) => Ok(Some((fresh, file))),
+        Ok(file) => Ok((fresh, file)),
         Err(error) => {
             drop(fresh);
-            match error.kind() {
-                ErrorKind::AlreadyExists => Ok(None),
-                _ => Err(error),
-            }
+            Err(error)
         }
+    }
+}
+
+/// Whether a file was not made since there is one of that name.
+fn is_taken<F>(made: &io::Result<(String, F)>) -> bool {
+    match made {
+        Ok(_) => false,
+        Err(error) => error.kind() == ErrorKind::AlreadyExists,
     }
 }
 

@@ -105,17 +105,22 @@ fn conclude<'a, R: Files + AllocGlobal, E: Write>(
 {
     let (tree, close) = parts(end);
     let saved = save_any(rt, &tree, options);
+    let has_tree = tree.is_some();
+    drop(tree);
     if options.is_verbose {
         let summary = Summary {
             close,
             traffic,
             entries: entries_of(&saved),
-            is_saved: tree.is_some() && options.save.is_some() && saved.is_ok(),
+            is_saved: has_tree && options.save.is_some() && saved.is_ok(),
         };
-        let _ = write_flushed(errors, format_args!("sftpv3: {summary}\n"));
+        say_summary(summary, errors);
     }
-    drop(tree);
     outcome(close, saved, traffic, options, errors)
+}
+
+fn say_summary<E: Write>(summary: Summary, errors: &mut E) {
+    let _ = write_flushed(errors, format_args!("sftpv3: {summary}\n"));
 }
 
 /// The tree that a session left, if it is to be saved, and how the session ended.
@@ -154,35 +159,55 @@ fn outcome<'a, E: Write>(
 ) -> Result<Ending, Failure<'a>>
     ensures { IfOk result (λ ending. ending ≡ endings.Done) }
 {
+    match saved {
+        Ok(_) => ended(close, traffic, options),
+        Err(failure) => unsaved(close, failure, traffic, options, errors),
+    }
+}
+
+/// What the end of a session means for the run if its tree was saved, or was not to be.
+fn ended<'a>(
+    close: Close,
+    traffic: Traffic,
+    options: &ServeOptions<'a>,
+) -> Result<Ending, Failure<'a>>
+    ensures { IfOk result (λ ending. ending ≡ endings.Done) }
+{
     match close {
-        Close::Finished => {
-            saved?;
-            Ok(Ending::Done)
-        }
-        Close::Fault(fault) => {
-            saved?;
-            Err(Failure::Session(fault))
-        }
-        Close::Io(stream) => {
-            report_unsaved(errors, close, saved);
-            Err(stream_failure(stream, traffic, options))
-        }
-        Close::NoMemory => {
-            report_unsaved(errors, close, saved);
-            Err(Failure::OutOfMemory)
+        Close::Finished => Ok(Ending::Done),
+        Close::Fault(fault) => Err(Failure::Session(fault)),
+        Close::Io(stream) => Err(stream_failure(stream, traffic, options)),
+        Close::NoMemory => Err(Failure::OutOfMemory),
+    }
+}
+
+/// What the end of a session means for the run if its tree was not saved, and why it was not.
+fn unsaved<'a, E: Write>(
+    close: Close,
+    failure: Failure<'a>,
+    traffic: Traffic,
+    options: &ServeOptions<'a>,
+    errors: &mut E,
+) -> Result<Ending, Failure<'a>>
+    ensures { IfOk result (λ ending. ending ≡ endings.Done) }
+{
+    match close {
+        Close::Finished | Close::Fault(_) => Err(failure),
+        Close::Io(_) | Close::NoMemory => {
+            report_unsaved(errors, close, &failure);
+            drop(failure);
+            ended(close, traffic, options)
         }
     }
 }
 
-/// Reports why a tree was not saved, if it was to be. Where the session and the tree both ran out of memory, that is
-/// reported once, by the caller.
-fn report_unsaved<E: Write>(errors: &mut E, close: Close, saved: Result<Option<u32>, Failure<'_>>) {
-    match (&saved, close) {
-        (Ok(_), _) => {}
-        (Err(Failure::OutOfMemory), Close::NoMemory) => {}
-        (Err(failure), _) => report(errors, failure),
+/// Reports why a tree was not saved. Where the session and the tree both ran out of memory, the caller reports that
+/// once.
+fn report_unsaved<E: Write>(errors: &mut E, close: Close, failure: &Failure<'_>) {
+    match (failure, close) {
+        (Failure::OutOfMemory, Close::NoMemory) => {}
+        _ => report(errors, failure),
     }
-    drop(saved);
 }
 
 /// Writes a tree, if there is one, to the file that is named for it, if one is. Returns how many entries it has, if
@@ -193,7 +218,7 @@ fn save_any<'a, R: Files + AllocGlobal>(
     options: &ServeOptions<'a>,
 ) -> Result<Option<u32>, Failure<'a>> {
     match (tree, options.save) {
-        (Some(tree), Some(name)) => Ok(Some(save(rt, tree, name)?)),
+        (Some(tree), Some(name)) => save(rt, tree, name),
         (Some(tree), None) if options.is_verbose => Ok(counted(tree)),
         _ => Ok(None),
     }
@@ -204,13 +229,15 @@ fn save<'a, R: Files + AllocGlobal>(
     rt: &R,
     tree: &Tree,
     name: &'a str,
-) -> Result<u32, Failure<'a>> {
+) -> Result<Option<u32>, Failure<'a>> {
     let bytes = tree.write()?;
     let written = write(rt, name, bytes.as_slice());
     let entries = entry_count(bytes.as_slice());
     drop(bytes);
-    written?;
-    Ok(entries)
+    match written {
+        Ok(()) => Ok(Some(entries)),
+        Err(failure) => Err(failure),
+    }
 }
 
 /// How many entries a tree has, unless memory runs out.

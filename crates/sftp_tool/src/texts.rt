@@ -5,6 +5,7 @@ ghost use Rattle.sftp_tool.specs.declared.messages.Ending.TheVariants as endings
 use crate::cuts::{is_mark, limit_of, print_lines};
 use crate::messages::{Ending, Failure, STANDARD_INPUT, STANDARD_OUTPUT};
 use crate::saving::write;
+use crate::showing::outcome;
 use crate::subcommands::read;
 use sftp_audit::{TranscriptError, TreeError};
 use sftp_show::Quoted;
@@ -50,42 +51,47 @@ fn put_full<'a, O: Write>(
     let shown = put_text(alloc, bytes, &mut text);
     let printed = print_lines(output, limit, text.as_slice());
     drop(text);
-    match printed {
-        Ok(()) => {
-            shown?;
-            Ok(Ending::Done)
-        }
-        Err(failure) => {
-            drop(shown);
-            Err(failure)
-        }
-    }
+    outcome(shown, printed)
 }
 
 /// Appends the text of a file to an empty one. Of a malformed transcript it then has the records before the fault, and
 /// nothing if memory ran out.
 fn put_text<'a>(alloc: Global, bytes: &[u8], text: &mut Vec<u8>) -> Result<(), Failure<'a>> {
     if bytes.starts_with(OPENING.as_slice()) {
-        match put_transcript(bytes, text) {
-            Ok(()) => Ok(()),
-            Err(ShowFault::NoMemory) => {
-                text.clear();
-                Err(Failure::OutOfMemory)
-            }
-            Err(ShowFault::Unfit) => Err(without_side(text.as_slice())),
-        }
+        put_records(bytes, text)
     } else {
-        match put_tree(bytes, text) {
-            Ok(()) => Ok(()),
-            Err(ShowFault::NoMemory) => {
-                text.clear();
-                Err(Failure::OutOfMemory)
-            }
-            Err(ShowFault::Unfit) => {
-                text.clear();
-                Err(malformed(alloc, bytes))
-            }
+        put_rows(alloc, bytes, text)
+    }
+}
+
+/// Appends the text of a transcript to an empty one.
+fn put_records<'a>(bytes: &[u8], text: &mut Vec<u8>) -> Result<(), Failure<'a>> {
+    match put_transcript(bytes, text) {
+        Ok(()) => Ok(()),
+        Err(ShowFault::NoMemory) => {
+            text.clear();
+            Err(Failure::OutOfMemory)
         }
+        Err(ShowFault::Unfit) => Err(without_side(text.as_slice())),
+    }
+}
+
+/// Appends the text of a file that is no transcript to an empty one.
+fn put_rows<'a>(alloc: Global, bytes: &[u8], text: &mut Vec<u8>) -> Result<(), Failure<'a>> {
+    match put_tree(bytes, text) {
+        Ok(()) => Ok(()),
+        Err(fault) => {
+            text.clear();
+            Err(unshown(alloc, bytes, fault))
+        }
+    }
+}
+
+/// Why a file that is no transcript has no text.
+fn unshown<'a>(alloc: Global, bytes: &[u8], fault: ShowFault) -> Failure<'a> {
+    match fault {
+        ShowFault::NoMemory => Failure::OutOfMemory,
+        ShowFault::Unfit => malformed(alloc, bytes),
     }
 }
 
