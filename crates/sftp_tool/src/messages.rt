@@ -1,5 +1,5 @@
 //! How a run ends: its exit status, and the message that says why.
-ghost use Rattle.std.specs.Prelude.{◌≡◌, ◌≢◌, ◌≤◌, IfErr};
+ghost use Rattle.std.specs.Prelude.{◌≡◌, ◌≢◌, ◌≤◌, IfOk, IfErr};
 ghost use Rattle.std.specs.IoError.{error_kind};
 ghost use Rattle.std.specs.declared.io.ErrorKind.TheVariants as kinds;
 ghost use Rattle.sftp_tool.specs.declared.messages.Failure.TheVariants as failures;
@@ -260,15 +260,17 @@ pub(crate) fn write_flushed<W: Write, D: Display + Drop>(
     Ok(())
 }
 
-/// Prints a text on standard output.
+/// Prints a text on standard output, which is all that is left to do, and returns the ending.
 pub(crate) fn print<'a, O: Write, D: Display + Drop>(
     output: &mut O,
     text: D,
-) -> Result<(), Failure<'a>>
-    ensures { IfErr result IsUnwritten }
+    ending: Ending,
+) -> Result<Ending, Failure<'a>>
+    ensures ok { IfOk result (λ ended. ended ≡ ending) }
+    ensures err { IfErr result IsUnwritten }
 {
     match write_flushed(output, text) {
-        Ok(()) => Ok(()),
+        Ok(()) => Ok(ending),
         Err(error) => Err(Failure::writing(STANDARD_OUTPUT, &error)),
     }
 }

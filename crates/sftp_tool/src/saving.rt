@@ -1,9 +1,10 @@
 //! Files that are replaced whole: the bytes go into a new file beside the old one, which then takes its name. Until
 //! then the old file is unchanged.
-ghost use Rattle.std.specs.Prelude.{IfErr};
+ghost use Rattle.std.specs.Prelude.{◌≡◌, IfOk, IfErr};
+ghost use Rattle.sftp_tool.specs.declared.messages.Ending.TheVariants as endings;
 ghost use Rattle.sftp_tool.specs.Failures.{IsUnwritten};
 
-use crate::messages::Failure;
+use crate::messages::{Ending, Failure};
 use std::alloc::{AllocError, Global};
 use std::fs::{Files, OpenFile, OpenOptions};
 use std::io::{ErrorKind, Write};
@@ -33,6 +34,23 @@ pub(crate) fn write<'a, R: Files + AllocGlobal>(
     match replace(rt, name, bytes) {
         Ok(()) => Ok(()),
         Err(error) => Err(Failure::replacing(name, &error)),
+    }
+}
+
+/// Makes the file `name` of these bytes, or replaces it, which is all that is left to do.
+pub(crate) fn write_last<'a, R: Files + AllocGlobal>(
+    rt: &R,
+    name: &'a str,
+    bytes: Vec<u8>,
+) -> Result<Ending, Failure<'a>>
+    ensures ok { IfOk result (λ ending. ending ≡ endings.Done) }
+    ensures err { IfErr result IsUnwritten }
+{
+    let written = write(rt, name, bytes.as_slice());
+    drop(bytes);
+    match written {
+        Ok(()) => Ok(Ending::Done),
+        Err(failure) => Err(failure),
     }
 }
 

@@ -10,7 +10,7 @@ use crate::command_line::AuditOptions;
 use crate::explaining::explain;
 use crate::messages::{Ending, Failure, print};
 use crate::profiles::with_umask;
-use crate::saving::write;
+use crate::saving::{write, write_last};
 use sftp_audit::{Accepted, AuditError, Refusal};
 use sftp_profile::Profile;
 use sftp_transcript::{Reader, Tally};
@@ -106,12 +106,7 @@ pub(crate) fn blank<'a, R: Files + AllocGlobal>(
     ensures err { IfErr result IsUnwritten }
 {
     match sftp_audit::blank_tree(rt.alloc()) {
-        Ok(tree) => {
-            let written = write(rt, name, tree.as_slice());
-            drop(tree);
-            written?;
-            Ok(Ending::Done)
-        }
+        Ok(tree) => write_last(rt, name, tree),
         Err(_no_memory) => Err(Failure::OutOfMemory),
     }
 }
@@ -127,11 +122,7 @@ pub(crate) fn raise<'a, R: Files + AllocGlobal>(
     let bytes = read(rt, tree)?;
     let raised = raised_file(rt.alloc(), bytes.as_slice());
     drop(bytes);
-    let raised = raised?;
-    let written = write(rt, name, raised.as_slice());
-    drop(raised);
-    written?;
-    Ok(Ending::Done)
+    write_last(rt, name, raised?)
 }
 
 /// The tree file of the tree of this one, with the highest limits.
@@ -151,8 +142,7 @@ pub(crate) fn help<'a, O: Write>(text: &str, output: &mut O) -> Result<Ending, F
     ensures ok { IfOk result (λ ending. ending ≡ endings.Done) }
     ensures err { IfErr result IsUnwritten }
 {
-    print(output, text)?;
-    Ok(Ending::Done)
+    print(output, text, Ending::Done)
 }
 
 /// Writes the final tree, if a file is named for it, and then says that the session is accepted.
@@ -169,8 +159,11 @@ fn accept<'a, R: Files + AllocGlobal, O: Write>(
         write(rt, name, accepted.tree.as_slice())?;
     }
     let requests = accepted.requests;
-    print(output, format_args!("accepted {requests} requests\n"))?;
-    Ok(Ending::Done)
+    print(
+        output,
+        format_args!("accepted {requests} requests\n"),
+        Ending::Done,
+    )
 }
 
 /// Says why the session is refused: `NotModelled` where the profile does not follow a request.
@@ -183,15 +176,17 @@ fn refuse<'a, O: Write>(
     ensures err { IfErr result IsUnwritten }
 {
     match refusal {
-        Refusal::NotAllowed { record } if !is_modelled => {
-            print(
-                output,
-                format_args!("refused record {record}: NotModelled\n"),
-            )?;
-        }
-        _ => print(output, format_args!("refused {refusal}\n"))?,
+        Refusal::NotAllowed { record } if !is_modelled => print(
+            output,
+            format_args!("refused record {record}: NotModelled\n"),
+            Ending::Refused,
+        ),
+        _ => print(
+            output,
+            format_args!("refused {refusal}\n"),
+            Ending::Refused,
+        ),
     }
-    Ok(Ending::Refused)
 }
 
 /// What the error of an audit means for the run: a refusal of the session, or a failure. The transcript has this name.

@@ -3,8 +3,8 @@ ghost use Rattle.std.specs.Prelude.{◌≡◌, IfOk};
 ghost use Rattle.sftp_tool.specs.declared.messages.Ending.TheVariants as endings;
 
 use crate::cuts::{is_mark, limit_of, print_lines};
-use crate::messages::{Ending, Failure, STANDARD_INPUT, STANDARD_OUTPUT};
-use crate::saving::write;
+use crate::messages::{Ending, Failure, STANDARD_INPUT};
+use crate::saving::write_last;
 use crate::showing::outcome;
 use crate::subcommands::read;
 use sftp_audit::{TranscriptError, TreeError};
@@ -17,7 +17,6 @@ use sftp_transcript::OPENING;
 use sftp_treefile::read_rows;
 use std::alloc::{AllocError, Global};
 use std::fs::Files;
-use std::io;
 use std::io::{Read, Write};
 
 /// What the text of a tree file begins with, where blank lines and comments are left out.
@@ -116,20 +115,6 @@ fn malformed<'a>(alloc: Global, bytes: &[u8]) -> Failure<'a> {
     }
 }
 
-/// Writes bytes to standard output.
-pub(crate) fn print_bytes<'a, O: Write>(output: &mut O, bytes: &[u8]) -> Result<(), Failure<'a>> {
-    match write_all_flushed(output, bytes) {
-        Ok(()) => Ok(()),
-        Err(error) => Err(Failure::writing(STANDARD_OUTPUT, &error)),
-    }
-}
-
-fn write_all_flushed<O: Write>(output: &mut O, bytes: &[u8]) -> io::Result<()> {
-    output.write_all(bytes)?;
-    output.flush()?;
-    Ok(())
-}
-
 /// Writes the file `name` whose text is on standard input. Its first line says of which kind it is: with `home` it is a
 /// tree file, else a transcript.
 pub(crate) fn make<'a, R: Files + AllocGlobal, I: Read>(
@@ -156,13 +141,13 @@ fn make_from<'a, R: Files + AllocGlobal>(
     ensures { IfOk result (λ ending. ending ≡ endings.Done) }
 {
     let mut bytes = Vec::new(rt.alloc());
-    let made = match read_text(text, &mut bytes) {
-        Ok(()) => write(rt, name, bytes.as_slice()),
-        Err(fault) => Err(text_failure(rt.alloc(), fault, text)),
-    };
-    drop(bytes);
-    made?;
-    Ok(Ending::Done)
+    match read_text(text, &mut bytes) {
+        Ok(()) => write_last(rt, name, bytes),
+        Err(fault) => {
+            drop(bytes);
+            Err(text_failure(rt.alloc(), fault, text))
+        }
+    }
 }
 
 fn read_text(text: &[u8], bytes: &mut Vec<u8>) -> Result<(), TextFault> {
