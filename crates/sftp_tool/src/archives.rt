@@ -72,10 +72,7 @@ fn archive_failure<'a>(alloc: Global, error: &ImportError) -> Failure<'a> {
             entry,
             path,
             refusal,
-        } => match refused(alloc, *entry, path.as_slice(), *refusal) {
-            Ok(message) => Failure::Text(message),
-            Err(_no_memory) => Failure::OutOfMemory,
-        },
+        } => Failure::of_text(refused(alloc, *entry, path.as_slice(), *refusal)),
     }
 }
 

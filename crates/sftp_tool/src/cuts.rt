@@ -29,7 +29,7 @@ pub(crate) fn limit_of<'a>(alloc: Global, data: Option<&str>) -> Result<usize, F
         None => Ok(USUAL),
         Some(text) => match number_of(text) {
             Some(limit) => Ok(limit),
-            None => Err(bad_limit(alloc, text)?),
+            None => Err(Failure::of_usage(bad_limit(alloc, text))),
         },
     }
 }
@@ -43,10 +43,11 @@ fn number_of(text: &str) -> Option<usize> {
     }
 }
 
-fn bad_limit<'a>(alloc: Global, text: &str) -> Result<Failure<'a>, AllocError> {
-    Ok(Failure::Usage(format!(in alloc;
+/// The message for an option `--data` with this value.
+fn bad_limit(alloc: Global, text: &str) -> Result<String, AllocError> {
+    format!(in alloc;
         "error: invalid value '{text}' for '--data <N|all>': neither a number below 2^64 nor 'all'\n{MORE}"
-    )?))
+    )
 }
 
 /// Prints lines, with each text in quotes and the digits of each raw record cut after `limit` bytes.

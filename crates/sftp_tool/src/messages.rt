@@ -192,6 +192,24 @@ impl<'a> Failure<'a> {
     }
 }
 
+impl Failure<'_> {
+    /// Bad usage with this message, unless there is no memory for it.
+    pub(crate) fn of_usage(message: Result<String, AllocError>) -> Self {
+        match message {
+            Ok(message) => Failure::Usage(message),
+            Err(_) => Failure::OutOfMemory,
+        }
+    }
+
+    /// A malformed text or archive with this message, unless there is no memory for it.
+    pub(crate) fn of_text(message: Result<String, AllocError>) -> Self {
+        match message {
+            Ok(message) => Failure::Text(message),
+            Err(_) => Failure::OutOfMemory,
+        }
+    }
+}
+
 impl From<NoMemory> for Failure<'_> {
     ghost from_gives = { λ _ failure. failure ≡ failures.OutOfMemory };
 

@@ -95,7 +95,7 @@ pub(crate) fn with_umask<'a>(
 ) -> Result<Profile, Failure<'a>> {
     let text = text.unwrap_or(USUAL_UMASK);
     let Some(umask) = octal(text) else {
-        return Err(bad_umask(alloc, text)?);
+        return Err(Failure::of_usage(bad_umask(alloc, text)));
     };
     let mut profile = profile;
     if profile.made {
@@ -104,10 +104,11 @@ pub(crate) fn with_umask<'a>(
     Ok(profile)
 }
 
-fn bad_umask<'a>(alloc: Global, text: &str) -> Result<Failure<'a>, AllocError> {
-    Ok(Failure::Usage(format!(in alloc;
+/// The message for an option `--umask` with this value.
+fn bad_umask(alloc: Global, text: &str) -> Result<String, AllocError> {
+    format!(in alloc;
         "error: invalid value '{text}' for '--umask <OCTAL>': not an octal number up to 0777\n{MORE}"
-    )?))
+    )
 }
 
 /// The number of this text, if it has one to four octal digits and is at most 0777.

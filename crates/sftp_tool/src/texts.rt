@@ -179,10 +179,7 @@ fn text_failure<'a>(alloc: Global, fault: TextFault, text: &[u8]) -> Failure<'a>
             expected,
         } => {
             let word = word_at(text, line, column);
-            match message_at(alloc, line, column, word, expected) {
-                Ok(message) => Failure::Text(message),
-                Err(_) => Failure::OutOfMemory,
-            }
+            Failure::of_text(message_at(alloc, line, column, word, expected))
         }
     }
 }
