@@ -46,7 +46,7 @@ fn import_from<'a, R: Files + AllocGlobal>(
     write_last(rt, name, tree_of(rt.alloc(), archive)?)
 }
 
-/// The tree file of an archive. The archive is let go before the file is made, since both have the bytes of all files.
+/// The tree file of an archive. The archive is dropped before the file is made, since each has the bytes of all files.
 fn tree_of<'a>(alloc: Global, archive: Vec<u8>) -> Result<Vec<u8>, Failure<'a>> {
     let imported = sftp_tar::import(alloc, archive.as_slice());
     drop(archive);
@@ -64,7 +64,7 @@ fn tree_of<'a>(alloc: Global, archive: Vec<u8>) -> Result<Vec<u8>, Failure<'a>> 
     }
 }
 
-/// What the error of an import means for the run.
+/// The failure of a run whose import ended in this error.
 fn archive_failure<'a>(alloc: Global, error: &ImportError) -> Failure<'a> {
     match error {
         ImportError::NoMemory => Failure::OutOfMemory,
@@ -98,7 +98,7 @@ pub(crate) fn export<'a, R: Files + AllocGlobal, O: Write>(
     print_last(output, archive_of(rt.alloc(), tree)?)
 }
 
-/// Writes bytes to standard output, which is all that is left to do.
+/// Writes bytes to standard output, as the last step of a run.
 fn print_last<'a, O: Write>(output: &mut O, bytes: Vec<u8>) -> Result<Ending, Failure<'a>>
     ensures { IfOk result (λ ending. ending ≡ endings.Done) }
 {

@@ -1,4 +1,4 @@
-//! The command line: parses the arguments, and has the help texts.
+//! The command line: the table of arguments, the help texts, and what a command line asks for.
 use crate::messages::Failure;
 use crate::profiles;
 use clap::error::ErrorKind;
@@ -176,7 +176,7 @@ pub(crate) enum Request<'a> {
     Audit(AuditOptions<'a>),
     /// Write the blank tree to a file.
     Blank { file: &'a str },
-    /// Write the tree of a tree file with the highest limits to another.
+    /// Write the tree of a tree file, with the highest limits, to another file.
     Raise { tree: &'a str, file: &'a str },
     /// Show what a transcript or a tree file holds.
     Show(ShowOptions<'a>),
@@ -201,7 +201,7 @@ pub(crate) struct ServeOptions<'a> {
     pub(crate) save: Option<&'a str>,
     /// The name of the file to record the session in.
     pub(crate) record: Option<&'a str>,
-    /// The state that a pseudorandom order of work and replies starts from; without it both go in the order asked.
+    /// The seed of a pseudorandom order of work and replies. Without it both follow the order of the requests.
     pub(crate) shuffle: Option<u64>,
     /// Whether standard error says when the session opens and how it ends.
     pub(crate) is_verbose: bool,
@@ -216,11 +216,11 @@ pub(crate) struct AuditOptions<'a> {
     pub(crate) transcript: &'a str,
     /// The file to write the final tree to.
     pub(crate) out: Option<&'a str>,
-    /// Whether a refusal is explained on standard error, and where a file is malformed.
+    /// Whether standard error explains a refusal, or where a file is malformed.
     pub(crate) explains: bool,
     /// Which departures from the strict reading are accepted.
     pub(crate) profile: Profile,
-    /// The permissions that nothing new has, as octal digits.
+    /// The permissions that are taken from whatever is made, as octal digits.
     pub(crate) umask: Option<&'a str>,
 }
 
@@ -229,16 +229,16 @@ pub(crate) struct AuditOptions<'a> {
 pub(crate) struct ShowOptions<'a> {
     /// The name of the transcript or the tree file.
     pub(crate) file: &'a str,
-    /// Whether the lines have each field that the file holds.
+    /// Whether the lines have every field of the file.
     pub(crate) is_full: bool,
-    /// How many bytes of each text are printed then: a number, or `all`.
+    /// How many bytes of each text these lines have: a number, or `all`.
     pub(crate) data: Option<&'a str>,
-    /// Whether standard error says where a malformed file is so.
+    /// Whether standard error says where a malformed file has its fault.
     pub(crate) explains: bool,
 }
 
-/// Parses the command line, whose first word is the program's name, of the program of this version. Asking for help or
-/// the version is not an error.
+/// Parses the command line of the program in this version. The first word is the program's name. To ask for help or the
+/// version is not an error.
 pub(crate) fn parse<'a>(
     alloc: Global,
     version: &'a str,
@@ -254,7 +254,7 @@ pub(crate) fn parse<'a>(
     }
 }
 
-/// What an error of the parser means: memory ran out, help or the version is asked for, or bad usage.
+/// What an error of the parser stands for: memory ran out, help or the version was asked for, or usage is bad.
 fn help_or_usage<'a>(alloc: Global, error: &Error) -> Result<Request<'a>, Failure<'a>> {
     if error.kind() == ErrorKind::OutOfMemory {
         return Err(Failure::OutOfMemory);
@@ -284,6 +284,7 @@ fn matched_by<'a>(command: &mut Command<'a>, words: &'a [String]) -> Result<Requ
     }
 }
 
+// Slow to prove: six calls each of which may give no request.
 fn requested<'a>(matches: &ArgMatches<'a>) -> Option<Request<'a>> {
     let (name, given) = matches.subcommand()?;
     match name {
@@ -296,7 +297,7 @@ fn requested<'a>(matches: &ArgMatches<'a>) -> Option<Request<'a>> {
     }
 }
 
-/// What the subcommand of this name asks for, which takes a file alone.
+/// The request of a subcommand that takes nothing but a file.
 fn file_request<'a>(name: &str, file: &'a str) -> Option<Request<'a>> {
     Some(match name {
         "make" => Request::Make { file },

@@ -10,13 +10,13 @@ use std::alloc::{AllocError, Global};
 use std::io;
 use std::io::Write;
 
-/// How many bytes of a text are printed if no option says it.
+/// How many bytes of a text are printed without the option.
 const USUAL: usize = 256;
 
-/// What stands in front of the number of the bytes that are cut off.
+/// What precedes the number of the bytes that are cut off.
 const MARK: &[u8] = b"...";
 
-/// What the line of a record that is no packet has after its side.
+/// What follows the side in the line of a raw record, which is no packet.
 const RAW: &[u8] = b" raw ";
 
 /// How many bytes of each text are printed, as the option `--data` says.
@@ -34,7 +34,7 @@ pub(crate) fn limit_of<'a>(alloc: Global, data: Option<&str>) -> Result<usize, F
     }
 }
 
-/// The limit of this text. No text has more bytes than `all`.
+/// The limit that an option's value names; `all` is as many bytes as there can be.
 fn number_of(text: &str) -> Option<usize> {
     if text == "all" {
         Some(usize::MAX)
@@ -95,7 +95,7 @@ impl<O: Write> Printer<'_, O> {
         }
     }
 
-    /// Writes lines. Nothing is cut if they have at most as many characters as the limit.
+    /// Writes lines. If all of them together are no longer than the limit, none is cut.
     fn put_all(&mut self, lines: &[u8]) {
         if lines.len() <= self.limit {
             self.put(lines);
@@ -114,7 +114,7 @@ impl<O: Write> Printer<'_, O> {
         self.put(rest);
     }
 
-    /// Writes a line. Nothing is cut of one with at most as many characters as the limit.
+    /// Writes a line. One that is no longer than the limit is not cut.
     fn put_line(&mut self, line: &[u8]) {
         if line.len() <= self.limit {
             self.put(line);
@@ -175,7 +175,7 @@ impl<O: Write> Printer<'_, O> {
     }
 }
 
-/// The line of a raw record up to its digits, and these.
+/// The line of a raw record in two parts: up to its digits, and the digits.
 fn split_raw(line: &[u8]) -> Option<(&[u8], &[u8])>
     ensures { IfSome result (λ parts. parts.0.now ++ parts.1.now ≡ line.now) }
 {
@@ -195,7 +195,7 @@ pub(crate) fn is_mark(word: &[u8]) -> bool {
     }
 }
 
-/// The bytes in front of the first `byte`, and those behind it.
+/// The bytes before the first `byte`, and those after it.
 fn split_around(byte: u8, bytes: &[u8]) -> Option<(&[u8], &[u8])>
     ensures whole { IfSome result (λ parts. parts.0.now ++ byte ∷ parts.1.now ≡ bytes.now) }
     ensures shorter { IfSome result (λ parts. length parts.1.now < length bytes.now) }

@@ -38,7 +38,7 @@ fn diff_from<'a, R: Files + AllocGlobal, O: Write>(
     ending
 }
 
-/// Shows how two tree files differ that have these names and bytes.
+/// Shows how two tree files with these names and bytes differ.
 fn diff_bytes<'a, O: Write>(
     alloc: Global,
     old: (&'a str, &[u8]),
@@ -54,7 +54,7 @@ fn diff_bytes<'a, O: Write>(
     }
 }
 
-/// Prints how the tree file that has this name and these bytes differs from an old one.
+/// Prints how the tree file with this name and these bytes differs from an old one.
 fn show_new<'a, O: Write>(
     alloc: Global,
     old: &TreeFile,
@@ -67,7 +67,7 @@ fn show_new<'a, O: Write>(
     shown
 }
 
-/// What the tree file `name` says that has these bytes.
+/// What the tree file with this name and these bytes says.
 fn tree_of<'a>(alloc: Global, name: &'a str, bytes: &[u8]) -> Result<TreeFile, Failure<'a>> {
     match read_rows(alloc, bytes) {
         Ok(file) => Ok(file),

@@ -14,13 +14,13 @@ use std::fmt::Display;
 use std::io::Write;
 use std::{fmt, io};
 
-/// How messages call standard input.
+/// What messages call standard input.
 pub(crate) const STANDARD_INPUT: &str = "standard input";
 
-/// How messages call standard output.
+/// What messages call standard output.
 pub(crate) const STANDARD_OUTPUT: &str = "standard output";
 
-/// What the parser of the command line writes behind a mistake.
+/// What the parser of the command line adds to a message about bad usage.
 pub(crate) const MORE: &str = "\nFor more information, try '--help'.\n";
 
 /// The outcome of a run that did what was asked, or that has said itself why it did not.
@@ -47,7 +47,7 @@ pub(crate) enum Failure<'a> {
     TreeOf(&'a str, TreeError),
     /// The transcript is malformed.
     Transcript(TranscriptError),
-    /// The text of a file is malformed, or an archive. This says where, and why.
+    /// A text or an archive is malformed. The message says where and why.
     Text(String),
     /// The file is neither a transcript nor a tree file.
     UnknownFile,
@@ -65,7 +65,7 @@ pub(crate) enum Failure<'a> {
 }
 
 impl Failure<'_> {
-    /// How its line begins, and the text or the name that follows.
+    /// How the failure's line begins, and the text or the name that comes next.
     fn beginning(&self) -> (&str, &str) {
         match self {
             Failure::Usage(text) => ("", text.as_str()),
@@ -82,7 +82,7 @@ impl Failure<'_> {
         }
     }
 
-    /// Writes the fault of a file or a session, if it is one.
+    /// Writes the fault of a file or a session, if the failure is one.
     fn put_fault<W: fmt::Write>(&self, f: &mut fmt::Formatter<W>) -> fmt::Result {
         match self {
             Failure::Tree(fault) => write!(f, "{fault}"),
@@ -262,7 +262,7 @@ fn report_details<E: Write>(errors: &mut E, failure: &Failure<'_>) -> io::Result
     }
 }
 
-/// Writes what an error means that has this number for the system, and then the effect of it.
+/// Writes what the system's error of this number means, and then its effect.
 fn put_reason<E: Write>(errors: &mut E, code: i32, effect: &str) -> io::Result<()> {
     let reason = io::Error::from_raw_os_error(code);
     write_flushed(errors, format_args!("sftpv3: reason: {reason}{effect}\n"))
@@ -278,7 +278,7 @@ pub(crate) fn write_flushed<W: Write, D: Display + Drop>(
     Ok(())
 }
 
-/// Prints a text on standard output, which is all that is left to do, and returns the ending.
+/// Prints a text on standard output, as the last step of a run that ends so.
 pub(crate) fn print<'a, O: Write, D: Display + Drop>(
     output: &mut O,
     text: D,

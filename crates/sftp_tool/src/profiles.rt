@@ -26,7 +26,7 @@ pub(crate) const EXCEPT: Argument = (
     "Departures not to accept",
 );
 
-/// The option that says which permissions nothing new has.
+/// The option that says which permissions are taken from whatever is made.
 pub(crate) const UMASK: Argument = (
     "umask",
     Form::Optional("OCTAL"),
@@ -47,10 +47,10 @@ pub(crate) const SYMLINK: Argument = (
     "Take the paths of SYMLINK in the order of the draft, the link first",
 );
 
-/// The permissions that nothing new has, if no option says which.
+/// The permissions that are taken from whatever is made, without an option.
 const USUAL_UMASK: &str = "022";
 
-/// The profile that the options name, but for the umask: the strict one without any.
+/// The profile that the options name, without the umask. If there are none, it is the strict one.
 pub(crate) fn profile_of(given: &ArgMatches<'_>) -> Profile {
     let profile = match given.get_str("profile") {
         Some(_) => Profile::posix(),
@@ -74,7 +74,7 @@ fn new_owner(rule: &str) -> NewOwner {
     }
 }
 
-/// The profile with these departures accepted, or not.
+/// The profile with each of these departures switched on or off.
 fn switched(profile: Profile, names: Option<&[&str]>, is_on: bool) -> Profile {
     let mut profile = profile;
     for name in names.unwrap_or(&[]) {
@@ -83,7 +83,7 @@ fn switched(profile: Profile, names: Option<&[&str]>, is_on: bool) -> Profile {
     profile
 }
 
-/// The profile with the umask of this text, if it says what is made.
+/// The profile with the umask of this text, if the profile accepts the departure `made`.
 ///
 /// # Errors
 ///

@@ -14,10 +14,10 @@ use std::{fs, io};
 /// How many names are tried for the new file, since others may be writing to files of the same name.
 const TRIES: u32 = 100;
 
-/// Makes the file `name` of these bytes, or replaces it. If that fails, it is unchanged.
+/// Writes these bytes to the file `name`, which is made or replaced. If that fails, the file is unchanged.
 ///
-/// A link is followed, and stays. What is no regular file, such as a device or a pipe, has its bytes written straight
-/// to it, and so has a link that leads to no file.
+/// A link is followed, and stays. The bytes go straight to what is no regular file, such as a device or a pipe, and to
+/// a link that leads to no file.
 pub(crate) fn write<'a, R: Files + AllocGlobal>(
     rt: &R,
     name: &'a str,
@@ -37,7 +37,7 @@ pub(crate) fn write<'a, R: Files + AllocGlobal>(
     }
 }
 
-/// Makes the file `name` of these bytes, or replaces it, which is all that is left to do.
+/// Writes these bytes to the file `name`, which is made or replaced, as the last step of a run.
 pub(crate) fn write_last<'a, R: Files + AllocGlobal>(
     rt: &R,
     name: &'a str,
@@ -123,7 +123,7 @@ fn try_new_file<R: Files + AllocGlobal>(
     }
 }
 
-/// Whether a file was not made since there is one of that name.
+/// Whether a file was not made because there is one of that name.
 fn is_taken<F>(made: &io::Result<(String, F)>) -> bool {
     match made {
         Ok(_) => false,
@@ -131,7 +131,7 @@ fn is_taken<F>(made: &io::Result<(String, F)>) -> bool {
     }
 }
 
-/// The path of a new file beside the one at this path: `.new` behind it, and from 2 on the number.
+/// The path of a new file beside the one at this path: the path, `.new`, and from 2 on the number.
 fn fresh_path(alloc: Global, path: &str, number: u32) -> Result<String, AllocError> {
     if number == 1 {
         format!(in alloc; "{path}.new")
@@ -140,7 +140,7 @@ fn fresh_path(alloc: Global, path: &str, number: u32) -> Result<String, AllocErr
     }
 }
 
-/// Fills the new file, and gives it the path of the old one, if there is one, with its owner and permissions.
+/// Fills the new file and gives it this path. If a file is there, the new one takes its owner and permissions.
 fn replace_by<R: Files>(
     rt: &R,
     path: &str,

@@ -93,7 +93,7 @@ fn session<L: Write + Drop, I: Read, O: Write, E: Write>(
     (end, traffic)
 }
 
-/// What the end of a session means for the run. The tree that it left is saved, unless the session was not opened.
+/// The outcome of a run by how its session ended. The tree that it left is saved, unless the session was not opened.
 fn conclude<'a, R: Files + AllocGlobal, E: Write>(
     rt: &R,
     end: SessionEnd,
@@ -148,8 +148,8 @@ fn entries_of(saved: &Result<Option<u32>, Failure<'_>>) -> Option<u32> {
     }
 }
 
-/// What the end of a session and of saving its tree mean for the run. Where a stream failed or memory ran out, a
-/// failure to save is reported before.
+/// The outcome of a run by how its session ended and whether the tree was saved. If a stream failed or memory ran out,
+/// a failure to save is reported first.
 fn outcome<'a, E: Write>(
     close: Close,
     saved: Result<Option<u32>, Failure<'a>>,
@@ -165,7 +165,7 @@ fn outcome<'a, E: Write>(
     }
 }
 
-/// What the end of a session means for the run if its tree was saved, or was not to be.
+/// The outcome of a run by how its session ended, if saving the tree did not fail.
 fn ended<'a>(
     close: Close,
     traffic: Traffic,
@@ -181,7 +181,7 @@ fn ended<'a>(
     }
 }
 
-/// What the end of a session means for the run if its tree was not saved, and why it was not.
+/// The outcome of a run by how its session ended, if the tree was not saved for this failure.
 fn unsaved<'a, E: Write>(
     close: Close,
     failure: Failure<'a>,
@@ -201,8 +201,7 @@ fn unsaved<'a, E: Write>(
     }
 }
 
-/// Reports why a tree was not saved. Where the session and the tree both ran out of memory, the caller reports that
-/// once.
+/// Reports why a tree was not saved. If the session ran out of memory too, the caller reports that once for both.
 fn report_unsaved<E: Write>(errors: &mut E, close: Close, failure: &Failure<'_>) {
     match (failure, close) {
         (Failure::OutOfMemory, Close::NoMemory) => {}
@@ -210,8 +209,8 @@ fn report_unsaved<E: Write>(errors: &mut E, close: Close, failure: &Failure<'_>)
     }
 }
 
-/// Writes a tree, if there is one, to the file that is named for it, if one is. Returns how many entries it has, if
-/// they were counted.
+/// Writes the tree that was left to the file that an option names, if there are both. Returns how many entries the tree
+/// has, if they were counted.
 fn save_any<'a, R: Files + AllocGlobal>(
     rt: &R,
     tree: &Option<Tree>,
@@ -263,7 +262,7 @@ fn entry_count(file: &[u8]) -> u32 {
     }
 }
 
-/// The bytes behind the first ones.
+/// The bytes after the first `count`.
 fn behind(bytes: &[u8], count: usize) -> &[u8] {
     bytes.get(count..).unwrap_or(&[])
 }

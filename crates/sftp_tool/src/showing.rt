@@ -27,7 +27,7 @@ pub(crate) fn show<'a, R: Files + AllocGlobal, O: Write>(
     outcome(shown, flush(output))
 }
 
-/// What it means for the run how a file was shown and printed. A failure to print it comes first.
+/// The outcome of a run by how a file was shown and printed. A failure to print comes before one to show.
 pub(crate) fn outcome<'a>(
     shown: Result<(), Failure<'a>>,
     printed: Result<(), Failure<'a>>,
@@ -65,7 +65,7 @@ fn show_file<'a, F: Read, O: Write>(
     shown
 }
 
-/// Shows a file that is read into an empty buffer: of a transcript its opening, and of any other file all of it.
+/// Shows a file whose bytes go into an empty buffer: the opening of a transcript, and the whole of any other file.
 fn show_by_opening<'a, F: Read, O: Write>(
     alloc: Global,
     name: &'a str,
@@ -86,7 +86,7 @@ fn show_by_opening<'a, F: Read, O: Write>(
     }
 }
 
-/// Appends all that is left of the file `name` to the bytes.
+/// Appends the rest of the file `name` to the bytes.
 fn append<'a, F: Read>(
     name: &'a str,
     file: &mut F,
@@ -114,7 +114,7 @@ fn show_records<'a, F: Read + Drop, O: Write>(
     }
 }
 
-/// What the end of showing the transcript `name` means for the run.
+/// How the transcript `name` was shown, as a failure of the run if it is one.
 fn shown_or_failure<'a>(shown: Result<(), ShowError>, name: &'a str) -> Result<(), Failure<'a>> {
     match shown {
         Ok(()) => Ok(()),

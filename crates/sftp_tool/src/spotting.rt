@@ -11,7 +11,7 @@ use std::fs;
 use std::fs::Files;
 use std::io::{Read, Seek, SeekFrom};
 
-/// Where the fault is that made a run fail, if it is that of one of these files and can be found.
+/// Where the fault is that made a run fail, if one of these files has it and it can be found.
 pub(crate) fn spot_of<R: Files + AllocGlobal>(
     rt: &R,
     tree: &str,
@@ -50,7 +50,7 @@ fn transcript_spot<R: Files + AllocGlobal>(
     spot.map(|spot| spot.behind(start))
 }
 
-/// The place of the record that has this fault of a transcript; of the opening it is 0.
+/// The place of the record with this fault of a transcript, or 0 if the opening has it.
 fn start_of_fault<R: Files + AllocGlobal>(
     rt: &R,
     name: &str,
@@ -62,7 +62,7 @@ fn start_of_fault<R: Files + AllocGlobal>(
     }
 }
 
-/// Where the first record begins that cannot be read.
+/// Where the first unreadable record begins.
 fn start_of_record<R: Files + AllocGlobal>(rt: &R, name: &str) -> Option<u64> {
     let file = fs::open(rt, name).ok()?;
     let mut records = Reader::new(rt.alloc(), Tally::new(file)).ok()?;
@@ -71,7 +71,7 @@ fn start_of_record<R: Files + AllocGlobal>(rt: &R, name: &str) -> Option<u64> {
     Some(start)
 }
 
-/// Where the records end that can be read. The reader has read nothing yet.
+/// Where the readable records end. The reader has read nothing yet.
 fn end_of_records<R: Source>(records: &mut Reader<R>) -> u64 {
     let mut end = OPENING.len() as u64;
     'records: while let Some(length) = record_length(records) {
@@ -80,7 +80,7 @@ fn end_of_records<R: Source>(records: &mut Reader<R>) -> u64 {
     end
 }
 
-/// The number of bytes of the next record's packet, if there is one.
+/// The number of bytes of the next record's packet, if there is a next record.
 fn record_length<R: Source>(records: &mut Reader<R>) -> Option<usize>
     ensures { IfSome result (λ _. size_of records.new.ahead < size_of records.old.ahead) }
 {

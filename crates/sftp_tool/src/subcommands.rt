@@ -111,7 +111,7 @@ pub(crate) fn blank<'a, R: Files + AllocGlobal>(
     }
 }
 
-/// Writes the tree of the tree file `tree` with the highest limits to the file `name`.
+/// Writes the tree of the tree file `tree`, with the highest limits, to the file `name`.
 pub(crate) fn raise<'a, R: Files + AllocGlobal>(
     rt: &R,
     tree: &'a str,
@@ -125,7 +125,7 @@ pub(crate) fn raise<'a, R: Files + AllocGlobal>(
     write_last(rt, name, raised?)
 }
 
-/// The tree file of the tree of this one, with the highest limits.
+/// The file of this one's tree, with the highest limits.
 fn raised_file<'a>(alloc: Global, bytes: &[u8]) -> Result<Vec<u8>, Failure<'a>>
     ensures { (t : tree) → IsStart t bytes.now →
         MatchResult result (λ made. made.items ≡ picture (raised t)) (λ failure. failure ≡ failures.OutOfMemory) }
@@ -189,7 +189,7 @@ fn refuse<'a, O: Write>(
     }
 }
 
-/// What the error of an audit means for the run: a refusal of the session, or a failure. The transcript has this name.
+/// The refusal of a session by the error of its audit, or the failure of the run. The transcript has this name.
 fn refusal_or_failure<'a>(error: AuditError, transcript: &'a str) -> Result<Refusal, Failure<'a>>
     ensures { IsOutcome transcript.now error result }
 {

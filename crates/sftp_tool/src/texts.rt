@@ -19,10 +19,11 @@ use std::alloc::{AllocError, Global};
 use std::fs::Files;
 use std::io::{Read, Write};
 
-/// What the text of a tree file begins with, where blank lines and comments are left out.
+/// What the text of a tree file begins with, after blank lines and comments.
 const TREE_LABEL: &[u8] = b"home ";
 
-/// Shows a file in full, with as many bytes of a text as `data` says. Its first bytes say which kind it is.
+/// Shows every field of a file, and as many bytes of each text as `data` says. The first bytes say which kind of file
+/// it is.
 pub(crate) fn show_full<'a, R: Files + AllocGlobal, O: Write>(
     rt: &R,
     name: &'a str,
@@ -53,8 +54,8 @@ fn put_full<'a, O: Write>(
     outcome(shown, printed)
 }
 
-/// Appends the text of a file to an empty one. Of a malformed transcript it then has the records before the fault, and
-/// nothing if memory ran out.
+/// Appends the text of a file to an empty one. After a failure the text is empty, but for a malformed transcript: then
+/// it has the records before the fault.
 fn put_text<'a>(alloc: Global, bytes: &[u8], text: &mut Vec<u8>) -> Result<(), Failure<'a>> {
     if bytes.starts_with(OPENING.as_slice()) {
         put_records(bytes, text)
@@ -94,7 +95,7 @@ fn unshown<'a>(alloc: Global, bytes: &[u8], fault: ShowFault) -> Failure<'a> {
     }
 }
 
-/// That the record after these lines begins with neither `C` nor `S`.
+/// The failure for a transcript whose record after these lines begins with neither `C` nor `S`.
 fn without_side<'a>(lines: &[u8]) -> Failure<'a> {
     let mut record: u64 = 1;
     for byte in lines {
@@ -103,7 +104,7 @@ fn without_side<'a>(lines: &[u8]) -> Failure<'a> {
     Failure::Transcript(TranscriptError::Direction { record })
 }
 
-/// Why bytes that do not have the form of a tree file are none.
+/// Why bytes are not a tree file, whose form they do not have.
 fn malformed<'a>(alloc: Global, bytes: &[u8]) -> Failure<'a> {
     match read_rows(alloc, bytes) {
         Ok(file) => {
@@ -115,8 +116,8 @@ fn malformed<'a>(alloc: Global, bytes: &[u8]) -> Failure<'a> {
     }
 }
 
-/// Writes the file `name` whose text is on standard input. Its first line says of which kind it is: with `home` it is a
-/// tree file, else a transcript.
+/// Writes the file `name`, whose text is on standard input. It is a tree file if the first line has `home`, and else a
+/// transcript.
 pub(crate) fn make<'a, R: Files + AllocGlobal, I: Read>(
     rt: &R,
     name: &'a str,
@@ -169,7 +170,7 @@ fn is_tree_text(text: &[u8]) -> bool {
     false
 }
 
-/// The message for a text that is no file: the line, the column, the word there, and what was expected in its place.
+/// The failure for a text that has no file: the line, the column, the word there, and what was expected in its place.
 fn text_failure<'a>(alloc: Global, fault: TextFault, text: &[u8]) -> Failure<'a> {
     match fault {
         TextFault::NoMemory => Failure::OutOfMemory,
@@ -184,7 +185,7 @@ fn text_failure<'a>(alloc: Global, fault: TextFault, text: &[u8]) -> Failure<'a>
     }
 }
 
-/// What is wrong with the word at a place: that data is cut off there, or what was expected.
+/// The message for the word at a place: data is cut off there, or something else was expected.
 fn message_at(
     alloc: Global,
     line: u64,
