@@ -83,25 +83,26 @@ fn switched(profile: Profile, names: Option<&[&str]>, is_on: bool) -> Profile {
     profile
 }
 
-/// The profile with the umask of this text, if the profile accepts the departure `made`.
-///
-/// # Errors
-///
-/// `Usage` if the text is no octal number up to 0777, and `OutOfMemory`.
-pub(crate) fn with_umask<'a>(
-    alloc: Global,
-    profile: Profile,
-    text: Option<&str>,
-) -> Result<Profile, Failure<'a>> {
-    let text = text.unwrap_or(USUAL_UMASK);
-    let Some(umask) = octal(text) else {
-        return Err(Failure::of_usage(bad_umask(alloc, text)));
-    };
+/// The profile with this umask, if it accepts the departure `made`.
+pub(crate) fn with_umask(profile: Profile, umask: u32) -> Profile {
     let mut profile = profile;
     if profile.made {
         profile.umask = umask;
     }
-    Ok(profile)
+    profile
+}
+
+/// The umask of this text, or the usual one.
+///
+/// # Errors
+///
+/// `Usage` if the text is no octal number up to 0777, and `OutOfMemory`.
+pub(crate) fn umask_of<'a>(alloc: Global, text: Option<&str>) -> Result<u32, Failure<'a>> {
+    let text = text.unwrap_or(USUAL_UMASK);
+    match octal(text) {
+        Some(umask) => Ok(umask),
+        None => Err(Failure::of_usage(bad_umask(alloc, text))),
+    }
 }
 
 /// The message for an option `--umask` with this value.

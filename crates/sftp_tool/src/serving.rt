@@ -18,6 +18,7 @@ use std::fs::Files;
 use std::io::{Read, Write};
 
 /// Serves a session. The tree file is read and judged before the file of the record is made.
+// Slow to prove: it owns the tree while the record's file is made, and then both.
 pub(crate) fn serve<'a, R: Files + AllocGlobal, I: Read, O: Write, E: Write>(
     rt: &R,
     options: &ServeOptions<'a>,
@@ -63,6 +64,7 @@ fn new_log<'a, R: Files + AllocGlobal>(
 }
 
 /// Serves a session on a tree, and returns how it ended and what went through its streams.
+// Slow to prove: each stream is put together of layers, and taken apart again.
 fn session<L: Write + Drop, I: Read, O: Write, E: Write>(
     tree: Tree,
     mut log: Writer<Tally<Record<L>>>,
@@ -94,6 +96,7 @@ fn session<L: Write + Drop, I: Read, O: Write, E: Write>(
 }
 
 /// The outcome of a run by how its session ended. The tree that it left is saved, unless the session was not opened.
+// Slow to prove: it owns the tree that was left, and then how saving it ended.
 fn conclude<'a, R: Files + AllocGlobal, E: Write>(
     rt: &R,
     end: SessionEnd,

@@ -66,6 +66,7 @@ fn show_file<'a, F: Read, O: Write>(
 }
 
 /// Shows a file whose bytes go into an empty buffer: the opening of a transcript, and the whole of any other file.
+// Slow to prove: two reads may fail, and a transcript is read from a reader made of two.
 fn show_by_opening<'a, F: Read, O: Write>(
     alloc: Global,
     name: &'a str,
@@ -73,11 +74,7 @@ fn show_by_opening<'a, F: Read, O: Write>(
     bytes: &mut Vec<u8>,
     output: &mut O,
 ) -> Result<(), Failure<'a>> {
-    append(
-        name,
-        &mut file.by_ref().take(OPENING.len() as u64),
-        bytes,
-    )?;
+    append(name, &mut file.by_ref().take(OPENING.len() as u64), bytes)?;
     if bytes.as_slice() == OPENING.as_slice() {
         show_records(alloc, name, bytes.as_slice().chain(file), output)
     } else {

@@ -9,7 +9,7 @@ ghost use Rattle.sftp_tool.specs.Failures.{IsOutcome, IsUnread, IsUnwritten};
 use crate::command_line::AuditOptions;
 use crate::explaining::explain;
 use crate::messages::{Ending, Failure, print};
-use crate::profiles::with_umask;
+use crate::profiles::{umask_of, with_umask};
 use crate::saving::{write, write_last};
 use sftp_audit::{Accepted, AuditError, Refusal};
 use sftp_profile::Profile;
@@ -28,15 +28,27 @@ pub(crate) fn audit<'a, R: Files + AllocGlobal, O: Write, E: Write>(
     output: &mut O,
     errors: &mut E,
 ) -> Result<Ending, Failure<'a>> {
+    let umask = umask_of(rt.alloc(), files.umask)?;
     let mut options = *files;
-    options.profile = with_umask(rt.alloc(), files.profile, files.umask)?;
+    options.profile = with_umask(files.profile, umask);
+    audit_by(rt, &options, output, errors)
+}
+
+/// Audits a session by a profile with its umask.
+fn audit_by<'a, R: Files + AllocGlobal, O: Write, E: Write>(
+    rt: &R,
+    files: &AuditOptions<'a>,
+    output: &mut O,
+    errors: &mut E,
+) -> Result<Ending, Failure<'a>> {
     let tree = read(rt, files.tree)?;
-    let ending = audit_from(rt, &options, tree.as_slice(), output, errors);
+    let ending = audit_from(rt, files, tree.as_slice(), output, errors);
     drop(tree);
     ending
 }
 
 /// Audits a session that starts from the tree of this file.
+// Slow to prove: each of its ends is a call that may fail, one of them with the outcome of the audit in hand.
 fn audit_from<'a, R: Files + AllocGlobal, O: Write, E: Write>(
     rt: &R,
     files: &AuditOptions<'a>,
@@ -58,10 +70,10 @@ fn audit_from<'a, R: Files + AllocGlobal, O: Write, E: Write>(
             drop(accepted);
             ending
         }
-        Err(error) => {
-            let refusal = refusal_or_failure(error, files.transcript)?;
-            report_refusal(rt, files, tree, refusal, is_modelled, output, errors)
-        }
+        Err(error) => match refusal_or_failure(error, files.transcript) {
+            Ok(refusal) => report_refusal(rt, files, tree, refusal, is_modelled, output, errors),
+            Err(failure) => Err(failure),
+        },
     }
 }
 
@@ -181,11 +193,7 @@ fn refuse<'a, O: Write>(
             format_args!("refused record {record}: NotModelled\n"),
             Ending::Refused,
         ),
-        _ => print(
-            output,
-            format_args!("refused {refusal}\n"),
-            Ending::Refused,
-        ),
+        _ => print(output, format_args!("refused {refusal}\n"), Ending::Refused),
     }
 }
 
