@@ -6,15 +6,15 @@ ghost use Rattle.sftp_tar.specs.Archive.{archive};
 ghost use Rattle.sftp_tool.specs.declared.messages.Ending.TheVariants as endings;
 ghost use Rattle.sftp_tool.specs.declared.messages.Failure.TheVariants as failures;
 
-use crate::messages::{Ending, Failure, STANDARD_INPUT};
-use crate::saving::write;
+use crate::messages::{Ending, Failure, STANDARD_INPUT, STANDARD_OUTPUT};
+use crate::saving::write_last;
 use crate::subcommands::read;
-use crate::texts::print_bytes;
 use sftp_show::Quoted;
 use sftp_tar::{ImportError, Refusal};
 use sftp_treefile::{read_rows, write_rows};
 use std::alloc::{AllocError, Global};
 use std::fs::Files;
+use std::io;
 use std::io::{Read, Write};
 
 /// Writes the tree file `name` of the archive on standard input. The archive is judged before the file is written.
@@ -43,14 +43,10 @@ fn import_from<'a, R: Files + AllocGlobal>(
 ) -> Result<Ending, Failure<'a>>
     ensures { IfOk result (λ ending. ending ≡ endings.Done) }
 {
-    let tree = tree_of(rt.alloc(), archive)?;
-    let written = write(rt, name, tree.as_slice());
-    drop(tree);
-    written?;
-    Ok(Ending::Done)
+    write_last(rt, name, tree_of(rt.alloc(), archive)?)
 }
 
-/// The tree file of an archive. The archive is let go before the file is made, since both have the bytes of all files.
+/// The tree file of an archive. The archive is dropped before the file is made, since each has the bytes of all files.
 fn tree_of<'a>(alloc: Global, archive: Vec<u8>) -> Result<Vec<u8>, Failure<'a>> {
     let imported = sftp_tar::import(alloc, archive.as_slice());
     drop(archive);
@@ -68,7 +64,7 @@ fn tree_of<'a>(alloc: Global, archive: Vec<u8>) -> Result<Vec<u8>, Failure<'a>> 
     }
 }
 
-/// What the error of an import means for the run.
+/// The failure of a run whose import ended in this error.
 fn archive_failure<'a>(alloc: Global, error: &ImportError) -> Failure<'a> {
     match error {
         ImportError::NoMemory => Failure::OutOfMemory,
@@ -76,10 +72,7 @@ fn archive_failure<'a>(alloc: Global, error: &ImportError) -> Failure<'a> {
             entry,
             path,
             refusal,
-        } => match refused(alloc, *entry, path.as_slice(), *refusal) {
-            Ok(message) => Failure::Text(message),
-            Err(_no_memory) => Failure::OutOfMemory,
-        },
+        } => Failure::of_text(refused(alloc, *entry, path.as_slice(), *refusal)),
     }
 }
 
@@ -102,11 +95,25 @@ pub(crate) fn export<'a, R: Files + AllocGlobal, O: Write>(
     ensures { IfOk result (λ ending. ending ≡ endings.Done) }
 {
     let tree = read(rt, name)?;
-    let archive = archive_of(rt.alloc(), tree)?;
-    let printed = print_bytes(output, archive.as_slice());
-    drop(archive);
-    printed?;
-    Ok(Ending::Done)
+    print_last(output, archive_of(rt.alloc(), tree)?)
+}
+
+/// Writes bytes to standard output, as the last step of a run.
+fn print_last<'a, O: Write>(output: &mut O, bytes: Vec<u8>) -> Result<Ending, Failure<'a>>
+    ensures { IfOk result (λ ending. ending ≡ endings.Done) }
+{
+    let written = write_all_flushed(output, bytes.as_slice());
+    drop(bytes);
+    match written {
+        Ok(()) => Ok(Ending::Done),
+        Err(error) => Err(Failure::writing(STANDARD_OUTPUT, &error)),
+    }
+}
+
+fn write_all_flushed<O: Write>(output: &mut O, bytes: &[u8]) -> io::Result<()> {
+    output.write_all(bytes)?;
+    output.flush()?;
+    Ok(())
 }
 
 /// The archive of a tree file.

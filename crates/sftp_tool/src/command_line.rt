@@ -1,6 +1,6 @@
-//! The command line: parses the arguments, and has the help texts.
+//! The command line: the table of arguments, the help texts, and what a command line asks for.
 use crate::messages::Failure;
-use crate::profiles::{profile_of, with_options};
+use crate::profiles;
 use clap::error::ErrorKind;
 use clap::{Arg, ArgAction, ArgMatches, Command, Error, value_parser};
 use sftp_profile::Profile;
@@ -176,7 +176,7 @@ pub(crate) enum Request<'a> {
     Audit(AuditOptions<'a>),
     /// Write the blank tree to a file.
     Blank { file: &'a str },
-    /// Write the tree of a tree file with the highest limits to another.
+    /// Write the tree of a tree file, with the highest limits, to another file.
     Raise { tree: &'a str, file: &'a str },
     /// Show what a transcript or a tree file holds.
     Show(ShowOptions<'a>),
@@ -201,7 +201,7 @@ pub(crate) struct ServeOptions<'a> {
     pub(crate) save: Option<&'a str>,
     /// The name of the file to record the session in.
     pub(crate) record: Option<&'a str>,
-    /// The state that a pseudorandom order of work and replies starts from; without it both go in the order asked.
+    /// The seed of a pseudorandom order of work and replies. Without it both follow the order of the requests.
     pub(crate) shuffle: Option<u64>,
     /// Whether standard error says when the session opens and how it ends.
     pub(crate) is_verbose: bool,
@@ -216,11 +216,11 @@ pub(crate) struct AuditOptions<'a> {
     pub(crate) transcript: &'a str,
     /// The file to write the final tree to.
     pub(crate) out: Option<&'a str>,
-    /// Whether a refusal is explained on standard error, and where a file is malformed.
+    /// Whether standard error explains a refusal, or where a file is malformed.
     pub(crate) explains: bool,
     /// Which departures from the strict reading are accepted.
     pub(crate) profile: Profile,
-    /// The permissions that nothing new has, as octal digits.
+    /// The permissions that are taken from whatever is made, as octal digits.
     pub(crate) umask: Option<&'a str>,
 }
 
@@ -229,16 +229,16 @@ pub(crate) struct AuditOptions<'a> {
 pub(crate) struct ShowOptions<'a> {
     /// The name of the transcript or the tree file.
     pub(crate) file: &'a str,
-    /// Whether the lines have each field that the file holds.
+    /// Whether the lines have every field of the file.
     pub(crate) is_full: bool,
-    /// How many bytes of each text are printed then: a number, or `all`.
+    /// How many bytes of each text these lines have: a number, or `all`.
     pub(crate) data: Option<&'a str>,
-    /// Whether standard error says where a malformed file is so.
+    /// Whether standard error says where a malformed file has its fault.
     pub(crate) explains: bool,
 }
 
-/// Parses the command line, whose first word is the program's name, of the program of this version. Asking for help or
-/// the version is not an error.
+/// Parses the command line of the program in this version. The first word is the program's name. To ask for help or the
+/// version is not an error.
 pub(crate) fn parse<'a>(
     alloc: Global,
     version: &'a str,
@@ -254,7 +254,7 @@ pub(crate) fn parse<'a>(
     }
 }
 
-/// What an error of the parser means: memory ran out, help or the version is asked for, or bad usage.
+/// What an error of the parser stands for: memory ran out, help or the version was asked for, or usage is bad.
 fn help_or_usage<'a>(alloc: Global, error: &Error) -> Result<Request<'a>, Failure<'a>> {
     if error.kind() == ErrorKind::OutOfMemory {
         return Err(Failure::OutOfMemory);
@@ -284,6 +284,7 @@ fn matched_by<'a>(command: &mut Command<'a>, words: &'a [String]) -> Result<Requ
     }
 }
 
+// Slow to prove: six calls each of which may give no request.
 fn requested<'a>(matches: &ArgMatches<'a>) -> Option<Request<'a>> {
     let (name, given) = matches.subcommand()?;
     match name {
@@ -296,7 +297,7 @@ fn requested<'a>(matches: &ArgMatches<'a>) -> Option<Request<'a>> {
     }
 }
 
-/// What the subcommand of this name asks for, which takes a file alone.
+/// The request of a subcommand that takes nothing but a file.
 fn file_request<'a>(name: &str, file: &'a str) -> Option<Request<'a>> {
     Some(match name {
         "make" => Request::Make { file },
@@ -343,10 +344,128 @@ fn audit_options<'a>(given: &ArgMatches<'a>) -> Option<AuditOptions<'a>> {
         transcript: given.get_str("transcript")?,
         out: given.get_str("out"),
         explains: given.get_flag("explain"),
-        profile: profile_of(given),
+        profile: profiles::profile_of(given),
         umask: given.get_str("umask"),
     })
 }
+
+/// An argument of a subcommand: its name, its form, and what the help says of it.
+pub(crate) type Argument<'a> = (&'a str, Form<'a>, &'a str);
+
+/// How an argument is given. The first text of a form is what help calls the value.
+#[derive(Clone, Copy)]
+pub(crate) enum Form<'a> {
+    /// `--NAME`.
+    Flag,
+    /// `VALUE`, which has to be given.
+    Place(&'a str),
+    /// `--NAME VALUE`, which has to be given.
+    Required(&'a str),
+    /// `--NAME VALUE`.
+    Optional(&'a str),
+    /// `--NAME VALUE`, only beside the flag of this name.
+    Beside(&'a str, &'a str),
+    /// `--NAME VALUE`, which is a number below 2^64.
+    Number(&'a str),
+    /// `--NAME VALUE`, which is one of these.
+    OneOf(&'a str, &'a [&'a str]),
+    /// `--NAME VALUE,...`, which are some of these.
+    SomeOf(&'a str, &'a [&'a str]),
+}
+
+const FILE: Form = Form::Place("FILE");
+
+const TREE: Argument = (
+    "tree",
+    Form::Required("FILE"),
+    "The tree file: the tree at the start of the session",
+);
+
+const SERVE: &[Argument] = &[
+    TREE,
+    (
+        "save",
+        Form::Optional("FILE"),
+        "The file to write the final tree to",
+    ),
+    (
+        "record",
+        Form::Optional("FILE"),
+        "The file to record the session in, for audit",
+    ),
+    (
+        "shuffle",
+        Form::Number("N"),
+        "Work and reply in a pseudorandom order that N fixes, not in the order asked",
+    ),
+    (
+        "verbose",
+        Form::Flag,
+        "Print on standard error when the session opens and how it ends",
+    ),
+];
+
+const AUDIT: &[Argument] = &[
+    TREE,
+    (
+        "transcript",
+        Form::Required("FILE"),
+        "The transcript: the recorded packets of the session",
+    ),
+    (
+        "out",
+        Form::Optional("FILE"),
+        "The file to write the final tree to, if the session is accepted",
+    ),
+    (
+        "explain",
+        Form::Flag,
+        "Print on standard error why the session is refused, or where a file is malformed",
+    ),
+    profiles::PROFILE,
+    profiles::ALLOW,
+    profiles::EXCEPT,
+    profiles::UMASK,
+    profiles::NEW_OWNER,
+    profiles::SYMLINK,
+];
+
+const SHOW: &[Argument] = &[
+    (
+        "full",
+        Form::Flag,
+        "Print each field that the file holds, as text that 'make' reads",
+    ),
+    (
+        "data",
+        Form::Beside("N|all", "full"),
+        "With --full: cut each text after N bytes, 256 by default, or print all of it",
+    ),
+    (
+        "explain",
+        Form::Flag,
+        "Print on standard error where a malformed file is so",
+    ),
+    ("file", FILE, "The transcript or the tree file"),
+];
+
+const DIFF: &[Argument] = &[
+    ("old", Form::Place("A"), "The tree file of before"),
+    ("new", Form::Place("B"), "The tree file of after"),
+];
+
+const MAKE: &[Argument] = &[("file", FILE, "The file to write")];
+
+const IMPORT: &[Argument] = &[("file", FILE, "The tree file to write")];
+
+const EXPORT: &[Argument] = &[("file", FILE, "The tree file")];
+
+const BLANK: &[Argument] = &[("file", FILE, "The file to write")];
+
+const RAISE: &[Argument] = &[
+    ("tree", Form::Place("TREE"), "The tree file to read"),
+    ("file", FILE, "The file to write"),
+];
 
 fn command<'a>(alloc: Global, version: &'a str) -> Result<Command<'a>, AllocError> {
     let command = Command::new(alloc, "sftpv3")
@@ -385,168 +504,123 @@ fn with_subcommand<'a>(
 }
 
 fn serve_command<'a>(alloc: Global) -> Result<Command<'a>, AllocError> {
-    Command::new(alloc, "serve")
+    let command = Command::new(alloc, "serve")
         .about(ABOUT_SERVE)
-        .after_help(AFTER_SERVE)
-        .arg(tree_option(alloc))?
-        .arg(file_option(alloc, "save").help("The file to write the final tree to"))?
-        .arg(file_option(alloc, "record").help("The file to record the session in, for audit"))?
-        .arg(shuffle_option(alloc))?
-        .arg(verbose_option(alloc))
-}
-
-fn verbose_option<'a>(alloc: Global) -> Arg<'a> {
-    Arg::new(alloc, "verbose")
-        .long("verbose")
-        .action(ArgAction::SetTrue)
-        .help("Print on standard error when the session opens and how it ends")
-}
-
-fn shuffle_option<'a>(alloc: Global) -> Arg<'a> {
-    Arg::new(alloc, "shuffle")
-        .long("shuffle")
-        .value_name("N")
-        .value_parser(value_parser!(u64))
-        .action(ArgAction::Set)
-        .help("Work and reply in a pseudorandom order that N fixes, not in the order asked")
+        .after_help(AFTER_SERVE);
+    with_arguments(alloc, command, SERVE)
 }
 
 fn audit_command<'a>(alloc: Global) -> Result<Command<'a>, AllocError> {
     let command = Command::new(alloc, "audit")
         .about(ABOUT_AUDIT)
-        .after_help(AFTER_AUDIT)
-        .arg(tree_option(alloc))?
-        .arg(transcript_option(alloc))?
-        .arg(out_option(alloc))?
-        .arg(explain_option(
-            alloc,
-            "Print on standard error why the session is refused, or where a file is malformed",
-        ))?;
-    with_options(alloc, command)
+        .after_help(AFTER_AUDIT);
+    with_arguments(alloc, command, AUDIT)
 }
 
-fn tree_option<'a>(alloc: Global) -> Arg<'a> {
-    file_option(alloc, "tree")
-        .required(true)
-        .help("The tree file: the tree at the start of the session")
-}
-
-fn transcript_option<'a>(alloc: Global) -> Arg<'a> {
-    file_option(alloc, "transcript")
-        .required(true)
-        .help("The transcript: the recorded packets of the session")
-}
-
-fn out_option<'a>(alloc: Global) -> Arg<'a> {
-    file_option(alloc, "out").help(
-        "The file to write the final tree to, if the session is accepted",
-    )
-}
-
-fn explain_option<'a>(alloc: Global, help: &'a str) -> Arg<'a> {
-    Arg::new(alloc, "explain")
-        .long("explain")
-        .action(ArgAction::SetTrue)
-        .help(help)
-}
-
-// Slow to prove: the argument `--data` is made, which may fail, while the command is held.
 fn show_command<'a>(alloc: Global) -> Result<Command<'a>, AllocError> {
-    Command::new(alloc, "show")
+    let command = Command::new(alloc, "show")
         .about(ABOUT_SHOW)
-        .after_help(AFTER_SHOW)
-        .arg(full_option(alloc))?
-        .arg(data_option(alloc)?)?
-        .arg(explain_option(
-            alloc,
-            "Print on standard error where a malformed file is so",
-        ))?
-        .arg(file_argument(alloc).help("The transcript or the tree file"))
-}
-
-fn full_option<'a>(alloc: Global) -> Arg<'a> {
-    Arg::new(alloc, "full")
-        .long("full")
-        .action(ArgAction::SetTrue)
-        .help("Print each field that the file holds, as text that 'make' reads")
-}
-
-fn data_option<'a>(alloc: Global) -> Result<Arg<'a>, AllocError> {
-    Arg::new(alloc, "data")
-        .long("data")
-        .value_name("N|all")
-        .action(ArgAction::Set)
-        .help("With --full: cut each text after N bytes, 256 by default, or print all of it")
-        .requires_arg("full")
+        .after_help(AFTER_SHOW);
+    with_arguments(alloc, command, SHOW)
 }
 
 fn make_command<'a>(alloc: Global) -> Result<Command<'a>, AllocError> {
-    Command::new(alloc, "make")
+    let command = Command::new(alloc, "make")
         .about(ABOUT_MAKE)
-        .after_help(AFTER_MAKE)
-        .arg(file_argument(alloc).help("The file to write"))
+        .after_help(AFTER_MAKE);
+    with_arguments(alloc, command, MAKE)
 }
 
 fn diff_command<'a>(alloc: Global) -> Result<Command<'a>, AllocError> {
-    Command::new(alloc, "diff")
+    let command = Command::new(alloc, "diff")
         .about(ABOUT_DIFF)
-        .after_help(AFTER_DIFF)
-        .arg(tree_argument(alloc, "old", "A").help("The tree file of before"))?
-        .arg(tree_argument(alloc, "new", "B").help("The tree file of after"))
-}
-
-/// The argument of this name that is shown as `label`.
-fn tree_argument<'a>(alloc: Global, name: &'a str, label: &'a str) -> Arg<'a> {
-    Arg::new(alloc, name)
-        .value_name(label)
-        .action(ArgAction::Set)
-        .required(true)
+        .after_help(AFTER_DIFF);
+    with_arguments(alloc, command, DIFF)
 }
 
 fn import_command<'a>(alloc: Global) -> Result<Command<'a>, AllocError> {
-    Command::new(alloc, "import")
+    let command = Command::new(alloc, "import")
         .about(ABOUT_IMPORT)
-        .after_help(AFTER_IMPORT)
-        .arg(file_argument(alloc).help("The tree file to write"))
+        .after_help(AFTER_IMPORT);
+    with_arguments(alloc, command, IMPORT)
 }
 
 fn export_command<'a>(alloc: Global) -> Result<Command<'a>, AllocError> {
-    Command::new(alloc, "export")
+    let command = Command::new(alloc, "export")
         .about(ABOUT_EXPORT)
-        .after_help(AFTER_EXPORT)
-        .arg(file_argument(alloc).help("The tree file"))
-}
-
-fn blank_command<'a>(alloc: Global) -> Result<Command<'a>, AllocError> {
-    let file = file_argument(alloc).help("The file to write");
-    Command::new(alloc, "blank").about(ABOUT_BLANK).arg(file)
+        .after_help(AFTER_EXPORT);
+    with_arguments(alloc, command, EXPORT)
 }
 
 fn raise_command<'a>(alloc: Global) -> Result<Command<'a>, AllocError> {
-    let tree = Arg::new(alloc, "tree")
-        .value_name("TREE")
-        .action(ArgAction::Set)
-        .required(true)
-        .help("The tree file to read");
-    Command::new(alloc, "raise")
+    let command = Command::new(alloc, "raise")
         .about(ABOUT_RAISE)
-        .after_help(AFTER_RAISE)
-        .arg(tree)?
-        .arg(file_argument(alloc).help("The file to write"))
+        .after_help(AFTER_RAISE);
+    with_arguments(alloc, command, RAISE)
 }
 
-/// The argument `FILE`.
-fn file_argument<'a>(alloc: Global) -> Arg<'a> {
-    Arg::new(alloc, "file")
-        .value_name("FILE")
-        .action(ArgAction::Set)
-        .required(true)
+fn blank_command<'a>(alloc: Global) -> Result<Command<'a>, AllocError> {
+    let command = Command::new(alloc, "blank").about(ABOUT_BLANK);
+    with_arguments(alloc, command, BLANK)
 }
 
-/// An option `--NAME FILE`.
-fn file_option<'a>(alloc: Global, name: &'a str) -> Arg<'a> {
-    Arg::new(alloc, name)
-        .long(name)
-        .value_name("FILE")
-        .action(ArgAction::Set)
+/// The command with further arguments.
+fn with_arguments<'a>(
+    alloc: Global,
+    command: Command<'a>,
+    arguments: &'a [Argument<'a>],
+) -> Result<Command<'a>, AllocError> {
+    let mut command = command;
+    for (name, form, help) in arguments {
+        command = with_argument(command, new_argument(alloc, name, *form, help))?;
+    }
+    Ok(command)
+}
+
+/// The command with a further argument.
+fn with_argument<'a>(
+    command: Command<'a>,
+    argument: Result<Arg<'a>, AllocError>,
+) -> Result<Command<'a>, AllocError> {
+    match argument {
+        Ok(argument) => command.arg(argument),
+        Err(error) => {
+            drop(command);
+            Err(error)
+        }
+    }
+}
+
+fn new_argument<'a>(
+    alloc: Global,
+    name: &'a str,
+    form: Form<'a>,
+    help: &'a str,
+) -> Result<Arg<'a>, AllocError> {
+    let arg = Arg::new(alloc, name).help(help);
+    match form {
+        Form::Flag => Ok(arg.long(name).action(ArgAction::SetTrue)),
+        Form::Place(label) => Ok(valued(arg, label).required(true)),
+        Form::Required(label) => Ok(valued(arg.long(name), label).required(true)),
+        Form::Optional(label) => Ok(valued(arg.long(name), label)),
+        Form::Beside(label, flag) => valued(arg.long(name), label).requires_arg(flag),
+        Form::Number(label) => {
+            Ok(valued(arg.long(name), label).value_parser(value_parser!(u64)))
+        }
+        Form::OneOf(label, values) => Ok(valued(arg.long(name), label).value_parser(values)),
+        Form::SomeOf(label, values) => Ok(listed(arg.long(name), label, values)),
+    }
+}
+
+/// The argument with a value, which help calls by this label.
+fn valued<'a>(arg: Arg<'a>, label: &'a str) -> Arg<'a> {
+    arg.value_name(label).action(ArgAction::Set)
+}
+
+/// The argument with some of these values, with commas between them.
+fn listed<'a>(arg: Arg<'a>, label: &'a str, values: &'a [&'a str]) -> Arg<'a> {
+    arg.value_name(label)
+        .value_delimiter(',')
+        .value_parser(values)
+        .action(ArgAction::Append)
 }

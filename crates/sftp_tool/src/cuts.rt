@@ -10,13 +10,13 @@ use std::alloc::{AllocError, Global};
 use std::io;
 use std::io::Write;
 
-/// How many bytes of a text are printed if no option says it.
+/// How many bytes of a text are printed without the option.
 const USUAL: usize = 256;
 
-/// What stands in front of the number of the bytes that are cut off.
+/// What precedes the number of the bytes that are cut off.
 const MARK: &[u8] = b"...";
 
-/// What the line of a record that is no packet has after its side.
+/// What follows the side in the line of a raw record, which is no packet.
 const RAW: &[u8] = b" raw ";
 
 /// How many bytes of each text are printed, as the option `--data` says.
@@ -29,12 +29,12 @@ pub(crate) fn limit_of<'a>(alloc: Global, data: Option<&str>) -> Result<usize, F
         None => Ok(USUAL),
         Some(text) => match number_of(text) {
             Some(limit) => Ok(limit),
-            None => Err(bad_limit(alloc, text)?),
+            None => Err(Failure::of_usage(bad_limit(alloc, text))),
         },
     }
 }
 
-/// The limit of this text. No text has more bytes than `all`.
+/// The limit that an option's value names; `all` is as many bytes as there can be.
 fn number_of(text: &str) -> Option<usize> {
     if text == "all" {
         Some(usize::MAX)
@@ -43,10 +43,11 @@ fn number_of(text: &str) -> Option<usize> {
     }
 }
 
-fn bad_limit<'a>(alloc: Global, text: &str) -> Result<Failure<'a>, AllocError> {
-    Ok(Failure::Usage(format!(in alloc;
+/// The message for an option `--data` with this value.
+fn bad_limit(alloc: Global, text: &str) -> Result<String, AllocError> {
+    format!(in alloc;
         "error: invalid value '{text}' for '--data <N|all>': neither a number below 2^64 nor 'all'\n{MORE}"
-    )?))
+    )
 }
 
 /// Prints lines, with each text in quotes and the digits of each raw record cut after `limit` bytes.
@@ -55,47 +56,126 @@ pub(crate) fn print_lines<'a, O: Write>(
     limit: usize,
     lines: &[u8],
 ) -> Result<(), Failure<'a>> {
-    match write_lines_flushed(output, limit, lines) {
-        Ok(()) => Ok(()),
-        Err(error) => Err(Failure::writing(STANDARD_OUTPUT, &error)),
+    let mut printer = Printer {
+        output,
+        limit,
+        error: None,
+    };
+    printer.put_all(lines);
+    printer.flush();
+    let error = printer.error;
+    drop(printer);
+    match error {
+        None => Ok(()),
+        Some(error) => Err(Failure::writing(STANDARD_OUTPUT, &error)),
     }
 }
 
-fn write_lines_flushed<O: Write>(output: &mut O, limit: usize, lines: &[u8]) -> io::Result<()> {
-    if lines.len() <= limit {
-        output.write_all(lines)?;
-    } else {
-        write_lines(output, limit, lines)?;
-    }
-    output.flush()?;
-    Ok(())
+/// A writer of lines that are cut. Once a write fails it writes no more.
+#[derive(Drop)]
+struct Printer<'a, O> {
+    output: &'a mut O,
+    /// How many bytes of a text are printed.
+    limit: usize,
+    /// Why a write failed, if one did.
+    error: Option<io::Error>,
 }
 
-fn write_lines<O: Write>(output: &mut O, limit: usize, lines: &[u8]) -> io::Result<()> {
-    let mut rest = lines;
-    'lines: while let Some((line, behind)) = split_around(b'\n', rest) {
-        write_line(output, limit, line)?;
-        output.write_all(b"\n")?;
-        rest = behind;
-    }
-    output.write_all(rest)
-}
-
-/// Writes a line. Nothing is cut of one with at most `limit` characters.
-fn write_line<O: Write>(output: &mut O, limit: usize, line: &[u8]) -> io::Result<()> {
-    if line.len() <= limit {
-        return output.write_all(line);
-    }
-    match split_raw(line) {
-        Some((front, digits)) => {
-            output.write_all(front)?;
-            write_digits(output, limit, digits)
+impl<O: Write> Printer<'_, O> {
+    /// Writes bytes as they are.
+    fn put(&mut self, bytes: &[u8]) {
+        if self.error.is_none() {
+            self.error = self.output.write_all(bytes).err();
         }
-        None => write_texts(output, limit, line),
+    }
+
+    fn flush(&mut self) {
+        if self.error.is_none() {
+            self.error = self.output.flush().err();
+        }
+    }
+
+    /// Writes lines. If all of them together are no longer than the limit, none is cut.
+    fn put_all(&mut self, lines: &[u8]) {
+        if lines.len() <= self.limit {
+            self.put(lines);
+        } else {
+            self.put_lines(lines);
+        }
+    }
+
+    fn put_lines(&mut self, lines: &[u8]) {
+        let mut rest = lines;
+        'lines: while let Some((line, behind)) = split_around(b'\n', rest) {
+            self.put_line(line);
+            self.put(b"\n");
+            rest = behind;
+        }
+        self.put(rest);
+    }
+
+    /// Writes a line. One that is no longer than the limit is not cut.
+    fn put_line(&mut self, line: &[u8]) {
+        if line.len() <= self.limit {
+            self.put(line);
+        } else {
+            self.put_parts(line);
+        }
+    }
+
+    fn put_parts(&mut self, line: &[u8]) {
+        match split_raw(line) {
+            Some((front, digits)) => {
+                self.put(front);
+                self.put_digits(digits);
+            }
+            None => self.put_texts(line),
+        }
+    }
+
+    /// Writes bytes in hexadecimal, up to the limit.
+    fn put_digits(&mut self, digits: &[u8]) {
+        let (shown, hidden) = cut_digits(self.limit, digits);
+        self.put(shown);
+        self.put_mark(hidden.len() / 2);
+    }
+
+    /// Writes a line with each text in quotes up to the limit.
+    fn put_texts(&mut self, line: &[u8]) {
+        let mut rest = line;
+        'texts: while let Some((front, text, behind)) = split_text(rest) {
+            self.put(front);
+            self.put_text(text);
+            rest = behind;
+        }
+        self.put(rest);
+    }
+
+    /// Writes the characters of a text in quotes, up to the limit.
+    fn put_text(&mut self, text: &[u8]) {
+        let (shown, hidden) = cut_text(self.limit, text);
+        self.put(b"\"");
+        self.put(shown);
+        self.put(b"\"");
+        self.put_mark(count_bytes(hidden));
+    }
+
+    /// Writes how many more bytes are cut off, if any are.
+    fn put_mark(&mut self, more: usize) {
+        if more > 0 {
+            self.put(MARK);
+            self.put_count(more);
+        }
+    }
+
+    fn put_count(&mut self, more: usize) {
+        if self.error.is_none() {
+            self.error = write!(self.output, "{more} more").err();
+        }
     }
 }
 
-/// The line of a raw record up to its digits, and these.
+/// The line of a raw record in two parts: up to its digits, and the digits.
 fn split_raw(line: &[u8]) -> Option<(&[u8], &[u8])>
     ensures { IfSome result (λ parts. parts.0.now ++ parts.1.now ≡ line.now) }
 {
@@ -107,42 +187,6 @@ fn split_raw(line: &[u8]) -> Option<(&[u8], &[u8])>
     }
 }
 
-/// Writes bytes in hexadecimal, up to the limit.
-fn write_digits<O: Write>(output: &mut O, limit: usize, digits: &[u8]) -> io::Result<()> {
-    let (shown, hidden) = cut_digits(limit, digits);
-    output.write_all(shown)?;
-    write_mark(output, hidden.len() / 2)
-}
-
-/// Writes a line with each text in quotes up to the limit.
-fn write_texts<O: Write>(output: &mut O, limit: usize, line: &[u8]) -> io::Result<()> {
-    let mut rest = line;
-    'texts: while let Some((front, text, behind)) = split_text(rest) {
-        output.write_all(front)?;
-        write_text(output, limit, text)?;
-        rest = behind;
-    }
-    output.write_all(rest)
-}
-
-/// Writes the characters of a text in quotes, up to the limit.
-fn write_text<O: Write>(output: &mut O, limit: usize, text: &[u8]) -> io::Result<()> {
-    let (shown, hidden) = cut_text(limit, text);
-    output.write_all(b"\"")?;
-    output.write_all(shown)?;
-    output.write_all(b"\"")?;
-    write_mark(output, count_bytes(hidden))
-}
-
-/// Writes that so many more bytes are cut off, if there are any.
-fn write_mark<O: Write>(output: &mut O, more: usize) -> io::Result<()> {
-    if more == 0 {
-        return Ok(());
-    }
-    output.write_all(MARK)?;
-    write!(output, "{more} more")
-}
-
 /// Whether a word is the mark of what was cut off.
 pub(crate) fn is_mark(word: &[u8]) -> bool {
     match word.strip_prefix(MARK) {
@@ -151,7 +195,7 @@ pub(crate) fn is_mark(word: &[u8]) -> bool {
     }
 }
 
-/// The bytes in front of the first `byte`, and those behind it.
+/// The bytes before the first `byte`, and those after it.
 fn split_around(byte: u8, bytes: &[u8]) -> Option<(&[u8], &[u8])>
     ensures whole { IfSome result (λ parts. parts.0.now ++ byte ∷ parts.1.now ≡ bytes.now) }
     ensures shorter { IfSome result (λ parts. length parts.1.now < length bytes.now) }

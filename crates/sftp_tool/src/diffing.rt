@@ -19,46 +19,55 @@ pub(crate) fn diff<'a, R: Files + AllocGlobal, O: Write>(
     new: &'a str,
     output: &mut O,
 ) -> Result<Ending, Failure<'a>> {
-    let old_bytes = read(rt, old)?;
-    match read(rt, new) {
-        Ok(new_bytes) => {
-            let files = (old, old_bytes.as_slice());
-            let ending = diff_bytes(rt.alloc(), files, (new, new_bytes.as_slice()), output);
-            drop(old_bytes);
-            drop(new_bytes);
-            ending
-        }
-        Err(failure) => {
-            drop(old_bytes);
-            Err(failure)
-        }
-    }
+    let bytes = read(rt, old)?;
+    let ending = diff_from(rt, (old, bytes.as_slice()), new, output);
+    drop(bytes);
+    ending
 }
 
-/// Shows how two tree files differ that have these names and bytes.
+/// Shows how the tree file `new` differs from the one with this name and these bytes.
+fn diff_from<'a, R: Files + AllocGlobal, O: Write>(
+    rt: &R,
+    old: (&'a str, &[u8]),
+    new: &'a str,
+    output: &mut O,
+) -> Result<Ending, Failure<'a>> {
+    let bytes = read(rt, new)?;
+    let ending = diff_bytes(rt.alloc(), old, (new, bytes.as_slice()), output);
+    drop(bytes);
+    ending
+}
+
+/// Shows how two tree files with these names and bytes differ.
 fn diff_bytes<'a, O: Write>(
     alloc: Global,
     old: (&'a str, &[u8]),
     new: (&'a str, &[u8]),
     output: &mut O,
 ) -> Result<Ending, Failure<'a>> {
-    let old_file = tree_of(alloc, old.0, old.1)?;
-    match tree_of(alloc, new.0, new.1) {
-        Ok(new_file) => {
-            let shown = show(&old_file, &new_file, output);
-            drop(old_file);
-            drop(new_file);
-            shown?;
-            Ok(compared(old.1, new.1))
-        }
-        Err(failure) => {
-            drop(old_file);
-            Err(failure)
-        }
+    let file = tree_of(alloc, old.0, old.1)?;
+    let shown = show_new(alloc, &file, new, output);
+    drop(file);
+    match shown {
+        Ok(()) => Ok(compared(old.1, new.1)),
+        Err(failure) => Err(failure),
     }
 }
 
-/// What the tree file `name` says that has these bytes.
+/// Prints how the tree file with this name and these bytes differs from an old one.
+fn show_new<'a, O: Write>(
+    alloc: Global,
+    old: &TreeFile,
+    new: (&'a str, &[u8]),
+    output: &mut O,
+) -> Result<(), Failure<'a>> {
+    let file = tree_of(alloc, new.0, new.1)?;
+    let shown = show(old, &file, output);
+    drop(file);
+    shown
+}
+
+/// What the tree file with this name and these bytes says.
 fn tree_of<'a>(alloc: Global, name: &'a str, bytes: &[u8]) -> Result<TreeFile, Failure<'a>> {
     match read_rows(alloc, bytes) {
         Ok(file) => Ok(file),

@@ -2,7 +2,7 @@
 use crate::command_line::AuditOptions;
 use crate::messages::{Failure, write_flushed};
 use crate::subcommands::open;
-use sftp_audit::{AuditError, Auditor, NoMemory, Refusal, TreeError, feed_all};
+use sftp_audit::{AuditError, Auditor, Refusal, feed_all};
 use sftp_path::good_path;
 use sftp_profile::{NAMES, Profile};
 use sftp_show::{
@@ -14,6 +14,7 @@ use sftp_tree::Tree;
 use sftp_wire::{Answer, Ask, Side};
 use std::alloc::Global;
 use std::fs::Files;
+use std::io;
 use std::io::Write;
 
 /// How many requests may be asked from an unanswered one on, itself included.
@@ -61,59 +62,415 @@ impl From<ExplainError> for Unexplained {
     }
 }
 
-impl From<TreeError> for Unexplained {
-    fn from(_error: TreeError) -> Self {
-        Unexplained::OutOfMemory
-    }
-}
-
-impl From<NoMemory> for Unexplained {
-    fn from(_error: NoMemory) -> Self {
-        Unexplained::OutOfMemory
-    }
-}
-
 /// Writes why the session of these files is refused. The transcript is read again from its start, more than once. Where
 /// that fails, the last line says so.
-pub(crate) fn explain<'a, R: Files + AllocGlobal, E: Write>(
-    rt: &R,
-    files: &AuditOptions<'a>,
-    tree: &[u8],
+pub(crate) fn explain<'s, 'a, R: Files + AllocGlobal, E: Write>(
+    rt: &'s R,
+    files: &'s AuditOptions<'a>,
+    tree: &'s [u8],
     refusal: Refusal,
-    errors: &mut E,
+    errors: &'s mut E,
 ) {
-    let _ = match put_explanation(rt, files, tree, refusal, errors) {
-        Ok(()) => errors.flush(),
-        Err(error) => write_flushed(errors, error.line()),
+    let mut explanation = Explanation {
+        rt,
+        files,
+        tree,
+        refusal,
+        errors,
+        stopped_by: None,
     };
+    explanation.put();
+    explanation.finish();
+    drop(explanation);
 }
 
-fn put_explanation<'a, R: Files + AllocGlobal, E: Write>(
-    rt: &R,
-    files: &AuditOptions<'a>,
-    tree: &[u8],
+/// The explanation of a refusal. A step that returns false stops it, and the reason is noted.
+#[derive(Drop)]
+struct Explanation<'s, 'a, R, E> {
+    rt: &'s R,
+    files: &'s AuditOptions<'a>,
+    /// The bytes of the tree file.
+    tree: &'s [u8],
     refusal: Refusal,
-    errors: &mut E,
-) -> Result<(), Unexplained> {
-    let found = found(rt, files, record_of(refusal));
-    let put = put_refusal(rt, files, tree, refusal, &found, errors);
-    drop(found);
-    put
+    /// Where the lines go.
+    errors: &'s mut E,
+    stopped_by: Option<Unexplained>,
 }
 
-/// Writes the lines of a refusal that names the record found, if it was found.
-fn put_refusal<'a, R: Files + AllocGlobal, E: Write>(
-    rt: &R,
-    files: &AuditOptions<'a>,
-    tree: &[u8],
-    refusal: Refusal,
-    found: &Result<Option<Found>, Unexplained>,
-    errors: &mut E,
-) -> Result<(), Unexplained> {
-    match found {
-        Ok(Some(found)) => put_reason(rt, files, tree, refusal, found, errors),
-        Ok(None) => Err(Unexplained::OtherTranscript),
-        Err(error) => Err(*error),
+impl<R: Files + AllocGlobal, E: Write> Explanation<'_, '_, R, E> {
+    /// Notes why the explanation stops, unless it has stopped before. Returns false.
+    fn stop(&mut self, reason: Unexplained) -> bool {
+        if self.stopped_by.is_none() {
+            self.stopped_by = Some(reason);
+        }
+        false
+    }
+
+    /// Flushes the lines, or writes a last one that says what stopped the explanation.
+    fn finish(&mut self) {
+        let _ = match self.stopped_by {
+            None => self.errors.flush(),
+            Some(reason) => write_flushed(self.errors, reason.line()),
+        };
+    }
+
+    /// Writes the lines of the refusal.
+    fn put(&mut self) -> bool {
+        let found = self.found(record_of(self.refusal));
+        let put = self.put_refusal(&found);
+        drop(found);
+        put
+    }
+
+    /// Writes the lines of the refusal, if the record that it names was found.
+    fn put_refusal(&mut self, found: &Option<Found>) -> bool {
+        match found {
+            Some(found) => self.put_reason(found),
+            None => false,
+        }
+    }
+
+    /// Writes the lines of the refusal, which names this record.
+    fn put_reason(&mut self, found: &Found) -> bool {
+        match self.refusal {
+            Refusal::UnknownReply { .. } => self.put_unknown_reply(&found.record),
+            Refusal::IdInUse { .. } => self.put_used_id(&found.record),
+            Refusal::Window { .. } => self.put_late_request(found),
+            Refusal::NotAllowed { .. } => self.put_unallowed(&found.record),
+            Refusal::Unanswered { .. } | Refusal::NoMemory => {
+                self.put_line("request", &found.record)
+            }
+        }
+    }
+
+    /// Writes the line of a record.
+    fn put_line(&mut self, label: &str, record: &Record) -> bool {
+        match put_record(label, record, self.errors) {
+            Ok(()) => true,
+            Err(error) => self.stop(Unexplained::from(error)),
+        }
+    }
+
+    /// Whether a line was written. If not, the explanation stops.
+    fn is_written(&mut self, written: io::Result<()>) -> bool {
+        match written {
+            Ok(()) => true,
+            Err(_) => self.stop(Unexplained::Output),
+        }
+    }
+
+    /// `UnknownReply`: the reply, the last request of its id, and the reply to that.
+    fn put_unknown_reply(&mut self, reply: &Record) -> bool {
+        if !self.put_line("reply", reply) {
+            return false;
+        }
+        match self.earlier(Side::Client, reply) {
+            Some(request) => self.put_answered(request, reply),
+            None => self.put_unasked(),
+        }
+    }
+
+    /// The request whose id the reply has, and the reply that it got before.
+    fn put_answered(&mut self, request: u64, reply: &Record) -> bool {
+        self.put_numbered("request", request) && self.put_earlier("answered", Side::Server, reply)
+    }
+
+    /// That no request has the id of the reply, unless the search for it was stopped.
+    fn put_unasked(&mut self) -> bool {
+        if self.stopped_by.is_some() {
+            return false;
+        }
+        let written = writeln!(self.errors, "request: none has this id");
+        self.is_written(written)
+    }
+
+    /// `IdInUse`: the request, and the unanswered one of the same id.
+    fn put_used_id(&mut self, request: &Record) -> bool {
+        self.put_line("request", request) && self.put_earlier("unanswered", Side::Client, request)
+    }
+
+    /// `Window`: the request, and the oldest unanswered one, which is the 1,024th before it.
+    fn put_late_request(&mut self, found: &Found) -> bool {
+        if !self.put_line("request", &found.record) {
+            return false;
+        }
+        match self.oldest(found) {
+            Some(number) => self.put_numbered("unanswered", number),
+            None => self.stop(Unexplained::OtherTranscript),
+        }
+    }
+
+    /// `NotAllowed`: why a reply is not allowed, and which departures would allow it.
+    fn put_unallowed(&mut self, reply: &Record) -> bool {
+        self.put_wrong_reply(reply) && self.put_departures()
+    }
+
+    /// The request, its reply, why that is not allowed, and what is.
+    fn put_wrong_reply(&mut self, reply: &Record) -> bool {
+        match self.earlier(Side::Client, reply) {
+            Some(number) => self.put_exchange_of(number, reply),
+            None => self.stop(Unexplained::OtherTranscript),
+        }
+    }
+
+    /// The request that is the record with this number, and its reply.
+    fn put_exchange_of(&mut self, number: u64, reply: &Record) -> bool {
+        let found = self.found(number);
+        let put = self.put_exchange(&found, reply);
+        drop(found);
+        put
+    }
+
+    /// The request, if it was found, and its reply.
+    fn put_exchange(&mut self, found: &Option<Found>, reply: &Record) -> bool {
+        self.put_found("request", found)
+            && self.put_line("reply", reply)
+            && self.put_judgement(ask_of(found), reply.answer())
+    }
+
+    /// Why the answer to a request is not allowed, if they are a request and an answer.
+    fn put_judgement(&mut self, ask: Option<&Ask>, answer: Option<&Answer>) -> bool {
+        match (ask, answer) {
+            (Some(ask), Some(answer)) => self.put_causes(ask, answer),
+            _ => self.stop(Unexplained::OtherTranscript),
+        }
+    }
+
+    /// Why the session does not allow an answer, and what it allows.
+    fn put_causes(&mut self, ask: &Ask, answer: &Answer) -> bool {
+        match new_auditor(self.rt.alloc(), self.files.profile, self.tree) {
+            Some(mut auditor) => {
+                let put = self.put_causes_by(&mut auditor, ask, answer);
+                drop(auditor);
+                put
+            }
+            None => self.stop(Unexplained::OutOfMemory),
+        }
+    }
+
+    /// Feeds the session to an auditor that has seen nothing of it, and writes why it does not allow an answer. The
+    /// auditor's session is then the one in which the wrong reply came.
+    fn put_causes_by(&mut self, auditor: &mut Auditor, ask: &Ask, answer: &Answer) -> bool {
+        let mut is_modelled = true;
+        match self.fed(auditor, &mut is_modelled) {
+            Some(_) => {
+                self.put_allowed(auditor, ask, answer) && (is_modelled || self.put_unmodelled(ask))
+            }
+            None => self.stop(Unexplained::OtherTranscript),
+        }
+    }
+
+    /// What the auditor's session allows in place of an answer.
+    fn put_allowed(&mut self, auditor: &Auditor, ask: &Ask, answer: &Answer) -> bool {
+        let session = auditor.session();
+        match explain_reply(self.rt.alloc(), session, ask, answer, self.errors) {
+            Ok(()) => true,
+            Err(error) => self.stop(Unexplained::from(error)),
+        }
+    }
+
+    /// What of a request the profile does not follow: an extension that it does not know, or what the tree cannot
+    /// hold.
+    fn put_unmodelled(&mut self, ask: &Ask) -> bool {
+        match ask {
+            Ask::Unknown { name, .. } => self.put_extension(name.as_slice()),
+            other => self.put_lack(lack(self.files.profile, other)),
+        }
+    }
+
+    fn put_extension(&mut self, name: &[u8]) -> bool {
+        let name = Quoted(name);
+        let written = writeln!(self.errors, "not modelled: extension {name}");
+        self.is_written(written)
+    }
+
+    fn put_lack(&mut self, lack: &str) -> bool {
+        let written = writeln!(self.errors, "not modelled: {lack}");
+        self.is_written(written)
+    }
+
+    /// The names of the departures each of which, accepted besides, makes the session go on beyond its refusal.
+    fn put_departures(&mut self) -> bool {
+        for name in NAMES {
+            if self.goes_on_with(name) {
+                self.put_departure(name);
+            }
+            if self.stopped_by.is_some() {
+                return false;
+            }
+        }
+        true
+    }
+
+    fn put_departure(&mut self, name: &str) -> bool {
+        let written = writeln!(self.errors, "allowed by: {name}");
+        self.is_written(written)
+    }
+
+    /// Whether the session goes on beyond its refusal if the departure of this name is accepted besides.
+    fn goes_on_with(&mut self, name: &str) -> bool {
+        let accepted = self.files.profile;
+        let profile = accepted.with(name, true).unwrap_or(accepted);
+        profile != accepted && self.goes_on_by(profile, name)
+    }
+
+    /// Whether the session goes on beyond its refusal by this profile, which accepts the departure of this name.
+    fn goes_on_by(&mut self, profile: Profile, name: &str) -> bool {
+        match new_auditor(self.rt.alloc(), profile, self.tree) {
+            Some(mut auditor) => {
+                let mut is_modelled = true;
+                let fed = self.fed(&mut auditor, &mut is_modelled);
+                drop(auditor);
+                self.is_beyond(fed, name)
+            }
+            None => self.stop(Unexplained::OutOfMemory),
+        }
+    }
+
+    /// Whether a session that was fed with the departure of this name accepted goes on beyond its refusal without it:
+    /// it is not refused, or at a later record. `made` judges another request than the one that was sent, so with it a
+    /// session may be refused at an earlier record.
+    fn is_beyond(&self, fed: Option<Refusal>, name: &str) -> bool {
+        match fed {
+            None => self.stopped_by.is_none(),
+            Some(other) => {
+                other != self.refusal
+                    && (name != "made" || record_of(other) > record_of(self.refusal))
+            }
+        }
+    }
+
+    /// Feeds the session to an auditor that has seen nothing of it, and returns the refusal, if it is refused before it
+    /// ends or is malformed. `is_modelled` then says whether the profile follows the request.
+    fn fed(&mut self, auditor: &mut Auditor, is_modelled: &mut bool) -> Option<Refusal> {
+        let mut records = self.records()?;
+        let fed = feed_all(auditor, &mut records, is_modelled);
+        drop(records);
+        self.refusal_of(fed)
+    }
+
+    /// The refusal in which feeding a session ended, if it is one. If the transcript cannot be read any more or memory
+    /// ran out, the explanation stops.
+    fn refusal_of(&mut self, fed: Result<u64, AuditError>) -> Option<Refusal> {
+        match fed {
+            Err(AuditError::Refused(refusal)) => return Some(refusal),
+            Err(AuditError::NoMemory) => self.stop(Unexplained::OutOfMemory),
+            Err(AuditError::Transcript(TranscriptError::Io { .. })) => {
+                self.stop(Unexplained::OtherTranscript)
+            }
+            _ => false,
+        };
+        None
+    }
+
+    /// Writes the line of the record with this number.
+    fn put_numbered(&mut self, label: &str, number: u64) -> bool {
+        let found = self.found(number);
+        let put = self.put_found(label, &found);
+        drop(found);
+        put
+    }
+
+    /// Writes the line of the record found, if it was found.
+    fn put_found(&mut self, label: &str, found: &Option<Found>) -> bool {
+        match found {
+            Some(found) => self.put_line(label, &found.record),
+            None => false,
+        }
+    }
+
+    /// Writes the line of the last record of a side before this one that has its id.
+    fn put_earlier(&mut self, label: &str, side: Side, record: &Record) -> bool {
+        match self.earlier(side, record) {
+            Some(number) => self.put_numbered(label, number),
+            None => self.stop(Unexplained::OtherTranscript),
+        }
+    }
+
+    /// The record with this number. If there are fewer, the explanation stops.
+    fn found(&mut self, number: u64) -> Option<Found> {
+        let mut records = self.records()?;
+        let found = find_record(&mut records, number);
+        drop(records);
+        self.found_by(found)
+    }
+
+    /// The record that a search found. If it found none, the explanation stops.
+    fn found_by(&mut self, found: Result<Option<Found>, TranscriptError>) -> Option<Found> {
+        match found {
+            Ok(Some(found)) => Some(found),
+            Ok(None) => {
+                self.stop(Unexplained::OtherTranscript);
+                None
+            }
+            Err(error) => {
+                self.stop(Unexplained::from(error));
+                None
+            }
+        }
+    }
+
+    /// The number of the last record of a side before this one that has its id, if there is one. If this record has no
+    /// id, the explanation stops.
+    fn earlier(&mut self, side: Side, record: &Record) -> Option<u64> {
+        match record.id() {
+            Some(id) => self.last_of_id(side, id, record.number),
+            None => {
+                self.stop(Unexplained::OtherTranscript);
+                None
+            }
+        }
+    }
+
+    /// The number of the last record of a side with this id, before the record with this number, if there is one.
+    fn last_of_id(&mut self, side: Side, id: u32, number: u64) -> Option<u64> {
+        let mut records = self.records()?;
+        let last = last_of_id(&mut records, side, id, number);
+        drop(records);
+        self.number_found(last)
+    }
+
+    /// The number of the record of the 1,024th request before this one, if there is one.
+    fn oldest(&mut self, found: &Found) -> Option<u64> {
+        let mut records = self.records()?;
+        let before = found.requests.saturating_sub(WINDOW);
+        let oldest = number_of_request(&mut records, before, found.record.number);
+        drop(records);
+        self.number_found(oldest)
+    }
+
+    /// The number that a search found, if it found one. If the search failed, the explanation stops.
+    fn number_found(&mut self, number: Result<Option<u64>, TranscriptError>) -> Option<u64> {
+        match number {
+            Ok(number) => number,
+            Err(error) => {
+                self.stop(Unexplained::from(error));
+                None
+            }
+        }
+    }
+
+    /// A reader of the transcript from its start. If it cannot be read, the explanation stops.
+    fn records(&mut self) -> Option<Reader<Tally<R::File>>> {
+        match open(self.rt, self.files.transcript) {
+            Ok(file) => self.records_of(file),
+            Err(failure) => {
+                self.stop(unopened(&failure));
+                drop(failure);
+                None
+            }
+        }
+    }
+
+    /// A reader of a transcript that was just opened. If memory runs out, the explanation stops.
+    fn records_of(&mut self, file: R::File) -> Option<Reader<Tally<R::File>>> {
+        match Reader::new(self.rt.alloc(), Tally::new(file)) {
+            Ok(records) => Some(records),
+            Err(error) => {
+                self.stop(Unexplained::from(error));
+                None
+            }
+        }
     }
 }
 
@@ -129,78 +486,6 @@ fn record_of(refusal: Refusal) -> u64 {
     }
 }
 
-/// Writes the lines of a refusal that names this record.
-fn put_reason<'a, R: Files + AllocGlobal, E: Write>(
-    rt: &R,
-    files: &AuditOptions<'a>,
-    tree: &[u8],
-    refusal: Refusal,
-    found: &Found,
-    errors: &mut E,
-) -> Result<(), Unexplained> {
-    match refusal {
-        Refusal::UnknownReply { .. } => put_unknown_reply(rt, files, &found.record, errors),
-        Refusal::IdInUse { .. } => put_used_id(rt, files, &found.record, errors),
-        Refusal::Window { .. } => put_late_request(rt, files, found, errors),
-        Refusal::NotAllowed { .. } => put_unallowed(
-            rt,
-            files,
-            tree,
-            refusal,
-            &found.record,
-            errors,
-        ),
-        Refusal::Unanswered { .. } | Refusal::NoMemory => put_line(
-            "request",
-            &found.record,
-            errors,
-        ),
-    }
-}
-
-/// Writes the line of a record.
-fn put_line<E: Write>(label: &str, record: &Record, errors: &mut E) -> Result<(), Unexplained> {
-    match put_record(label, record, errors) {
-        Ok(()) => Ok(()),
-        Err(error) => Err(Unexplained::from(error)),
-    }
-}
-
-/// `NotAllowed`: why a reply is not allowed, and which departures would allow it.
-fn put_unallowed<'a, R: Files + AllocGlobal, E: Write>(
-    rt: &R,
-    files: &AuditOptions<'a>,
-    tree: &[u8],
-    refusal: Refusal,
-    reply: &Record,
-    errors: &mut E,
-) -> Result<(), Unexplained> {
-    put_wrong_reply(rt, files, tree, reply, errors)?;
-    put_departures(rt, files, tree, refusal, errors)
-}
-
-/// A reader of the transcript from its start.
-///
-/// # Errors
-///
-/// `OtherTranscript` if the file cannot be opened, and `OutOfMemory`.
-fn records<'a, R: Files + AllocGlobal>(
-    rt: &R,
-    files: &AuditOptions<'a>,
-) -> Result<Reader<Tally<R::File>>, Unexplained> {
-    match open(rt, files.transcript) {
-        Ok(file) => match Reader::new(rt.alloc(), Tally::new(file)) {
-            Ok(records) => Ok(records),
-            Err(error) => Err(Unexplained::from(error)),
-        },
-        Err(failure) => {
-            let error = unopened(&failure);
-            drop(failure);
-            Err(error)
-        }
-    }
-}
-
 /// What it means that the transcript cannot be opened.
 fn unopened(failure: &Failure<'_>) -> Unexplained {
     match failure {
@@ -209,285 +494,11 @@ fn unopened(failure: &Failure<'_>) -> Unexplained {
     }
 }
 
-/// The record with this number, or `None` if there are fewer.
-///
-/// # Errors
-///
-/// `OtherTranscript` and `OutOfMemory`.
-fn found<'a, R: Files + AllocGlobal>(
-    rt: &R,
-    files: &AuditOptions<'a>,
-    number: u64,
-) -> Result<Option<Found>, Unexplained> {
-    let mut records = records(rt, files)?;
-    let found = find_record(&mut records, number);
-    drop(records);
-    found.map_err(Unexplained::from)
-}
-
-/// The number of the last record of a side before this one that has its id, if there is one.
-///
-/// # Errors
-///
-/// `OtherTranscript` if this record has no id, and `OutOfMemory`.
-fn earlier<'a, R: Files + AllocGlobal>(
-    rt: &R,
-    files: &AuditOptions<'a>,
-    side: Side,
-    record: &Record,
-) -> Result<Option<u64>, Unexplained> {
-    match record.id() {
-        Some(id) => number_of_last(rt, files, side, id, record.number),
-        None => Err(Unexplained::OtherTranscript),
-    }
-}
-
-/// The number of the last record of a side with this id, before the record with this number, if there is one.
-///
-/// # Errors
-///
-/// `OtherTranscript` and `OutOfMemory`.
-fn number_of_last<'a, R: Files + AllocGlobal>(
-    rt: &R,
-    files: &AuditOptions<'a>,
-    side: Side,
-    id: u32,
-    number: u64,
-) -> Result<Option<u64>, Unexplained> {
-    let mut records = records(rt, files)?;
-    let last = last_of_id(&mut records, side, id, number);
-    drop(records);
-    Ok(last?)
-}
-
-/// Writes the line of the record with this number.
-///
-/// # Errors
-///
-/// `OtherTranscript` if there is none, `Output` and `OutOfMemory`.
-fn put_numbered<'a, R: Files + AllocGlobal, E: Write>(
-    rt: &R,
-    files: &AuditOptions<'a>,
-    label: &str,
-    number: u64,
-    errors: &mut E,
-) -> Result<(), Unexplained> {
-    let found = found(rt, files, number);
-    let put = put_found(label, &found, errors);
-    drop(found);
-    put
-}
-
-/// Writes the line of the record found, if it was found.
-fn put_found<E: Write>(
-    label: &str,
-    found: &Result<Option<Found>, Unexplained>,
-    errors: &mut E,
-) -> Result<(), Unexplained> {
-    match found {
-        Ok(Some(found)) => put_line(label, &found.record, errors),
-        Ok(None) => Err(Unexplained::OtherTranscript),
-        Err(error) => Err(*error),
-    }
-}
-
-/// Writes the line of the last record of a side before this one that has its id.
-///
-/// # Errors
-///
-/// `OtherTranscript` if there is none, `Output` and `OutOfMemory`.
-fn put_earlier<'a, R: Files + AllocGlobal, E: Write>(
-    rt: &R,
-    files: &AuditOptions<'a>,
-    label: &str,
-    side: Side,
-    record: &Record,
-    errors: &mut E,
-) -> Result<(), Unexplained> {
-    match earlier(rt, files, side, record)? {
-        Some(number) => put_numbered(rt, files, label, number, errors),
-        None => Err(Unexplained::OtherTranscript),
-    }
-}
-
-/// `UnknownReply`: the reply, the last request of its id, and the reply to that.
-fn put_unknown_reply<'a, R: Files + AllocGlobal, E: Write>(
-    rt: &R,
-    files: &AuditOptions<'a>,
-    reply: &Record,
-    errors: &mut E,
-) -> Result<(), Unexplained> {
-    put_line("reply", reply, errors)?;
-    match earlier(rt, files, Side::Client, reply)? {
-        Some(request) => put_answered(rt, files, request, reply, errors),
-        None => put_unasked(errors),
-    }
-}
-
-/// The request that the reply is one too many for, and the reply that it has.
-fn put_answered<'a, R: Files + AllocGlobal, E: Write>(
-    rt: &R,
-    files: &AuditOptions<'a>,
-    request: u64,
-    reply: &Record,
-    errors: &mut E,
-) -> Result<(), Unexplained> {
-    put_numbered(rt, files, "request", request, errors)?;
-    put_earlier(rt, files, "answered", Side::Server, reply, errors)
-}
-
-/// That no request has the id of the reply.
-fn put_unasked<E: Write>(errors: &mut E) -> Result<(), Unexplained> {
-    match writeln!(errors, "request: none has this id") {
-        Ok(()) => Ok(()),
-        Err(_) => Err(Unexplained::Output),
-    }
-}
-
-/// `IdInUse`: the request, and the unanswered one of the same id.
-fn put_used_id<'a, R: Files + AllocGlobal, E: Write>(
-    rt: &R,
-    files: &AuditOptions<'a>,
-    request: &Record,
-    errors: &mut E,
-) -> Result<(), Unexplained> {
-    put_line("request", request, errors)?;
-    put_earlier(rt, files, "unanswered", Side::Client, request, errors)
-}
-
-/// `Window`: the request, and the oldest unanswered one, which is the 1,024th before it.
-fn put_late_request<'a, R: Files + AllocGlobal, E: Write>(
-    rt: &R,
-    files: &AuditOptions<'a>,
-    found: &Found,
-    errors: &mut E,
-) -> Result<(), Unexplained> {
-    put_line("request", &found.record, errors)?;
-    match oldest(rt, files, found)? {
-        Some(number) => put_numbered(rt, files, "unanswered", number, errors),
-        None => Err(Unexplained::OtherTranscript),
-    }
-}
-
-/// The number of the record of the 1,024th request before this one.
-fn oldest<'a, R: Files + AllocGlobal>(
-    rt: &R,
-    files: &AuditOptions<'a>,
-    found: &Found,
-) -> Result<Option<u64>, Unexplained> {
-    let mut records = records(rt, files)?;
-    let before = found.requests.saturating_sub(WINDOW);
-    let oldest = number_of_request(&mut records, before, found.record.number);
-    drop(records);
-    Ok(oldest?)
-}
-
-/// The request, its reply, why that is not allowed, and what is.
-fn put_wrong_reply<'a, R: Files + AllocGlobal, E: Write>(
-    rt: &R,
-    files: &AuditOptions<'a>,
-    tree: &[u8],
-    reply: &Record,
-    errors: &mut E,
-) -> Result<(), Unexplained> {
-    match earlier(rt, files, Side::Client, reply)? {
-        Some(number) => put_exchange_of(rt, files, tree, number, reply, errors),
-        None => Err(Unexplained::OtherTranscript),
-    }
-}
-
-/// The request of the record with this number, and its reply.
-fn put_exchange_of<'a, R: Files + AllocGlobal, E: Write>(
-    rt: &R,
-    files: &AuditOptions<'a>,
-    tree: &[u8],
-    number: u64,
-    reply: &Record,
-    errors: &mut E,
-) -> Result<(), Unexplained> {
-    let found = found(rt, files, number);
-    let put = put_exchange(rt, files, tree, &found, reply, errors);
-    drop(found);
-    put
-}
-
-/// The request found, if it was found, and its reply.
-fn put_exchange<'a, R: Files + AllocGlobal, E: Write>(
-    rt: &R,
-    files: &AuditOptions<'a>,
-    tree: &[u8],
-    found: &Result<Option<Found>, Unexplained>,
-    reply: &Record,
-    errors: &mut E,
-) -> Result<(), Unexplained> {
-    put_found("request", found, errors)?;
-    put_line("reply", reply, errors)?;
-    match (ask_of(found), reply.answer()) {
-        (Some(ask), Some(answer)) => put_causes(rt, files, tree, ask, answer, errors),
-        _ => Err(Unexplained::OtherTranscript),
-    }
-}
-
 /// What the request found asks for.
-fn ask_of(found: &Result<Option<Found>, Unexplained>) -> Option<&Ask> {
+fn ask_of(found: &Option<Found>) -> Option<&Ask> {
     match found {
-        Ok(Some(found)) => found.record.ask(),
-        _ => None,
-    }
-}
-
-/// Why the session does not allow an answer, and what it allows.
-fn put_causes<'a, R: Files + AllocGlobal, E: Write>(
-    rt: &R,
-    files: &AuditOptions<'a>,
-    tree: &[u8],
-    ask: &Ask,
-    answer: &Answer,
-    errors: &mut E,
-) -> Result<(), Unexplained> {
-    let mut auditor = new_auditor(rt.alloc(), files.profile, tree)?;
-    let put = put_causes_by(rt, files, &mut auditor, ask, answer, errors);
-    drop(auditor);
-    put
-}
-
-/// Feeds the session to an auditor that has seen nothing of it, and writes why it does not allow an answer.
-fn put_causes_by<'a, R: Files + AllocGlobal, E: Write>(
-    rt: &R,
-    files: &AuditOptions<'a>,
-    auditor: &mut Auditor,
-    ask: &Ask,
-    answer: &Answer,
-    errors: &mut E,
-) -> Result<(), Unexplained> {
-    let is_modelled = refuse_again(rt, files, auditor)?;
-    explain_reply(rt.alloc(), auditor.session(), ask, answer, errors)?;
-    if is_modelled {
-        return Ok(());
-    }
-    put_unmodelled(files.profile, ask, errors)
-}
-
-/// Writes what of a request the profile does not follow: an extension that it does not know, or what the tree cannot
-/// hold.
-fn put_unmodelled<E: Write>(
-    profile: Profile,
-    ask: &Ask,
-    errors: &mut E,
-) -> Result<(), Unexplained> {
-    let written = match ask {
-        Ask::Unknown { name, .. } => {
-            let name = Quoted(name.as_slice());
-            writeln!(errors, "not modelled: extension {name}")
-        }
-        other => {
-            let lack = lack(profile, other);
-            writeln!(errors, "not modelled: {lack}")
-        }
-    };
-    match written {
-        Ok(()) => Ok(()),
-        Err(_) => Err(Unexplained::Output),
+        Some(found) => found.record.ask(),
+        None => None,
     }
 }
 
@@ -509,108 +520,10 @@ fn target_of(profile: Profile, ask: &Ask) -> Option<&[u8]> {
     }
 }
 
-/// Writes the names of the departures each of which, accepted besides, makes the session go on behind its refusal.
-fn put_departures<'a, R: Files + AllocGlobal, E: Write>(
-    rt: &R,
-    files: &AuditOptions<'a>,
-    tree: &[u8],
-    refusal: Refusal,
-    errors: &mut E,
-) -> Result<(), Unexplained> {
-    for name in NAMES {
-        if goes_on_with(rt, files, tree, refusal, name)? {
-            put_departure(name, errors)?;
-        }
-    }
-    Ok(())
-}
-
-fn put_departure<E: Write>(name: &str, errors: &mut E) -> Result<(), Unexplained> {
-    match writeln!(errors, "allowed by: {name}") {
-        Ok(()) => Ok(()),
-        Err(_) => Err(Unexplained::Output),
-    }
-}
-
-/// Whether the session goes on behind its refusal if the departure of this name is accepted besides.
-fn goes_on_with<'a, R: Files + AllocGlobal>(
-    rt: &R,
-    files: &AuditOptions<'a>,
-    tree: &[u8],
-    refusal: Refusal,
-    name: &str,
-) -> Result<bool, Unexplained> {
-    let profile = files.profile.with(name, true).unwrap_or(files.profile);
-    if profile == files.profile {
-        return Ok(false);
-    }
-    let mut auditor = new_auditor(rt.alloc(), profile, tree)?;
-    let mut is_modelled = true;
-    let fed = fed(rt, files, &mut auditor, &mut is_modelled);
-    drop(auditor);
-    match fed {
-        Ok(None) => Ok(true),
-        Ok(Some(other)) => Ok(is_behind(other, refusal, name)),
-        Err(error) => Err(error),
-    }
-}
-
-/// Whether the refusal under the departure of this name comes behind the one without it. `made` judges another request
-/// than the one that was sent, so with it a session may be refused at an earlier record.
-fn is_behind(other: Refusal, refusal: Refusal, name: &str) -> bool {
-    other != refusal && (name != "made" || record_of(other) > record_of(refusal))
-}
-
-/// Feeds the session to an auditor that has seen nothing of it, and returns the refusal, if it is refused before it
-/// ends or is malformed. `is_modelled` then says whether the profile follows the request.
-///
-/// # Errors
-///
-/// `OtherTranscript` if the transcript cannot be read any more, and `OutOfMemory`.
-fn fed<'a, R: Files + AllocGlobal>(
-    rt: &R,
-    files: &AuditOptions<'a>,
-    auditor: &mut Auditor,
-    is_modelled: &mut bool,
-) -> Result<Option<Refusal>, Unexplained> {
-    let mut records = records(rt, files)?;
-    let fed = feed_all(auditor, &mut records, is_modelled);
-    drop(records);
-    refusal_of(fed)
-}
-
-/// The refusal in which feeding a session ended, if it is one.
-fn refusal_of(fed: Result<u64, AuditError>) -> Result<Option<Refusal>, Unexplained> {
-    match fed {
-        Err(AuditError::Refused(refusal)) => Ok(Some(refusal)),
-        Err(AuditError::NoMemory) => Err(Unexplained::OutOfMemory),
-        Err(AuditError::Transcript(TranscriptError::Io { .. })) => Err(
-            Unexplained::OtherTranscript,
-        ),
-        _ => Ok(None),
-    }
-}
-
-/// An auditor, by this profile, of sessions that start from this tree.
-fn new_auditor(alloc: Global, profile: Profile, tree: &[u8]) -> Result<Auditor, Unexplained> {
-    let tree = Tree::read(alloc, tree)?;
-    Ok(Auditor::by(profile, tree)?)
-}
-
-/// Feeds the session to an auditor that has seen nothing of it, and returns whether the profile follows the request
-/// that is refused. The auditor's session is then the one in which the wrong reply came.
-///
-/// # Errors
-///
-/// `OtherTranscript` if the session is not refused any more, and `OutOfMemory`.
-fn refuse_again<'a, R: Files + AllocGlobal>(
-    rt: &R,
-    files: &AuditOptions<'a>,
-    auditor: &mut Auditor,
-) -> Result<bool, Unexplained> {
-    let mut is_modelled = true;
-    match fed(rt, files, auditor, &mut is_modelled)? {
-        Some(_) => Ok(is_modelled),
-        None => Err(Unexplained::OtherTranscript),
+/// An auditor, by this profile, of sessions that start from the tree of this file, or none if memory runs out.
+fn new_auditor(alloc: Global, profile: Profile, tree: &[u8]) -> Option<Auditor> {
+    match Tree::read(alloc, tree) {
+        Ok(tree) => Auditor::by(profile, tree).ok(),
+        Err(_) => None,
     }
 }

@@ -102,7 +102,7 @@ fn perform<'a, R: Files + AllocGlobal, I: Read, O: Write, E: Write>(
     explained
 }
 
-/// The same outcome; if a file is malformed and the request asks for it, `errors` has said so, and where.
+/// The outcome of a request. If a file is malformed and the request wants that explained, `errors` now says where.
 fn explained<'a, R: Files + AllocGlobal, E: Write>(
     rt: &R,
     request: &Request<'a>,
@@ -123,7 +123,7 @@ fn explained<'a, R: Files + AllocGlobal, E: Write>(
     }
 }
 
-/// Where the fault is that made a request fail, if it asks for that.
+/// Where the fault is that made a request fail, if the request wants to know.
 fn spot_of_request<R: Files + AllocGlobal>(
     rt: &R,
     request: &Request<'_>,
@@ -144,7 +144,7 @@ fn explained_files<'a>(request: &Request<'a>) -> Option<(&'a str, &'a str)> {
     }
 }
 
-/// Shows each field that a file holds, or a line for each record or entry that sums it up.
+/// Shows every field of a file, or a line for each record or entry that sums it up.
 fn show<'a, R: Files + AllocGlobal, O: Write>(
     rt: &R,
     options: &ShowOptions<'a>,
@@ -157,6 +157,7 @@ fn show<'a, R: Files + AllocGlobal, O: Write>(
     }
 }
 
+// Slow to prove: ten calls that may fail, each of which borrows streams.
 fn perform_request<'a, R: Files + AllocGlobal, I: Read, O: Write, E: Write>(
     rt: &R,
     request: &Request<'a>,

@@ -1,5 +1,5 @@
 //! How a run ends: its exit status, and the message that says why.
-ghost use Rattle.std.specs.Prelude.{◌≡◌, ◌≢◌, ◌≤◌, IfErr};
+ghost use Rattle.std.specs.Prelude.{◌≡◌, ◌≢◌, ◌≤◌, IfOk, IfErr};
 ghost use Rattle.std.specs.IoError.{error_kind};
 ghost use Rattle.std.specs.declared.io.ErrorKind.TheVariants as kinds;
 ghost use Rattle.sftp_tool.specs.declared.messages.Failure.TheVariants as failures;
@@ -14,13 +14,13 @@ use std::fmt::Display;
 use std::io::Write;
 use std::{fmt, io};
 
-/// How messages call standard input.
+/// What messages call standard input.
 pub(crate) const STANDARD_INPUT: &str = "standard input";
 
-/// How messages call standard output.
+/// What messages call standard output.
 pub(crate) const STANDARD_OUTPUT: &str = "standard output";
 
-/// What the parser of the command line writes behind a mistake.
+/// What the parser of the command line adds to a message about bad usage.
 pub(crate) const MORE: &str = "\nFor more information, try '--help'.\n";
 
 /// The outcome of a run that did what was asked, or that has said itself why it did not.
@@ -47,7 +47,7 @@ pub(crate) enum Failure<'a> {
     TreeOf(&'a str, TreeError),
     /// The transcript is malformed.
     Transcript(TranscriptError),
-    /// The text of a file is malformed, or an archive. This says where, and why.
+    /// A text or an archive is malformed. The message says where and why.
     Text(String),
     /// The file is neither a transcript nor a tree file.
     UnknownFile,
@@ -65,7 +65,7 @@ pub(crate) enum Failure<'a> {
 }
 
 impl Failure<'_> {
-    /// How its line begins, and the text or the name that follows.
+    /// How the failure's line begins, and the text or the name that comes next.
     fn beginning(&self) -> (&str, &str) {
         match self {
             Failure::Usage(text) => ("", text.as_str()),
@@ -82,7 +82,7 @@ impl Failure<'_> {
         }
     }
 
-    /// Writes the fault of a file or a session, if it is one.
+    /// Writes the fault of a file or a session, if the failure is one.
     fn put_fault<W: fmt::Write>(&self, f: &mut fmt::Formatter<W>) -> fmt::Result {
         match self {
             Failure::Tree(fault) => write!(f, "{fault}"),
@@ -192,6 +192,24 @@ impl<'a> Failure<'a> {
     }
 }
 
+impl Failure<'_> {
+    /// Bad usage with this message, unless there is no memory for it.
+    pub(crate) fn of_usage(message: Result<String, AllocError>) -> Self {
+        match message {
+            Ok(message) => Failure::Usage(message),
+            Err(_) => Failure::OutOfMemory,
+        }
+    }
+
+    /// A malformed text or archive with this message, unless there is no memory for it.
+    pub(crate) fn of_text(message: Result<String, AllocError>) -> Self {
+        match message {
+            Ok(message) => Failure::Text(message),
+            Err(_) => Failure::OutOfMemory,
+        }
+    }
+}
+
 impl From<NoMemory> for Failure<'_> {
     ghost from_gives = { λ _ failure. failure ≡ failures.OutOfMemory };
 
@@ -244,7 +262,7 @@ fn report_details<E: Write>(errors: &mut E, failure: &Failure<'_>) -> io::Result
     }
 }
 
-/// Writes what an error means that has this number for the system, and then the effect of it.
+/// Writes what the system's error of this number means, and then its effect.
 fn put_reason<E: Write>(errors: &mut E, code: i32, effect: &str) -> io::Result<()> {
     let reason = io::Error::from_raw_os_error(code);
     write_flushed(errors, format_args!("sftpv3: reason: {reason}{effect}\n"))
@@ -260,15 +278,17 @@ pub(crate) fn write_flushed<W: Write, D: Display + Drop>(
     Ok(())
 }
 
-/// Prints a text on standard output.
+/// Prints a text on standard output, as the last step of a run that ends so.
 pub(crate) fn print<'a, O: Write, D: Display + Drop>(
     output: &mut O,
     text: D,
-) -> Result<(), Failure<'a>>
-    ensures { IfErr result IsUnwritten }
+    ending: Ending,
+) -> Result<Ending, Failure<'a>>
+    ensures ok { IfOk result (λ ended. ended ≡ ending) }
+    ensures err { IfErr result IsUnwritten }
 {
     match write_flushed(output, text) {
-        Ok(()) => Ok(()),
+        Ok(()) => Ok(ending),
         Err(error) => Err(Failure::writing(STANDARD_OUTPUT, &error)),
     }
 }

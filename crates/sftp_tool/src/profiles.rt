@@ -1,75 +1,56 @@
 //! The options of `audit` that say which departures from the strict reading are accepted.
+use crate::command_line::{Argument, Form};
 use crate::messages::{Failure, MORE};
-use clap::{Arg, ArgAction, ArgMatches, Command};
+use clap::ArgMatches;
 use sftp_profile::{NAMES, NewOwner, Profile};
 use std::alloc::{AllocError, Global};
 
-/// The names of profiles.
-const PROFILES: &[&str] = &["posix"];
+/// The option that names a profile.
+pub(crate) const PROFILE: Argument = (
+    "profile",
+    Form::OneOf("NAME", &["posix"]),
+    "Accept what servers with real file systems do differently",
+);
 
-/// Who may own what is made.
-const NEW_OWNERS: &[&str] = &["user", "given", "group"];
+/// The option that adds departures.
+pub(crate) const ALLOW: Argument = (
+    "allow",
+    Form::SomeOf("NAME,...", NAMES),
+    "Departures to accept besides",
+);
 
-/// Who may say in which order the paths of SYMLINK are, if not OpenSSH.
-const ORDERS: &[&str] = &["draft"];
+/// The option that takes departures away.
+pub(crate) const EXCEPT: Argument = (
+    "except",
+    Form::SomeOf("NAME,...", NAMES),
+    "Departures not to accept",
+);
 
-/// The permissions that nothing new has, if no option says so.
-const UMASK: &str = "022";
+/// The option that says which permissions are taken from whatever is made.
+pub(crate) const UMASK: Argument = (
+    "umask",
+    Form::Optional("OCTAL"),
+    "With the departure 'made': the permissions that nothing new has, 022 by default",
+);
 
-/// The command with the options of a profile.
-pub(crate) fn with_options<'a>(
-    alloc: Global,
-    command: Command<'a>,
-) -> Result<Command<'a>, AllocError> {
-    let command = command
-        .arg(choice(alloc, "profile", "NAME", PROFILES).help(
-            "Accept what servers with real file systems do differently",
-        ))?
-        .arg(names(alloc, "allow").help("Departures to accept besides"))?
-        .arg(names(alloc, "except").help("Departures not to accept"))?;
-    with_more_options(alloc, command)
-}
+/// The option that says who may own what is made.
+pub(crate) const NEW_OWNER: Argument = (
+    "new-owner",
+    Form::OneOf("RULE", &["user", "given", "group"]),
+    "With the departure 'made': who owns what is made",
+);
 
-/// The command with the options of single departures.
-fn with_more_options<'a>(alloc: Global, command: Command<'a>) -> Result<Command<'a>, AllocError> {
-    command
-        .arg(umask(alloc))?
-        .arg(choice(alloc, "new-owner", "RULE", NEW_OWNERS).help(
-            "With the departure 'made': who owns what is made",
-        ))?
-        .arg(choice(alloc, "symlink", "ORDER", ORDERS).help(
-            "Take the paths of SYMLINK in the order of the draft, the link first",
-        ))
-}
+/// The option that says in which order the paths of SYMLINK are, if not in OpenSSH's.
+pub(crate) const SYMLINK: Argument = (
+    "symlink",
+    Form::OneOf("ORDER", &["draft"]),
+    "Take the paths of SYMLINK in the order of the draft, the link first",
+);
 
-/// An option `--NAME VALUE` that has one of these values.
-fn choice<'a>(alloc: Global, name: &'a str, label: &'a str, values: &'a [&'a str]) -> Arg<'a> {
-    Arg::new(alloc, name)
-        .long(name)
-        .value_name(label)
-        .value_parser(values)
-        .action(ArgAction::Set)
-}
+/// The permissions that are taken from whatever is made, without an option.
+const USUAL_UMASK: &str = "022";
 
-/// An option `--NAME NAME,...` of departures.
-fn names<'a>(alloc: Global, name: &'a str) -> Arg<'a> {
-    Arg::new(alloc, name)
-        .long(name)
-        .value_name("NAME,...")
-        .value_delimiter(',')
-        .value_parser(NAMES)
-        .action(ArgAction::Append)
-}
-
-fn umask<'a>(alloc: Global) -> Arg<'a> {
-    Arg::new(alloc, "umask")
-        .long("umask")
-        .value_name("OCTAL")
-        .action(ArgAction::Set)
-        .help("With the departure 'made': the permissions that nothing new has, 022 by default")
-}
-
-/// The profile that the options name, but for the umask: the strict one without any.
+/// The profile that the options name, without the umask. If there are none, it is the strict one.
 pub(crate) fn profile_of(given: &ArgMatches<'_>) -> Profile {
     let profile = match given.get_str("profile") {
         Some(_) => Profile::posix(),
@@ -93,7 +74,7 @@ fn new_owner(rule: &str) -> NewOwner {
     }
 }
 
-/// The profile with these departures accepted, or not.
+/// The profile with each of these departures switched on or off.
 fn switched(profile: Profile, names: Option<&[&str]>, is_on: bool) -> Profile {
     let mut profile = profile;
     for name in names.unwrap_or(&[]) {
@@ -102,31 +83,33 @@ fn switched(profile: Profile, names: Option<&[&str]>, is_on: bool) -> Profile {
     profile
 }
 
-/// The profile with the umask of this text, if it says what is made.
-///
-/// # Errors
-///
-/// `Usage` if the text is no octal number up to 0777, and `OutOfMemory`.
-pub(crate) fn with_umask<'a>(
-    alloc: Global,
-    profile: Profile,
-    text: Option<&str>,
-) -> Result<Profile, Failure<'a>> {
-    let text = text.unwrap_or(UMASK);
-    let Some(umask) = octal(text) else {
-        return Err(bad_umask(alloc, text)?);
-    };
+/// The profile with this umask, if it accepts the departure `made`.
+pub(crate) fn with_umask(profile: Profile, umask: u32) -> Profile {
     let mut profile = profile;
     if profile.made {
         profile.umask = umask;
     }
-    Ok(profile)
+    profile
 }
 
-fn bad_umask<'a>(alloc: Global, text: &str) -> Result<Failure<'a>, AllocError> {
-    Ok(Failure::Usage(format!(in alloc;
+/// The umask of this text, or the usual one.
+///
+/// # Errors
+///
+/// `Usage` if the text is no octal number up to 0777, and `OutOfMemory`.
+pub(crate) fn umask_of<'a>(alloc: Global, text: Option<&str>) -> Result<u32, Failure<'a>> {
+    let text = text.unwrap_or(USUAL_UMASK);
+    match octal(text) {
+        Some(umask) => Ok(umask),
+        None => Err(Failure::of_usage(bad_umask(alloc, text))),
+    }
+}
+
+/// The message for an option `--umask` with this value.
+fn bad_umask(alloc: Global, text: &str) -> Result<String, AllocError> {
+    format!(in alloc;
         "error: invalid value '{text}' for '--umask <OCTAL>': not an octal number up to 0777\n{MORE}"
-    )?))
+    )
 }
 
 /// The number of this text, if it has one to four octal digits and is at most 0777.

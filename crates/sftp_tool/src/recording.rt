@@ -5,8 +5,8 @@ use std::fs::Files;
 use std::io::{BufWriter, Write};
 use std::{fs, io};
 
-/// What a transcript has in front of a packet of the client. The record of a session is written in pieces, and this is
-/// a piece by itself.
+/// What precedes a packet of the client in a transcript. The record of a session is written in pieces, and this is one
+/// of them.
 const CLIENT: &[u8] = b"C";
 
 /// Where the record of a session goes.
@@ -19,21 +19,26 @@ pub(crate) enum Recording<L: Write + Drop> {
 }
 
 impl<L: Write + Drop> Recording<L> {
-    /// To a new file of that name, if there is one.
+    /// To a new file of this name, or nowhere if there is no name.
     pub(crate) fn new<'a, R: Files<File = L> + AllocGlobal>(
         rt: &R,
         name: Option<&'a str>,
     ) -> Result<Recording<L>, Failure<'a>> {
         match name {
-            Some(name) => match fs::create(rt, name) {
-                Ok(file) => match BufWriter::new(rt.alloc(), file) {
-                    Ok(writer) => Ok(Recording::File(writer)),
-                    Err(error) => Err(Failure::writing(name, &error)),
-                },
+            Some(name) => match create(rt, name) {
+                Ok(writer) => Ok(Recording::File(writer)),
                 Err(error) => Err(Failure::writing(name, &error)),
             },
             None => Ok(Recording::Nowhere),
         }
+    }
+}
+
+/// A writer to a new file of this name.
+fn create<R: Files + AllocGlobal>(rt: &R, name: &str) -> io::Result<BufWriter<R::File>> {
+    match fs::create(rt, name) {
+        Ok(file) => BufWriter::new(rt.alloc(), file),
+        Err(error) => Err(error),
     }
 }
 

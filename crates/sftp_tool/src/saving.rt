@@ -1,9 +1,10 @@
 //! Files that are replaced whole: the bytes go into a new file beside the old one, which then takes its name. Until
 //! then the old file is unchanged.
-ghost use Rattle.std.specs.Prelude.{IfErr};
+ghost use Rattle.std.specs.Prelude.{◌≡◌, IfOk, IfErr};
+ghost use Rattle.sftp_tool.specs.declared.messages.Ending.TheVariants as endings;
 ghost use Rattle.sftp_tool.specs.Failures.{IsUnwritten};
 
-use crate::messages::Failure;
+use crate::messages::{Ending, Failure};
 use std::alloc::{AllocError, Global};
 use std::fs::{Files, OpenFile, OpenOptions};
 use std::io::{ErrorKind, Write};
@@ -13,10 +14,10 @@ use std::{fs, io};
 /// How many names are tried for the new file, since others may be writing to files of the same name.
 const TRIES: u32 = 100;
 
-/// Makes the file `name` of these bytes, or replaces it. If that fails, it is unchanged.
+/// Writes these bytes to the file `name`, which is made or replaced. If that fails, the file is unchanged.
 ///
-/// A link is followed, and stays. What is no regular file, such as a device or a pipe, has its bytes written straight
-/// to it, and so has a link that leads to no file.
+/// A link is followed, and stays. The bytes go straight to what is no regular file, such as a device or a pipe, and to
+/// a link that leads to no file.
 pub(crate) fn write<'a, R: Files + AllocGlobal>(
     rt: &R,
     name: &'a str,
@@ -33,6 +34,23 @@ pub(crate) fn write<'a, R: Files + AllocGlobal>(
     match replace(rt, name, bytes) {
         Ok(()) => Ok(()),
         Err(error) => Err(Failure::replacing(name, &error)),
+    }
+}
+
+/// Writes these bytes to the file `name`, which is made or replaced, as the last step of a run.
+pub(crate) fn write_last<'a, R: Files + AllocGlobal>(
+    rt: &R,
+    name: &'a str,
+    bytes: Vec<u8>,
+) -> Result<Ending, Failure<'a>>
+    ensures ok { IfOk result (λ ending. ending ≡ endings.Done) }
+    ensures err { IfErr result IsUnwritten }
+{
+    let written = write(rt, name, bytes.as_slice());
+    drop(bytes);
+    match written {
+        Ok(()) => Ok(Ending::Done),
+        Err(failure) => Err(failure),
     }
 }
 
@@ -76,37 +94,44 @@ fn replace_at<R: Files + AllocGlobal>(rt: &R, path: &str, bytes: &[u8]) -> io::R
 /// Makes a file beside the one at this path, and returns its path too. No file with its name was there.
 fn new_file<R: Files + AllocGlobal>(rt: &R, path: &str) -> io::Result<(String, R::File)> {
     for number in 1..TRIES {
-        if let Some(made) = try_new_file(rt, path, number)? {
-            return Ok(made);
+        let made = try_new_file(rt, path, number);
+        if !is_taken(&made) {
+            return made;
         }
+        drop(made);
     }
     Err(io::Error::from(ErrorKind::AlreadyExists))
 }
 
-/// Makes the file with the name of this number beside the one at this path, unless there is one.
+/// Makes the file with the name of this number beside the one at this path. It is an error if there is one.
 fn try_new_file<R: Files + AllocGlobal>(
     rt: &R,
     path: &str,
     number: u32,
-) -> io::Result<Option<(String, R::File)>> {
+) -> io::Result<(String, R::File)> {
     let fresh = fresh_path(rt.alloc(), path, number)?;
     match OpenOptions::new()
         .write(true)
         .create_new(true)
         .open(rt, fresh.as_str())
     {
-        Ok(file) => Ok(Some((fresh, file))),
+        Ok(file) => Ok((fresh, file)),
         Err(error) => {
             drop(fresh);
-            match error.kind() {
-                ErrorKind::AlreadyExists => Ok(None),
-                _ => Err(error),
-            }
+            Err(error)
         }
     }
 }
 
-/// The path of a new file beside the one at this path: `.new` behind it, and from 2 on the number.
+/// Whether a file was not made because there is one of that name.
+fn is_taken<F>(made: &io::Result<(String, F)>) -> bool {
+    match made {
+        Ok(_) => false,
+        Err(error) => error.kind() == ErrorKind::AlreadyExists,
+    }
+}
+
+/// The path of a new file beside the one at this path: the path, `.new`, and from 2 on the number.
 fn fresh_path(alloc: Global, path: &str, number: u32) -> Result<String, AllocError> {
     if number == 1 {
         format!(in alloc; "{path}.new")
@@ -115,7 +140,7 @@ fn fresh_path(alloc: Global, path: &str, number: u32) -> Result<String, AllocErr
     }
 }
 
-/// Fills the new file, and gives it the path of the old one, if there is one, with its owner and permissions.
+/// Fills the new file and gives it this path. If a file is there, the new one takes its owner and permissions.
 fn replace_by<R: Files>(
     rt: &R,
     path: &str,

@@ -18,6 +18,7 @@ use std::fs::Files;
 use std::io::{Read, Write};
 
 /// Serves a session. The tree file is read and judged before the file of the record is made.
+// Slow to prove: it owns the tree while the record's file is made, and then both.
 pub(crate) fn serve<'a, R: Files + AllocGlobal, I: Read, O: Write, E: Write>(
     rt: &R,
     options: &ServeOptions<'a>,
@@ -63,6 +64,7 @@ fn new_log<'a, R: Files + AllocGlobal>(
 }
 
 /// Serves a session on a tree, and returns how it ended and what went through its streams.
+// Slow to prove: each stream is put together of layers, and taken apart again.
 fn session<L: Write + Drop, I: Read, O: Write, E: Write>(
     tree: Tree,
     mut log: Writer<Tally<Record<L>>>,
@@ -93,7 +95,8 @@ fn session<L: Write + Drop, I: Read, O: Write, E: Write>(
     (end, traffic)
 }
 
-/// What the end of a session means for the run. The tree that it left is saved, unless the session was not opened.
+/// The outcome of a run by how its session ended. The tree that it left is saved, unless the session was not opened.
+// Slow to prove: it owns the tree that was left, and then how saving it ended.
 fn conclude<'a, R: Files + AllocGlobal, E: Write>(
     rt: &R,
     end: SessionEnd,
@@ -105,17 +108,22 @@ fn conclude<'a, R: Files + AllocGlobal, E: Write>(
 {
     let (tree, close) = parts(end);
     let saved = save_any(rt, &tree, options);
+    let has_tree = tree.is_some();
+    drop(tree);
     if options.is_verbose {
         let summary = Summary {
             close,
             traffic,
             entries: entries_of(&saved),
-            is_saved: tree.is_some() && options.save.is_some() && saved.is_ok(),
+            is_saved: has_tree && options.save.is_some() && saved.is_ok(),
         };
-        let _ = write_flushed(errors, format_args!("sftpv3: {summary}\n"));
+        say_summary(summary, errors);
     }
-    drop(tree);
     outcome(close, saved, traffic, options, errors)
+}
+
+fn say_summary<E: Write>(summary: Summary, errors: &mut E) {
+    let _ = write_flushed(errors, format_args!("sftpv3: {summary}\n"));
 }
 
 /// The tree that a session left, if it is to be saved, and how the session ended.
@@ -143,8 +151,8 @@ fn entries_of(saved: &Result<Option<u32>, Failure<'_>>) -> Option<u32> {
     }
 }
 
-/// What the end of a session and of saving its tree mean for the run. Where a stream failed or memory ran out, a
-/// failure to save is reported before.
+/// The outcome of a run by how its session ended and whether the tree was saved. If a stream failed or memory ran out,
+/// a failure to save is reported first.
 fn outcome<'a, E: Write>(
     close: Close,
     saved: Result<Option<u32>, Failure<'a>>,
@@ -154,46 +162,65 @@ fn outcome<'a, E: Write>(
 ) -> Result<Ending, Failure<'a>>
     ensures { IfOk result (λ ending. ending ≡ endings.Done) }
 {
+    match saved {
+        Ok(_) => ended(close, traffic, options),
+        Err(failure) => unsaved(close, failure, traffic, options, errors),
+    }
+}
+
+/// The outcome of a run by how its session ended, if saving the tree did not fail.
+fn ended<'a>(
+    close: Close,
+    traffic: Traffic,
+    options: &ServeOptions<'a>,
+) -> Result<Ending, Failure<'a>>
+    ensures { IfOk result (λ ending. ending ≡ endings.Done) }
+{
     match close {
-        Close::Finished => {
-            saved?;
-            Ok(Ending::Done)
-        }
-        Close::Fault(fault) => {
-            saved?;
-            Err(Failure::Session(fault))
-        }
-        Close::Io(stream) => {
-            report_unsaved(errors, close, saved);
-            Err(stream_failure(stream, traffic, options))
-        }
-        Close::NoMemory => {
-            report_unsaved(errors, close, saved);
-            Err(Failure::OutOfMemory)
+        Close::Finished => Ok(Ending::Done),
+        Close::Fault(fault) => Err(Failure::Session(fault)),
+        Close::Io(stream) => Err(stream_failure(stream, traffic, options)),
+        Close::NoMemory => Err(Failure::OutOfMemory),
+    }
+}
+
+/// The outcome of a run by how its session ended, if the tree was not saved for this failure.
+fn unsaved<'a, E: Write>(
+    close: Close,
+    failure: Failure<'a>,
+    traffic: Traffic,
+    options: &ServeOptions<'a>,
+    errors: &mut E,
+) -> Result<Ending, Failure<'a>>
+    ensures { IfOk result (λ ending. ending ≡ endings.Done) }
+{
+    match close {
+        Close::Finished | Close::Fault(_) => Err(failure),
+        Close::Io(_) | Close::NoMemory => {
+            report_unsaved(errors, close, &failure);
+            drop(failure);
+            ended(close, traffic, options)
         }
     }
 }
 
-/// Reports why a tree was not saved, if it was to be. Where the session and the tree both ran out of memory, that is
-/// reported once, by the caller.
-fn report_unsaved<E: Write>(errors: &mut E, close: Close, saved: Result<Option<u32>, Failure<'_>>) {
-    match (&saved, close) {
-        (Ok(_), _) => {}
-        (Err(Failure::OutOfMemory), Close::NoMemory) => {}
-        (Err(failure), _) => report(errors, failure),
+/// Reports why a tree was not saved. If the session ran out of memory too, the caller reports that once for both.
+fn report_unsaved<E: Write>(errors: &mut E, close: Close, failure: &Failure<'_>) {
+    match (failure, close) {
+        (Failure::OutOfMemory, Close::NoMemory) => {}
+        _ => report(errors, failure),
     }
-    drop(saved);
 }
 
-/// Writes a tree, if there is one, to the file that is named for it, if one is. Returns how many entries it has, if
-/// they were counted.
+/// Writes the tree that was left to the file that an option names, if there are both. Returns how many entries the tree
+/// has, if they were counted.
 fn save_any<'a, R: Files + AllocGlobal>(
     rt: &R,
     tree: &Option<Tree>,
     options: &ServeOptions<'a>,
 ) -> Result<Option<u32>, Failure<'a>> {
     match (tree, options.save) {
-        (Some(tree), Some(name)) => Ok(Some(save(rt, tree, name)?)),
+        (Some(tree), Some(name)) => save(rt, tree, name),
         (Some(tree), None) if options.is_verbose => Ok(counted(tree)),
         _ => Ok(None),
     }
@@ -204,13 +231,15 @@ fn save<'a, R: Files + AllocGlobal>(
     rt: &R,
     tree: &Tree,
     name: &'a str,
-) -> Result<u32, Failure<'a>> {
+) -> Result<Option<u32>, Failure<'a>> {
     let bytes = tree.write()?;
     let written = write(rt, name, bytes.as_slice());
     let entries = entry_count(bytes.as_slice());
     drop(bytes);
-    written?;
-    Ok(entries)
+    match written {
+        Ok(()) => Ok(Some(entries)),
+        Err(failure) => Err(failure),
+    }
 }
 
 /// How many entries a tree has, unless memory runs out.
@@ -236,7 +265,7 @@ fn entry_count(file: &[u8]) -> u32 {
     }
 }
 
-/// The bytes behind the first ones.
+/// The bytes after the first `count`.
 fn behind(bytes: &[u8], count: usize) -> &[u8] {
     bytes.get(count..).unwrap_or(&[])
 }

@@ -21,46 +21,69 @@ pub(crate) fn show<'a, R: Files + AllocGlobal, O: Write>(
 ) -> Result<Ending, Failure<'a>>
     ensures { IfOk result (λ ending. ending ≡ endings.Done) }
 {
-    let file = open(rt, name)?;
-    match show_file(rt.alloc(), name, file, output) {
-        Ok(()) => flush(output),
+    let mut file = open(rt, name)?;
+    let shown = show_file(rt.alloc(), name, &mut file, output);
+    drop(file);
+    outcome(shown, flush(output))
+}
+
+/// The outcome of a run by how a file was shown and printed. A failure to print comes before one to show.
+pub(crate) fn outcome<'a>(
+    shown: Result<(), Failure<'a>>,
+    printed: Result<(), Failure<'a>>,
+) -> Result<Ending, Failure<'a>>
+    ensures { IfOk result (λ ending. ending ≡ endings.Done) }
+{
+    match printed {
+        Ok(()) => {
+            shown?;
+            Ok(Ending::Done)
+        }
         Err(failure) => {
-            flush(output)?;
+            drop(shown);
             Err(failure)
         }
     }
 }
 
-fn flush<'a, O: Write>(output: &mut O) -> Result<Ending, Failure<'a>>
-    ensures { IfOk result (λ ending. ending ≡ endings.Done) }
-{
+fn flush<'a, O: Write>(output: &mut O) -> Result<(), Failure<'a>> {
     match output.flush() {
-        Ok(()) => Ok(Ending::Done),
+        Ok(()) => Ok(()),
         Err(error) => Err(Failure::writing(STANDARD_OUTPUT, &error)),
     }
 }
 
-fn show_file<'a, F: Read + Drop, O: Write>(
+fn show_file<'a, F: Read, O: Write>(
     alloc: Global,
     name: &'a str,
-    mut file: F,
+    file: &mut F,
     output: &mut O,
 ) -> Result<(), Failure<'a>> {
-    let mut start = Vec::new(alloc);
-    append(
-        name,
-        &mut file.by_ref().take(OPENING.len() as u64),
-        &mut start,
-    )?;
-    if start.as_slice() == OPENING.as_slice() {
-        show_records(alloc, name, start.as_slice().chain(file), output)
+    let mut bytes = Vec::new(alloc);
+    let shown = show_by_opening(alloc, name, file, &mut bytes, output);
+    drop(bytes);
+    shown
+}
+
+/// Shows a file whose bytes go into an empty buffer: the opening of a transcript, and the whole of any other file.
+// Slow to prove: two reads may fail, and a transcript is read from a reader made of two.
+fn show_by_opening<'a, F: Read, O: Write>(
+    alloc: Global,
+    name: &'a str,
+    file: &mut F,
+    bytes: &mut Vec<u8>,
+    output: &mut O,
+) -> Result<(), Failure<'a>> {
+    append(name, &mut file.by_ref().take(OPENING.len() as u64), bytes)?;
+    if bytes.as_slice() == OPENING.as_slice() {
+        show_records(alloc, name, bytes.as_slice().chain(file), output)
     } else {
-        append(name, &mut file, &mut start)?;
-        show_rows(alloc, start.as_slice(), output)
+        append(name, file, bytes)?;
+        show_rows(alloc, bytes.as_slice(), output)
     }
 }
 
-/// Appends all that is left of the file `name` to the bytes.
+/// Appends the rest of the file `name` to the bytes.
 fn append<'a, F: Read>(
     name: &'a str,
     file: &mut F,
@@ -88,7 +111,7 @@ fn show_records<'a, F: Read + Drop, O: Write>(
     }
 }
 
-/// What the end of showing the transcript `name` means for the run.
+/// How the transcript `name` was shown, as a failure of the run if it is one.
 fn shown_or_failure<'a>(shown: Result<(), ShowError>, name: &'a str) -> Result<(), Failure<'a>> {
     match shown {
         Ok(()) => Ok(()),

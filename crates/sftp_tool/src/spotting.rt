@@ -3,15 +3,15 @@ ghost use Rattle.std.specs.Prelude.{◌<◌, IfSome, IsSome, MatchResult};
 ghost use Rattle.sftp_transcript.specs.Ahead.{size_of};
 
 use crate::messages::Failure;
-use crate::subcommands::{open, read};
 use sftp_faults::{Spot, spot_in_record, spot_in_tree};
 use sftp_transcript::{OPENING, Reader, Source, Tally, TranscriptError};
 use sftp_treefile::TreeError;
 use sftp_wire::{PACKET_LIMIT, Packet, Side};
+use std::fs;
 use std::fs::Files;
 use std::io::{Read, Seek, SeekFrom};
 
-/// Where the fault is that made a run fail, if it is that of one of these files and can be found.
+/// Where the fault is that made a run fail, if one of these files has it and it can be found.
 pub(crate) fn spot_of<R: Files + AllocGlobal>(
     rt: &R,
     tree: &str,
@@ -27,17 +27,10 @@ pub(crate) fn spot_of<R: Files + AllocGlobal>(
 
 /// Where the fault of a tree file is, if it can be read again.
 fn tree_spot<R: Files + AllocGlobal>(rt: &R, name: &str, error: TreeError) -> Option<Spot> {
-    match read(rt, name) {
-        Ok(bytes) => {
-            let spot = spot_in_tree(rt.alloc(), bytes.as_slice(), error);
-            drop(bytes);
-            spot
-        }
-        Err(failure) => {
-            drop(failure);
-            None
-        }
-    }
+    let bytes = fs::read(rt, name).ok()?;
+    let spot = spot_in_tree(rt.alloc(), bytes.as_slice(), error);
+    drop(bytes);
+    spot
 }
 
 /// Where the fault of a transcript is, if it can be read again from its start.
@@ -48,15 +41,16 @@ fn transcript_spot<R: Files + AllocGlobal>(
 ) -> Option<Spot> {
     let start = start_of_fault(rt, name, error)?;
     let mut bytes = Vec::new(rt.alloc());
-    let spot = match read_from(rt, name, start, &mut bytes) {
-        Some(()) => spot_in_record(bytes.as_slice(), error),
-        None => None,
+    let spot = if is_read_from(rt, name, start, &mut bytes) {
+        spot_in_record(bytes.as_slice(), error)
+    } else {
+        None
     };
     drop(bytes);
     spot.map(|spot| spot.behind(start))
 }
 
-/// The place of the record that has this fault of a transcript; of the opening it is 0.
+/// The place of the record with this fault of a transcript, or 0 if the opening has it.
 fn start_of_fault<R: Files + AllocGlobal>(
     rt: &R,
     name: &str,
@@ -68,25 +62,16 @@ fn start_of_fault<R: Files + AllocGlobal>(
     }
 }
 
-/// Where the first record begins that cannot be read.
+/// Where the first unreadable record begins.
 fn start_of_record<R: Files + AllocGlobal>(rt: &R, name: &str) -> Option<u64> {
-    match open(rt, name) {
-        Ok(file) => match Reader::new(rt.alloc(), Tally::new(file)) {
-            Ok(mut records) => {
-                let start = end_of_records(&mut records);
-                drop(records);
-                Some(start)
-            }
-            Err(_) => None,
-        },
-        Err(failure) => {
-            drop(failure);
-            None
-        }
-    }
+    let file = fs::open(rt, name).ok()?;
+    let mut records = Reader::new(rt.alloc(), Tally::new(file)).ok()?;
+    let start = end_of_records(&mut records);
+    drop(records);
+    Some(start)
 }
 
-/// Where the records end that can be read. The reader has read nothing yet.
+/// Where the readable records end. The reader has read nothing yet.
 fn end_of_records<R: Source>(records: &mut Reader<R>) -> u64 {
     let mut end = OPENING.len() as u64;
     'records: while let Some(length) = record_length(records) {
@@ -95,7 +80,7 @@ fn end_of_records<R: Source>(records: &mut Reader<R>) -> u64 {
     end
 }
 
-/// The number of bytes of the next record's packet, if there is one.
+/// The number of bytes of the next record's packet, if there is a next record.
 fn record_length<R: Source>(records: &mut Reader<R>) -> Option<usize>
     ensures { IfSome result (λ _. size_of records.new.ahead < size_of records.old.ahead) }
 {
@@ -116,29 +101,20 @@ fn length_of(next: &Result<Option<(Side, Packet, usize)>, TranscriptError>) -> O
     }
 }
 
-/// Appends the bytes of a file from a place on, as many as the longest record has.
-fn read_from<R: Files>(rt: &R, name: &str, start: u64, bytes: &mut Vec<u8>) -> Option<()> {
-    match open(rt, name) {
+/// Appends the bytes of a file from a place on, as many as the longest record has. Returns whether they could be read.
+fn is_read_from<R: Files>(rt: &R, name: &str, start: u64, bytes: &mut Vec<u8>) -> bool {
+    match fs::open(rt, name) {
         Ok(mut file) => {
-            let read = read_record(&mut file, start, bytes);
+            let is_read = is_record_read(&mut file, start, bytes);
             drop(file);
-            read
+            is_read
         }
-        Err(failure) => {
-            drop(failure);
-            None
-        }
+        Err(_) => false,
     }
 }
 
-fn read_record<F: Read + Seek>(file: &mut F, start: u64, bytes: &mut Vec<u8>) -> Option<()> {
-    if file.seek(SeekFrom::Start(start)).is_err() {
-        return None;
-    }
-    match file.take(RECORD_LIMIT).read_to_end(bytes) {
-        Ok(_) => Some(()),
-        Err(_) => None,
-    }
+fn is_record_read<F: Read + Seek>(file: &mut F, start: u64, bytes: &mut Vec<u8>) -> bool {
+    file.seek(SeekFrom::Start(start)).is_ok() && file.take(RECORD_LIMIT).read_to_end(bytes).is_ok()
 }
 
 /// The most bytes of a record: its direction and its packet.

@@ -9,8 +9,8 @@ ghost use Rattle.sftp_tool.specs.Failures.{IsOutcome, IsUnread, IsUnwritten};
 use crate::command_line::AuditOptions;
 use crate::explaining::explain;
 use crate::messages::{Ending, Failure, print};
-use crate::profiles::with_umask;
-use crate::saving::write;
+use crate::profiles::{umask_of, with_umask};
+use crate::saving::{write, write_last};
 use sftp_audit::{Accepted, AuditError, Refusal};
 use sftp_profile::Profile;
 use sftp_transcript::{Reader, Tally};
@@ -28,15 +28,27 @@ pub(crate) fn audit<'a, R: Files + AllocGlobal, O: Write, E: Write>(
     output: &mut O,
     errors: &mut E,
 ) -> Result<Ending, Failure<'a>> {
+    let umask = umask_of(rt.alloc(), files.umask)?;
     let mut options = *files;
-    options.profile = with_umask(rt.alloc(), files.profile, files.umask)?;
+    options.profile = with_umask(files.profile, umask);
+    audit_by(rt, &options, output, errors)
+}
+
+/// Audits a session by a profile with its umask.
+fn audit_by<'a, R: Files + AllocGlobal, O: Write, E: Write>(
+    rt: &R,
+    files: &AuditOptions<'a>,
+    output: &mut O,
+    errors: &mut E,
+) -> Result<Ending, Failure<'a>> {
     let tree = read(rt, files.tree)?;
-    let ending = audit_from(rt, &options, tree.as_slice(), output, errors);
+    let ending = audit_from(rt, files, tree.as_slice(), output, errors);
     drop(tree);
     ending
 }
 
 /// Audits a session that starts from the tree of this file.
+// Slow to prove: each of its ends is a call that may fail, one of them with the outcome of the audit in hand.
 fn audit_from<'a, R: Files + AllocGlobal, O: Write, E: Write>(
     rt: &R,
     files: &AuditOptions<'a>,
@@ -58,10 +70,10 @@ fn audit_from<'a, R: Files + AllocGlobal, O: Write, E: Write>(
             drop(accepted);
             ending
         }
-        Err(error) => {
-            let refusal = refusal_or_failure(error, files.transcript)?;
-            report_refusal(rt, files, tree, refusal, is_modelled, output, errors)
-        }
+        Err(error) => match refusal_or_failure(error, files.transcript) {
+            Ok(refusal) => report_refusal(rt, files, tree, refusal, is_modelled, output, errors),
+            Err(failure) => Err(failure),
+        },
     }
 }
 
@@ -106,17 +118,12 @@ pub(crate) fn blank<'a, R: Files + AllocGlobal>(
     ensures err { IfErr result IsUnwritten }
 {
     match sftp_audit::blank_tree(rt.alloc()) {
-        Ok(tree) => {
-            let written = write(rt, name, tree.as_slice());
-            drop(tree);
-            written?;
-            Ok(Ending::Done)
-        }
+        Ok(tree) => write_last(rt, name, tree),
         Err(_no_memory) => Err(Failure::OutOfMemory),
     }
 }
 
-/// Writes the tree of the tree file `tree` with the highest limits to the file `name`.
+/// Writes the tree of the tree file `tree`, with the highest limits, to the file `name`.
 pub(crate) fn raise<'a, R: Files + AllocGlobal>(
     rt: &R,
     tree: &'a str,
@@ -127,14 +134,10 @@ pub(crate) fn raise<'a, R: Files + AllocGlobal>(
     let bytes = read(rt, tree)?;
     let raised = raised_file(rt.alloc(), bytes.as_slice());
     drop(bytes);
-    let raised = raised?;
-    let written = write(rt, name, raised.as_slice());
-    drop(raised);
-    written?;
-    Ok(Ending::Done)
+    write_last(rt, name, raised?)
 }
 
-/// The tree file of the tree of this one, with the highest limits.
+/// The file of this one's tree, with the highest limits.
 fn raised_file<'a>(alloc: Global, bytes: &[u8]) -> Result<Vec<u8>, Failure<'a>>
     ensures { (t : tree) → IsStart t bytes.now →
         MatchResult result (λ made. made.items ≡ picture (raised t)) (λ failure. failure ≡ failures.OutOfMemory) }
@@ -151,8 +154,7 @@ pub(crate) fn help<'a, O: Write>(text: &str, output: &mut O) -> Result<Ending, F
     ensures ok { IfOk result (λ ending. ending ≡ endings.Done) }
     ensures err { IfErr result IsUnwritten }
 {
-    print(output, text)?;
-    Ok(Ending::Done)
+    print(output, text, Ending::Done)
 }
 
 /// Writes the final tree, if a file is named for it, and then says that the session is accepted.
@@ -169,8 +171,11 @@ fn accept<'a, R: Files + AllocGlobal, O: Write>(
         write(rt, name, accepted.tree.as_slice())?;
     }
     let requests = accepted.requests;
-    print(output, format_args!("accepted {requests} requests\n"))?;
-    Ok(Ending::Done)
+    print(
+        output,
+        format_args!("accepted {requests} requests\n"),
+        Ending::Done,
+    )
 }
 
 /// Says why the session is refused: `NotModelled` where the profile does not follow a request.
@@ -183,18 +188,16 @@ fn refuse<'a, O: Write>(
     ensures err { IfErr result IsUnwritten }
 {
     match refusal {
-        Refusal::NotAllowed { record } if !is_modelled => {
-            print(
-                output,
-                format_args!("refused record {record}: NotModelled\n"),
-            )?;
-        }
-        _ => print(output, format_args!("refused {refusal}\n"))?,
+        Refusal::NotAllowed { record } if !is_modelled => print(
+            output,
+            format_args!("refused record {record}: NotModelled\n"),
+            Ending::Refused,
+        ),
+        _ => print(output, format_args!("refused {refusal}\n"), Ending::Refused),
     }
-    Ok(Ending::Refused)
 }
 
-/// What the error of an audit means for the run: a refusal of the session, or a failure. The transcript has this name.
+/// The refusal of a session by the error of its audit, or the failure of the run. The transcript has this name.
 fn refusal_or_failure<'a>(error: AuditError, transcript: &'a str) -> Result<Refusal, Failure<'a>>
     ensures { IsOutcome transcript.now error result }
 {

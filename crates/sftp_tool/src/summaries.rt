@@ -50,24 +50,23 @@ impl fmt::Display for Summary {
     fn fmt<W: fmt::Write>(&self, f: &mut fmt::Formatter<W>) -> fmt::Result {
         let close = self.close;
         let requests = self.traffic.requests;
-        write!(f, "session ended: {close}, {requests} requests")?;
-        put_bytes(self.traffic.input.bytes, self.traffic.output.bytes, f)?;
-        put_entries(self.entries, f)?;
-        f.write_str(if self.is_saved {
-            ", saved"
-        } else {
-            ", not saved"
-        })
+        let read = self.traffic.input.bytes;
+        let written = self.traffic.output.bytes;
+        write!(
+            f,
+            "session ended: {close}, {requests} requests, {read} bytes read, {written} bytes written"
+        )?;
+        self.put_tree(f)
     }
 }
 
-fn put_bytes<W: fmt::Write>(read: u64, written: u64, f: &mut fmt::Formatter<W>) -> fmt::Result {
-    write!(f, ", {read} bytes read, {written} bytes written")
-}
-
-fn put_entries<W: fmt::Write>(entries: Option<u32>, f: &mut fmt::Formatter<W>) -> fmt::Result {
-    match entries {
-        Some(entries) => write!(f, ", {entries} entries"),
-        None => Ok(()),
+impl Summary {
+    /// Writes how many entries the tree has, if they were counted, and whether it was saved.
+    fn put_tree<W: fmt::Write>(&self, f: &mut fmt::Formatter<W>) -> fmt::Result {
+        let saved = if self.is_saved { "saved" } else { "not saved" };
+        match self.entries {
+            Some(entries) => write!(f, ", {entries} entries, {saved}"),
+            None => write!(f, ", {saved}"),
+        }
     }
 }

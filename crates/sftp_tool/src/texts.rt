@@ -3,8 +3,9 @@ ghost use Rattle.std.specs.Prelude.{◌≡◌, IfOk};
 ghost use Rattle.sftp_tool.specs.declared.messages.Ending.TheVariants as endings;
 
 use crate::cuts::{is_mark, limit_of, print_lines};
-use crate::messages::{Ending, Failure, STANDARD_INPUT, STANDARD_OUTPUT};
-use crate::saving::write;
+use crate::messages::{Ending, Failure, STANDARD_INPUT};
+use crate::saving::write_last;
+use crate::showing::outcome;
 use crate::subcommands::read;
 use sftp_audit::{TranscriptError, TreeError};
 use sftp_show::Quoted;
@@ -16,13 +17,13 @@ use sftp_transcript::OPENING;
 use sftp_treefile::read_rows;
 use std::alloc::{AllocError, Global};
 use std::fs::Files;
-use std::io;
 use std::io::{Read, Write};
 
-/// What the text of a tree file begins with, where blank lines and comments are left out.
+/// What the text of a tree file begins with, after blank lines and comments.
 const TREE_LABEL: &[u8] = b"home ";
 
-/// Shows a file in full, with as many bytes of a text as `data` says. Its first bytes say which kind it is.
+/// Shows every field of a file, and as many bytes of each text as `data` says. The first bytes say which kind of file
+/// it is.
 pub(crate) fn show_full<'a, R: Files + AllocGlobal, O: Write>(
     rt: &R,
     name: &'a str,
@@ -50,46 +51,51 @@ fn put_full<'a, O: Write>(
     let shown = put_text(alloc, bytes, &mut text);
     let printed = print_lines(output, limit, text.as_slice());
     drop(text);
-    match printed {
-        Ok(()) => {
-            shown?;
-            Ok(Ending::Done)
-        }
-        Err(failure) => {
-            drop(shown);
-            Err(failure)
-        }
-    }
+    outcome(shown, printed)
 }
 
-/// Appends the text of a file to an empty one. Of a malformed transcript it then has the records before the fault, and
-/// nothing if memory ran out.
+/// Appends the text of a file to an empty one. After a failure the text is empty, but for a malformed transcript: then
+/// it has the records before the fault.
 fn put_text<'a>(alloc: Global, bytes: &[u8], text: &mut Vec<u8>) -> Result<(), Failure<'a>> {
     if bytes.starts_with(OPENING.as_slice()) {
-        match put_transcript(bytes, text) {
-            Ok(()) => Ok(()),
-            Err(ShowFault::NoMemory) => {
-                text.clear();
-                Err(Failure::OutOfMemory)
-            }
-            Err(ShowFault::Unfit) => Err(without_side(text.as_slice())),
-        }
+        put_records(bytes, text)
     } else {
-        match put_tree(bytes, text) {
-            Ok(()) => Ok(()),
-            Err(ShowFault::NoMemory) => {
-                text.clear();
-                Err(Failure::OutOfMemory)
-            }
-            Err(ShowFault::Unfit) => {
-                text.clear();
-                Err(malformed(alloc, bytes))
-            }
+        put_rows(alloc, bytes, text)
+    }
+}
+
+/// Appends the text of a transcript to an empty one.
+fn put_records<'a>(bytes: &[u8], text: &mut Vec<u8>) -> Result<(), Failure<'a>> {
+    match put_transcript(bytes, text) {
+        Ok(()) => Ok(()),
+        Err(ShowFault::NoMemory) => {
+            text.clear();
+            Err(Failure::OutOfMemory)
+        }
+        Err(ShowFault::Unfit) => Err(without_side(text.as_slice())),
+    }
+}
+
+/// Appends the text of a file that is no transcript to an empty one.
+fn put_rows<'a>(alloc: Global, bytes: &[u8], text: &mut Vec<u8>) -> Result<(), Failure<'a>> {
+    match put_tree(bytes, text) {
+        Ok(()) => Ok(()),
+        Err(fault) => {
+            text.clear();
+            Err(unshown(alloc, bytes, fault))
         }
     }
 }
 
-/// That the record after these lines begins with neither `C` nor `S`.
+/// Why a file that is no transcript has no text.
+fn unshown<'a>(alloc: Global, bytes: &[u8], fault: ShowFault) -> Failure<'a> {
+    match fault {
+        ShowFault::NoMemory => Failure::OutOfMemory,
+        ShowFault::Unfit => malformed(alloc, bytes),
+    }
+}
+
+/// The failure for a transcript whose record after these lines begins with neither `C` nor `S`.
 fn without_side<'a>(lines: &[u8]) -> Failure<'a> {
     let mut record: u64 = 1;
     for byte in lines {
@@ -98,7 +104,7 @@ fn without_side<'a>(lines: &[u8]) -> Failure<'a> {
     Failure::Transcript(TranscriptError::Direction { record })
 }
 
-/// Why bytes that do not have the form of a tree file are none.
+/// Why bytes are not a tree file, whose form they do not have.
 fn malformed<'a>(alloc: Global, bytes: &[u8]) -> Failure<'a> {
     match read_rows(alloc, bytes) {
         Ok(file) => {
@@ -110,22 +116,8 @@ fn malformed<'a>(alloc: Global, bytes: &[u8]) -> Failure<'a> {
     }
 }
 
-/// Writes bytes to standard output.
-pub(crate) fn print_bytes<'a, O: Write>(output: &mut O, bytes: &[u8]) -> Result<(), Failure<'a>> {
-    match write_all_flushed(output, bytes) {
-        Ok(()) => Ok(()),
-        Err(error) => Err(Failure::writing(STANDARD_OUTPUT, &error)),
-    }
-}
-
-fn write_all_flushed<O: Write>(output: &mut O, bytes: &[u8]) -> io::Result<()> {
-    output.write_all(bytes)?;
-    output.flush()?;
-    Ok(())
-}
-
-/// Writes the file `name` whose text is on standard input. Its first line says of which kind it is: with `home` it is a
-/// tree file, else a transcript.
+/// Writes the file `name`, whose text is on standard input. It is a tree file if the first line has `home`, and else a
+/// transcript.
 pub(crate) fn make<'a, R: Files + AllocGlobal, I: Read>(
     rt: &R,
     name: &'a str,
@@ -150,13 +142,13 @@ fn make_from<'a, R: Files + AllocGlobal>(
     ensures { IfOk result (λ ending. ending ≡ endings.Done) }
 {
     let mut bytes = Vec::new(rt.alloc());
-    let made = match read_text(text, &mut bytes) {
-        Ok(()) => write(rt, name, bytes.as_slice()),
-        Err(fault) => Err(text_failure(rt.alloc(), fault, text)),
-    };
-    drop(bytes);
-    made?;
-    Ok(Ending::Done)
+    match read_text(text, &mut bytes) {
+        Ok(()) => write_last(rt, name, bytes),
+        Err(fault) => {
+            drop(bytes);
+            Err(text_failure(rt.alloc(), fault, text))
+        }
+    }
 }
 
 fn read_text(text: &[u8], bytes: &mut Vec<u8>) -> Result<(), TextFault> {
@@ -178,7 +170,7 @@ fn is_tree_text(text: &[u8]) -> bool {
     false
 }
 
-/// The message for a text that is no file: the line, the column, the word there, and what was expected in its place.
+/// The failure for a text that has no file: the line, the column, the word there, and what was expected in its place.
 fn text_failure<'a>(alloc: Global, fault: TextFault, text: &[u8]) -> Failure<'a> {
     match fault {
         TextFault::NoMemory => Failure::OutOfMemory,
@@ -188,15 +180,12 @@ fn text_failure<'a>(alloc: Global, fault: TextFault, text: &[u8]) -> Failure<'a>
             expected,
         } => {
             let word = word_at(text, line, column);
-            match message_at(alloc, line, column, word, expected) {
-                Ok(message) => Failure::Text(message),
-                Err(_) => Failure::OutOfMemory,
-            }
+            Failure::of_text(message_at(alloc, line, column, word, expected))
         }
     }
 }
 
-/// What is wrong with the word at a place: that data is cut off there, or what was expected.
+/// The message for the word at a place: data is cut off there, or something else was expected.
 fn message_at(
     alloc: Global,
     line: u64,

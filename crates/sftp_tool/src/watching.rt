@@ -1,4 +1,4 @@
-//! Streams that count what goes through them, and keep what the system says of their failures.
+//! Streams that count the bytes that go through them, and keep the system's number for their last error.
 use crate::messages::write_flushed;
 use std::io;
 use std::io::{Read, Write};
@@ -30,7 +30,7 @@ impl<T> Watched<T> {
         }
     }
 
-    /// Keeps how a call ended that read or wrote bytes.
+    /// Keeps how a call that reads or writes bytes ended.
     fn keep(&mut self, done: &io::Result<usize>) {
         match done {
             Ok(count) => self.bytes = self.bytes.saturating_add(*count as u64),
@@ -72,8 +72,8 @@ pub(crate) struct Flow {
     pub(crate) code: Option<i32>,
 }
 
-/// A writer that says on another one, if it is to, that the session is open. The first bytes that a session writes are
-/// its VERSION.
+/// A writer that tells another one when the session opens, if it is to. The first bytes that a session writes are its
+/// VERSION.
 #[derive(Drop)]
 pub(crate) struct Announcing<'a, W, E> {
     output: &'a mut W,
