@@ -9,16 +9,13 @@ use sftp_show::{
     ExplainError, Found, Quoted, Record, explain_reply, find_record, last_of_id, number_of_request,
     put_record,
 };
-use sftp_transcript::{Reader, Tally, TranscriptError};
+use sftp_transcript::{Reader, Tally, TranscriptError, WINDOW};
 use sftp_tree::Tree;
 use sftp_wire::{Answer, Ask, Side};
 use std::alloc::Global;
 use std::fs::Files;
 use std::io;
 use std::io::Write;
-
-/// How many requests may be asked from an unanswered one on, itself included.
-const WINDOW: u64 = 1_024;
 
 /// Why a refusal is not explained to its end.
 #[derive(Clone, Copy)]
@@ -433,7 +430,7 @@ impl<R: Files + AllocGlobal, E: Write> Explanation<'_, '_, R, E> {
     /// The number of the record of the 1,024th request before this one, if there is one.
     fn oldest(&mut self, found: &Found) -> Option<u64> {
         let mut records = self.records()?;
-        let before = found.requests.saturating_sub(WINDOW);
+        let before = found.requests.saturating_sub(WINDOW as u64);
         let oldest = number_of_request(&mut records, before, found.record.number);
         drop(records);
         self.number_found(oldest)
