@@ -55,5 +55,5 @@ unfoldable pub use Rattle.sftp_tree.specs.Tree.{fits, has_entries}
 pub use Rattle.sftp_wire.proofs.StreamLaws.Front.{spellings-apart}
 pub use Rattle.sftp_wire.specs.Examples.{no_attributes}
 unfoldable pub use Rattle.sftp_wire.specs.Examples.{hex}
-pub use Rattle.sftp_wire.specs.declared.packets.Reply.{Reply}
-pub use Rattle.sftp_wire.specs.declared.packets.Request.{Request}
+pub use Rattle.sftp_packets.specs.declared.packets.Reply.{Reply}
+pub use Rattle.sftp_packets.specs.declared.packets.Request.{Request}

@@ -1,8 +1,8 @@
 -- What an auditor keeps of the events that it was fed, and which refusal an event gets
 -- (draft-ietf-secsh-filexfer-02, section 6.1). The window and the numbers of records are this profile's own.
 use Rattle.std.specs.Prelude.{◌≡◌, ℕ, ◌≤◌, ⊤, List, [], ◌∷◌, ◌++◌, length, Bool, Option, Some, None}
-use Rattle.sftp_wire.specs.declared.packets.Request.{Request}
-use Rattle.sftp_wire.specs.declared.packets.Reply.{Reply}
+use Rattle.sftp_packets.specs.declared.packets.Request.{Request}
+use Rattle.sftp_packets.specs.declared.packets.Reply.{Reply}
 use Rattle.sftp_profile.specs.State.{State}
 use Rattle.sftp_profile.specs.Permitted.{Permitted, follows_in}
 use Rattle.sftp_transcript.specs.declared.events.Event.{Event}

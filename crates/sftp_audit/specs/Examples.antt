@@ -1,8 +1,8 @@
 -- What the worked examples name: trees, and sessions.
 use Rattle.std.specs.Prelude.{ℕ, List, [], ◌∷◌, ◌++◌, codes, None}
-use Rattle.sftp_wire.specs.declared.packets.Ask.TheVariants.{Mkdir, Limits}
-use Rattle.sftp_wire.specs.declared.packets.Answer.TheVariants.{Extended}
-use Rattle.sftp_wire.specs.declared.attributes.Attrs.{Attrs}
+use Rattle.sftp_packets.specs.declared.packets.Ask.TheVariants.{Mkdir, Limits}
+use Rattle.sftp_packets.specs.declared.packets.Answer.TheVariants.{Extended}
+use Rattle.sftp_packets.specs.declared.attributes.Attrs.{Attrs}
 use Rattle.sftp_wire.specs.Examples.{hex, no_attributes}
 use Rattle.sftp_transcript.specs.declared.events.Event.{Event}
 use Rattle.sftp_transcript.specs.declared.events.Event.TheVariants.{Asked, Replied}

@@ -11,7 +11,7 @@ use Rattle.sftp_audit.specs.declared.errors.Refusal.TheVariants as refusals
 use Rattle.sftp_audit.specs.declared.exchanges.Exchange.{Exchange}
 use Rattle.sftp_audit.specs.declared.exchanges.RecordedReply.{RecordedReply}
 use Rattle.sftp_audit.specs.Exchanges.{is_answered, is_open, ledger_of}
-use Rattle.sftp_wire.specs.declared.packets.Request.{Request}
+use Rattle.sftp_packets.specs.declared.packets.Request.{Request}
 
 -- there is a first exchange, and it has its reply
 abbrev pub starts_answered : List Exchange → Bool

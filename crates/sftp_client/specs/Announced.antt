@@ -2,11 +2,11 @@
 -- OpenSSH's PROTOCOL, section 4).
 use Rattle.std.specs.Prelude.{ℕ, Bool, true, List, Option, Some, None, if◌then◌else◌, nat_eq, bytes_eq}
 use Rattle.std.specs.List.{list_any}
-use Rattle.sftp_wire.specs.declared.packets.Ask.{Ask}
-use Rattle.sftp_wire.specs.declared.packets.Ask.TheVariants.{PosixRename, Hardlink, Fsync, Limits}
-use Rattle.sftp_wire.specs.declared.packets.Packet.{Packet}
-use Rattle.sftp_wire.specs.declared.packets.Packet.TheVariants.{Init, Version, Request, Reply}
-use Rattle.sftp_wire.specs.Spelling.{posix_rename_name, hardlink_name, fsync_name, limits_name}
+use Rattle.sftp_packets.specs.declared.packets.Ask.{Ask}
+use Rattle.sftp_packets.specs.declared.packets.Ask.TheVariants.{PosixRename, Hardlink, Fsync, Limits}
+use Rattle.sftp_packets.specs.declared.packets.Packet.{Packet}
+use Rattle.sftp_packets.specs.declared.packets.Packet.TheVariants.{Init, Version, Request, Reply}
+use Rattle.sftp_packets.specs.Spelling.{posix_rename_name, hardlink_name, fsync_name, limits_name}
 use Rattle.sftp_client.specs.declared.announced.Announced.{Announced}
 
 -- one of the extensions has this name, with any data

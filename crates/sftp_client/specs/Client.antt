@@ -4,11 +4,11 @@ use Rattle.std.specs.Prelude.{◌≡◌, ℕ, ◌+◌, ◌%◌, ◌^◌, ◌<◌
 use Rattle.std.specs.Prelude.{Option, Some, None, IsSome, if◌then◌else◌, nat_eq, nat_lt}
 use Rattle.std.specs.List.{IsDistinct}
 use Rattle.std.specs.Map.{lookup, remove_entry, keys_of}
-use Rattle.sftp_wire.specs.declared.packets.Ask.{Ask}
-use Rattle.sftp_wire.specs.declared.packets.Answer.{Answer}
-use Rattle.sftp_wire.specs.declared.packets.Packet.{Packet}
-use Rattle.sftp_wire.specs.declared.packets.Request.{Request}
-use Rattle.sftp_wire.specs.declared.packets.Reply.{Reply}
+use Rattle.sftp_packets.specs.declared.packets.Ask.{Ask}
+use Rattle.sftp_packets.specs.declared.packets.Answer.{Answer}
+use Rattle.sftp_packets.specs.declared.packets.Packet.{Packet}
+use Rattle.sftp_packets.specs.declared.packets.Request.{Request}
+use Rattle.sftp_packets.specs.declared.packets.Reply.{Reply}
 use Rattle.sftp_client.specs.declared.announced.Announced.{Announced}
 use Rattle.sftp_client.specs.declared.errors.ClientError.{ClientError}
 use Rattle.sftp_client.specs.declared.errors.ClientError.TheVariants as errors

@@ -1,9 +1,9 @@
 -- Which kinds of replies a request may get (draft-ietf-secsh-filexfer-02, section 7).
 use Rattle.std.specs.Prelude.{Bool, true, false}
-use Rattle.sftp_wire.specs.declared.packets.Ask.{Ask}
-use Rattle.sftp_wire.specs.declared.packets.Ask.TheVariants as asks
-use Rattle.sftp_wire.specs.declared.packets.Answer.{Answer}
-use Rattle.sftp_wire.specs.declared.packets.Answer.TheVariants as answers
+use Rattle.sftp_packets.specs.declared.packets.Ask.{Ask}
+use Rattle.sftp_packets.specs.declared.packets.Ask.TheVariants as asks
+use Rattle.sftp_packets.specs.declared.packets.Answer.{Answer}
+use Rattle.sftp_packets.specs.declared.packets.Answer.TheVariants as answers
 
 -- what opens something gets a handle
 abbrev pub gets_handle : Ask → Bool

@@ -3,7 +3,7 @@ ghost use Rattle.std.specs.Prelude.{◌≡◌, ◌≢◌, ◌∷◌, [], Some, N
 ghost use Rattle.sftp_client.specs.declared.errors.ClientError.TheVariants.{NoMemory, BadVersion};
 ghost use Rattle.sftp_client.specs.Client.{Client, new_client, version_error, send_error, reply_error};
 ghost use Rattle.sftp_client.specs.Client.{IsStarted, IsSent, IsPaired};
-ghost use Rattle.sftp_wire.specs.declared.packets.Packet.TheVariants.{Init};
+ghost use Rattle.sftp_packets.specs.declared.packets.Packet.TheVariants.{Init};
 
 use crate::announced::{Announced, PROTOCOL_VERSION, announced_by};
 use crate::errors::ClientError;

@@ -3,11 +3,11 @@ use Rattle.std.proofs.Common.{◌≡◌, ℕ, ◌+◌, ◌^◌, ◌<◌, List, [
 use Rattle.std.proofs.Common.{lit<}
 use Rattle.std.specs.Cmp.Lexicographic.{nat_list_eq_equiv}
 use Rattle.std.proofs.lemmas.List.{length-append}
-use Rattle.sftp_wire.specs.declared.attributes.Attrs.{Attrs}
-use Rattle.sftp_wire.specs.declared.packets.Answer.TheVariants as replies
-use Rattle.sftp_wire.specs.declared.packets.Packet.TheVariants.{Reply as reply_packet}
+use Rattle.sftp_packets.specs.declared.attributes.Attrs.{Attrs}
+use Rattle.sftp_packets.specs.declared.packets.Answer.TheVariants as replies
+use Rattle.sftp_packets.specs.declared.packets.Packet.TheVariants.{Reply as reply_packet}
 use Rattle.sftp_wire.specs.Examples.{no_attributes}
-use Rattle.sftp_wire.specs.Spelling.{spelling, string, attributes, FitsAttrs}
+use Rattle.sftp_packets.specs.Spelling.{spelling, string, attributes, FitsAttrs}
 use Rattle.sftp_handles.specs.Replies.{shows, names, gives, ended, extends}
 use Rattle.sftp_handles.specs.Fitting.{FitsSaid, FitsTwice, FitsData}
 use Rattle.sftp_handles.specs.Answered.{IsSpelledAnswer, IsReplyOf, status_of, only_name}

@@ -1,9 +1,9 @@
 -- The answers that are given are steps: refusals with a code that their cause allows, and what was done.
 use Rattle.std.proofs.Common.{◌≡◌, ◌&&◌, ℕ, false, [], Some, None, IsTrue, lit<}
 use Rattle.std.proofs.lemmas.Bool.{and_from, not-false}
-use Rattle.sftp_wire.specs.declared.packets.Ask.{Ask}
-use Rattle.sftp_wire.specs.declared.packets.Ask.TheVariants as asks
-use Rattle.sftp_wire.specs.declared.packets.Answer.{Answer}
+use Rattle.sftp_packets.specs.declared.packets.Ask.{Ask}
+use Rattle.sftp_packets.specs.declared.packets.Ask.TheVariants as asks
+use Rattle.sftp_packets.specs.declared.packets.Answer.{Answer}
 use Rattle.sftp_tree.specs.declared.causes.Cause.{Cause}
 use Rattle.sftp_tree.specs.declared.causes.Cause.TheVariants.{Unknown}
 use Rattle.sftp_tree.specs.Causes.{CauseSet, allows, allow}

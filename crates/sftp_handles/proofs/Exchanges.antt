@@ -5,14 +5,14 @@ use Rattle.std.specs.Option.{option_map}
 use Rattle.std.specs.Ordering.{nat_cmp}
 use Rattle.std.specs.FinMap.{nat_cmp-IsAntisymmetric}
 use Rattle.std.proofs.lemmas.Option.{same_Some}
-use Rattle.sftp_wire.specs.declared.open_flags.OpenFlags.{OpenFlags}
-use Rattle.sftp_wire.specs.declared.packets.Ask.{Ask}
-use Rattle.sftp_wire.specs.declared.packets.Answer.{Answer}
-use Rattle.sftp_wire.specs.declared.packets.Request.{Request}
-use Rattle.sftp_wire.specs.declared.packets.Reply.{Reply}
-use Rattle.sftp_wire.specs.Spelling.{asked_handle}
+use Rattle.sftp_packets.specs.declared.open_flags.OpenFlags.{OpenFlags}
+use Rattle.sftp_packets.specs.declared.packets.Ask.{Ask}
+use Rattle.sftp_packets.specs.declared.packets.Answer.{Answer}
+use Rattle.sftp_packets.specs.declared.packets.Request.{Request}
+use Rattle.sftp_packets.specs.declared.packets.Reply.{Reply}
+use Rattle.sftp_packets.specs.Spelling.{asked_handle}
 use Rattle.sftp_treefile.specs.declared.limits.TreeLimits.{TreeLimits}
-use Rattle.sftp_tree.specs.AskValues.{IsAsk}
+use Rattle.sftp_packets.specs.AskValues.{IsAsk}
 use Rattle.sftp_tree.specs.declared.file_contents.Content.{Content}
 use Rattle.sftp_tree.specs.Tree.{IsContent, content_at, content_fits, with_content, limits}
 use Rattle.sftp_tree.specs.Causes.{is_none}

@@ -11,8 +11,8 @@ use Rattle.std.proofs.lemmas.Bool.{and_parts}
 use Rattle.std.proofs.lemmas.List.{map-append}
 use Rattle.std.proofs.lemmas.List.Folds.{list_all-append}
 use Rattle.std.proofs.lemmas.Option.{same_Some}
-use Rattle.sftp_wire.specs.declared.attributes.Attrs.{Attrs}
-use Rattle.sftp_wire.specs.Spelling.{FitsAttrs}
+use Rattle.sftp_packets.specs.declared.attributes.Attrs.{Attrs}
+use Rattle.sftp_packets.specs.Spelling.{FitsAttrs}
 use Rattle.sftp_path.specs.Place.{Name, Place, name_cmp, place_cmp, is_name, are_names, is_good_path, name_limit}
 use Rattle.sftp_path.specs.Place.{components}
 use Rattle.sftp_path.specs.Table.{InOrder, put}

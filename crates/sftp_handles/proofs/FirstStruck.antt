@@ -7,8 +7,8 @@ use Rattle.std.specs.Ordering.{is_eq}
 use Rattle.std.specs.Cmp.Lexicographic.{nat_list_cmp_total}
 use Rattle.std.proofs.lemmas.Cmp.{tied_itself}
 use Rattle.std.proofs.lemmas.Map.Keys.{sorted_tail}
-use Rattle.sftp_wire.specs.declared.attributes.Attrs.{Attrs}
-use Rattle.sftp_wire.specs.declared.names.NameItem.{NameItem}
+use Rattle.sftp_packets.specs.declared.attributes.Attrs.{Attrs}
+use Rattle.sftp_packets.specs.declared.names.NameItem.{NameItem}
 use Rattle.sftp_path.specs.Place.{Name, name_cmp}
 use Rattle.sftp_path.specs.Table.{InOrder, without}
 use Rattle.sftp_handles.specs.declared.opens.Open.{Open}

@@ -1,8 +1,8 @@
 -- Good states: that each step leads from one to another.
 use Rattle.std.proofs.Common.{inl, inr, sym, subst}
-use Rattle.sftp_wire.specs.declared.packets.Request.{Request}
-use Rattle.sftp_wire.specs.declared.packets.Reply.{Reply}
-use Rattle.sftp_tree.specs.AskValues.{IsAsk}
+use Rattle.sftp_packets.specs.declared.packets.Request.{Request}
+use Rattle.sftp_packets.specs.declared.packets.Reply.{Reply}
+use Rattle.sftp_packets.specs.AskValues.{IsAsk}
 use Rattle.sftp_tree.proofs.Requests.Trees.{PathsLeadWell}
 use Rattle.sftp_handles.specs.State.{State, Good}
 use Rattle.sftp_handles.specs.Allowed.{Allowed}

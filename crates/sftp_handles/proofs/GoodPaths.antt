@@ -6,20 +6,20 @@ use Rattle.std.specs.Prelude.{is_some}
 use Rattle.std.specs.Cmp.Lexicographic.{nat_list_cmp_total}
 use Rattle.std.proofs.lemmas.Bool.{and_parts, eqb-true}
 use Rattle.std.proofs.lemmas.Option.{same_Some}
-use Rattle.sftp_wire.specs.declared.attributes.Attrs.{Attrs}
-use Rattle.sftp_wire.specs.declared.packets.Ask.{Ask}
-use Rattle.sftp_wire.specs.declared.packets.Ask.TheVariants.{Open, Opendir}
-use Rattle.sftp_wire.specs.declared.packets.Answer.{Answer}
-use Rattle.sftp_wire.specs.declared.packets.Answer.TheVariants as replies
-use Rattle.sftp_wire.specs.Spelling.{handle_limit}
-use Rattle.sftp_tree.specs.AskValues.{IsAsk}
+use Rattle.sftp_packets.specs.declared.attributes.Attrs.{Attrs}
+use Rattle.sftp_packets.specs.declared.packets.Ask.{Ask}
+use Rattle.sftp_packets.specs.declared.packets.Ask.TheVariants.{Open, Opendir}
+use Rattle.sftp_packets.specs.declared.packets.Answer.{Answer}
+use Rattle.sftp_packets.specs.declared.packets.Answer.TheVariants as replies
+use Rattle.sftp_packets.specs.Spelling.{handle_limit}
+use Rattle.sftp_packets.specs.AskValues.{IsAsk}
 use Rattle.sftp_path.specs.Place.{Place, bytes_cmp, place_cmp}
 use Rattle.sftp_path.specs.Table.{size}
 use Rattle.sftp_path.proofs.Order.{bytes_cmp-same, place_cmp-same, place_cmp-total}
 use Rattle.sftp_path.proofs.Table.Laws.{InOrder-put, size-put, get-put_here}
 use Rattle.sftp_tree.specs.declared.causes.Cause.{Cause}
 use Rattle.sftp_tree.specs.declared.causes.Cause.TheVariants.{Unknown}
-use Rattle.sftp_wire.specs.declared.packets.Ask.TheVariants as asks
+use Rattle.sftp_packets.specs.declared.packets.Ask.TheVariants as asks
 use Rattle.sftp_tree.specs.Listings.{listing}
 use Rattle.sftp_tree.specs.declared.file_contents.Content.{Content}
 use Rattle.sftp_tree.specs.declared.nodes.Node.{Node}

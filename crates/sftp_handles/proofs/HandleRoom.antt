@@ -1,7 +1,7 @@
 -- Room for a new handle, and the limits of a state.
 use Rattle.std.proofs.Common.{◌≡◌, ◌&&◌, not, nat_le, ℕ, Bool, true, false, List, None, refl, sym, ap, ◌∙◌, IsTrue}
-use Rattle.sftp_wire.specs.declared.packets.Ask.{Ask}
-use Rattle.sftp_wire.specs.declared.packets.Ask.TheVariants.{Open, Opendir}
+use Rattle.sftp_packets.specs.declared.packets.Ask.{Ask}
+use Rattle.sftp_packets.specs.declared.packets.Ask.TheVariants.{Open, Opendir}
 use Rattle.sftp_path.specs.Place.{bytes_cmp}
 use Rattle.sftp_path.specs.Table.{size}
 use Rattle.sftp_path.proofs.Table.Laws.{size-put}

@@ -1,7 +1,7 @@
 -- The request for the limits: no cause refuses it, it leaves the state, and its reply has the tree's limits.
 use Rattle.std.proofs.Common.{◌≡◌, true, refl}
-use Rattle.sftp_wire.specs.declared.packets.Ask.TheVariants.{Limits}
-use Rattle.sftp_wire.specs.declared.packets.Answer.{Answer}
+use Rattle.sftp_packets.specs.declared.packets.Ask.TheVariants.{Limits}
+use Rattle.sftp_packets.specs.declared.packets.Answer.{Answer}
 use Rattle.sftp_tree.specs.Tree.{limits}
 use Rattle.sftp_tree.specs.Causes.{no_causes, is_none}
 use Rattle.sftp_tree.specs.Requests.{led, outcome}

@@ -15,7 +15,7 @@ use Rattle.std.proofs.lemmas.Cmp.{tied_itself}
 use Rattle.std.proofs.lemmas.List.{length-set, length-replicate, length-map}
 use Rattle.std.proofs.lemmas.Bool.{ltb-true, ltb-false}
 use Rattle.std.proofs.lemmas.List.Sorted.{searchable_from_sorted}
-use Rattle.sftp_wire.specs.declared.attributes.Attrs.{Attrs}
+use Rattle.sftp_packets.specs.declared.attributes.Attrs.{Attrs}
 use Rattle.sftp_path.specs.Place.{Name, name_cmp}
 use Rattle.sftp_path.specs.Table.{InOrder, get, put, without}
 use Rattle.sftp_path.proofs.Order.{bytes_cmp-same}

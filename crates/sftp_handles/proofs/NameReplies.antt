@@ -5,15 +5,15 @@ use Rattle.std.proofs.Common.{IsTrue, lit<, inl, inr}
 use Rattle.std.specs.List.{AllByRecursion, flat_map}
 use Rattle.std.proofs.lemmas.Bool.{both_ways, eqb-true, lt-ltb}
 use Rattle.std.proofs.lemmas.List.{length-append}
-use Rattle.sftp_wire.specs.declared.attributes.Attrs.{Attrs}
-use Rattle.sftp_wire.specs.declared.names.NameItem.{NameItem}
-use Rattle.sftp_wire.specs.declared.open_flags.OpenFlags.{OpenFlags}
-use Rattle.sftp_wire.specs.declared.packets.Ask.{Ask}
-use Rattle.sftp_wire.specs.declared.packets.Ask.TheVariants.{Readdir}
-use Rattle.sftp_wire.specs.declared.packets.Answer.{Answer}
-use Rattle.sftp_wire.specs.declared.packets.Answer.TheVariants as replies
-use Rattle.sftp_wire.specs.declared.packets.Packet.TheVariants.{Reply as reply_packet}
-use Rattle.sftp_wire.specs.Spelling.{spelling, attributes, name_item, FitsString, FitsNameItem}
+use Rattle.sftp_packets.specs.declared.attributes.Attrs.{Attrs}
+use Rattle.sftp_packets.specs.declared.names.NameItem.{NameItem}
+use Rattle.sftp_packets.specs.declared.open_flags.OpenFlags.{OpenFlags}
+use Rattle.sftp_packets.specs.declared.packets.Ask.{Ask}
+use Rattle.sftp_packets.specs.declared.packets.Ask.TheVariants.{Readdir}
+use Rattle.sftp_packets.specs.declared.packets.Answer.{Answer}
+use Rattle.sftp_packets.specs.declared.packets.Answer.TheVariants as replies
+use Rattle.sftp_packets.specs.declared.packets.Packet.TheVariants.{Reply as reply_packet}
+use Rattle.sftp_packets.specs.Spelling.{spelling, attributes, name_item, FitsString, FitsNameItem}
 use Rattle.sftp_path.specs.Place.{Name}
 use Rattle.sftp_tree.specs.declared.causes.Cause.TheVariants.{BadHandle, WrongKind}
 use Rattle.sftp_tree.specs.Tree.{limits}

@@ -3,10 +3,10 @@ use Rattle.std.proofs.Common.{◌≡◌, ◌||◌, not, ℕ, Bool, true, false, 
 use Rattle.std.proofs.Common.{sym, ◌∙◌, IsTrue}
 use Rattle.std.proofs.lemmas.Bool.{both_ways}
 use Rattle.std.proofs.lemmas.Option.{same_Some}
-use Rattle.sftp_wire.specs.declared.attributes.Attrs.{Attrs}
-use Rattle.sftp_wire.specs.declared.packets.Ask.{Ask}
-use Rattle.sftp_wire.specs.declared.packets.Ask.TheVariants.{Open, Opendir}
-use Rattle.sftp_wire.specs.declared.packets.Answer.TheVariants as replies
+use Rattle.sftp_packets.specs.declared.attributes.Attrs.{Attrs}
+use Rattle.sftp_packets.specs.declared.packets.Ask.{Ask}
+use Rattle.sftp_packets.specs.declared.packets.Ask.TheVariants.{Open, Opendir}
+use Rattle.sftp_packets.specs.declared.packets.Answer.TheVariants as replies
 use Rattle.sftp_path.specs.Place.{Place}
 use Rattle.sftp_tree.specs.declared.nodes.Node.{Node}
 use Rattle.sftp_tree.specs.declared.nodes.Node.TheVariants as nodes

@@ -3,13 +3,13 @@ use Rattle.std.proofs.Common.{◌≡◌, ◌&&◌, ◌||◌, not, ℕ, Bool, tru
 use Rattle.std.proofs.Common.{is_some, option_map, refl, sym, ap, subst, ◌∙◌, IsTrue, nat_lt, IfErr, OnOk}
 use Rattle.std.proofs.lemmas.Bool.{lt-ltb, eq-eqb, or_right}
 use Rattle.std.proofs.lemmas.Option.{same_Some}
-use Rattle.sftp_wire.specs.declared.attributes.Attrs.{Attrs}
-use Rattle.sftp_wire.specs.declared.open_flags.OpenFlags.{OpenFlags}
-use Rattle.sftp_wire.specs.declared.packets.Ask.{Ask}
-use Rattle.sftp_wire.specs.declared.packets.Ask.TheVariants.{Close, Write, Fsetstat, Fsync}
-use Rattle.sftp_wire.specs.declared.packets.Answer.{Answer}
-use Rattle.sftp_wire.specs.declared.packets.Answer.TheVariants.{Status}
-use Rattle.sftp_wire.specs.Spelling.{asked_handle}
+use Rattle.sftp_packets.specs.declared.attributes.Attrs.{Attrs}
+use Rattle.sftp_packets.specs.declared.open_flags.OpenFlags.{OpenFlags}
+use Rattle.sftp_packets.specs.declared.packets.Ask.{Ask}
+use Rattle.sftp_packets.specs.declared.packets.Ask.TheVariants.{Close, Write, Fsetstat, Fsync}
+use Rattle.sftp_packets.specs.declared.packets.Answer.{Answer}
+use Rattle.sftp_packets.specs.declared.packets.Answer.TheVariants.{Status}
+use Rattle.sftp_packets.specs.Spelling.{asked_handle}
 use Rattle.sftp_path.specs.Place.{bytes_cmp}
 use Rattle.sftp_path.proofs.Table.Counts.{count-found}
 use Rattle.sftp_path.proofs.Table.Entries.{without-absent}

@@ -2,11 +2,11 @@
 use Rattle.std.proofs.Common.{◌≡◌, ◌&&◌, ◌||◌, not, ℕ, ◌+◌, ◌≤◌, Bool, true, false, List, length, refl, sym, ap, ◌∙◌}
 use Rattle.std.proofs.Common.{arith, IsTrue, nat_le, leb-true}
 use Rattle.std.proofs.lemmas.Bool.{and_parts}
-use Rattle.sftp_wire.specs.declared.packets.Ask.{Ask}
-use Rattle.sftp_wire.specs.declared.packets.Ask.TheVariants.{Open, Opendir}
-use Rattle.sftp_wire.specs.declared.packets.Answer.TheVariants as replies
-use Rattle.sftp_wire.specs.declared.packets.Packet.TheVariants.{Reply as reply_packet}
-use Rattle.sftp_wire.specs.Spelling.{spelling, AreBytes, handle_limit}
+use Rattle.sftp_packets.specs.declared.packets.Ask.{Ask}
+use Rattle.sftp_packets.specs.declared.packets.Ask.TheVariants.{Open, Opendir}
+use Rattle.sftp_packets.specs.declared.packets.Answer.TheVariants as replies
+use Rattle.sftp_packets.specs.declared.packets.Packet.TheVariants.{Reply as reply_packet}
+use Rattle.sftp_packets.specs.Spelling.{spelling, AreBytes, handle_limit}
 use Rattle.sftp_tree.specs.declared.causes.Cause.TheVariants.{NoRoom}
 use Rattle.sftp_tree.specs.declared.causes.Refused.{Refused}
 use Rattle.sftp_tree.specs.Causes.{CauseSet, is_none, when}

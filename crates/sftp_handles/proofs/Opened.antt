@@ -9,12 +9,12 @@ use Rattle.std.specs.Cmp.Lexicographic.{nat_list_cmp_total, nat_list_eq_equiv, t
 use Rattle.std.proofs.Math.Bool.{and-false}
 use Rattle.std.proofs.lemmas.Bool.{and_from, or_right, le-leb, eqb-true}
 use Rattle.std.proofs.lemmas.Option.{same_Some}
-use Rattle.sftp_wire.specs.declared.attributes.Attrs.{Attrs}
-use Rattle.sftp_wire.specs.declared.open_flags.OpenFlags.{OpenFlags}
-use Rattle.sftp_wire.specs.declared.packets.Ask.{Ask}
-use Rattle.sftp_wire.specs.declared.packets.Ask.TheVariants as asks
-use Rattle.sftp_wire.specs.declared.packets.Answer.TheVariants as replies
-use Rattle.sftp_wire.specs.Spelling.{handle_limit}
+use Rattle.sftp_packets.specs.declared.attributes.Attrs.{Attrs}
+use Rattle.sftp_packets.specs.declared.open_flags.OpenFlags.{OpenFlags}
+use Rattle.sftp_packets.specs.declared.packets.Ask.{Ask}
+use Rattle.sftp_packets.specs.declared.packets.Ask.TheVariants as asks
+use Rattle.sftp_packets.specs.declared.packets.Answer.TheVariants as replies
+use Rattle.sftp_packets.specs.Spelling.{handle_limit}
 use Rattle.sftp_path.specs.Place.{Place, bytes_cmp, place_cmp}
 use Rattle.sftp_path.specs.Table.{InOrder, size, retain}
 use Rattle.sftp_path.proofs.Order.{bytes_cmp-same, place_cmp-same}

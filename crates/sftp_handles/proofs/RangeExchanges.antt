@@ -6,15 +6,15 @@ use Rattle.std.specs.Ordering.{nat_cmp}
 use Rattle.std.specs.Cmp.{nat_cmp_total}
 use Rattle.std.proofs.lemmas.Bool.{ltb-false, and_cases}
 use Rattle.std.proofs.lemmas.Option.{same_Some}
-use Rattle.sftp_wire.specs.declared.open_flags.OpenFlags.{OpenFlags}
-use Rattle.sftp_wire.specs.declared.packets.Ask.{Ask}
-use Rattle.sftp_wire.specs.declared.packets.Answer.{Answer}
-use Rattle.sftp_wire.specs.declared.packets.Request.{Request}
-use Rattle.sftp_wire.specs.declared.packets.Reply.{Reply}
-use Rattle.sftp_wire.specs.Spelling.{asked_handle}
+use Rattle.sftp_packets.specs.declared.open_flags.OpenFlags.{OpenFlags}
+use Rattle.sftp_packets.specs.declared.packets.Ask.{Ask}
+use Rattle.sftp_packets.specs.declared.packets.Answer.{Answer}
+use Rattle.sftp_packets.specs.declared.packets.Request.{Request}
+use Rattle.sftp_packets.specs.declared.packets.Reply.{Reply}
+use Rattle.sftp_packets.specs.Spelling.{asked_handle}
 use Rattle.sftp_path.specs.Table.{InOrder}
 use Rattle.sftp_path.proofs.Table.Laws.{get-put_here}
-use Rattle.sftp_tree.specs.AskValues.{IsAsk}
+use Rattle.sftp_packets.specs.AskValues.{IsAsk}
 use Rattle.sftp_tree.specs.declared.file_contents.Content.{Content}
 use Rattle.sftp_tree.specs.Tree.{content_at, limits}
 use Rattle.sftp_handles.specs.declared.byte_range.ByteRange.{ByteRange}

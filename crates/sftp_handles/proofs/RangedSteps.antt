@@ -8,15 +8,15 @@ use Rattle.std.specs.Cmp.{IsTotalOrder, nat_cmp_total, Equal-is}
 use Rattle.std.specs.FinMap.{IsAntisymmetric, nat_cmp-IsAntisymmetric}
 use Rattle.std.specs.declared.cmp.Ordering.{Ordering}
 use Rattle.std.proofs.lemmas.Option.{same_Some}
-use Rattle.sftp_wire.specs.declared.open_flags.OpenFlags.{OpenFlags}
-use Rattle.sftp_wire.specs.declared.packets.Ask.{Ask}
-use Rattle.sftp_wire.specs.declared.packets.Ask.TheVariants.{Read, Write}
-use Rattle.sftp_wire.specs.declared.packets.Answer.{Answer}
-use Rattle.sftp_wire.specs.Spelling.{asked_handle}
+use Rattle.sftp_packets.specs.declared.open_flags.OpenFlags.{OpenFlags}
+use Rattle.sftp_packets.specs.declared.packets.Ask.{Ask}
+use Rattle.sftp_packets.specs.declared.packets.Ask.TheVariants.{Read, Write}
+use Rattle.sftp_packets.specs.declared.packets.Answer.{Answer}
+use Rattle.sftp_packets.specs.Spelling.{asked_handle}
 use Rattle.sftp_path.specs.Table.{Table, InOrder, get, put}
 use Rattle.sftp_path.proofs.Table.Laws.{get-put, InOrder-put, same_table}
 use Rattle.sftp_treefile.specs.declared.limits.TreeLimits.{TreeLimits}
-use Rattle.sftp_tree.specs.AskValues.{IsAsk}
+use Rattle.sftp_packets.specs.AskValues.{IsAsk}
 use Rattle.sftp_tree.specs.declared.file_contents.Content.{Content}
 use Rattle.sftp_tree.specs.Tree.{content_at, content_fits, with_content, limits}
 use Rattle.sftp_tree.specs.FileChanges.{written_content}

@@ -4,9 +4,9 @@ use Rattle.std.proofs.Common.{Some, None, refl, ap, ◌∙◌, arith}
 use Rattle.std.specs.Prelude.{nat_eq, codes}
 use Rattle.std.specs.Cmp.Lexicographic.{nat_list_eq_equiv, unequal}
 use Rattle.std.proofs.lemmas.Bool.{lt-ltb}
-use Rattle.sftp_wire.specs.declared.packets.Ask.{Ask}
-use Rattle.sftp_wire.specs.declared.packets.Ask.TheVariants.{Read}
-use Rattle.sftp_wire.specs.declared.packets.Answer.TheVariants.{Data}
+use Rattle.sftp_packets.specs.declared.packets.Ask.{Ask}
+use Rattle.sftp_packets.specs.declared.packets.Ask.TheVariants.{Read}
+use Rattle.sftp_packets.specs.declared.packets.Answer.TheVariants.{Data}
 use Rattle.sftp_path.specs.Place.{same_bytes}
 use Rattle.sftp_path.specs.Table.{get, put, retain}
 use Rattle.sftp_treefile.specs.declared.limits.TreeLimits.{TreeLimits}

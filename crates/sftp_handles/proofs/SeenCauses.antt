@@ -2,8 +2,8 @@
 use Rattle.std.proofs.Common.{◌≡◌, ◌&&◌, not, ℕ, Bool, true, List, Option, Some, None, Result, Ok, Err, IfOk, is_some, option_map}
 use Rattle.std.proofs.Common.{refl, sym, ap, ◌∙◌, IsTrue, nat_lt}
 use Rattle.std.proofs.lemmas.Bool.{lt-ltb, eq-eqb}
-use Rattle.sftp_wire.specs.declared.open_flags.OpenFlags.{OpenFlags}
-use Rattle.sftp_wire.specs.declared.packets.Ask.{Ask}
+use Rattle.sftp_packets.specs.declared.open_flags.OpenFlags.{OpenFlags}
+use Rattle.sftp_packets.specs.declared.packets.Ask.{Ask}
 use Rattle.sftp_path.specs.Place.{bytes_cmp}
 use Rattle.sftp_path.proofs.Table.Counts.{count-found}
 use Rattle.sftp_treefile.specs.declared.limits.TreeLimits.{TreeLimits}
@@ -15,7 +15,7 @@ use Rattle.sftp_tree.specs.Attributes.{changed_content}
 use Rattle.sftp_tree.specs.FileChanges.{write_fits, written_content}
 use Rattle.sftp_tree.proofs.OpenFiles.Written.{size-written}
 use Rattle.sftp_tree.proofs.CauseLaws.Limits.{changed-fits}
-use Rattle.sftp_wire.specs.declared.attributes.Attrs.{Attrs}
+use Rattle.sftp_packets.specs.declared.attributes.Attrs.{Attrs}
 use Rattle.std.proofs.lemmas.Option.{same_Some}
 use Rattle.sftp_tree.specs.Causes.{CauseSet, no_causes, when}
 use Rattle.sftp_handles.specs.declared.opens.Open.{Open}
@@ -25,8 +25,8 @@ use Rattle.sftp_handles.specs.State.{State, Good}
 use Rattle.sftp_handles.specs.Seen.{a_file, seen, seen_among, seen_file}
 use Rattle.sftp_handles.specs.HandleRequests.{Row, row_of, causes_of, with_file_room, start_of, may_write, unless_open_for}
 use Rattle.sftp_handles.specs.Requests.{causes, causes_by}
-use Rattle.sftp_wire.specs.Spelling.{asked_handle}
-use Rattle.sftp_wire.specs.declared.packets.Ask.TheVariants.{Write, Fsetstat}
+use Rattle.sftp_packets.specs.Spelling.{asked_handle}
+use Rattle.sftp_packets.specs.declared.packets.Ask.TheVariants.{Write, Fsetstat}
 use Rattle.sftp_tree.specs.declared.causes.Cause.TheVariants.{BadHandle, NotOpenFor}
 use Rattle.sftp_tree.proofs.Limits.Entries.{content-fits}
 use Rattle.sftp_handles.specs.Found.{found_file, with_room}

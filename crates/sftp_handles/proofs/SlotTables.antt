@@ -15,8 +15,8 @@ use Rattle.byteorder.specs.Endian.{big_number}
 use Rattle.byteorder.specs.Numbers.{big_from-take, big_number-reads_back}
 use Rattle.slab.specs.Slab.{Slab, get, with_value, Updates, entries_from, entries, slab_len}
 use Rattle.slab.proofs.SlabLemmas.{length-entries, Updates-with_value}
-use Rattle.sftp_wire.specs.Spelling.{uint32, uint64, AreBytes}
-use Rattle.sftp_wire.proofs.Bytes.Numbers.{IsBytes, IsBytes-take, IsBytes-drop, big_number-four}
+use Rattle.sftp_packets.specs.Spelling.{uint32, uint64, AreBytes}
+use Rattle.sftp_packets.proofs.Bytes.Numbers.{IsBytes, IsBytes-take, IsBytes-drop, big_number-four}
 use Rattle.sftp_path.specs.Place.{bytes_cmp}
 use Rattle.sftp_path.specs.Table.{from_entries, size}
 use Rattle.sftp_path.proofs.Order.{bytes_cmp-same}

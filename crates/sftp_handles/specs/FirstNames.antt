@@ -1,7 +1,7 @@
 -- The first names of a listing, as a reply to READDIR gives them. Words of private contracts.
 use Rattle.std.specs.Prelude.{◌≡◌, ℕ, List, Option, Some, None, map, take}
-use Rattle.sftp_wire.specs.declared.attributes.Attrs.{Attrs}
-use Rattle.sftp_wire.specs.declared.names.NameItem.{NameItem}
+use Rattle.sftp_packets.specs.declared.attributes.Attrs.{Attrs}
+use Rattle.sftp_packets.specs.declared.names.NameItem.{NameItem}
 use Rattle.sftp_path.specs.Place.{Name}
 use Rattle.sftp_handles.specs.declared.opens.Open.{Open}
 use Rattle.sftp_handles.specs.declared.opens.Open.TheVariants.{File, Listing}

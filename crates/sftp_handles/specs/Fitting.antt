@@ -1,7 +1,7 @@
 -- What can be said in a reply that can be encoded. Words of private contracts.
 use Rattle.std.specs.Prelude.{◌<◌, ◌≤◌, ℕ, List, [], ◌∷◌, length, Option, Some, None, IsTrue}
-use Rattle.sftp_wire.specs.declared.attributes.Attrs.{Attrs}
-use Rattle.sftp_wire.specs.Spelling.{FitsString, FitsAttrs}
+use Rattle.sftp_packets.specs.declared.attributes.Attrs.{Attrs}
+use Rattle.sftp_packets.specs.Spelling.{FitsString, FitsAttrs}
 use Rattle.sftp_path.specs.Place.{bytes_cmp}
 use Rattle.sftp_path.specs.Table.{InOrder, size}
 use Rattle.sftp_treefile.specs.Limits.{highest_limits}

@@ -1,6 +1,6 @@
 -- Files by their handles, as the code finds them.
 use Rattle.std.specs.Prelude.{◌&&◌, not, ℕ, Bool, List, Option, Some, None, Result, Ok, Err}
-use Rattle.sftp_wire.specs.declared.open_flags.OpenFlags.{OpenFlags}
+use Rattle.sftp_packets.specs.declared.open_flags.OpenFlags.{OpenFlags}
 use Rattle.sftp_tree.specs.declared.causes.Cause.{Cause}
 use Rattle.sftp_tree.specs.declared.causes.Cause.TheVariants.{BadHandle, WrongKind, NoRoom}
 use Rattle.sftp_tree.specs.Causes.{CauseSet, when, is_none}

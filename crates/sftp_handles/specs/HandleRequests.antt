@@ -3,10 +3,10 @@
 -- section 4.6 for fsync). The causes are this profile's own.
 use Rattle.std.specs.Prelude.{◌&&◌, not, nat_lt, ℕ, Bool, true, if◌then◌else◌, [], ◌∷◌, length, Option, Some}
 use Rattle.std.specs.Prelude.{None, is_some}
-use Rattle.sftp_wire.specs.declared.open_flags.OpenFlags.{OpenFlags}
-use Rattle.sftp_wire.specs.declared.packets.Ask.{Ask}
-use Rattle.sftp_wire.specs.declared.packets.Ask.TheVariants as asks
-use Rattle.sftp_wire.specs.declared.packets.Answer.{Answer}
+use Rattle.sftp_packets.specs.declared.open_flags.OpenFlags.{OpenFlags}
+use Rattle.sftp_packets.specs.declared.packets.Ask.{Ask}
+use Rattle.sftp_packets.specs.declared.packets.Ask.TheVariants as asks
+use Rattle.sftp_packets.specs.declared.packets.Answer.{Answer}
 use Rattle.sftp_treefile.specs.declared.limits.TreeLimits.{TreeLimits}
 use Rattle.sftp_tree.specs.declared.causes.Cause.TheVariants.{BadHandle, WrongKind, NotOpenFor, NoRoom}
 use Rattle.sftp_tree.specs.declared.file_contents.Content.{Content}

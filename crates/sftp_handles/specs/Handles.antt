@@ -2,8 +2,8 @@
 -- 6.7).
 use Rattle.std.specs.Prelude.{◌==◌, ℕ, Bool, false, List, [], ◌∷◌, Option, is_some}
 use Rattle.std.specs.Int.RustNames.{bit_and}
-use Rattle.sftp_wire.specs.declared.attributes.Attrs.{Attrs}
-use Rattle.sftp_wire.specs.declared.open_flags.OpenFlags.{OpenFlags}
+use Rattle.sftp_packets.specs.declared.attributes.Attrs.{Attrs}
+use Rattle.sftp_packets.specs.declared.open_flags.OpenFlags.{OpenFlags}
 use Rattle.sftp_path.specs.Place.{Name, bytes_cmp}
 use Rattle.sftp_path.specs.Table.{Table, get, put, without, count}
 use Rattle.sftp_tree.specs.Tree.{Pins, with_pin}

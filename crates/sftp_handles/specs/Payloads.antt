@@ -1,7 +1,7 @@
 -- What the replies to queries carry. Words of private contracts.
 use Rattle.std.specs.Prelude.{◌≡◌, Some, IsTrue}
-use Rattle.sftp_wire.specs.declared.packets.Ask.{Ask}
-use Rattle.sftp_wire.specs.Spelling.{asked_handle}
+use Rattle.sftp_packets.specs.declared.packets.Ask.{Ask}
+use Rattle.sftp_packets.specs.Spelling.{asked_handle}
 use Rattle.sftp_tree.specs.Causes.{is_none}
 use Rattle.sftp_handles.specs.declared.payloads.Payload.{Payload}
 use Rattle.sftp_handles.specs.declared.payloads.Payload.TheVariants.{Attrs, Name, Data, Extended, End}

@@ -1,6 +1,6 @@
 -- What a request through a handle sees: what is open under its handle, and nothing else of the state.
 use Rattle.std.specs.Prelude.{ℕ, List, Option, Some, None}
-use Rattle.sftp_wire.specs.declared.open_flags.OpenFlags.{OpenFlags}
+use Rattle.sftp_packets.specs.declared.open_flags.OpenFlags.{OpenFlags}
 use Rattle.sftp_tree.specs.declared.file_contents.Content.{Content}
 use Rattle.sftp_tree.specs.Tree.{Files, content_at}
 use Rattle.sftp_handles.specs.declared.opens.Open.{Open}

@@ -2,7 +2,7 @@
 -- A name has 12 bytes: the number of a slot, and the serial of the opening.
 use Rattle.std.specs.Prelude.{◌≡◌, ◌++◌, ◌<◌, ◌+◌, ◌-◌, ◌%◌, ◌^◌, ℕ, List, map, take, drop, Option, IsSomeAnd}
 use Rattle.slab.specs.Slab.{Slab, ContainsKey, get, entries_from}
-use Rattle.sftp_wire.specs.Spelling.{uint32, uint64}
+use Rattle.sftp_packets.specs.Spelling.{uint32, uint64}
 use Rattle.sftp_path.specs.Place.{bytes_cmp}
 use Rattle.sftp_path.specs.Table.{from_entries}
 use Rattle.sftp_handles.specs.declared.opens.Open.{Open}

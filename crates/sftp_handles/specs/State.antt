@@ -1,8 +1,8 @@
 -- The state of a session: its tree, and what is open.
 use Rattle.std.specs.Prelude.{◌≡◌, ◌&&◌, not, nat_le, ℕ, ◌+◌, ◌≤◌, Bool, List, length, is_some, IsTrue}
 use Rattle.std.specs.List.{AllByRecursion}
-use Rattle.sftp_wire.specs.declared.attributes.Attrs.{Attrs}
-use Rattle.sftp_wire.specs.Spelling.{FitsAttrs, handle_limit}
+use Rattle.sftp_packets.specs.declared.attributes.Attrs.{Attrs}
+use Rattle.sftp_packets.specs.Spelling.{FitsAttrs, handle_limit}
 use Rattle.sftp_path.specs.Place.{Name, bytes_cmp, name_cmp, is_name}
 use Rattle.sftp_path.specs.Table.{InOrder, size}
 use Rattle.sftp_tree.specs.Tree.{Tree, IsKept, limits, trim, fits}

@@ -1,7 +1,7 @@
 //! A table of the handles whose names another server gave.
 ghost use Rattle.std.specs.Prelude.{◌≡◌, true, None, Some, IsTrue, IfOk, IfErr, OnOk, OnErr, option_copied};
 ghost use Rattle.std.specs.Cmp.Lexicographic.{nat_list_cmp_total};
-ghost use Rattle.sftp_wire.specs.Spelling.{AreBytes};
+ghost use Rattle.sftp_packets.specs.Spelling.{AreBytes};
 ghost use Rattle.sftp_path.specs.Place.{bytes_cmp};
 ghost use Rattle.sftp_path.specs.Table.{from_entries, size};
 ghost use Rattle.sftp_path.proofs.Table.Laws.{InOrder-from_entries};

@@ -1,8 +1,8 @@
 //! READDIR: the names that a listing gives, and its end (draft, section 6.7).
 ghost use Rattle.std.specs.Prelude.{◌≡◌, ◌≤◌, [], Some, is_some, length, IsTrue, IfOk, IfSome, OnErr};
 ghost use Rattle.std.specs.Vec.{vec_capacity};
-ghost use Rattle.sftp_wire.specs.declared.packets.Ask.TheVariants.{Readdir};
-ghost use Rattle.sftp_wire.specs.declared.packets.Answer.TheVariants as replies;
+ghost use Rattle.sftp_packets.specs.declared.packets.Ask.TheVariants.{Readdir};
+ghost use Rattle.sftp_packets.specs.declared.packets.Answer.TheVariants as replies;
 ghost use Rattle.sftp_handles.specs.declared.opens.Open.TheVariants as opens;
 ghost use Rattle.sftp_handles.specs.FirstNames.{AreFirst, AreFirstNames};
 ghost use Rattle.sftp_handles.specs.Handles.{open_at, is_open, with_open};

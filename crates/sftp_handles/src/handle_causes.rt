@@ -1,6 +1,7 @@
 //! Why requests through handles are refused.
 ghost use Rattle.std.specs.Prelude.{◌≡◌, ◌&&◌, not, ℕ, Some, is_some, option_map};
-ghost use Rattle.sftp_wire.specs.declared.packets.Ask.TheVariants.{Close, Read, Write, Fstat, Fsetstat, Readdir, Fsync};
+ghost use Rattle.sftp_packets.specs.declared.packets.Ask.TheVariants.{Close, Read, Write, Fstat, Fsetstat, Readdir};
+ghost use Rattle.sftp_packets.specs.declared.packets.Ask.TheVariants.{Fsync};
 ghost use Rattle.sftp_tree.specs.Refusals.{in_set};
 ghost use Rattle.sftp_tree.specs.Tree.{HasFile, content_at, content_fits, limits};
 ghost use Rattle.sftp_tree.specs.FileChanges.{written_content};

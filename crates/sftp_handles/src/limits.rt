@@ -1,6 +1,6 @@
 //! What the reply to a request for the limits of a tree has. The request is an extension of this profile's own.
 ghost use Rattle.std.specs.Prelude.{◌≡◌, ◌++◌, IfOk, OnOk};
-ghost use Rattle.sftp_wire.specs.Spelling.{uint64};
+ghost use Rattle.sftp_packets.specs.Spelling.{uint64};
 ghost use Rattle.sftp_handles.specs.Requests as requests;
 
 use sftp_tree::TreeLimits;

@@ -34,7 +34,7 @@ pub struct Listing {
 
 impl Model for Listing {
     ghost use Rattle.std.specs.Prelude.{List, ℕ};
-    ghost use Rattle.sftp_wire.specs.declared.attributes.Attrs.{Attrs};
+    ghost use Rattle.sftp_packets.specs.declared.attributes.Attrs.{Attrs};
     ghost use Rattle.sftp_handles.specs.Marked.{unmarked, IsMarked};
 
     ghost Value = { List (List ℕ × Attrs) };

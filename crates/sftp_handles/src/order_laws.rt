@@ -1,10 +1,10 @@
 //! Laws of requests that do not conflict, as theorems on the definitions of steps. The functions do nothing; each
 //! promise is in the contract.
 ghost use Rattle.std.specs.Prelude.{◌≡◌, ◌≢◌, true, false, IsTrue};
-ghost use Rattle.sftp_wire.specs.declared.packets.Ask.{Ask};
-ghost use Rattle.sftp_wire.specs.declared.packets.Request.{Request};
-ghost use Rattle.sftp_wire.specs.declared.packets.Reply.{Reply};
-ghost use Rattle.sftp_tree.specs.AskValues.{IsAsk};
+ghost use Rattle.sftp_packets.specs.declared.packets.Ask.{Ask};
+ghost use Rattle.sftp_packets.specs.declared.packets.Request.{Request};
+ghost use Rattle.sftp_packets.specs.declared.packets.Reply.{Reply};
+ghost use Rattle.sftp_packets.specs.AskValues.{IsAsk};
 ghost use Rattle.sftp_handles.specs.State.{State, Good};
 ghost use Rattle.sftp_handles.specs.Allowed.{Allowed};
 ghost use Rattle.sftp_handles.specs.Clash.{everything, is_barrier, touched, clash, ComesFirst};

@@ -2,7 +2,7 @@
 //! The functions do nothing; each promise is in the contract.
 ghost use Rattle.std.specs.Prelude.{◌≡◌, ◌<◌, ℕ, List, Some, None};
 ghost use Rattle.std.specs.Ordering.{nat_cmp};
-ghost use Rattle.sftp_wire.specs.declared.open_flags.OpenFlags.{OpenFlags};
+ghost use Rattle.sftp_packets.specs.declared.open_flags.OpenFlags.{OpenFlags};
 ghost use Rattle.sftp_path.specs.Place.{bytes_cmp};
 ghost use Rattle.sftp_path.specs.Table.{InOrder, get};
 ghost use Rattle.sftp_tree.specs.Tree.{times_pinned, with_pin, without_pin};

@@ -6,7 +6,7 @@ use Rattle.std.proofs.Common.{◌++◌, take, set, arith, length-drop, append_as
 use Rattle.std.proofs.lemmas.List.{at_drop_more, at_drop_all, drop_more, take_more, take_more_set, drop-set-lt}
 use Rattle.std.proofs.lemmas.List.{take-append-drop, map-append, append-nil, length-map}
 use Rattle.std.proofs.lemmas.Grind.{drop_more_same}
-use Rattle.sftp_wire.specs.declared.names.NameItem.{NameItem}
+use Rattle.sftp_packets.specs.declared.names.NameItem.{NameItem}
 use Rattle.sftp_path.specs.Place.{Name, Place, name_cmp, same_bytes}
 use Rattle.sftp_path.specs.Table.{put}
 use Rattle.sftp_tree.specs.declared.listings.Item.{Item}

@@ -2,14 +2,14 @@
 use Rattle.std.proofs.Common.{◌≡◌, Bool, true, false, Option, Some, None, refl, sym, ap, subst, ◌∙◌}
 use Rattle.std.proofs.Common.{◌↔◌, IsTrue, IfOk, Result, Ok, Err}
 use Rattle.sftp_path.specs.declared.errors.NoMemory.{NoMemory}
-use Rattle.sftp_wire.specs.declared.packets.Ask.{Ask}
-use Rattle.sftp_wire.specs.declared.packets.Ask.TheVariants as asks
-use Rattle.sftp_wire.specs.declared.packets.Answer.{Answer}
-use Rattle.sftp_wire.specs.declared.packets.Answer.TheVariants as replies
-use Rattle.sftp_wire.specs.declared.names.NameItem.{NameItem}
+use Rattle.sftp_packets.specs.declared.packets.Ask.{Ask}
+use Rattle.sftp_packets.specs.declared.packets.Ask.TheVariants as asks
+use Rattle.sftp_packets.specs.declared.packets.Answer.{Answer}
+use Rattle.sftp_packets.specs.declared.packets.Answer.TheVariants as replies
+use Rattle.sftp_packets.specs.declared.names.NameItem.{NameItem}
 use Rattle.std.specs.Prelude.{List, if◌then◌else◌, ◌&&◌, not, unwrap_or}
-use Rattle.sftp_wire.specs.declared.packets.Request.{Request}
-use Rattle.sftp_wire.specs.declared.packets.Reply.{Reply}
+use Rattle.sftp_packets.specs.declared.packets.Request.{Request}
+use Rattle.sftp_packets.specs.declared.packets.Reply.{Reply}
 use Rattle.sftp_tree.specs.Tree.{Tree}
 use Rattle.sftp_tree.specs.OpenFlags.{excludes}
 use Rattle.sftp_handles.specs.Handles.{Left}

@@ -1,8 +1,8 @@
 //! Laws of profiles, as theorems on the definitions that the contracts name. The functions do nothing; each promise is
 //! in the contract.
 ghost use Rattle.std.specs.Prelude.{◌≡◌, ◌↔◌, Some, map, IsTrue};
-ghost use Rattle.sftp_wire.specs.declared.packets.Request.{Request};
-ghost use Rattle.sftp_wire.specs.declared.packets.Reply.{Reply};
+ghost use Rattle.sftp_packets.specs.declared.packets.Request.{Request};
+ghost use Rattle.sftp_packets.specs.declared.packets.Reply.{Reply};
 ghost use Rattle.sftp_handles.specs.State as sessions;
 ghost use Rattle.sftp_handles.specs.Allowed.{Allowed};
 ghost use Rattle.sftp_profile.specs.declared.names.Departure.{Departure};

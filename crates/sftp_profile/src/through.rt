@@ -3,8 +3,8 @@
 ghost use Rattle.std.specs.Prelude.{◌≡◌, ◌&&◌, if◌then◌else◌, Some, None, IfOk, option_copied};
 ghost use Rattle.sftp_handles.specs.Replies.{has_code};
 ghost use Rattle.std.specs.Option.{option_map};
-ghost use Rattle.sftp_wire.specs.Spelling.{asked_handle};
-ghost use Rattle.sftp_wire.specs.declared.packets.Ask.TheVariants as asks;
+ghost use Rattle.sftp_packets.specs.Spelling.{asked_handle};
+ghost use Rattle.sftp_packets.specs.declared.packets.Ask.TheVariants as asks;
 ghost use Rattle.sftp_profile.specs.Refusals.{is_handle};
 ghost use Rattle.sftp_profile.specs.Through as spec;
 

@@ -103,7 +103,7 @@ pub use Rattle.sftp_transcript.specs.declared.errors.TranscriptError.{Transcript
 pub use Rattle.sftp_transcript.specs.declared.errors.TranscriptError.TheVariants.{Io}
 pub use Rattle.sftp_transcript.specs.declared.events.Event.{Event}
 pub use Rattle.sftp_transcript.specs.declared.events.Event.TheVariants.{Asked, Replied}
-pub use Rattle.sftp_tree.specs.AskValues.{IsAsk}
+pub use Rattle.sftp_packets.specs.AskValues.{IsAsk}
 pub use Rattle.sftp_tree.specs.Requests.{path_of}
 unfoldable pub use Rattle.sftp_tree.specs.Requests.{led, plain_causes, causes as path_causes, outcome}
 pub use Rattle.sftp_tree.specs.Tree.{Tree}
@@ -112,17 +112,18 @@ pub use Rattle.sftp_wire.proofs.StreamLaws.Front.{length-spelling, none-leaves_r
 pub use Rattle.sftp_wire.specs.Examples.{version_bytes, no_attributes}
 unfoldable pub use Rattle.sftp_wire.specs.Examples.{hex}
 pub use Rattle.sftp_wire.specs.Framing.{place_after}
-pub use Rattle.sftp_wire.specs.Reading.{StandsInFront}
-unfoldable pub use Rattle.sftp_wire.specs.Reading.{front_of, client_packet_at, uint32_at, pairs_at, pair_at, string_at}
-pub use Rattle.sftp_wire.specs.Spelling.{HasSpelling, side_of, server_extensions, FitsString, posix_rename_name}
-pub use Rattle.sftp_wire.specs.Spelling.{hardlink_name, fsync_name, limits_name, asked_handle, packet_limit}
-unfoldable pub use Rattle.sftp_wire.specs.Spelling.{spelling}
-pub use Rattle.sftp_wire.specs.declared.errors.WireError.TheVariants.{Unreadable}
-pub use Rattle.sftp_wire.specs.declared.packets.Ask.{Ask}
-pub use Rattle.sftp_wire.specs.declared.packets.Packet.{Packet}
-pub use Rattle.sftp_wire.specs.declared.packets.Packet.TheVariants.{Reply as reply_packet, Request as request_packet}
-pub use Rattle.sftp_wire.specs.declared.packets.Packet.TheVariants.{Init, Version}
-pub use Rattle.sftp_wire.specs.declared.packets.Reply.{Reply}
-pub use Rattle.sftp_wire.specs.declared.packets.Request.{Request}
-pub use Rattle.sftp_wire.specs.declared.packets.Side.{Side}
-pub use Rattle.sftp_wire.specs.declared.packets.Side.TheVariants.{Client, Server}
+pub use Rattle.sftp_wire.specs.Fronts.{StandsInFront}
+unfoldable pub use Rattle.sftp_packets.specs.Reading.{client_packet_at, uint32_at, pairs_at, pair_at, string_at}
+unfoldable pub use Rattle.sftp_wire.specs.Fronts.{front_of}
+pub use Rattle.sftp_packets.specs.Spelling.{HasSpelling, side_of, server_extensions, FitsString, posix_rename_name}
+pub use Rattle.sftp_packets.specs.Spelling.{hardlink_name, fsync_name, limits_name, asked_handle, packet_limit}
+unfoldable pub use Rattle.sftp_packets.specs.Spelling.{spelling}
+pub use Rattle.sftp_packets.specs.declared.errors.WireError.TheVariants.{Unreadable}
+pub use Rattle.sftp_packets.specs.declared.packets.Ask.{Ask}
+pub use Rattle.sftp_packets.specs.declared.packets.Packet.{Packet}
+pub use Rattle.sftp_packets.specs.declared.packets.Packet.TheVariants.{Reply as reply_packet, Request as request_packet}
+pub use Rattle.sftp_packets.specs.declared.packets.Packet.TheVariants.{Init, Version}
+pub use Rattle.sftp_packets.specs.declared.packets.Reply.{Reply}
+pub use Rattle.sftp_packets.specs.declared.packets.Request.{Request}
+pub use Rattle.sftp_packets.specs.declared.packets.Side.{Side}
+pub use Rattle.sftp_packets.specs.declared.packets.Side.TheVariants.{Client, Server}

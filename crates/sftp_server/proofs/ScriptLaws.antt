@@ -7,7 +7,7 @@ use Rattle.sftp_server.proofs.Imports.{Act, Deliver, Refuse, Machine, at_start, 
 use Rattle.sftp_server.proofs.Imports.{Delivers, server_clash, started, IsRefusedFor, IsValue, AreDeliverable}
 use Rattle.std.proofs.Math.Seq.{take-suc}
 use Rattle.sftp_path.specs.declared.errors.NoMemory.{NoMemory}
-use Rattle.sftp_wire.specs.declared.packets.Ask.TheVariants as asks
+use Rattle.sftp_packets.specs.declared.packets.Ask.TheVariants as asks
 use Rattle.sftp_treefile.specs.TreeFile.{are_bytes}
 use Rattle.sftp_tree.proofs.WellFormedTrees.Fields.{bytes-fit}
 use Rattle.sftp_server.specs.declared.refusals.Refuse.TheVariants as refuses

@@ -6,7 +6,7 @@ use Rattle.sftp_server.proofs.Imports.{changed, after, after_by, Allowed, Refuse
 use Rattle.sftp_server.proofs.Imports.{touched_by, touched_through, may_change, Entry, Done, Note, is_pending_at}
 use Rattle.sftp_server.proofs.Imports.{with_progress, note_at, ask_at, IsNoted, IsDone, AreNotes, is_on, resizes_by}
 use Rattle.sftp_server.proofs.Imports.{ByteRange, range}
-use Rattle.sftp_wire.specs.declared.packets.Answer.{Answer}
+use Rattle.sftp_packets.specs.declared.packets.Answer.{Answer}
 use Rattle.sftp_handles.specs.Seen.{seen}
 use Rattle.sftp_handles.specs.HandleRequests.{row_of, Change, nothing, change_of}
 use Rattle.sftp_handles.proofs.Touches.{applied, change-touches, touched-stays}

@@ -1,9 +1,9 @@
 -- The core of this server: the general machine over the states of sessions.
 use Rattle.std.specs.Prelude.{◌≡◌, nat_lt, ℕ, ◌≤◌, List, [], length, IsTrue}
 use Rattle.std.specs.List.{AllByRecursion}
-use Rattle.sftp_wire.specs.declared.packets.Packet.TheVariants.{Reply as reply_packet}
-use Rattle.sftp_wire.specs.declared.packets.Request.{Request}
-use Rattle.sftp_wire.specs.Spelling.{HasSpelling}
+use Rattle.sftp_packets.specs.declared.packets.Packet.TheVariants.{Reply as reply_packet}
+use Rattle.sftp_packets.specs.declared.packets.Request.{Request}
+use Rattle.sftp_packets.specs.Spelling.{HasSpelling}
 use Rattle.sftp_transcript.specs.declared.events.Event.{Event}
 use Rattle.sftp_transcript.specs.Explained.{window as full_window}
 use Rattle.sftp_tree.specs.Tree.{Tree}
@@ -15,7 +15,7 @@ use Rattle.sftp_server.specs.declared.queue.Progress.{Progress}
 use Rattle.sftp_server.specs.declared.queue.Progress.TheVariants.{Pending, Done, Sent}
 use Rattle.sftp_server.specs.declared.acts.Act.{Act}
 use Rattle.sftp_handles.specs.Laws.{IsAskable}
-use Rattle.sftp_tree.specs.AskValues.{IsAsk}
+use Rattle.sftp_packets.specs.AskValues.{IsAsk}
 use Rattle.sftp_server.specs.declared.refusals.Refuse.{Refuse}
 use Rattle.sftp_server.specs.declared.refusals.Refuse.TheVariants.{Full, IdInUse, NoMemory}
 use Rattle.sftp_server.specs.Machine.{Machine, at_start, ClashOf, AreActs, Delivers, is_unsent, can_take}

@@ -1,10 +1,10 @@
 -- The tree that a session leaves if it ends because a stream fails or memory runs out: that of the requests that were
 -- done, one at a time in the order asked (draft-ietf-secsh-filexfer-02, section 6.1). Own to this profile.
 use Rattle.std.specs.Prelude.{◌≡◌, ◌⊎◌, ℕ, List, [], ◌∷◌, ◌++◌, drop, map, Option, Some, None}
-use Rattle.sftp_wire.specs.declared.packets.Packet.{Packet}
-use Rattle.sftp_wire.specs.declared.packets.Request.{Request}
-use Rattle.sftp_wire.specs.declared.packets.Reply.{Reply}
-use Rattle.sftp_wire.specs.declared.packets.Side.TheVariants.{Client, Server}
+use Rattle.sftp_packets.specs.declared.packets.Packet.{Packet}
+use Rattle.sftp_packets.specs.declared.packets.Request.{Request}
+use Rattle.sftp_packets.specs.declared.packets.Reply.{Reply}
+use Rattle.sftp_packets.specs.declared.packets.Side.TheVariants.{Client, Server}
 use Rattle.sftp_transcript.specs.declared.events.Event.{Event}
 use Rattle.sftp_transcript.specs.Transcript.{packet_of}
 use Rattle.sftp_transcript.specs.Explained.{StepOf, Run, exchanges_of}

@@ -2,8 +2,8 @@
 use Rattle.std.specs.Prelude.{◌≡◌, nat_eq, ℕ, zero, suc, Bool, false, List, [], ◌∷◌}
 use Rattle.std.specs.Prelude.{is_some, if◌then◌else◌, Option, Some, None, slice_get}
 use Rattle.std.specs.Map.{lookup}
-use Rattle.sftp_wire.specs.declared.packets.Request.{Request}
-use Rattle.sftp_wire.specs.declared.packets.Reply.{Reply}
+use Rattle.sftp_packets.specs.declared.packets.Request.{Request}
+use Rattle.sftp_packets.specs.declared.packets.Reply.{Reply}
 use Rattle.sftp_server.specs.declared.queue.Entry.{Entry}
 use Rattle.sftp_server.specs.declared.queue.Progress.{Progress}
 use Rattle.sftp_server.specs.Machine.{ClashOf, is_pending, is_sent, is_unsent, from_unsent, reply_of}

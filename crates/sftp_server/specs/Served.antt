@@ -4,15 +4,15 @@ use Rattle.std.specs.Prelude.{◌≡◌, ◌≢◌, ◌⊎◌, ◌==◌, ◌||�
 use Rattle.std.specs.Prelude.{map, Option, Some, None, Result, Ok, Err, IsTrue}
 use Rattle.std.specs.List.{flat_map, AllByRecursion}
 use Rattle.std.specs.Io.KnownBytes.{Appends, Consumes, IsAtEnd}
-use Rattle.sftp_wire.specs.declared.errors.Fault.{Fault}
-use Rattle.sftp_wire.specs.declared.errors.WireError.TheVariants.{Unreadable}
-use Rattle.sftp_wire.specs.declared.packets.Packet.{Packet}
-use Rattle.sftp_wire.specs.declared.packets.Packet.TheVariants.{Init, Version, Request as request_packet}
-use Rattle.sftp_wire.specs.declared.packets.Request.{Request}
-use Rattle.sftp_wire.specs.declared.packets.Side.{Side}
-use Rattle.sftp_wire.specs.declared.packets.Side.TheVariants.{Client, Server}
-use Rattle.sftp_wire.specs.Spelling.{spelling, side_of, HasSpelling, server_extensions}
-use Rattle.sftp_wire.specs.Reading.{front_of}
+use Rattle.sftp_packets.specs.declared.errors.Fault.{Fault}
+use Rattle.sftp_packets.specs.declared.errors.WireError.TheVariants.{Unreadable}
+use Rattle.sftp_packets.specs.declared.packets.Packet.{Packet}
+use Rattle.sftp_packets.specs.declared.packets.Packet.TheVariants.{Init, Version, Request as request_packet}
+use Rattle.sftp_packets.specs.declared.packets.Request.{Request}
+use Rattle.sftp_packets.specs.declared.packets.Side.{Side}
+use Rattle.sftp_packets.specs.declared.packets.Side.TheVariants.{Client, Server}
+use Rattle.sftp_packets.specs.Spelling.{spelling, side_of, HasSpelling, server_extensions}
+use Rattle.sftp_wire.specs.Fronts.{front_of}
 use Rattle.sftp_wire.specs.Framing.{place_after}
 use Rattle.sftp_transcript.specs.declared.events.Event.{Event}
 use Rattle.sftp_transcript.specs.declared.events.Event.TheVariants.{Asked, Replied}

@@ -2,8 +2,8 @@
 //! bits. A proof learns that only of what code reads. So functions here read a request, change nothing, and state it in
 //! their contracts.
 ghost use Rattle.std.specs.Prelude.{◌≡◌, ◌<◌, ◌^◌, IfOk, OnOk, IfSome};
-ghost use Rattle.sftp_wire.specs.Spelling.{AreBytes, FitsTwo};
-ghost use Rattle.sftp_tree.specs.AskValues.{IsAsk, IsAttrs};
+ghost use Rattle.sftp_packets.specs.Spelling.{AreBytes, FitsTwo};
+ghost use Rattle.sftp_packets.specs.AskValues.{IsAsk, IsAttrs};
 ghost use Rattle.sftp_server.specs.Core.{IsValue};
 
 use sftp_wire::{Ask, Attrs, ByteString, Request};

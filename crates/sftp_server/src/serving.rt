@@ -1,7 +1,7 @@
 //! Serves a session: reads the client's packets, does the requests, and sends the replies (draft, sections 3 to 7).
 ghost use Rattle.std.specs.Prelude.{◌≡◌, ◌≢◌, ◌<◌, ◌≤◌, [], length, Ok, None, IfOk, OnOk};
-ghost use Rattle.sftp_wire.specs.declared.packets.Side.TheVariants.{Client};
-ghost use Rattle.sftp_wire.specs.Reading.{front_of};
+ghost use Rattle.sftp_packets.specs.declared.packets.Side.TheVariants.{Client};
+ghost use Rattle.sftp_wire.specs.Fronts.{front_of};
 ghost use Rattle.sftp_server.specs.declared.ends.Stream.TheVariants as streams;
 ghost use Rattle.sftp_server.specs.declared.taking.Front.TheVariants as fronts;
 ghost use Rattle.sftp_server.specs.declared.serving.Next.TheVariants as nexts;

@@ -1,8 +1,8 @@
 //! Takes requests from what was read: logs each, and delivers it to the core.
 ghost use Rattle.std.specs.Prelude.{◌≡◌, ◌≢◌, ◌<◌, ◌≤◌, [], length, Ok, None, IsTrue, IfOk, IfErr, OnOk, OnErr};
-ghost use Rattle.sftp_wire.specs.declared.packets.Packet.TheVariants.{Request as request_packet};
-ghost use Rattle.sftp_wire.specs.declared.packets.Side.TheVariants.{Client};
-ghost use Rattle.sftp_wire.specs.Reading.{StandsInFront, front_of};
+ghost use Rattle.sftp_packets.specs.declared.packets.Packet.TheVariants.{Request as request_packet};
+ghost use Rattle.sftp_packets.specs.declared.packets.Side.TheVariants.{Client};
+ghost use Rattle.sftp_wire.specs.Fronts.{StandsInFront, front_of};
 ghost use Rattle.sftp_server.specs.declared.ends.Stop.TheVariants as stops;
 ghost use Rattle.sftp_server.specs.declared.ends.Stream.TheVariants as streams;
 ghost use Rattle.sftp_server.specs.declared.taking.Front.TheVariants as fronts;

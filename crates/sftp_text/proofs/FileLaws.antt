@@ -4,7 +4,7 @@ use Rattle.std.proofs.Common.{refl, sym, ap, subst, append_assoc}
 use Rattle.std.proofs.lemmas.List.{append-nil}
 use Rattle.std.specs.Prelude.{option_and_then}
 use Rattle.std.specs.List.{flat_map}
-use Rattle.sftp_wire.specs.declared.packets.Side.{Side}
+use Rattle.sftp_packets.specs.declared.packets.Side.{Side}
 use Rattle.sftp_text.specs.Lines.{line_of, side_of_letter, record_length, records_up_to, text_of}
 use Rattle.sftp_text.specs.Wholes.{lines_onto, behind_side, next_record, fed_line}
 

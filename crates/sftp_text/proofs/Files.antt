@@ -6,9 +6,9 @@ use Rattle.std.specs.List.{list_all, AllByRecursion}
 use Rattle.std.proofs.lemmas.Bool.{cond-true, cond-false, cases_Bool, eqb-true, and_parts}
 use Rattle.std.proofs.lemmas.List.{append-nil, length-drop, take-append-drop}
 use Rattle.std.proofs.lemmas.Option.{option_and_then_some}
-use Rattle.sftp_wire.specs.declared.packets.Side.{Side}
-use Rattle.sftp_wire.specs.declared.packets.Side.TheVariants.{Client, Server}
-use Rattle.sftp_wire.specs.Spelling.{AreBytes}
+use Rattle.sftp_packets.specs.declared.packets.Side.{Side}
+use Rattle.sftp_packets.specs.declared.packets.Side.TheVariants.{Client, Server}
+use Rattle.sftp_packets.specs.Spelling.{AreBytes}
 use Rattle.sftp_text.specs.Formats.{Format, strip, repeat, repeat_to_end}
 use Rattle.sftp_text.specs.Lines.{is_printable, whole, side_letter, side_of_letter, is_blank, text_of, text_read, transcript_opening, transcript_of, record_length, records_up_to, records_of, with_said, said_lines}
 use Rattle.sftp_text.specs.Trees.{head_text, root_text, entry_text, entry_line, first_lines, show_tree, bytes_and, entries_read, tree_of_lines, tree_read}

@@ -6,18 +6,18 @@ use Rattle.std.specs.Int.{w32, from_be_bytes}
 use Rattle.std.proofs.lemmas.Bool.{cond-true, cases_Bool, or_parts, eq-eqb, true≢false}
 use Rattle.std.proofs.lemmas.List.{append-nil, length-append, take_at}
 use Rattle.std.proofs.lemmas.Slice.Eq.{bytes_eq-Decides}
-use Rattle.sftp_wire.specs.declared.packets.Ask.{Ask}
-use Rattle.sftp_wire.specs.declared.packets.Ask.TheVariants as asks
-use Rattle.sftp_wire.specs.declared.packets.Answer.{Answer}
-use Rattle.sftp_wire.specs.declared.packets.Answer.TheVariants as answers
-use Rattle.sftp_wire.specs.declared.packets.Packet.{Packet}
-use Rattle.sftp_wire.specs.declared.packets.Packet.TheVariants.{Init, Version, Request, Reply}
-use Rattle.sftp_wire.specs.declared.packets.Side.{Side}
-use Rattle.sftp_wire.specs.declared.packets.Side.TheVariants.{Client, Server}
-use Rattle.sftp_wire.specs.declared.attributes.Attrs.{Attrs as WireAttrs}
-use Rattle.sftp_wire.specs.declared.names.NameItem.{NameItem}
-use Rattle.sftp_wire.specs.Spelling as wire
-use Rattle.sftp_wire.proofs.Bytes.Numbers.{wide32}
+use Rattle.sftp_packets.specs.declared.packets.Ask.{Ask}
+use Rattle.sftp_packets.specs.declared.packets.Ask.TheVariants as asks
+use Rattle.sftp_packets.specs.declared.packets.Answer.{Answer}
+use Rattle.sftp_packets.specs.declared.packets.Answer.TheVariants as answers
+use Rattle.sftp_packets.specs.declared.packets.Packet.{Packet}
+use Rattle.sftp_packets.specs.declared.packets.Packet.TheVariants.{Init, Version, Request, Reply}
+use Rattle.sftp_packets.specs.declared.packets.Side.{Side}
+use Rattle.sftp_packets.specs.declared.packets.Side.TheVariants.{Client, Server}
+use Rattle.sftp_packets.specs.declared.attributes.Attrs.{Attrs as WireAttrs}
+use Rattle.sftp_packets.specs.declared.names.NameItem.{NameItem}
+use Rattle.sftp_packets.specs.Spelling as wire
+use Rattle.sftp_packets.proofs.Bytes.Numbers.{wide32}
 use Rattle.sftp_text.specs.Formats.{nothing, ◌then◌, word, mark, strip, if_found}
 use Rattle.sftp_text.specs.Digits as digits
 use Rattle.sftp_text.specs.Fields.{field_text, tail_text, fields_text}

@@ -6,10 +6,10 @@ use Rattle.std.specs.List.{list_all, list_any}
 use Rattle.std.proofs.lemmas.Bool.{cond-true, cond-false, cases_Bool, and_from, and_parts, eqb-true, eq-eqb, or_left, or_right, true≢false}
 use Rattle.std.proofs.lemmas.List.{append-nil}
 use Rattle.std.proofs.lemmas.Option.{option_and_then_some}
-use Rattle.sftp_wire.specs.declared.attributes.Attrs.{Attrs as WireAttrs}
-use Rattle.sftp_wire.specs.Spelling.{AreBytes, flag}
-use Rattle.sftp_wire.specs.Reading.{has_flag, are_known}
-use Rattle.sftp_wire.proofs.FieldLaws.Flags.{attribute_flags-are, SaysFields}
+use Rattle.sftp_packets.specs.declared.attributes.Attrs.{Attrs as WireAttrs}
+use Rattle.sftp_packets.specs.Spelling.{AreBytes, flag}
+use Rattle.sftp_packets.specs.Reading.{has_flag, are_known}
+use Rattle.sftp_packets.proofs.FieldLaws.Flags.{attribute_flags-are, SaysFields}
 use Rattle.sftp_text.specs.Formats.{Format, ◌then◌, word, strip, stay, begins_with, if_found, listed}
 use Rattle.sftp_text.specs.Digits.{number}
 use Rattle.sftp_text.specs.Quoted.{string_text}

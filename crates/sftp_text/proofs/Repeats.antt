@@ -6,7 +6,7 @@ use Rattle.std.specs.List.{list_all}
 use Rattle.std.proofs.lemmas.Bool.{cond-true, cond-false}
 use Rattle.std.proofs.lemmas.List.{append-nil, length-append}
 use Rattle.std.proofs.lemmas.Option.{option_and_then_some}
-use Rattle.sftp_wire.specs.Spelling.{AreBytes}
+use Rattle.sftp_packets.specs.Spelling.{AreBytes}
 use Rattle.sftp_text.specs.Formats.{Step, Format, ◌then◌, strip, word, if_found, begins_with}
 use Rattle.sftp_text.specs.Formats.{show_each, show_list, read_each, read_list, listed, repeat, repeat_to_end, to_end}
 use Rattle.sftp_text.specs.Lines.{is_printable}

@@ -5,8 +5,8 @@ use Rattle.std.specs.Prelude.{IsTrue, option_and_then, ◌==◌}
 use Rattle.std.specs.List.{list_all, AllByRecursion}
 use Rattle.std.proofs.lemmas.Bool.{cond-false, cases_Bool, eqb-true, and_parts}
 use Rattle.std.proofs.lemmas.List.{append-nil}
-use Rattle.sftp_wire.specs.declared.packets.Side.{Side}
-use Rattle.sftp_wire.specs.Spelling.{AreBytes}
+use Rattle.sftp_packets.specs.declared.packets.Side.{Side}
+use Rattle.sftp_packets.specs.Spelling.{AreBytes}
 use Rattle.sftp_text.specs.Lines.{is_printable, line_of, line_read, side_of_letter, bytes_of_text, text_of, is_blank, and_others, with_line, lines_read, text_read}
 use Rattle.sftp_text.proofs.Exact.{none-some}
 use Rattle.sftp_text.proofs.Written.{line-IsLine}

@@ -6,12 +6,12 @@ use Rattle.std.specs.Int.{Width, w32, w64, byte_len, from_be_bytes, to_be_bytes}
 use Rattle.std.specs.List.{flat_map, AllByRecursion}
 use Rattle.std.proofs.lemmas.Bool.{cond-true, cond-false, le-leb}
 use Rattle.std.proofs.lemmas.List.{append-nil, length-append, take_at, drop_at}
-use Rattle.sftp_wire.specs.declared.attributes.Attrs.{Attrs as WireAttrs}
-use Rattle.sftp_wire.specs.declared.names.NameItem.{NameItem}
-use Rattle.sftp_wire.specs.Spelling as wire
-use Rattle.sftp_wire.specs.Reading.{has_flag, are_known}
-use Rattle.sftp_wire.proofs.Bytes.Numbers.{IsWide, wide32, wide64}
-use Rattle.sftp_wire.proofs.FieldLaws.Flags.{attribute_flags-say, attribute_flags-known}
+use Rattle.sftp_packets.specs.declared.attributes.Attrs.{Attrs as WireAttrs}
+use Rattle.sftp_packets.specs.declared.names.NameItem.{NameItem}
+use Rattle.sftp_packets.specs.Spelling as wire
+use Rattle.sftp_packets.specs.Reading.{has_flag, are_known}
+use Rattle.sftp_packets.proofs.Bytes.Numbers.{IsWide, wide32, wide64}
+use Rattle.sftp_packets.proofs.FieldLaws.Flags.{attribute_flags-say, attribute_flags-known}
 use Rattle.sftp_text.specs.Formats.{Step, Format, Counted, stay, after, ◌then◌, word, mark, strip, front_number, front_uint32, ahead, if_found}
 use Rattle.sftp_text.specs.Formats.{show_each, show_list, listed, repeat}
 use Rattle.sftp_text.specs.Digits.{four_bytes, eight_bytes, decimal_in, octal_text, octal_in, flags_text, flags_in, number, long, octal, flags}

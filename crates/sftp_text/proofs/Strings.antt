@@ -5,7 +5,7 @@ use Rattle.std.specs.Prelude.{IsTrue, option_and_then, ◌==◌, nat_le}
 use Rattle.std.specs.List.{list_all, flat_map}
 use Rattle.std.proofs.lemmas.Bool.{cond-true, cond-false, cases_Bool, and_parts, eqb-true, leb-true, agree_below_at}
 use Rattle.std.proofs.lemmas.List.{append-nil, length-take, take-append-drop}
-use Rattle.sftp_wire.specs.Spelling.{AreBytes}
+use Rattle.sftp_packets.specs.Spelling.{AreBytes}
 use Rattle.sftp_text.specs.Formats.{begins_with}
 use Rattle.sftp_text.specs.Quoted.{hex_digit, hex_value, hex_byte, hex_text, byte_of, hex_onto, is_plain, byte_text, quoted}
 use Rattle.sftp_text.specs.Quoted.{Place, Effect, effect_of, with_effect, unquoted, text_in, rest_text, counted_text, string_text, or_refuse}

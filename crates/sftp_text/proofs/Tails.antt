@@ -4,7 +4,7 @@ use Rattle.std.proofs.Common.{Option, Some, None, refl, sym, ap, subst, ◌∙�
 use Rattle.std.specs.Prelude.{IsTrue, IsFalse, ◌==◌, codes}
 use Rattle.std.proofs.lemmas.Bool.{eqb-true, and_parts}
 use Rattle.std.proofs.lemmas.List.{append-nil}
-use Rattle.sftp_wire.specs.Spelling.{AreBytes}
+use Rattle.sftp_packets.specs.Spelling.{AreBytes}
 use Rattle.sftp_text.specs.Formats.{nothing, ◌then◌, word, strip, begins_with, if_found, if_any, listed}
 use Rattle.sftp_text.specs.Quoted.{string_text, rest_text}
 use Rattle.sftp_text.specs.Fields.{pairs, attributes, name_item, names, no_message, two_texts, message}

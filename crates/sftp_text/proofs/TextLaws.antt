@@ -4,7 +4,7 @@ use Rattle.std.proofs.Common.{Err, true, false, if◌then◌else◌, refl, sym, 
 use Rattle.std.specs.Prelude.{option_and_then, flat_map}
 use Rattle.std.proofs.lemmas.Bool.{cond-true, cond-false, cases_Bool}
 use Rattle.std.proofs.lemmas.List.{append-nil, length-append}
-use Rattle.sftp_wire.specs.declared.packets.Side.{Side}
+use Rattle.sftp_packets.specs.declared.packets.Side.{Side}
 use Rattle.sftp_text.specs.declared.errors.Fault.{Fault}
 use Rattle.sftp_text.specs.declared.errors.Fault.TheVariants as faults
 use Rattle.sftp_text.specs.declared.errors.TextFault.{TextFault}

@@ -6,7 +6,7 @@ use Rattle.std.specs.List.{list_all}
 use Rattle.std.proofs.lemmas.Bool.{cond-true, cond-false, cases_Bool, eqb-true}
 use Rattle.std.proofs.lemmas.List.{append-nil}
 use Rattle.std.proofs.lemmas.Option.{option_and_then_some}
-use Rattle.sftp_wire.specs.Spelling.{AreBytes}
+use Rattle.sftp_packets.specs.Spelling.{AreBytes}
 use Rattle.sftp_text.specs.Formats.{Format, ◌then◌, word, mark, ReadsBack}
 use Rattle.sftp_text.specs.Digits.{number, octal}
 use Rattle.sftp_text.specs.Quoted.{string_text}

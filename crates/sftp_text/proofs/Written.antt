@@ -6,10 +6,10 @@ use Rattle.std.specs.List.{list_all}
 use Rattle.std.specs.Int.{w32, to_be_bytes}
 use Rattle.std.proofs.lemmas.Bool.{cond-true, cond-false, cases_Bool, eqb-true, lt-ltb}
 use Rattle.std.proofs.lemmas.List.{append-nil}
-use Rattle.sftp_wire.specs.declared.packets.Side.{Side}
-use Rattle.sftp_wire.specs.declared.packets.Side.TheVariants.{Client, Server}
-use Rattle.sftp_wire.specs.Spelling.{AreBytes}
-use Rattle.sftp_wire.proofs.Bytes.Numbers.{wide32}
+use Rattle.sftp_packets.specs.declared.packets.Side.{Side}
+use Rattle.sftp_packets.specs.declared.packets.Side.TheVariants.{Client, Server}
+use Rattle.sftp_packets.specs.Spelling.{AreBytes}
+use Rattle.sftp_packets.proofs.Bytes.Numbers.{wide32}
 use Rattle.sftp_text.specs.Formats.{front_uint32, if_found}
 use Rattle.sftp_text.specs.Layouts.{row, packet_text, layout_of_bytes, layout_of_text}
 use Rattle.sftp_text.specs.Lines.{is_printable, whole, digits_text, raw_text, digits_read, raw_read, side_letter, show_whole, show_packet, named_line, line_of}

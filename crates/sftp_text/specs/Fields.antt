@@ -1,7 +1,7 @@
 -- The fields of packets (draft-ietf-secsh-filexfer-02, sections 3 to 7).
 use Rattle.std.specs.Prelude.{ℕ, ◌+◌, if◌then◌else◌, List, [], ◌∷◌, ◌++◌, codes}
 use Rattle.std.specs.Prelude.{Option, Some, None, option_and_then, replicate}
-use Rattle.sftp_wire.specs.Reading.{has_flag, are_known}
+use Rattle.sftp_packets.specs.Reading.{has_flag, are_known}
 use Rattle.sftp_text.specs.Formats.{Step, Format, Counted, stay, after, nothing, ◌then◌, strip, word, ahead}
 use Rattle.sftp_text.specs.Formats.{if_found, if_any, listed, to_end}
 use Rattle.sftp_text.specs.Digits.{number, long, octal, flags}

@@ -1,6 +1,6 @@
 -- What the code of records returns, beside the definitions of lines.
 use Rattle.std.specs.Prelude.{◌≡◌, ◌≢◌, ◌==◌, ℕ, List, [], length, if◌then◌else◌, Option, Some, None, Result, Ok, Err, option_and_then}
-use Rattle.sftp_wire.specs.declared.packets.Side.{Side}
+use Rattle.sftp_packets.specs.declared.packets.Side.{Side}
 use Rattle.sftp_text.specs.declared.errors.Stop.{Stop}
 use Rattle.sftp_text.specs.declared.errors.Stop.TheVariants as stops
 use Rattle.sftp_text.specs.declared.errors.Fault.{Fault}

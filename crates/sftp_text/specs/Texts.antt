@@ -1,7 +1,7 @@
 -- Texts of several lines: how they are cut into lines, and what the code that reads them does.
 use Rattle.std.specs.Prelude.{◌≡◌, ◌==◌, ℕ, if◌then◌else◌, List, [], ◌∷◌, ◌++◌, Option, Some, None, Result, Ok, Err}
 use Rattle.std.specs.Prelude.{option_and_then, flat_map}
-use Rattle.sftp_wire.specs.declared.packets.Side.{Side}
+use Rattle.sftp_packets.specs.declared.packets.Side.{Side}
 use Rattle.sftp_text.specs.declared.errors.Fault.{Fault}
 use Rattle.sftp_text.specs.declared.errors.Fault.TheVariants as faults
 use Rattle.sftp_text.specs.declared.errors.TextFault.{TextFault}

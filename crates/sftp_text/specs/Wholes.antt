@@ -2,7 +2,7 @@
 use Rattle.std.specs.Prelude.{◌≡◌, ◌==◌, ℕ, if◌then◌else◌, List, [], ◌∷◌, ◌++◌, take, drop, Option, Some, None, Result, Ok, Err}
 use Rattle.std.specs.Prelude.{option_and_then}
 use Rattle.std.specs.List.{flat_map}
-use Rattle.sftp_wire.specs.declared.packets.Side.{Side}
+use Rattle.sftp_packets.specs.declared.packets.Side.{Side}
 use Rattle.sftp_text.specs.declared.errors.ShowFault.{ShowFault}
 use Rattle.sftp_text.specs.declared.errors.ShowFault.TheVariants as shows
 use Rattle.sftp_text.specs.declared.errors.Fault.{Fault}

@@ -5,7 +5,8 @@ use Rattle.sftp_transcript.proofs.Imports.{refl, sym, ap, ◌∙◌, arith, w32,
 use Rattle.sftp_transcript.proofs.Imports.{le-ltb, take_at, take-append-le, drop-append-le, length-append, length-drop}
 use Rattle.sftp_transcript.proofs.Imports.{Fault, Length, Packet, Side, uint32, packet_limit, wide32, CutsPacket}
 use Rattle.std.specs.Prelude.{◌||◌}
-use Rattle.sftp_wire.specs.Reading.{◌>>=◌, packet_of, front_of}
+use Rattle.sftp_packets.specs.Reading.{◌>>=◌, packet_of}
+use Rattle.sftp_wire.specs.Fronts.{front_of}
 use Rattle.sftp_transcript.proofs.Inputs.{same_cons}
 
 -- ---- a fault in front stays, whatever follows

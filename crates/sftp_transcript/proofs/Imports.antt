@@ -40,14 +40,14 @@ pub use Rattle.sftp_transcript.specs.declared.errors.TranscriptError.TheVariants
 pub use Rattle.sftp_transcript.specs.declared.events.Event.{Event}
 pub use Rattle.sftp_transcript.specs.declared.events.Event.TheVariants.{Asked, Replied}
 pub use Rattle.sftp_transcript.specs.declared.stage.Stage.{Stage}
-pub use Rattle.sftp_wire.proofs.Bytes.Numbers.{wide32}
-pub use Rattle.sftp_wire.specs.Spelling.{uint32, packet_limit, contents, HasSpelling, side_of}
-unfoldable pub use Rattle.sftp_wire.specs.Spelling.{spelling}
-pub use Rattle.sftp_wire.specs.declared.errors.Fault.{Fault}
-pub use Rattle.sftp_wire.specs.declared.errors.Fault.TheVariants.{Length}
-pub use Rattle.sftp_wire.specs.declared.packets.Packet.{Packet}
-pub use Rattle.sftp_wire.specs.declared.packets.Packet.TheVariants.{Init, Version, Request}
-pub use Rattle.sftp_wire.specs.declared.packets.Reply.{Reply}
-pub use Rattle.sftp_wire.specs.declared.packets.Side.{Side}
-pub use Rattle.sftp_wire.specs.declared.packets.Side.TheVariants.{Client, Server}
+pub use Rattle.sftp_packets.proofs.Bytes.Numbers.{wide32}
+pub use Rattle.sftp_packets.specs.Spelling.{uint32, packet_limit, contents, HasSpelling, side_of}
+unfoldable pub use Rattle.sftp_packets.specs.Spelling.{spelling}
+pub use Rattle.sftp_packets.specs.declared.errors.Fault.{Fault}
+pub use Rattle.sftp_packets.specs.declared.errors.Fault.TheVariants.{Length}
+pub use Rattle.sftp_packets.specs.declared.packets.Packet.{Packet}
+pub use Rattle.sftp_packets.specs.declared.packets.Packet.TheVariants.{Init, Version, Request}
+pub use Rattle.sftp_packets.specs.declared.packets.Reply.{Reply}
+pub use Rattle.sftp_packets.specs.declared.packets.Side.{Side}
+pub use Rattle.sftp_packets.specs.declared.packets.Side.TheVariants.{Client, Server}
 pub use borrow.Rule.Slice.PartMut.{post_of}

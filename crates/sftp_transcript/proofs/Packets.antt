@@ -9,7 +9,7 @@ use Rattle.sftp_transcript.proofs.Imports.{FaultNext, GivenRecord, GivesPacket, 
 use Rattle.sftp_transcript.proofs.Imports.{number_past, number_then, IsStageThen, TookNoRecord, Begins, IsInit}
 use Rattle.sftp_transcript.proofs.Imports.{IsVersion, Reading, rank, HasAhead, IsExcuse, IsOpened, Took}
 use Rattle.sftp_transcript.proofs.Imports.{transcript_opening, packet_of}
-use Rattle.sftp_wire.specs.declared.packets.Packet.TheVariants.{Reply}
+use Rattle.sftp_packets.specs.declared.packets.Packet.TheVariants.{Reply}
 use Rattle.sftp_transcript.specs.declared.stage.Stage.TheVariants as stages
 use Rattle.sftp_transcript.specs.Refused.{KindFault, IsEventPacket}
 use Rattle.sftp_transcript.proofs.Begun.{opening_read, greeting_read, event_read, number_more, given_kept, given_passed}

@@ -1,10 +1,10 @@
 -- What a reader of a transcript file has ahead of it: bytes that it holds, and bytes that its source has left.
 use Rattle.std.specs.Prelude.{◌≡◌, ℕ, ◌+◌, ◌*◌, ◌≤◌, List, ◌∷◌, ◌++◌, length, drop, Option, Some, None, Ok}
 use Rattle.std.specs.Io.KnownBytes.{Keeps, IsAtEnd, prepend_known}
-use Rattle.sftp_wire.specs.declared.packets.Packet.{Packet}
-use Rattle.sftp_wire.specs.declared.packets.Side.{Side}
-use Rattle.sftp_wire.specs.Reading.{front_of}
-use Rattle.sftp_wire.specs.Spelling.{HasSpelling, packet_limit}
+use Rattle.sftp_packets.specs.declared.packets.Packet.{Packet}
+use Rattle.sftp_packets.specs.declared.packets.Side.{Side}
+use Rattle.sftp_wire.specs.Fronts.{front_of}
+use Rattle.sftp_packets.specs.Spelling.{HasSpelling, packet_limit}
 use Rattle.sftp_transcript.specs.Transcript.{transcript_opening, record_text}
 
 -- the bytes held; those left, where they are known; how many calls of the source failed; a number that falls with each

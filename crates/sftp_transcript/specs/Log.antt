@@ -1,10 +1,10 @@
 -- A transcript that is being written: what its sink has, and what each call appends. This profile's own.
 use Rattle.std.specs.Prelude.{◌≡◌, ◌⊎◌, ◌==◌, ℕ, List, [], ◌++◌, Option, Some, None, if◌then◌else◌}
 use Rattle.std.specs.Io.KnownBytes.{Appends, Keeps}
-use Rattle.sftp_wire.specs.declared.errors.Fault.TheVariants.{WrongType}
-use Rattle.sftp_wire.specs.declared.packets.Packet.{Packet}
-use Rattle.sftp_wire.specs.declared.packets.Side.{Side}
-use Rattle.sftp_wire.specs.Spelling.{HasSpelling, side_of}
+use Rattle.sftp_packets.specs.declared.errors.Fault.TheVariants.{WrongType}
+use Rattle.sftp_packets.specs.declared.packets.Packet.{Packet}
+use Rattle.sftp_packets.specs.declared.packets.Side.{Side}
+use Rattle.sftp_packets.specs.Spelling.{HasSpelling, side_of}
 use Rattle.sftp_transcript.specs.declared.errors.TranscriptError.{TranscriptError}
 use Rattle.sftp_transcript.specs.declared.errors.TranscriptError.TheVariants.{Wire, Io, NoMemory}
 use Rattle.sftp_transcript.specs.Streams.{one_more, AppendsPart}

@@ -1,15 +1,15 @@
 -- The steps by which a transcript file is read from left to right. This profile's own.
 use Rattle.std.specs.Prelude.{◌≡◌, ◌==◌, ℕ, ◌≤◌, List, ◌++◌, Option, Some, None}
 use Rattle.std.specs.Prelude.{Result, MatchResult, IsTrue, if◌then◌else◌}
-use Rattle.sftp_wire.specs.declared.errors.Fault.TheVariants.{Length, WrongType}
-use Rattle.sftp_wire.specs.declared.errors.WireError.{WireError}
-use Rattle.sftp_wire.specs.declared.errors.WireError.TheVariants.{TooLong, NotCanonical, Unreadable}
-use Rattle.sftp_wire.specs.declared.errors.WireError.TheVariants.{NoMemory as wire_no_memory}
-use Rattle.sftp_wire.specs.declared.packets.Packet.{Packet}
-use Rattle.sftp_wire.specs.declared.packets.Packet.TheVariants.{Init, Version}
-use Rattle.sftp_wire.specs.declared.packets.Side.{Side}
-use Rattle.sftp_wire.specs.declared.packets.Side.TheVariants.{Client, Server}
-use Rattle.sftp_wire.specs.Spelling.{HasSpelling}
+use Rattle.sftp_packets.specs.declared.errors.Fault.TheVariants.{Length, WrongType}
+use Rattle.sftp_packets.specs.declared.errors.WireError.{WireError}
+use Rattle.sftp_packets.specs.declared.errors.WireError.TheVariants.{TooLong, NotCanonical, Unreadable}
+use Rattle.sftp_packets.specs.declared.errors.WireError.TheVariants.{NoMemory as wire_no_memory}
+use Rattle.sftp_packets.specs.declared.packets.Packet.{Packet}
+use Rattle.sftp_packets.specs.declared.packets.Packet.TheVariants.{Init, Version}
+use Rattle.sftp_packets.specs.declared.packets.Side.{Side}
+use Rattle.sftp_packets.specs.declared.packets.Side.TheVariants.{Client, Server}
+use Rattle.sftp_packets.specs.Spelling.{HasSpelling}
 use Rattle.sftp_transcript.specs.declared.errors.TranscriptError.{TranscriptError}
 use Rattle.sftp_transcript.specs.declared.errors.TranscriptError.TheVariants.{Wire, NoMemory}
 use Rattle.sftp_transcript.specs.Transcript.{record_text}

@@ -2,12 +2,12 @@
 -- draft-ietf-secsh-filexfer-02, section 4 on.
 use Rattle.std.specs.Prelude.{◌≡◌, ℕ, ◌≤◌, List, ◌∷◌, ◌++◌, codes}
 use Rattle.std.specs.List.{flat_map, AllByRecursion}
-use Rattle.sftp_wire.specs.declared.packets.Packet.{Packet}
-use Rattle.sftp_wire.specs.declared.packets.Packet.TheVariants.{Init, Version, Request as request_packet}
-use Rattle.sftp_wire.specs.declared.packets.Packet.TheVariants.{Reply as reply_packet}
-use Rattle.sftp_wire.specs.declared.packets.Side.{Side}
-use Rattle.sftp_wire.specs.declared.packets.Side.TheVariants.{Client, Server}
-use Rattle.sftp_wire.specs.Spelling.{spelling, HasSpelling, side_of}
+use Rattle.sftp_packets.specs.declared.packets.Packet.{Packet}
+use Rattle.sftp_packets.specs.declared.packets.Packet.TheVariants.{Init, Version, Request as request_packet}
+use Rattle.sftp_packets.specs.declared.packets.Packet.TheVariants.{Reply as reply_packet}
+use Rattle.sftp_packets.specs.declared.packets.Side.{Side}
+use Rattle.sftp_packets.specs.declared.packets.Side.TheVariants.{Client, Server}
+use Rattle.sftp_packets.specs.Spelling.{spelling, HasSpelling, side_of}
 use Rattle.sftp_transcript.specs.declared.events.Event.{Event}
 use Rattle.sftp_transcript.specs.declared.events.Event.TheVariants.{Asked, Replied}
 

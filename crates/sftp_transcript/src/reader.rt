@@ -2,7 +2,7 @@
 //! the draft, section 4 on.
 ghost use Rattle.std.specs.Prelude.{◌≡◌, ◌≢◌, ◌⊎◌, ◌<◌, ◌≤◌, List, ℕ, ⊤, [], Some, None, Ok, Err, IfSome, MatchResult};
 ghost use Rattle.std.specs.Prelude.{OnOk, OnErr, IfOk, IfErr};
-ghost use Rattle.sftp_wire.specs.declared.packets.Packet.{Packet};
+ghost use Rattle.sftp_packets.specs.declared.packets.Packet.{Packet};
 ghost use Rattle.sftp_transcript.specs.declared.errors.TranscriptError.{TranscriptError};
 ghost use Rattle.sftp_transcript.specs.declared.events.Event.{Event};
 ghost use Rattle.sftp_transcript.specs.Ahead.{IsSameAhead, size_of};

@@ -1,6 +1,6 @@
 -- The requests that are judged by their paths, as the code has them.
-use Rattle.sftp_wire.specs.declared.packets.Ask as wire
-use Rattle.sftp_wire.specs.declared.packets.Ask.TheVariants as asks
+use Rattle.sftp_packets.specs.declared.packets.Ask as wire
+use Rattle.sftp_packets.specs.declared.packets.Ask.TheVariants as asks
 use Rattle.sftp_tree.specs.declared.asks.PathAsk.{PathAsk}
 use Rattle.sftp_tree.specs.declared.asks.PathAsk.TheVariants.{Mkdir, Rmdir, Remove, Setstat, Stat, Lstat, Realpath}
 use Rattle.sftp_tree.specs.declared.asks.PathAsk.TheVariants.{Readlink, Symlink, Rename, PosixRename, Hardlink}

@@ -2,7 +2,7 @@
 -- profile's own.
 use Rattle.std.specs.Prelude.{ℕ, ◌+◌, ◌-◌, ◌%◌, ◌^◌, List, ◌++◌, length, take, replicate, Option, Some, None, unwrap_or}
 use Rattle.std.specs.Option.{option_map}
-use Rattle.sftp_wire.specs.declared.attributes.Attrs.{Attrs}
+use Rattle.sftp_packets.specs.declared.attributes.Attrs.{Attrs}
 use Rattle.sftp_treefile.specs.declared.files.Owner.{Owner}
 use Rattle.sftp_tree.specs.declared.file_contents.Content.{Content}
 use Rattle.sftp_tree.specs.declared.nodes.Node.{Node}

@@ -1,7 +1,7 @@
 -- What requests change in a tree (draft-ietf-secsh-filexfer-02, sections 6.3 to 6.11; OpenSSH's PROTOCOL, section 4.3
 -- for posix-rename and 4.5 for hardlink).
 use Rattle.std.specs.Prelude.{ℕ, ◌+◌, if◌then◌else◌, [], Option, Some, None}
-use Rattle.sftp_wire.specs.declared.attributes.Attrs.{Attrs}
+use Rattle.sftp_packets.specs.declared.attributes.Attrs.{Attrs}
 use Rattle.sftp_path.specs.Place.{Place}
 use Rattle.sftp_path.specs.Rekeying.{rekeyed}
 use Rattle.sftp_tree.specs.declared.file_contents.Content.{Content}

@@ -1,5 +1,5 @@
 -- Items as the code has them: the entries of listings.
-use Rattle.sftp_wire.specs.declared.attributes.Attrs.{Attrs}
+use Rattle.sftp_packets.specs.declared.attributes.Attrs.{Attrs}
 use Rattle.sftp_path.specs.Place.{Name}
 use Rattle.sftp_tree.specs.declared.listings.Item.{Item}
 

@@ -1,5 +1,4 @@
 pub mod Tree
-pub mod AskValues
 pub mod Nesting
 pub mod NestingSizes
 pub mod NodesBelow

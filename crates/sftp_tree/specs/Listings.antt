@@ -2,7 +2,7 @@
 -- names is this profile's own.
 use Rattle.std.specs.Prelude.{if◌then◌else◌, filter_map, [], ◌∷◌, Option, Some, None}
 use Rattle.std.specs.Option.{option_map}
-use Rattle.sftp_wire.specs.declared.attributes.Attrs.{Attrs}
+use Rattle.sftp_packets.specs.declared.attributes.Attrs.{Attrs}
 use Rattle.sftp_path.specs.Place.{Name, Place, same_bytes}
 use Rattle.sftp_path.specs.Table.{Table}
 use Rattle.sftp_tree.specs.declared.nodes.Node.{Node}

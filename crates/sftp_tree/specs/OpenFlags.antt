@@ -1,7 +1,7 @@
 -- The flags of OPEN (draft-ietf-secsh-filexfer-02, section 6.3). Which of them are bad together is this profile's own.
 use Rattle.std.specs.Prelude.{◌==◌, ◌&&◌, ◌||◌, not, ℕ, Bool}
 use Rattle.std.specs.Int.RustNames.{bit_and}
-use Rattle.sftp_wire.specs.Reading.{has_flag}
+use Rattle.sftp_packets.specs.Reading.{has_flag}
 
 -- the file is opened to be read
 abbrev pub reads : ℕ → Bool

@@ -1,7 +1,7 @@
 -- The causes that hold at the places which the paths of a request lead to (draft-ietf-secsh-filexfer-02, sections 6.3
 -- to 6.11; OpenSSH's PROTOCOL, sections 4.3 and 4.5). They are this profile's own.
 use Rattle.std.specs.Prelude.{◌==◌, ◌&&◌, ◌||◌, not, ℕ, Bool, false, if◌then◌else◌, List, Option, Some, is_some}
-use Rattle.sftp_wire.specs.declared.attributes.Attrs.{Attrs}
+use Rattle.sftp_packets.specs.declared.attributes.Attrs.{Attrs}
 use Rattle.sftp_path.specs.Place.{Place, is_below}
 use Rattle.sftp_treefile.specs.TreeFile.{is_root, is_target, same_place}
 use Rattle.sftp_tree.specs.declared.nodes.Node.{Node}

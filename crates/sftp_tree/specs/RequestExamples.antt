@@ -1,7 +1,7 @@
 -- What the worked examples of requests name: small trees whose home is the root, and the attributes shown of their
 -- entries.
 use Rattle.std.specs.Prelude.{ℕ, List, [], ◌∷◌, Some, codes}
-use Rattle.sftp_wire.specs.declared.attributes.Attrs.{Attrs}
+use Rattle.sftp_packets.specs.declared.attributes.Attrs.{Attrs}
 use Rattle.sftp_wire.specs.Examples.{no_attributes}
 use Rattle.sftp_path.specs.Place.{Name, Place}
 use Rattle.sftp_path.specs.Table.{Table}

@@ -4,9 +4,9 @@ use Rattle.std.specs.Prelude.{None, Result, Ok, Err}
 use Rattle.std.specs.List.{list_all}
 use Rattle.sftp_path.specs.Place.{Place, begins, depth_limit}
 use Rattle.sftp_treefile.specs.declared.limits.TreeLimits.{TreeLimits}
-use Rattle.sftp_wire.specs.declared.packets.Ask.{Ask}
-use Rattle.sftp_wire.specs.declared.packets.Ask.TheVariants.{Open, Setstat, Mkdir, Rename, Symlink, PosixRename}
-use Rattle.sftp_wire.specs.declared.packets.Ask.TheVariants.{Hardlink}
+use Rattle.sftp_packets.specs.declared.packets.Ask.{Ask}
+use Rattle.sftp_packets.specs.declared.packets.Ask.TheVariants.{Open, Setstat, Mkdir, Rename, Symlink, PosixRename}
+use Rattle.sftp_packets.specs.declared.packets.Ask.TheVariants.{Hardlink}
 use Rattle.sftp_tree.specs.declared.nodes.Node.{Node}
 use Rattle.sftp_tree.specs.declared.causes.Cause.{Cause}
 use Rattle.sftp_tree.specs.Tree.{Tree, Names, limits, node_at, is_file, depth_fits}

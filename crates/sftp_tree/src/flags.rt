@@ -1,6 +1,6 @@
 //! The flags of OPEN (draft, section 6.3).
 ghost use Rattle.std.specs.Prelude.{◌≡◌};
-ghost use Rattle.sftp_wire.specs.Reading.{has_flag};
+ghost use Rattle.sftp_packets.specs.Reading.{has_flag};
 ghost use Rattle.sftp_tree.specs.OpenFlags as spec;
 
 use bitflags::Flags;

@@ -2,9 +2,9 @@
 //! the contract.
 ghost use Rattle.std.specs.Prelude.{◌≡◌, ◌↔◌, ◌⊎◌, ◌<◌, ◌≤◌, ◌||◌, ℕ, Bool, if◌then◌else◌};
 ghost use Rattle.std.specs.Prelude.{List, Some, None, Result, Ok, [], ◌∷◌, ◌++◌, true, false, IsTrue};
-ghost use Rattle.sftp_wire.specs.declared.packets.Ask.{Ask};
-ghost use Rattle.sftp_wire.specs.Spelling.{FitsAsk};
-ghost use Rattle.sftp_tree.specs.AskValues.{IsAsk};
+ghost use Rattle.sftp_packets.specs.declared.packets.Ask.{Ask};
+ghost use Rattle.sftp_packets.specs.Spelling.{FitsAsk};
+ghost use Rattle.sftp_packets.specs.AskValues.{IsAsk};
 ghost use Rattle.sftp_path.specs.Place.{Name, Place, name_cmp, parent, are_names, is_good_path};
 ghost use Rattle.sftp_path.specs.Table.{InOrder, get};
 ghost use Rattle.sftp_treefile.specs.TreeFile.{are_bytes};

@@ -9,7 +9,7 @@ ghost use Rattle.sftp_path.specs.Rekeying.{renamed, NothingFrom};
 ghost use Rattle.sftp_treefile.specs.Limits.{usual_limits, highest_limits};
 ghost use Rattle.sftp_tree.specs.declared.file_contents.Content.{Content};
 ghost use Rattle.sftp_tree.specs.declared.nodes.Node.{Node};
-ghost use Rattle.sftp_wire.specs.declared.attributes.Attrs.{Attrs};
+ghost use Rattle.sftp_packets.specs.declared.attributes.Attrs.{Attrs};
 ghost use Rattle.sftp_tree.specs.Tree.{Tree, IsKept, HasFile};
 ghost use Rattle.sftp_tree.specs.Tree.{limits, fits, entries_fit, depths_fit, home_fits, links_fit};
 ghost use Rattle.sftp_tree.specs.Tree.{files_fit, numbers_fit, depth_fits, link_fits, content_fits};

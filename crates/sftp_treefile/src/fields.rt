@@ -1,7 +1,7 @@
 //! The fields of tree files, read one by one. Each function reads what the bytes start with, and returns it and the
 //! bytes after it.
 ghost use Rattle.std.specs.Prelude.{◌≡◌, [], ◌∷◌, IfOk, IfErr, IsTrue};
-ghost use Rattle.sftp_wire.specs.Spelling.{uint32, string};
+ghost use Rattle.sftp_packets.specs.Spelling.{uint32, string};
 ghost use Rattle.sftp_treefile.specs.TreeFile.{place_of, owner_text, kind_text, are_bytes};
 ghost use Rattle.sftp_treefile.specs.TreeFile.{is_first_row, entry_at, IsPlaceText, IsOwner, IsKind};
 ghost use Rattle.sftp_treefile.specs.TreeFile as spec;

@@ -1,6 +1,6 @@
 //! The heads of tree files: what they say before their entries.
 ghost use Rattle.std.specs.Prelude.{◌≡◌, ◌++◌, ℕ, Bool, true, List, IfOk, IfErr};
-ghost use Rattle.sftp_wire.specs.Spelling.{uint32, string};
+ghost use Rattle.sftp_packets.specs.Spelling.{uint32, string};
 ghost use Rattle.sftp_treefile.specs.Limits.{IsBetween, AreLimits};
 ghost use Rattle.sftp_treefile.specs.TreeFile.{tree_opening, limits_text, IsPlaceText};
 ghost use Rattle.sftp_treefile.specs.TreeFileParts.{Reads, ReadsNone, OutOfMemoryOr, IsAt, IsCount, head_bytes, IsHead};

@@ -2,7 +2,7 @@
 //! path is the absolute text of a place, that entries come in the order of their places, that permissions have twelve
 //! bits, and that a further name has the number of a first name.
 ghost use Rattle.std.specs.Prelude.{◌≡◌, ◌++◌, ◌<◌, ◌^◌, true, length, IfOk, OnOk};
-ghost use Rattle.sftp_wire.specs.Spelling.{uint32, string};
+ghost use Rattle.sftp_packets.specs.Spelling.{uint32, string};
 ghost use Rattle.sftp_treefile.specs.declared.files.Kind.TheVariants.{Dir, First, Further, Link};
 ghost use Rattle.sftp_treefile.specs.Limits as spec;
 ghost use Rattle.sftp_treefile.specs.TreeFile.{IsTreeFile, tree_opening, limits_text, owner_text, row_text, spelled};

@@ -3,13 +3,13 @@
 use Rattle.std.specs.Prelude.{◌≡◌, ◌⊎◌, ◌==◌, ◌||◌, nat_lt, ℕ, ◌+◌, ◌-◌, ◌^◌, min, if◌then◌else◌, is_some}
 use Rattle.std.specs.Prelude.{List, [], ◌∷◌, ◌++◌, length, take, drop, Option, Some, None, Result, Ok, Err}
 use Rattle.std.specs.Int.{w32, from_be_bytes}
-use Rattle.sftp_wire.specs.declared.errors.Fault.{Fault}
-use Rattle.sftp_wire.specs.declared.errors.WireError.{WireError}
-use Rattle.sftp_wire.specs.declared.errors.WireError.TheVariants.{Unreadable, NoMemory}
-use Rattle.sftp_wire.specs.declared.packets.Packet.{Packet}
-use Rattle.sftp_wire.specs.declared.packets.Side.{Side}
-use Rattle.sftp_wire.specs.Spelling.{packet_limit, spelling, AreBytes}
-use Rattle.sftp_wire.specs.Reading.{front_of}
+use Rattle.sftp_packets.specs.declared.errors.Fault.{Fault}
+use Rattle.sftp_packets.specs.declared.errors.WireError.{WireError}
+use Rattle.sftp_packets.specs.declared.errors.WireError.TheVariants.{Unreadable, NoMemory}
+use Rattle.sftp_packets.specs.declared.packets.Packet.{Packet}
+use Rattle.sftp_packets.specs.declared.packets.Side.{Side}
+use Rattle.sftp_packets.specs.Spelling.{packet_limit, spelling, AreBytes}
+use Rattle.sftp_wire.specs.Fronts.{front_of}
 
 -- What a buffer holds of a stream: the bytes not yet taken out, the place in the stream of the first of them, and the
 -- fault that was reported, if any.

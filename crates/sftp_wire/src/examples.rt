@@ -1,15 +1,13 @@
 //! Worked examples: some bytes with the packets that they are read as, and some packets with their encodings, as
 //! theorems about the definitions that the contracts of `encode` and `front` name.
-#![tactic(auto, unfolding(crate::specs::Spelling::spelling, crate::specs::Examples::hex, crate::specs::Reading::front_of, crate::specs::Reading::packet_of, crate::specs::Reading::client_packet_at, crate::specs::Reading::server_packet_at, crate::specs::Reading::extension_at, crate::specs::Reading::extension_data_at, crate::specs::Reading::names_at, crate::specs::Reading::name_item_at, crate::specs::Reading::attributes_at, crate::specs::Reading::attribute_fields_at, crate::specs::Reading::counted_pairs_at, crate::specs::Reading::pairs_at, crate::specs::Reading::pair_at, crate::specs::Reading::handle_at, crate::specs::Reading::string_at, crate::specs::Reading::two_uint32_at, crate::specs::Reading::uint64_at, crate::specs::Reading::uint32_at))]
+#![tactic(auto, unfolding(sftp_packets::specs::Spelling::spelling, crate::specs::Examples::hex, crate::specs::Fronts::front_of, sftp_packets::specs::Reading::packet_of, sftp_packets::specs::Reading::client_packet_at, sftp_packets::specs::Reading::server_packet_at, sftp_packets::specs::Reading::extension_at, sftp_packets::specs::Reading::extension_data_at, sftp_packets::specs::Reading::names_at, sftp_packets::specs::Reading::name_item_at, sftp_packets::specs::Reading::attributes_at, sftp_packets::specs::Reading::attribute_fields_at, sftp_packets::specs::Reading::counted_pairs_at, sftp_packets::specs::Reading::pairs_at, sftp_packets::specs::Reading::pair_at, sftp_packets::specs::Reading::handle_at, sftp_packets::specs::Reading::string_at, sftp_packets::specs::Reading::two_uint32_at, sftp_packets::specs::Reading::uint64_at, sftp_packets::specs::Reading::uint32_at))]
 
 ghost use Rattle.std.specs.Prelude.{◌≡◌, true, [], ◌∷◌, codes};
-ghost use Rattle.sftp_wire.specs.Spelling.{hides_extension, server_extensions};
-ghost use Rattle.sftp_wire.specs.Reading.{front_of};
+ghost use Rattle.sftp_packets.specs.Spelling.{hides_extension, server_extensions};
+ghost use Rattle.sftp_wire.specs.Fronts.{front_of};
 ghost use Rattle.sftp_wire.specs.Examples.{hex, IsRow, IsAsked, IsAnswered, no_attributes, version_bytes};
 
-use crate::errors::Fault;
-use crate::open_flags::OpenFlags;
-use crate::packets::{Answer, Ask, Packet, Side};
+use sftp_packets::{Answer, Ask, Fault, OpenFlags, Packet, Side};
 
 /// The first packets of a session: the nine bytes of an INIT of version 3 without extensions, and the 124
 /// bytes of the server's VERSION.

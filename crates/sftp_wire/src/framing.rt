@@ -3,17 +3,15 @@
 ghost use Rattle.std.specs.Prelude.{◌≡◌, ◌⊎◌, ◌+◌, ◌-◌, ◌*◌, ◌<◌, ◌≤◌, List, ℕ, ◌++◌, length, drop, option_copied};
 ghost use Rattle.std.specs.Prelude.{Option, Some, None, Result, Ok, Err, IfOk, IfErr, IfSome, IfNone};
 ghost use Rattle.std.specs.Vec.{vec_len, vec_capacity};
-ghost use Rattle.sftp_wire.specs.declared.errors.Fault.{Fault};
-ghost use Rattle.sftp_wire.specs.declared.packets.Packet.{Packet};
-ghost use Rattle.sftp_wire.specs.declared.packets.Side.{Side};
-ghost use Rattle.sftp_wire.specs.Spelling.{HasSpelling, packet_limit, side_of, spelling};
+ghost use Rattle.sftp_packets.specs.declared.errors.Fault.{Fault};
+ghost use Rattle.sftp_packets.specs.declared.packets.Packet.{Packet};
+ghost use Rattle.sftp_packets.specs.declared.packets.Side.{Side};
+ghost use Rattle.sftp_packets.specs.Spelling.{HasSpelling, packet_limit, side_of, spelling};
 ghost use Rattle.sftp_wire.specs.Framing.{Frames, Step, IsStep, AreSteps, no_frames, place_after, room_of, told_of};
 ghost use Rattle.sftp_wire.specs.Framing.{all_in, all_out, whole_of, lent_of};
 
-use crate::errors::{Fault, WireError};
-use crate::packets::{PACKET_LIMIT, Packet, Side};
-use crate::reading::front;
-use crate::slices::take_number;
+use crate::fronts::front;
+use sftp_packets::{Fault, PACKET_LIMIT, Packet, Side, WireError, take_number};
 use std::alloc::Global;
 use std::marker::Model;
 
@@ -35,7 +33,7 @@ pub struct FrameBuf {
 impl Model for FrameBuf {
     ghost use Rattle.std.specs.Prelude.{◌+◌, ◌≤◌, ◌*◌, drop};
     ghost use Rattle.std.specs.Vec.{vec_len, vec_capacity};
-    ghost use Rattle.sftp_wire.specs.Spelling.{packet_limit};
+    ghost use Rattle.sftp_packets.specs.Spelling.{packet_limit};
     ghost use Rattle.sftp_wire.specs.Framing.{Frames};
 
     ghost Value = { Frames };

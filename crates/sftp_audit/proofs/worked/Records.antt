@@ -3,9 +3,9 @@ use Rattle.sftp_audit.proofs.Imports.{◌≡◌, nat_lt, ℕ, ◌^◌, ◌<◌, 
 use Rattle.sftp_audit.proofs.Imports.{sym, ◌∙◌, lit<, lit≤, list_all, flat_map, AllByRecursion, and_parts, append-nil}
 use Rattle.sftp_audit.proofs.Imports.{hex, no_attributes, Event, IsEvent, IsRecord, event_record, transcript_opening}
 use Rattle.sftp_audit.proofs.Imports.{packet_of, BeginsRecord, mkdir, rmdir, status, handshake_bytes, ltb-true}
-use Rattle.sftp_wire.specs.declared.packets.Packet.TheVariants.{Init, Version}
-use Rattle.sftp_wire.specs.Spelling.{spelling, packet_limit, server_extensions, AreBytes, FitsString, FitsPair}
-use Rattle.sftp_wire.specs.Spelling.{FitsAttrs, HasSpelling}
+use Rattle.sftp_packets.specs.declared.packets.Packet.TheVariants.{Init, Version}
+use Rattle.sftp_packets.specs.Spelling.{spelling, packet_limit, server_extensions, AreBytes, FitsString, FitsPair}
+use Rattle.sftp_packets.specs.Spelling.{FitsAttrs, HasSpelling}
 use Rattle.sftp_audit.specs.Examples.{backward_replies, backward_replies_bytes, removal_done_bytes, limits_session}
 use Rattle.sftp_audit.specs.Examples.{usual_limits_told, limits_bytes}
 

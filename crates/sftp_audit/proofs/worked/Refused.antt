@@ -3,8 +3,8 @@ use Rattle.sftp_audit.proofs.Imports.{◌≡◌, ℕ, List, [], ◌∷◌, codes
 use Rattle.sftp_audit.proofs.Imports.{Request, Reply, no_attributes, blank, Allowed, strict, begun, closed, waiting}
 use Rattle.sftp_audit.proofs.Imports.{turn_after, leading_pairs, Run, Sound, mkdir, status, Exchange, started}
 use Rattle.sftp_audit.proofs.Imports.{RefusedAt, StandsFor, IsFirstWrong, Refuses, LacksReply}
-use Rattle.sftp_wire.specs.declared.packets.Ask.TheVariants.{Mkdir, Rmdir}
-use Rattle.sftp_wire.specs.declared.packets.Answer.TheVariants.{Status}
+use Rattle.sftp_packets.specs.declared.packets.Ask.TheVariants.{Mkdir, Rmdir}
+use Rattle.sftp_packets.specs.declared.packets.Answer.TheVariants.{Status}
 use Rattle.sftp_audit.specs.Exchanges.{recorded_exchanges, unsettled, ledger_of}
 use Rattle.sftp_handles.specs.State.{State}
 use Rattle.sftp_audit.specs.declared.errors.Refusal.TheVariants as refusals

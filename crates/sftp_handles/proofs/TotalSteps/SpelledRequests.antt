@@ -1,10 +1,10 @@
 -- Requests that can be encoded have an id of 32 bits and paths of bytes.
 use Rattle.std.proofs.Common.{IsTrue, IfSome}
-use Rattle.sftp_wire.specs.declared.packets.Ask.{Ask}
-use Rattle.sftp_wire.specs.declared.packets.Ask.TheVariants as asks
-use Rattle.sftp_wire.specs.declared.packets.Packet.TheVariants.{Request as request_packet}
-use Rattle.sftp_wire.specs.declared.packets.Request.{Request}
-use Rattle.sftp_wire.specs.Spelling.{FitsAsk, HasSpelling}
+use Rattle.sftp_packets.specs.declared.packets.Ask.{Ask}
+use Rattle.sftp_packets.specs.declared.packets.Ask.TheVariants as asks
+use Rattle.sftp_packets.specs.declared.packets.Packet.TheVariants.{Request as request_packet}
+use Rattle.sftp_packets.specs.declared.packets.Request.{Request}
+use Rattle.sftp_packets.specs.Spelling.{FitsAsk, HasSpelling}
 use Rattle.sftp_treefile.specs.TreeFile.{are_bytes}
 use Rattle.sftp_tree.specs.Requests.{path_of}
 use Rattle.sftp_tree.proofs.WellFormedTrees.Fields.{bytes-fit}

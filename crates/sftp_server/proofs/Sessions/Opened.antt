@@ -14,7 +14,7 @@ use Rattle.sftp_server.proofs.Imports.{Passed, AreDone, IsAfterDone, Leaves, Sto
 use Rattle.sftp_server.proofs.Imports.{input_limit, ahead_without, IsRunning, IsUnopenedYet, BeginsWithGreeting}
 use Rattle.sftp_server.proofs.Imports.{FailsToSend, IsFirst, IsInFront, IsGreetingOf}
 use Rattle.std.specs.Result.{IsErrAnd}
-use Rattle.sftp_wire.specs.declared.packets.Packet.TheVariants.{Request, Reply}
+use Rattle.sftp_packets.specs.declared.packets.Packet.TheVariants.{Request, Reply}
 use Rattle.sftp_transcript.specs.Records.{IsInit}
 use Rattle.sftp_server.specs.declared.ends.SessionFault.TheVariants as faults
 use Rattle.sftp_server.specs.declared.ends.Stop.TheVariants as stops

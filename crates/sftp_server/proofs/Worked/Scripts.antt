@@ -9,8 +9,8 @@ use Rattle.sftp_server.proofs.Imports.{next_reply, window, mkdir, rmdir, status,
 use Rattle.sftp_server.proofs.Imports.{Machine, at_start, AreActs, IsWorked, IsSent, is_unsent, is_free_of, from_unsent}
 use Rattle.sftp_server.proofs.Imports.{server_clash, started, made_and_removed, answered_backwards, root_attributes}
 use Rattle.sftp_server.proofs.Imports.{stat_answered}
-use Rattle.sftp_wire.specs.declared.packets.Ask.TheVariants.{Mkdir, Rmdir, Stat}
-use Rattle.sftp_wire.specs.declared.packets.Answer.TheVariants.{Status, Attrs as attributes}
+use Rattle.sftp_packets.specs.declared.packets.Ask.TheVariants.{Mkdir, Rmdir, Stat}
+use Rattle.sftp_packets.specs.declared.packets.Answer.TheVariants.{Status, Attrs as attributes}
 use Rattle.sftp_path.specs.Place.{parts, components, is_good_path}
 use Rattle.sftp_path.specs.Table.{without}
 use Rattle.sftp_tree.specs.declared.nodes.Node.TheVariants.{Dir}

@@ -6,7 +6,7 @@ use Rattle.sftp_transcript.proofs.Imports.{or_parts, or_from, eqb-false, ne_eqb,
 use Rattle.sftp_transcript.proofs.Imports.{both_ways, length-append, Reply, Event, Asked, Replied}
 use Rattle.std.proofs.lemmas.Bool.{eqb-true, eq-eqb}
 use Rattle.std.proofs.lemmas.List.{append-nil}
-use Rattle.sftp_wire.specs.declared.packets.Request.{Request}
+use Rattle.sftp_packets.specs.declared.packets.Request.{Request}
 use Rattle.sftp_transcript.specs.Explained.{closed, waiting, broken, after_event, turn_after, next_reply, exchanges_of}
 use Rattle.sftp_transcript.specs.Explained.{requests_before_reply, in_window, window}
 use Rattle.sftp_transcript.specs.Ledger.{Exchange, with_replies, is_open, turn_of, AreApart, keeps_window, StandsFor}

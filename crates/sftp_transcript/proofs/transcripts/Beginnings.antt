@@ -7,7 +7,7 @@ use Rattle.sftp_transcript.proofs.Imports.{TranscriptError, Wire, Truncated, NoM
 use Rattle.sftp_transcript.proofs.Imports.{ReadUpTo, FaultAhead, FaultAfter, number_after_events, side_of_direction}
 use Rattle.sftp_transcript.proofs.Imports.{Begins, IsInit, IsVersion, transcript_opening, direction_of, record_text}
 use Rattle.sftp_transcript.proofs.Imports.{packet_of, event_record, IsEvent, AreRecords, IsHandshake, IsRecord}
-use Rattle.sftp_wire.specs.Reading.{front_of}
+use Rattle.sftp_wire.specs.Fronts.{front_of}
 use Rattle.sftp_wire.proofs.StreamLaws.Front.{front_again, spellings-apart}
 use Rattle.sftp_transcript.specs.declared.stage.Stage.TheVariants as stages
 use Rattle.sftp_transcript.specs.Refused.{KindFault, PacketFault, DirectedFault, RecordFault, IsEventPacket, EventFault}

@@ -6,7 +6,7 @@ use Rattle.sftp_transcript.proofs.Imports.{Side, TranscriptError, Wire, Truncate
 use Rattle.sftp_transcript.proofs.Imports.{BeginsWithInit, ReadUpTo, FaultAhead, FaultAfter, number_after_events}
 use Rattle.sftp_transcript.proofs.Imports.{side_of_direction, Begins, IsInit, IsVersion, BeginsVersion, rank}
 use Rattle.sftp_transcript.proofs.Imports.{transcript_opening, record_text, packet_of, event_record, IsEvent}
-use Rattle.sftp_wire.specs.Reading.{front_of}
+use Rattle.sftp_wire.specs.Fronts.{front_of}
 use Rattle.sftp_transcript.specs.declared.stage.Stage.TheVariants as stages
 use Rattle.sftp_transcript.specs.Refused.{KindFault, PacketFault, DirectedFault, RecordFault, IsEventPacket, EventFault}
 use Rattle.sftp_transcript.proofs.transcripts.Beginnings.{begins_one, first_record, same_records, whole_record}

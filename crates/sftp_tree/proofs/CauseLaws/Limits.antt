@@ -5,9 +5,9 @@ use Rattle.std.specs.List.{list_any}
 use Rattle.std.proofs.lemmas.Bool.{not-false, or_parts}
 use Rattle.std.proofs.lemmas.List.{length-append, length-take, length-replicate}
 use Rattle.std.proofs.Math.Bool.{and-true}
-use Rattle.sftp_wire.specs.declared.attributes.Attrs.{Attrs}
-use Rattle.sftp_wire.specs.declared.packets.Ask.{Ask}
-use Rattle.sftp_wire.specs.declared.packets.Ask.TheVariants.{Setstat, Remove, Mkdir, Rmdir, Rename, Symlink, PosixRename, Hardlink, Open}
+use Rattle.sftp_packets.specs.declared.attributes.Attrs.{Attrs}
+use Rattle.sftp_packets.specs.declared.packets.Ask.{Ask}
+use Rattle.sftp_packets.specs.declared.packets.Ask.TheVariants.{Setstat, Remove, Mkdir, Rmdir, Rename, Symlink, PosixRename, Hardlink, Open}
 use Rattle.sftp_path.specs.Place.{Place}
 use Rattle.sftp_treefile.specs.declared.limits.TreeLimits.{TreeLimits}
 use Rattle.sftp_treefile.specs.TreeFile.{is_root, same_place, is_target}

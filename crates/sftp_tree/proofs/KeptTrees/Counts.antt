@@ -15,7 +15,7 @@ use Rattle.sftp_tree.specs.declared.file_contents.Stored.{Stored}
 use Rattle.sftp_tree.specs.declared.nodes.Node.{Node}
 use Rattle.sftp_tree.specs.Tree.{Names, Tree, IsKept, IsContent, is_directory, content_at, node_at, with_node, names_file, times_named, trim, with_content}
 use Rattle.sftp_tree.specs.declared.nodes.Node.TheVariants.{Dir, File}
-use Rattle.sftp_wire.specs.declared.attributes.Attrs.{Attrs}
+use Rattle.sftp_packets.specs.declared.attributes.Attrs.{Attrs}
 use Rattle.sftp_treefile.specs.declared.files.Owner.{Owner}
 use Rattle.sftp_treefile.specs.declared.limits.TreeLimits.{TreeLimits}
 use Rattle.sftp_treefile.specs.Limits.{highest_limits}

@@ -2,7 +2,7 @@
 use Rattle.std.proofs.Common.{◌≡◌, Bool, true, false, cond, [], ◌∷◌, ◌++◌, filter_map, option_map, Option, Some, None}
 use Rattle.std.proofs.Common.{is_some, refl, sym, ap, ◌∙◌, List, map, IfSome}
 use Rattle.std.proofs.lemmas.List.{append-nil}
-use Rattle.sftp_wire.specs.declared.attributes.Attrs.{Attrs}
+use Rattle.sftp_packets.specs.declared.attributes.Attrs.{Attrs}
 use Rattle.sftp_tree.specs.declared.listings.Item.{Item}
 use Rattle.sftp_tree.specs.Items.{entry_of}
 use Rattle.std.specs.Ordering.{is_eq}

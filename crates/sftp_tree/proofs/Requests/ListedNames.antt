@@ -11,7 +11,7 @@ use Rattle.std.specs.List.{cons_option, AllByRecursion}
 use Rattle.std.specs.List.Sorted.{IsStrictlySortedBy}
 use Rattle.std.specs.Map.{keys_of, lookup}
 use Rattle.std.proofs.lemmas.Option.{same_Some}
-use Rattle.sftp_wire.specs.declared.attributes.Attrs.{Attrs}
+use Rattle.sftp_packets.specs.declared.attributes.Attrs.{Attrs}
 use Rattle.sftp_path.specs.Place.{Name, Place, name_cmp, place_cmp, same_bytes}
 use Rattle.sftp_path.specs.Table.{Table, InOrder, get}
 use Rattle.sftp_tree.specs.declared.file_contents.Content.{Content}

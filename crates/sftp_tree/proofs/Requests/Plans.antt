@@ -2,9 +2,9 @@
 use Rattle.std.proofs.Common.{rules, ◌≡◌, Bool, true, false, ◌&&◌, not, List, [], ◌∷◌, ℕ, suc, ◌<◌, get_or, refl, sym, subst, ◌∙◌, ap, Option, Some, None, IsTrue, if◌then◌else◌, Result, Ok, Err, IfOk, is_some}
 use Rattle.std.proofs.lemmas.Bool.{not-false, or_parts, lt-ltb}
 use Rattle.std.proofs.Math.Bool.{and-true}
-use Rattle.sftp_wire.specs.declared.attributes.Attrs.{Attrs}
-use Rattle.sftp_wire.specs.declared.packets.Ask.{Ask}
-use Rattle.sftp_wire.specs.declared.packets.Ask.TheVariants.{Setstat, Remove, Mkdir, Rmdir, Rename, Symlink, PosixRename, Hardlink, Stat, Lstat, Readlink, Realpath, Open, Opendir}
+use Rattle.sftp_packets.specs.declared.attributes.Attrs.{Attrs}
+use Rattle.sftp_packets.specs.declared.packets.Ask.{Ask}
+use Rattle.sftp_packets.specs.declared.packets.Ask.TheVariants.{Setstat, Remove, Mkdir, Rmdir, Rename, Symlink, PosixRename, Hardlink, Stat, Lstat, Readlink, Realpath, Open, Opendir}
 use Rattle.sftp_path.specs.Place.{Place, absolute}
 use Rattle.sftp_treefile.specs.TreeFile.{IsOwner, is_root, are_bytes}
 use Rattle.sftp_tree.specs.declared.nodes.Node.{Node}

@@ -3,12 +3,12 @@ use Rattle.std.proofs.Common.{rules, ℕ, zero, suc, ◌-◌, ◌&&◌, List, []
 use Rattle.std.specs.Option.{option_map}
 use Rattle.std.proofs.lemmas.Bool.{lt-ltb, and_parts, and_from}
 use Rattle.std.proofs.lemmas.List.Folds.{list_all-append}
-use Rattle.sftp_wire.specs.declared.attributes.Attrs.{Attrs}
-use Rattle.sftp_wire.specs.Spelling.{AreBytes}
+use Rattle.sftp_packets.specs.declared.attributes.Attrs.{Attrs}
+use Rattle.sftp_packets.specs.Spelling.{AreBytes}
 use Rattle.sftp_treefile.specs.declared.files.Owner.{Owner}
 use Rattle.sftp_treefile.specs.TreeFile.{IsOwner, are_bytes}
 use Rattle.sftp_tree.specs.declared.file_contents.Content.{Content}
-use Rattle.sftp_tree.specs.AskValues.{IsAttrs}
+use Rattle.sftp_packets.specs.AskValues.{IsAttrs}
 use Rattle.sftp_tree.specs.Tree.{Tree, WellFormed, IsContent}
 use Rattle.sftp_tree.specs.Attributes.{directory_owner, file_owner, changed_owner, resized, changed_content}
 

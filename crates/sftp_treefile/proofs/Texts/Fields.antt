@@ -6,7 +6,7 @@ use Rattle.std.specs.List.{flat_map}
 use Rattle.std.proofs.lemmas.Bool.{leb-true, and_parts, eqb-true, ltb-true, false≢true}
 use Rattle.std.proofs.lemmas.List.{take_at, drop_at, length-append}
 use Rattle.std.proofs.lemmas.Nat.{from_be_bytes-to_be_bytes_4}
-use Rattle.sftp_wire.specs.Spelling.{uint32, string}
+use Rattle.sftp_packets.specs.Spelling.{uint32, string}
 use Rattle.sftp_path.specs.Place.{Place, are_names, absolute, components, depth_limit, is_good_path}
 use Rattle.sftp_path.specs.Text.{IsTextOf}
 use Rattle.sftp_path.proofs.PathTexts.AbsoluteTexts.{components-absolute}

@@ -2,7 +2,7 @@
 use Rattle.std.proofs.Common.{◌≡◌, ◌<◌, ◌^◌, ℕ, Bool, true, false, List, ◌++◌, get_or, drop, refl, sym, ap, ◌∙◌}
 use Rattle.std.proofs.Common.{subst, arith}
 use Rattle.std.proofs.lemmas.Bool.{false≢true}
-use Rattle.sftp_wire.specs.Spelling.{uint32, string}
+use Rattle.sftp_packets.specs.Spelling.{uint32, string}
 use Rattle.sftp_treefile.specs.declared.files.Owner.{Owner}
 use Rattle.sftp_treefile.specs.declared.heads.Front.{Front}
 use Rattle.sftp_treefile.specs.declared.heads.Head.{Head}

@@ -2,15 +2,15 @@
 use Rattle.std.proofs.Common.{◌≡◌, ℕ, ◌-◌, ◌<◌, ◌⊎◌, inl, inr, List, [], ◌∷◌, ◌++◌, length, take, drop, Option, Some, None, Result, Ok, Err, refl, sym, ap, subst, ◌∙◌, append_assoc, append-nil, arith}
 use Rattle.std.specs.Prelude.{min, if◌then◌else◌, is_some}
 use Rattle.std.proofs.Math.Nat.{zero-min}
-use Rattle.sftp_wire.specs.declared.errors.Fault.{Fault}
-use Rattle.sftp_wire.specs.declared.errors.WireError.{WireError}
-use Rattle.sftp_wire.specs.declared.errors.WireError.TheVariants.{Unreadable, NoMemory}
-use Rattle.sftp_wire.specs.declared.packets.Packet.{Packet}
-use Rattle.sftp_wire.specs.declared.packets.Side.{Side}
-use Rattle.sftp_wire.specs.Spelling.{packet_limit, spelling, AreBytes, HasSpelling}
-use Rattle.sftp_wire.specs.Reading.{front_of}
+use Rattle.sftp_packets.specs.declared.errors.Fault.{Fault}
+use Rattle.sftp_packets.specs.declared.errors.WireError.{WireError}
+use Rattle.sftp_packets.specs.declared.errors.WireError.TheVariants.{Unreadable, NoMemory}
+use Rattle.sftp_packets.specs.declared.packets.Packet.{Packet}
+use Rattle.sftp_packets.specs.declared.packets.Side.{Side}
+use Rattle.sftp_packets.specs.Spelling.{packet_limit, spelling, AreBytes, HasSpelling}
+use Rattle.sftp_wire.specs.Fronts.{front_of}
 use Rattle.sftp_wire.specs.Framing.{Frames, Step, Push, Next, IsStep, AreSteps, no_frames, room_of, front_unless, told_of, outcome_of, push_of, bytes_in, bytes_out, all_in, all_out, whole_of}
-use Rattle.sftp_wire.proofs.Bytes.Numbers.{IsBytes, IsBytes-take, IsBytes-drop, IsBytes-append, IsBytes-from_all}
+use Rattle.sftp_packets.proofs.Bytes.Numbers.{IsBytes, IsBytes-take, IsBytes-drop, IsBytes-append, IsBytes-from_all}
 use Rattle.sftp_wire.proofs.StreamLaws.Front.{front_takes, begins_with, none-leaves_room}
 
 -- ---- what a call keeps

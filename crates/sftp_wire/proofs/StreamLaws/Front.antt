@@ -5,20 +5,21 @@ use Rattle.std.specs.Prelude.{◌||◌, IfOk, IfSome}
 use Rattle.std.specs.Int.{w32, from_be_bytes}
 use Rattle.std.proofs.lemmas.Bool.{or_parts, ltb-true, ltb-false, le-ltb, ne_eqb}
 use Rattle.std.proofs.lemmas.List.{take_at, drop_at, take-append-drop, length-append, length-take, length-drop, drop-drop, append_cancel_left}
-use Rattle.sftp_wire.specs.declared.errors.Fault.{Fault}
-use Rattle.sftp_wire.specs.declared.errors.Fault.TheVariants.{Length, WrongType}
-use Rattle.sftp_wire.specs.declared.errors.WireError.{WireError}
-use Rattle.sftp_wire.specs.declared.errors.WireError.TheVariants as wires
-use Rattle.sftp_wire.specs.declared.packets.Packet.{Packet}
-use Rattle.sftp_wire.specs.declared.packets.Side.{Side}
-use Rattle.sftp_wire.specs.declared.packets.Side.TheVariants.{Client, Server}
-use Rattle.sftp_wire.specs.Spelling.{uint32, contents, spelling, side_of, packet_limit, HasSpelling}
-use Rattle.sftp_wire.specs.Reading.{◌>>=◌, IsReading, StandsInFront, packet_of, front_of}
-use Rattle.sftp_wire.proofs.Bytes.Numbers.{IsBytes, IsBytes-take, IsBytes-drop, wide32}
-use Rattle.sftp_wire.proofs.Readers.Steps.{bind_ok, guard_ok, ok_is}
-use Rattle.sftp_wire.proofs.PacketLaws.Rows.{contents-parts}
-use Rattle.sftp_wire.proofs.PacketLaws.Spelled.{packet_of_takes}
-use Rattle.sftp_wire.proofs.PacketLaws.Again.{packet_of_again, server_packets_refused}
+use Rattle.sftp_packets.specs.declared.errors.Fault.{Fault}
+use Rattle.sftp_packets.specs.declared.errors.Fault.TheVariants.{Length, WrongType}
+use Rattle.sftp_packets.specs.declared.errors.WireError.{WireError}
+use Rattle.sftp_packets.specs.declared.errors.WireError.TheVariants as wires
+use Rattle.sftp_packets.specs.declared.packets.Packet.{Packet}
+use Rattle.sftp_packets.specs.declared.packets.Side.{Side}
+use Rattle.sftp_packets.specs.declared.packets.Side.TheVariants.{Client, Server}
+use Rattle.sftp_packets.specs.Spelling.{uint32, contents, spelling, side_of, packet_limit, HasSpelling}
+use Rattle.sftp_packets.specs.Reading.{◌>>=◌, packet_of}
+use Rattle.sftp_wire.specs.Fronts.{IsReading, StandsInFront, front_of}
+use Rattle.sftp_packets.proofs.Bytes.Numbers.{IsBytes, IsBytes-take, IsBytes-drop, wide32}
+use Rattle.sftp_packets.proofs.Readers.Steps.{bind_ok, guard_ok, ok_is}
+use Rattle.sftp_packets.proofs.PacketLaws.Rows.{contents-parts}
+use Rattle.sftp_packets.proofs.PacketLaws.Spelled.{packet_of_takes}
+use Rattle.sftp_packets.proofs.PacketLaws.Again.{packet_of_again, server_packets_refused}
 
 -- a test that returns `None` where it holds, and did not hold
 guard_none : {A : Type 0} (test : Bool) (read : Result (Option A) Fault) (x : A) → cond test (Ok None) read ≡ Ok (Some x) → (test ≡ false) × (read ≡ Ok (Some x))

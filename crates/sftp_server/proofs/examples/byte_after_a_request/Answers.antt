@@ -3,9 +3,9 @@ use Rattle.sftp_server.proofs.Imports.{◌≡◌, ℕ, [], Some, Ok, Err, refl, 
 use Rattle.sftp_server.proofs.Imports.{Init, Client, hex, spelling, front_of, client_packet_at, uint32_at, pairs_at}
 use Rattle.sftp_server.proofs.Imports.{pair_at, string_at, Tree, handshake_bytes, sent_by, remove_and_byte}
 use Rattle.sftp_server.proofs.Imports.{EndsAfterVersion}
-use Rattle.sftp_wire.specs.declared.errors.Fault.{Fault}
-use Rattle.sftp_wire.specs.declared.errors.Fault.TheVariants.{Trailing, Short}
-use Rattle.sftp_wire.specs.Reading.{packet_of}
+use Rattle.sftp_packets.specs.declared.errors.Fault.{Fault}
+use Rattle.sftp_packets.specs.declared.errors.Fault.TheVariants.{Trailing, Short}
+use Rattle.sftp_packets.specs.Reading.{packet_of}
 use Rattle.sftp_tree.specs.Picture.{blank}
 use Rattle.sftp_server.specs.declared.ends.Ended.TheVariants as ends
 use Rattle.sftp_server.specs.declared.ends.SessionFault.TheVariants as faults

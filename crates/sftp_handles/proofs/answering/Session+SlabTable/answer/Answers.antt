@@ -1,6 +1,6 @@
 use Rattle.std.proofs.Common.{refl, sym, subst}
-use Rattle.sftp_wire.specs.declared.packets.Packet.TheVariants.{Reply as reply_packet}
-use Rattle.sftp_wire.specs.Spelling.{HasSpelling}
+use Rattle.sftp_packets.specs.declared.packets.Packet.TheVariants.{Reply as reply_packet}
+use Rattle.sftp_packets.specs.Spelling.{HasSpelling}
 use Rattle.sftp_handles.specs.Allowed.{Allowed}
 use Rattle.sftp_handles.proofs.Steps.{step-is_allowed}
 use Rattle.sftp_handles.proofs.answering.«Session+SlabTable».answer.Goals as goal

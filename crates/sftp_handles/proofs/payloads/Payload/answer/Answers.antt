@@ -1,7 +1,7 @@
 use Rattle.std.proofs.Common.{◌≡◌, ℕ, List, Some, IfOk, sym, subst}
 use Rattle.std.proofs.lemmas.Result.{IfOk-weaker}
-use Rattle.sftp_wire.specs.declared.packets.Answer.{Answer}
-use Rattle.sftp_wire.specs.declared.packets.Answer.TheVariants as replies
+use Rattle.sftp_packets.specs.declared.packets.Answer.{Answer}
+use Rattle.sftp_packets.specs.declared.packets.Answer.TheVariants as replies
 use Rattle.sftp_handles.specs.declared.payloads.Payload.{Payload}
 use Rattle.sftp_handles.specs.Replies.{names, gives, ended}
 use Rattle.sftp_handles.specs.Fitting.{FitsSaid}

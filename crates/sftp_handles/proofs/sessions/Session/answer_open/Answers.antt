@@ -1,5 +1,5 @@
 use Rattle.std.proofs.Common.{sym, subst}
-use Rattle.sftp_wire.specs.declared.packets.Answer.{Answer}
+use Rattle.sftp_packets.specs.declared.packets.Answer.{Answer}
 use Rattle.sftp_handles.specs.Answered.{IsAnswered}
 use Rattle.sftp_handles.proofs.OpenReplies.{handle-answered}
 use Rattle.sftp_handles.proofs.sessions.Session.answer_open.Goals as goal

@@ -1,7 +1,7 @@
 use Rattle.std.proofs.Common.{◌≡◌, ◌==◌, true, nat_lt, length, refl, sym, ap, subst, ◌∙◌}
-use Rattle.sftp_wire.specs.declared.packets.Ask.TheVariants.{Readdir}
-use Rattle.sftp_wire.specs.declared.packets.Answer.{Answer}
-use Rattle.sftp_wire.specs.declared.packets.Answer.TheVariants.{Name}
+use Rattle.sftp_packets.specs.declared.packets.Ask.TheVariants.{Readdir}
+use Rattle.sftp_packets.specs.declared.packets.Answer.{Answer}
+use Rattle.sftp_packets.specs.declared.packets.Answer.TheVariants.{Name}
 use Rattle.sftp_handles.specs.State.{State, Good}
 use Rattle.sftp_handles.specs.Handles.{open_at}
 use Rattle.sftp_handles.specs.Replies.{names_in}

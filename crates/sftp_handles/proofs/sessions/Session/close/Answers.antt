@@ -1,5 +1,5 @@
 use Rattle.std.proofs.Common.{IsTrue, Some, sym, ap, subst, ◌∙◌}
-use Rattle.sftp_wire.specs.declared.packets.Ask.TheVariants.{Close}
+use Rattle.sftp_packets.specs.declared.packets.Ask.TheVariants.{Close}
 use Rattle.sftp_tree.specs.declared.causes.Cause.TheVariants.{BadHandle}
 use Rattle.sftp_handles.specs.declared.opens.Open.{Open}
 use Rattle.sftp_handles.specs.State.{State, Good}

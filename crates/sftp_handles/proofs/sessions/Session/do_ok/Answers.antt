@@ -1,6 +1,6 @@
 use Rattle.std.proofs.Common.{sym, ap, subst, ◌∙◌, OnOk}
-use Rattle.sftp_wire.specs.declared.packets.Ask.{Ask}
-use Rattle.sftp_wire.specs.declared.packets.Ask.TheVariants.{Close, Write, Fsetstat, Fsync}
+use Rattle.sftp_packets.specs.declared.packets.Ask.{Ask}
+use Rattle.sftp_packets.specs.declared.packets.Ask.TheVariants.{Close, Write, Fsetstat, Fsync}
 use Rattle.sftp_handles.specs.Judged.{IsDone}
 use Rattle.sftp_handles.proofs.sessions.Session.do_ok.Goals as goal
 

@@ -1,5 +1,5 @@
 use Rattle.std.proofs.Common.{refl, sym, ap, ◌∙◌, true}
-use Rattle.sftp_wire.specs.declared.packets.Ask.TheVariants.{Fstat, Fsync}
+use Rattle.sftp_packets.specs.declared.packets.Ask.TheVariants.{Fstat, Fsync}
 use Rattle.sftp_tree.specs.Causes.{when}
 use Rattle.sftp_handles.proofs.SeenCauses.{plain-found, lost}
 use Rattle.sftp_handles.proofs.sessions.Session.file_causes.Goals as goal

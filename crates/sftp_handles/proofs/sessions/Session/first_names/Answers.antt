@@ -1,5 +1,5 @@
 use Rattle.std.proofs.Common.{IsTrue, sym, ap, subst, ◌∙◌, Some}
-use Rattle.sftp_wire.specs.declared.packets.Ask.TheVariants.{Readdir}
+use Rattle.sftp_packets.specs.declared.packets.Ask.TheVariants.{Readdir}
 use Rattle.sftp_tree.specs.declared.causes.Cause.TheVariants.{BadHandle, WrongKind}
 use Rattle.sftp_handles.specs.State.{State}
 use Rattle.sftp_handles.specs.Requests.{causes}

@@ -1,6 +1,6 @@
 use Rattle.std.proofs.Common.{◌≡◌, subst, sym, ◌∙◌, true}
-use Rattle.sftp_wire.specs.declared.packets.Ask.TheVariants.{Readdir}
-use Rattle.sftp_wire.specs.declared.packets.Answer.TheVariants.{Name}
+use Rattle.sftp_packets.specs.declared.packets.Ask.TheVariants.{Readdir}
+use Rattle.sftp_packets.specs.declared.packets.Answer.TheVariants.{Name}
 use Rattle.sftp_handles.specs.State.{State}
 use Rattle.sftp_handles.specs.Handles.{open_at}
 use Rattle.sftp_handles.specs.Giving.{gives_names}

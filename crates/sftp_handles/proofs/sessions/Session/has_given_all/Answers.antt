@@ -1,5 +1,5 @@
 use Rattle.std.proofs.Common.{subst, sym, ap, ◌∙◌, false, Some}
-use Rattle.sftp_wire.specs.declared.packets.Ask.TheVariants.{Readdir}
+use Rattle.sftp_packets.specs.declared.packets.Ask.TheVariants.{Readdir}
 use Rattle.sftp_handles.specs.Judged.{IsJudgedCode}
 use Rattle.sftp_handles.proofs.GivenNames.{has_none, readdir-ends, none-if_empty}
 use Rattle.sftp_handles.proofs.NewStates.{state_of}

@@ -1,5 +1,5 @@
 use Rattle.std.proofs.Common.{sym, subst, ◌∙◌, IfOk}
-use Rattle.sftp_wire.specs.declared.packets.Answer.TheVariants.{Handle}
+use Rattle.sftp_packets.specs.declared.packets.Answer.TheVariants.{Handle}
 use Rattle.sftp_handles.specs.Judged.{IsJudged}
 use Rattle.sftp_handles.proofs.HandleReplies.{judged-lacking, judged-opened, judged-failed, held}
 use Rattle.sftp_handles.proofs.sessions.Session.judge_handle.Goals as goal

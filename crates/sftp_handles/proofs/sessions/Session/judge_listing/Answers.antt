@@ -1,5 +1,5 @@
 use Rattle.std.proofs.Common.{sym, ◌∙◌}
-use Rattle.sftp_wire.specs.declared.packets.Ask.TheVariants.{Readdir}
+use Rattle.sftp_packets.specs.declared.packets.Ask.TheVariants.{Readdir}
 use Rattle.sftp_handles.proofs.GivenNames.{judged-unlisted}
 use Rattle.sftp_handles.proofs.Judgements.{judged-coded}
 use Rattle.sftp_handles.proofs.sessions.Session.judge_listing.Goals as goal

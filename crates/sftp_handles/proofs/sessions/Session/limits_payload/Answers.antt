@@ -1,5 +1,5 @@
 use Rattle.std.proofs.Common.{ℕ, List, sym, ap, subst, ◌∙◌}
-use Rattle.sftp_wire.specs.declared.packets.Ask.TheVariants.{Limits}
+use Rattle.sftp_packets.specs.declared.packets.Ask.TheVariants.{Limits}
 use Rattle.sftp_tree.specs.Tree.{limits}
 use Rattle.sftp_handles.specs.State.{State, Good}
 use Rattle.sftp_handles.specs.Replies.{extends}

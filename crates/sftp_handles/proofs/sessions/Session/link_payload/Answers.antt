@@ -1,5 +1,5 @@
 use Rattle.std.proofs.Common.{◌≡◌, ℕ, List, Some, refl, sym, subst}
-use Rattle.sftp_wire.specs.declared.packets.Ask.TheVariants.{Readlink}
+use Rattle.sftp_packets.specs.declared.packets.Ask.TheVariants.{Readlink}
 use Rattle.sftp_tree.specs.Requests as paths
 use Rattle.sftp_tree.specs.Refusals.{IsFree}
 use Rattle.sftp_tree.specs.Refusals as of_tree

@@ -1,5 +1,5 @@
 use Rattle.std.proofs.Common.{◌≡◌, sym, ap, subst, ◌∙◌, map, Some}
-use Rattle.sftp_wire.specs.declared.packets.Ask.TheVariants as asks
+use Rattle.sftp_packets.specs.declared.packets.Ask.TheVariants as asks
 use Rattle.sftp_tree.specs.Items.{entry_of}
 use Rattle.sftp_tree.specs.Causes.{is_none}
 use Rattle.sftp_tree.specs.Requests as paths

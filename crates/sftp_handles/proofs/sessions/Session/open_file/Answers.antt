@@ -1,6 +1,6 @@
 use Rattle.std.proofs.Common.{◌<◌, ◌^◌, sym, ap, subst, ◌∙◌}
 use Rattle.std.proofs.lemmas.Result.{err_from_is_err_and}
-use Rattle.sftp_wire.specs.declared.packets.Ask.TheVariants as asks
+use Rattle.sftp_packets.specs.declared.packets.Ask.TheVariants as asks
 use Rattle.sftp_tree.specs.Tree.{Tree, WellFormed, HasFile, times_pinned}
 use Rattle.sftp_tree.proofs.KeptTrees.Files.{pins-stay}
 use Rattle.sftp_handles.specs.State.{State, Good}

@@ -1,5 +1,5 @@
 use Rattle.std.proofs.Common.{◌≡◌, ℕ, List, Some, sym, subst}
-use Rattle.sftp_wire.specs.declared.packets.Ask.TheVariants.{Realpath}
+use Rattle.sftp_packets.specs.declared.packets.Ask.TheVariants.{Realpath}
 use Rattle.sftp_path.proofs.PathTexts.GoodPaths.{list_all-octets}
 use Rattle.sftp_tree.specs.Requests as paths
 use Rattle.sftp_tree.proofs.Walks.Places.{path-found}

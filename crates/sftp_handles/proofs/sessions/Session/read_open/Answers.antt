@@ -1,5 +1,5 @@
 use Rattle.std.proofs.Common.{refl, sym, ap, ◌∙◌, not, option_copied}
-use Rattle.sftp_wire.specs.declared.packets.Ask.TheVariants.{Read}
+use Rattle.sftp_packets.specs.declared.packets.Ask.TheVariants.{Read}
 use Rattle.sftp_tree.specs.declared.causes.Cause.TheVariants.{NotOpenFor}
 use Rattle.sftp_tree.specs.Causes.{is_none, when, no_causes}
 use Rattle.sftp_handles.specs.Found.{read_said}

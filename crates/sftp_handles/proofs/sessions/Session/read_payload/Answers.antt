@@ -1,5 +1,5 @@
 use Rattle.std.proofs.Common.{refl}
-use Rattle.sftp_wire.specs.declared.packets.Ask.TheVariants.{Read}
+use Rattle.sftp_packets.specs.declared.packets.Ask.TheVariants.{Read}
 use Rattle.sftp_handles.specs.Replies.{gives, ended}
 use Rattle.sftp_handles.proofs.QueryReplies.{carries-open}
 use Rattle.sftp_handles.proofs.sessions.Session.read_payload.Goals as goal

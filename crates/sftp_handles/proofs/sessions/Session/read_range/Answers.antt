@@ -1,5 +1,5 @@
 use Rattle.std.proofs.Common.{◌+◌, min, Some, length, option_map, refl, sym, ap, ◌∙◌}
-use Rattle.sftp_wire.specs.declared.packets.Ask.TheVariants.{Read}
+use Rattle.sftp_packets.specs.declared.packets.Ask.TheVariants.{Read}
 use Rattle.sftp_tree.specs.Tree.{content_at, limits}
 use Rattle.sftp_handles.specs.State.{State}
 use Rattle.sftp_handles.specs.Ranges.{range_within}

@@ -1,5 +1,5 @@
 use Rattle.std.proofs.Common.{refl, subst, sym, ap, ◌∙◌, true}
-use Rattle.sftp_wire.specs.declared.packets.Ask.TheVariants.{Fsetstat}
+use Rattle.sftp_packets.specs.declared.packets.Ask.TheVariants.{Fsetstat}
 use Rattle.sftp_tree.specs.declared.causes.Cause.TheVariants.{NotOpenFor}
 use Rattle.sftp_tree.specs.Causes.{when}
 use Rattle.sftp_tree.specs.Room.{size_fits}

@@ -1,5 +1,5 @@
 use Rattle.std.proofs.Common.{◌≡◌, refl, sym, ap, subst, ◌∙◌, Some, option_map}
-use Rattle.sftp_wire.specs.declared.packets.Ask.TheVariants.{Fstat}
+use Rattle.sftp_packets.specs.declared.packets.Ask.TheVariants.{Fstat}
 use Rattle.sftp_tree.specs.Tree.{content_at}
 use Rattle.sftp_tree.specs.Attributes.{shown_content}
 use Rattle.sftp_tree.specs.Causes.{is_none}

@@ -1,5 +1,5 @@
 use Rattle.std.proofs.Common.{refl, sym}
-use Rattle.sftp_wire.specs.declared.packets.Ask.TheVariants.{Fsync}
+use Rattle.sftp_packets.specs.declared.packets.Ask.TheVariants.{Fsync}
 use Rattle.sftp_tree.specs.Tree.{content_at}
 use Rattle.sftp_handles.proofs.SeenAnswers.{lost-holds}
 use Rattle.sftp_handles.proofs.OpenChanges.{synced}

@@ -1,5 +1,5 @@
 use Rattle.std.proofs.Common.{refl, sym, ap, ◌∙◌, true, not}
-use Rattle.sftp_wire.specs.declared.packets.Ask.TheVariants.{Write}
+use Rattle.sftp_packets.specs.declared.packets.Ask.TheVariants.{Write}
 use Rattle.sftp_tree.specs.declared.causes.Cause.TheVariants.{NotOpenFor}
 use Rattle.sftp_tree.specs.Causes.{when}
 use Rattle.sftp_handles.specs.Found.{with_room}

@@ -1,5 +1,5 @@
 use Rattle.std.proofs.Common.{◌≡◌, refl, sym, ap, subst, ◌∙◌, not, IsTrue, IfErr, OnOk}
-use Rattle.sftp_wire.specs.declared.packets.Ask.TheVariants.{Write}
+use Rattle.sftp_packets.specs.declared.packets.Ask.TheVariants.{Write}
 use Rattle.sftp_tree.specs.declared.causes.Cause.TheVariants.{NotOpenFor}
 use Rattle.sftp_tree.specs.Tree.{content_at, limits}
 use Rattle.sftp_tree.specs.Causes.{no_causes, when}

@@ -1,5 +1,5 @@
 use Rattle.std.proofs.Common.{length, option_map, refl, sym, ap, ◌∙◌}
-use Rattle.sftp_wire.specs.declared.packets.Ask.TheVariants.{Write}
+use Rattle.sftp_packets.specs.declared.packets.Ask.TheVariants.{Write}
 use Rattle.sftp_tree.specs.Tree.{content_at}
 use Rattle.sftp_handles.specs.Ranges.{written_span, range_within}
 use Rattle.sftp_handles.proofs.RangedAsks.{range-found, range-unwritten, range-refused}

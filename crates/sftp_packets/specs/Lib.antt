@@ -1,0 +1,5 @@
+pub mod Spelling
+pub mod Reading
+pub mod Writing
+pub mod Copying
+pub mod AskValues

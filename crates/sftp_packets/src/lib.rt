@@ -1,0 +1,30 @@
+//! The packets of the SSH File Transfer Protocol, version 3, as values, and their fields as bytes
+//! (draft-ietf-secsh-filexfer-02, sections 3 to 8). `sftp_wire` takes them out of a stream.
+#![tactic(auto)]
+
+mod attributes;
+mod copying;
+mod errors;
+mod extensions;
+mod fields;
+mod handles;
+mod measuring;
+mod names;
+mod open_flags;
+mod packets;
+mod reading;
+mod slices;
+pub mod status;
+mod strings;
+mod writing;
+
+pub use attributes::{AttrFlags, Attrs};
+pub use errors::{Fault, ReadError, WireError};
+pub use extensions::{FSYNC, HARDLINK, LIMITS, POSIX_RENAME};
+pub use names::{NameItem, Names};
+pub use open_flags::OpenFlags;
+pub use packets::{Answer, Ask, HANDLE_LIMIT, PACKET_LIMIT, Packet, Reply, Request, Side};
+pub use reading::read_fields;
+pub use slices::{take_number, take_string};
+pub use strings::{ByteString, Pairs};
+pub use writing::encode;

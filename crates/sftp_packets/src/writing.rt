@@ -1,0 +1,576 @@
+//! Packets as bytes (draft, sections 3 to 8). After an error a private function may leave part of what it wrote:
+//! `encode` removes it.
+ghost use Rattle.std.specs.Prelude.{◌≡◌, ◌∷◌, ◌++◌, ◌<◌, ◌^◌, ◌↔◌, ◌⊎◌, length, OnOk, OnErr, IfErr, IsErrOf};
+ghost use Rattle.std.specs.List.{flat_map};
+ghost use Rattle.sftp_packets.specs.Spelling.{uint32, uint64, two_uint32, string, pair, pairs, counted_pairs, optional};
+ghost use Rattle.sftp_packets.specs.Spelling.{attribute_flags, attribute_fields, attributes, name_item, names};
+ghost use Rattle.sftp_packets.specs.Spelling.{ask_parts};
+ghost use Rattle.sftp_packets.specs.Spelling.{answer_parts, with_id, contents, spelling, HasSpelling};
+ghost use Rattle.sftp_packets.specs.Writing.{Extends, IsTooLong, IsNotCanonical};
+
+use crate::attributes::{AttrFlags, Attrs};
+use crate::errors::WireError;
+use crate::extensions::{FSYNC, HARDLINK, LIMITS, POSIX_RENAME, hides_extension};
+use crate::handles::has_long_handle;
+use crate::measuring::contents_length;
+use crate::names::{NameItem, Names};
+use crate::packets::{
+    ATTRS, Answer, Ask, CLOSE, DATA, EXTENDED, EXTENDED_REPLY, FSETSTAT, FSTAT, HANDLE, INIT,
+    LSTAT, MKDIR, NAME, OPEN, OPENDIR, PACKET_LIMIT, Packet, READ, READDIR, READLINK, REALPATH,
+    REMOVE, RENAME, RMDIR, SETSTAT, STAT, STATUS, SYMLINK, VERSION, WRITE,
+};
+use crate::strings::{ByteString, Pairs};
+use bitflags::Flags;
+use bytes::BufMut;
+use std::alloc::AllocError;
+
+/// A length or a count in four bytes: its low ones, which are all that it has within the limit of a packet. So only
+/// `encode`, which judges the whole packet first, has to know how long it is.
+fn put_length(out: &mut Vec<u8>, length: usize) -> Result<(), AllocError>
+    ensures ok { OnOk result (out.new.items ≡ out.old.items ++ uint32 length) }
+    ensures err { OnErr result (Extends out.old.items out.new.items) }
+{
+    out.put_uint(length as u64, 4)?;
+    Ok(())
+}
+
+/// The length of a string, and its bytes.
+fn put_bytes(out: &mut Vec<u8>, bytes: &[u8]) -> Result<(), AllocError>
+    ensures ok { OnOk result (out.new.items ≡ out.old.items ++ string bytes.now) }
+    ensures err { OnErr result (Extends out.old.items out.new.items) }
+{
+    put_length(out, bytes.len())?;
+    // A copy of no bytes would still be a call.
+    if !bytes.is_empty() {
+        out.put_slice(bytes)?;
+    }
+    Ok(())
+}
+
+fn put_string(out: &mut Vec<u8>, text: &ByteString) -> Result<(), AllocError>
+    ensures ok { OnOk result (out.new.items ≡ out.old.items ++ string text.now) }
+    ensures err { OnErr result (Extends out.old.items out.new.items) }
+{
+    put_bytes(out, text.as_slice())
+}
+
+fn put_two_strings(
+    out: &mut Vec<u8>,
+    first: &ByteString,
+    second: &ByteString,
+) -> Result<(), AllocError>
+    ensures ok { OnOk result (out.new.items ≡ out.old.items ++ pair (first.now, second.now)) }
+    ensures err { OnErr result (Extends out.old.items out.new.items) }
+{
+    put_string(out, first)?;
+    put_string(out, second)?;
+    Ok(())
+}
+
+fn put_pairs(out: &mut Vec<u8>, extensions: &Pairs) -> Result<(), AllocError>
+    ensures ok { OnOk result (out.new.items ≡ out.old.items ++ pairs extensions.now) }
+    ensures err { OnErr result (Extends out.old.items out.new.items) }
+{
+    for (name, value) in extensions.as_slice() {
+        put_two_strings(out, name, value)?;
+    }
+    Ok(())
+}
+
+fn put_counted_pairs(out: &mut Vec<u8>, extended: &Pairs) -> Result<(), AllocError>
+    ensures ok { OnOk result (out.new.items ≡ out.old.items ++ counted_pairs extended.now) }
+    ensures err { OnErr result (Extends out.old.items out.new.items) }
+{
+    put_length(out, extended.as_slice().len())?;
+    put_pairs(out, extended)?;
+    Ok(())
+}
+
+fn put_two(out: &mut Vec<u8>, numbers: (u32, u32)) -> Result<(), AllocError>
+    ensures ok { OnOk result (out.new.items ≡ out.old.items ++ two_uint32 numbers) }
+    ensures err { OnErr result (Extends out.old.items out.new.items) }
+{
+    out.put_u32(numbers.0)?;
+    out.put_u32(numbers.1)?;
+    Ok(())
+}
+
+fn put_size(out: &mut Vec<u8>, size: Option<u64>) -> Result<(), AllocError>
+    ensures ok { OnOk result (out.new.items ≡ out.old.items ++ optional uint64 size) }
+    ensures err { OnErr result (Extends out.old.items out.new.items) }
+{
+    if let Some(size) = size {
+        out.put_u64(size)?;
+    }
+    Ok(())
+}
+
+fn put_permissions(out: &mut Vec<u8>, permissions: Option<u32>) -> Result<(), AllocError>
+    ensures ok { OnOk result (out.new.items ≡ out.old.items ++ optional uint32 permissions) }
+    ensures err { OnErr result (Extends out.old.items out.new.items) }
+{
+    if let Some(permissions) = permissions {
+        out.put_u32(permissions)?;
+    }
+    Ok(())
+}
+
+fn put_optional_two(out: &mut Vec<u8>, numbers: Option<(u32, u32)>) -> Result<(), AllocError>
+    ensures ok { OnOk result (out.new.items ≡ out.old.items ++ optional two_uint32 numbers) }
+    ensures err { OnErr result (Extends out.old.items out.new.items) }
+{
+    if let Some(numbers) = numbers {
+        put_two(out, numbers)?;
+    }
+    Ok(())
+}
+
+fn put_extended(out: &mut Vec<u8>, extended: &Option<Pairs>) -> Result<(), AllocError>
+    ensures ok { OnOk result (out.new.items ≡ out.old.items ++ optional counted_pairs extended.now) }
+    ensures err { OnErr result (Extends out.old.items out.new.items) }
+{
+    if let Some(extended) = extended {
+        put_counted_pairs(out, extended)?;
+    }
+    Ok(())
+}
+
+fn flag_bits(attrs: &Attrs) -> u32
+    ensures { result ≡ attribute_flags attrs.now }
+{
+    let mut flags = AttrFlags::empty();
+    flags.set(AttrFlags::SIZE, attrs.size.is_some());
+    flags.set(AttrFlags::OWNER, attrs.owner.is_some());
+    flags.set(AttrFlags::PERMISSIONS, attrs.permissions.is_some());
+    flags.set(AttrFlags::TIMES, attrs.times.is_some());
+    flags.set(AttrFlags::EXTENDED, attrs.extended.is_some());
+    flags.bits()
+}
+
+fn put_size_and_owner(out: &mut Vec<u8>, attrs: &Attrs) -> Result<(), AllocError>
+    ensures ok { OnOk result (out.new.items
+        ≡ out.old.items ++ (optional uint64 attrs.now.size ++ optional two_uint32 attrs.now.owner)) }
+    ensures err { OnErr result (Extends out.old.items out.new.items) }
+{
+    put_size(out, attrs.size)?;
+    put_optional_two(out, attrs.owner)?;
+    Ok(())
+}
+
+fn put_permissions_and_times(out: &mut Vec<u8>, attrs: &Attrs) -> Result<(), AllocError>
+    ensures ok { OnOk result (out.new.items
+        ≡ out.old.items ++ (optional uint32 attrs.now.permissions ++ optional two_uint32 attrs.now.times)) }
+    ensures err { OnErr result (Extends out.old.items out.new.items) }
+{
+    put_permissions(out, attrs.permissions)?;
+    put_optional_two(out, attrs.times)?;
+    Ok(())
+}
+
+fn put_attribute_fields(out: &mut Vec<u8>, attrs: &Attrs) -> Result<(), AllocError>
+    ensures ok { OnOk result (out.new.items ≡ out.old.items ++ attribute_fields attrs.now) }
+    ensures err { OnErr result (Extends out.old.items out.new.items) }
+{
+    put_size_and_owner(out, attrs)?;
+    put_permissions_and_times(out, attrs)?;
+    put_extended(out, &attrs.extended)?;
+    Ok(())
+}
+
+fn put_attributes(out: &mut Vec<u8>, attrs: &Attrs) -> Result<(), AllocError>
+    ensures ok { OnOk result (out.new.items ≡ out.old.items ++ attributes attrs.now) }
+    ensures err { OnErr result (Extends out.old.items out.new.items) }
+{
+    out.put_u32(flag_bits(attrs))?;
+    put_attribute_fields(out, attrs)?;
+    Ok(())
+}
+
+/// The type of a packet, and the number after it: a version or an id.
+fn put_type_and_number(out: &mut Vec<u8>, kind: u8, number: u32) -> Result<(), AllocError>
+    ensures ok { OnOk result (out.new.items ≡ out.old.items ++ (kind ∷ uint32 number)) }
+    ensures err { OnErr result (Extends out.old.items out.new.items) }
+{
+    out.put_u8(kind)?;
+    out.put_u32(number)?;
+    Ok(())
+}
+
+/// INIT or VERSION.
+fn put_first_packet(
+    out: &mut Vec<u8>,
+    kind: u8,
+    version: u32,
+    extensions: &Pairs,
+) -> Result<(), AllocError>
+    ensures ok { OnOk result (out.new.items
+        ≡ out.old.items ++ (kind ∷ uint32 version ++ pairs extensions.now)) }
+    ensures err { OnErr result (Extends out.old.items out.new.items) }
+{
+    put_type_and_number(out, kind, version)?;
+    put_pairs(out, extensions)?;
+    Ok(())
+}
+
+fn put_string_and_attributes(
+    out: &mut Vec<u8>,
+    text: &ByteString,
+    attrs: &Attrs,
+) -> Result<(), AllocError>
+    ensures ok { OnOk result (out.new.items ≡ out.old.items ++ (string text.now ++ attributes attrs.now)) }
+    ensures err { OnErr result (Extends out.old.items out.new.items) }
+{
+    put_string(out, text)?;
+    put_attributes(out, attrs)?;
+    Ok(())
+}
+
+fn put_open_fields(
+    out: &mut Vec<u8>,
+    path: &ByteString,
+    pflags: u32,
+    attrs: &Attrs,
+) -> Result<(), AllocError>
+    ensures ok { OnOk result (out.new.items
+        ≡ out.old.items ++ (string path.now ++ (uint32 pflags ++ attributes attrs.now))) }
+    ensures err { OnErr result (Extends out.old.items out.new.items) }
+{
+    put_string(out, path)?;
+    out.put_u32(pflags)?;
+    put_attributes(out, attrs)?;
+    Ok(())
+}
+
+fn put_range(out: &mut Vec<u8>, offset: u64, len: u32) -> Result<(), AllocError>
+    ensures ok { OnOk result (out.new.items ≡ out.old.items ++ (uint64 offset ++ uint32 len)) }
+    ensures err { OnErr result (Extends out.old.items out.new.items) }
+{
+    out.put_u64(offset)?;
+    out.put_u32(len)?;
+    Ok(())
+}
+
+fn put_read_fields(
+    out: &mut Vec<u8>,
+    handle: &ByteString,
+    offset: u64,
+    len: u32,
+) -> Result<(), AllocError>
+    ensures ok { OnOk result (out.new.items
+        ≡ out.old.items ++ (string handle.now ++ (uint64 offset ++ uint32 len))) }
+    ensures err { OnErr result (Extends out.old.items out.new.items) }
+{
+    put_string(out, handle)?;
+    put_range(out, offset, len)?;
+    Ok(())
+}
+
+fn put_bytes_at(out: &mut Vec<u8>, offset: u64, bytes: &ByteString) -> Result<(), AllocError>
+    ensures ok { OnOk result (out.new.items ≡ out.old.items ++ (uint64 offset ++ string bytes.now)) }
+    ensures err { OnErr result (Extends out.old.items out.new.items) }
+{
+    out.put_u64(offset)?;
+    put_string(out, bytes)?;
+    Ok(())
+}
+
+fn put_write_fields(
+    out: &mut Vec<u8>,
+    handle: &ByteString,
+    offset: u64,
+    bytes: &ByteString,
+) -> Result<(), AllocError>
+    ensures ok { OnOk result (out.new.items
+        ≡ out.old.items ++ (string handle.now ++ (uint64 offset ++ string bytes.now))) }
+    ensures err { OnErr result (Extends out.old.items out.new.items) }
+{
+    put_string(out, handle)?;
+    put_bytes_at(out, offset, bytes)?;
+    Ok(())
+}
+
+fn put_status_fields(
+    out: &mut Vec<u8>,
+    code: u32,
+    message: &ByteString,
+    language: &ByteString,
+) -> Result<(), AllocError>
+    ensures ok { OnOk result (out.new.items
+        ≡ out.old.items ++ (uint32 code ++ (string message.now ++ string language.now))) }
+    ensures err { OnErr result (Extends out.old.items out.new.items) }
+{
+    out.put_u32(code)?;
+    put_two_strings(out, message, language)?;
+    Ok(())
+}
+
+fn put_name_item(out: &mut Vec<u8>, item: &NameItem) -> Result<(), AllocError>
+    ensures ok { OnOk result (out.new.items ≡ out.old.items ++ name_item item.now) }
+    ensures err { OnErr result (Extends out.old.items out.new.items) }
+{
+    put_string(out, &item.filename)?;
+    put_string(out, &item.longname)?;
+    put_attributes(out, &item.attrs)?;
+    Ok(())
+}
+
+fn put_name_items(out: &mut Vec<u8>, items: &Names) -> Result<(), AllocError>
+    ensures ok { OnOk result (out.new.items ≡ out.old.items ++ flat_map name_item items.now) }
+    ensures err { OnErr result (Extends out.old.items out.new.items) }
+{
+    for item in items.as_slice() {
+        put_name_item(out, item)?;
+    }
+    Ok(())
+}
+
+fn put_names(out: &mut Vec<u8>, items: &Names) -> Result<(), AllocError>
+    ensures ok { OnOk result (out.new.items ≡ out.old.items ++ names items.now) }
+    ensures err { OnErr result (Extends out.old.items out.new.items) }
+{
+    put_length(out, items.as_slice().len())?;
+    put_name_items(out, items)?;
+    Ok(())
+}
+
+fn put_two_paths_extension(
+    out: &mut Vec<u8>,
+    name: &[u8],
+    oldpath: &ByteString,
+    newpath: &ByteString,
+) -> Result<(), AllocError>
+    ensures ok { OnOk result (out.new.items
+        ≡ out.old.items ++ (string name.now ++ pair (oldpath.now, newpath.now))) }
+    ensures err { OnErr result (Extends out.old.items out.new.items) }
+{
+    put_bytes(out, name)?;
+    put_two_strings(out, oldpath, newpath)?;
+    Ok(())
+}
+
+fn put_handle_extension(
+    out: &mut Vec<u8>,
+    name: &[u8],
+    handle: &ByteString,
+) -> Result<(), AllocError>
+    ensures ok { OnOk result (out.new.items ≡ out.old.items ++ (string name.now ++ string handle.now)) }
+    ensures err { OnErr result (Extends out.old.items out.new.items) }
+{
+    put_bytes(out, name)?;
+    put_string(out, handle)?;
+    Ok(())
+}
+
+fn put_unknown(out: &mut Vec<u8>, name: &ByteString, rest: &ByteString) -> Result<(), AllocError>
+    ensures ok { OnOk result (out.new.items ≡ out.old.items ++ (string name.now ++ rest.now)) }
+    ensures err { OnErr result (Extends out.old.items out.new.items) }
+{
+    put_string(out, name)?;
+    out.put_slice(rest.as_slice())?;
+    Ok(())
+}
+
+/// The type of a request's packet.
+fn asked_type(ask: &Ask) -> u8
+    ensures { result ≡ (ask_parts ask.now).0 }
+{
+    match ask {
+        Ask::Open { .. } => OPEN,
+        Ask::Close { .. } => CLOSE,
+        Ask::Read { .. } => READ,
+        Ask::Write { .. } => WRITE,
+        Ask::Lstat { .. } => LSTAT,
+        Ask::Fstat { .. } => FSTAT,
+        Ask::Setstat { .. } => SETSTAT,
+        Ask::Fsetstat { .. } => FSETSTAT,
+        Ask::Opendir { .. } => OPENDIR,
+        Ask::Readdir { .. } => READDIR,
+        Ask::Remove { .. } => REMOVE,
+        Ask::Mkdir { .. } => MKDIR,
+        Ask::Rmdir { .. } => RMDIR,
+        Ask::Realpath { .. } => REALPATH,
+        Ask::Stat { .. } => STAT,
+        Ask::Rename { .. } => RENAME,
+        Ask::Readlink { .. } => READLINK,
+        Ask::Symlink { .. } => SYMLINK,
+        Ask::PosixRename { .. }
+        | Ask::Hardlink { .. }
+        | Ask::Fsync { .. }
+        | Ask::Limits
+        | Ask::Unknown { .. } => EXTENDED,
+    }
+}
+
+/// The fields after the id of a request.
+// Slow to prove, with an arm for each shape of a request and none to share.
+fn put_ask_fields(out: &mut Vec<u8>, ask: &Ask) -> Result<(), AllocError>
+    ensures ok { OnOk result (out.new.items ≡ out.old.items ++ (ask_parts ask.now).1) }
+    ensures err { OnErr result (Extends out.old.items out.new.items) }
+{
+    match ask {
+        Ask::Lstat { path: text }
+        | Ask::Opendir { path: text }
+        | Ask::Remove { path: text }
+        | Ask::Rmdir { path: text }
+        | Ask::Realpath { path: text }
+        | Ask::Stat { path: text }
+        | Ask::Readlink { path: text }
+        | Ask::Close { handle: text }
+        | Ask::Fstat { handle: text }
+        | Ask::Readdir { handle: text } => put_string(out, text),
+        Ask::Setstat { path: text, attrs }
+        | Ask::Mkdir { path: text, attrs }
+        | Ask::Fsetstat {
+            handle: text,
+            attrs,
+        } => put_string_and_attributes(out, text, attrs),
+        Ask::Open {
+            path,
+            pflags,
+            attrs,
+        } => put_open_fields(out, path, *pflags, attrs),
+        Ask::Read {
+            handle,
+            offset,
+            len,
+        } => put_read_fields(out, handle, *offset, *len),
+        Ask::Write {
+            handle,
+            offset,
+            bytes,
+        } => put_write_fields(out, handle, *offset, bytes),
+        Ask::Rename { oldpath, newpath } => put_two_strings(out, oldpath, newpath),
+        Ask::Symlink {
+            targetpath,
+            linkpath,
+        } => put_two_strings(out, targetpath, linkpath),
+        Ask::PosixRename { oldpath, newpath } => {
+            put_two_paths_extension(out, POSIX_RENAME, oldpath, newpath)
+        }
+        Ask::Hardlink { oldpath, newpath } => {
+            put_two_paths_extension(out, HARDLINK, oldpath, newpath)
+        }
+        Ask::Fsync { handle } => put_handle_extension(out, FSYNC, handle),
+        Ask::Limits => put_bytes(out, LIMITS),
+        Ask::Unknown { name, rest } => put_unknown(out, name, rest),
+    }
+}
+
+fn put_asked(out: &mut Vec<u8>, id: u32, ask: &Ask) -> Result<(), AllocError>
+    ensures ok { OnOk result (out.new.items ≡ out.old.items ++ with_id id (ask_parts ask.now)) }
+    ensures err { OnErr result (Extends out.old.items out.new.items) }
+{
+    put_type_and_number(out, asked_type(ask), id)?;
+    put_ask_fields(out, ask)?;
+    Ok(())
+}
+
+/// The type of a reply's packet.
+fn answered_type(answer: &Answer) -> u8
+    ensures { result ≡ (answer_parts answer.now).0 }
+{
+    match answer {
+        Answer::Status { .. } => STATUS,
+        Answer::Handle(_) => HANDLE,
+        Answer::Data(_) => DATA,
+        Answer::Name(_) => NAME,
+        Answer::Attrs(_) => ATTRS,
+        Answer::Extended(_) => EXTENDED_REPLY,
+    }
+}
+
+/// The fields after the id of a reply.
+fn put_answer_fields(out: &mut Vec<u8>, answer: &Answer) -> Result<(), AllocError>
+    ensures ok { OnOk result (out.new.items ≡ out.old.items ++ (answer_parts answer.now).1) }
+    ensures err { OnErr result (Extends out.old.items out.new.items) }
+{
+    match answer {
+        Answer::Status {
+            code,
+            message,
+            language,
+        } => put_status_fields(out, *code, message, language),
+        Answer::Handle(handle) => put_string(out, handle),
+        Answer::Data(bytes) => put_string(out, bytes),
+        Answer::Name(items) => put_names(out, items),
+        Answer::Attrs(attrs) => put_attributes(out, attrs),
+        Answer::Extended(bytes) => {
+            out.put_slice(bytes.as_slice())?;
+            Ok(())
+        }
+    }
+}
+
+fn put_answered(out: &mut Vec<u8>, id: u32, answer: &Answer) -> Result<(), AllocError>
+    ensures ok { OnOk result (out.new.items ≡ out.old.items ++ with_id id (answer_parts answer.now)) }
+    ensures err { OnErr result (Extends out.old.items out.new.items) }
+{
+    put_type_and_number(out, answered_type(answer), id)?;
+    put_answer_fields(out, answer)?;
+    Ok(())
+}
+
+fn put_contents(out: &mut Vec<u8>, packet: &Packet) -> Result<(), AllocError>
+    ensures ok { OnOk result (out.new.items ≡ out.old.items ++ contents packet.now) }
+    ensures err { OnErr result (Extends out.old.items out.new.items) }
+{
+    match packet {
+        Packet::Init {
+            version,
+            extensions,
+        } => put_first_packet(out, INIT, *version, extensions),
+        Packet::Version {
+            version,
+            extensions,
+        } => put_first_packet(out, VERSION, *version, extensions),
+        Packet::Request(request) => put_asked(out, request.id, &request.ask),
+        Packet::Reply(reply) => put_answered(out, reply.id, &reply.answer),
+    }
+}
+
+#[tactic(auto, unfolding(crate::specs::Spelling::spelling))]
+fn put_packet(out: &mut Vec<u8>, size: u32, packet: &Packet) -> Result<(), AllocError>
+    requires { size ≡ length (contents packet.now) }
+    ensures ok { OnOk result (out.new.items ≡ out.old.items ++ spelling packet.now) }
+    ensures err { OnErr result (Extends out.old.items out.new.items) }
+{
+    out.put_u32(size)?;
+    put_contents(out, packet)?;
+    Ok(())
+}
+
+/// Appends the packet's one encoding (draft, sections 3 to 8). On error `out` is unchanged.
+///
+/// # Errors
+///
+/// In this order: `TooLong` exactly where the whole packet would have more than `PACKET_LIMIT` bytes or its handle has
+/// more than `HANDLE_LIMIT`; `NotCanonical` exactly where an `Unknown` has the name of an extension that has a request
+/// of its own; `NoMemory` if memory runs out. The first two are checked before memory is allocated, so `NoMemory`
+/// comes only for a packet that has an encoding.
+#[tactic(auto, unfolding(crate::specs::Spelling::spelling))]
+pub fn encode(packet: &Packet, out: &mut Vec<u8>) -> Result<(), WireError>
+    ensures ok { OnOk result (out.new.items ≡ out.old.items ++ spelling packet.now) }
+    ensures spelled { OnOk result (HasSpelling packet.now) }
+    ensures too_long { IsErrOf result WireError.TooLong ↔ IsTooLong packet.now }
+    ensures not_canonical { IsErrOf result WireError.NotCanonical ↔ IsNotCanonical packet.now }
+    ensures no_memory { IsErrOf result WireError.NoMemory → HasSpelling packet.now }
+    ensures err { OnErr result (out.new.items ≡ out.old.items) }
+    ensures kinds { IfErr result (λ e. (e ≡ WireError.TooLong) ⊎ (e ≡ WireError.NotCanonical)
+        ⊎ (e ≡ WireError.NoMemory)) }
+{
+    let size = contents_length(packet);
+    if size > PACKET_LIMIT - 4 || has_long_handle(packet) {
+        return Err(WireError::TooLong);
+    }
+    if hides_extension(packet) {
+        return Err(WireError::NotCanonical);
+    }
+    let before = out.len();
+    match put_packet(out, size as u32, packet) {
+        Ok(()) => Ok(()),
+        Err(error) => {
+            out.truncate(before);
+            Err(WireError::from(error))
+        }
+    }
+}
