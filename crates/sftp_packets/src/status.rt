@@ -1,4 +1,4 @@
-//! The codes of STATUS replies (draft, section 7). The server sends no others.
+//! The codes of STATUS replies (draft, section 7).
 
 /// The request succeeded.
 pub const OK: u32 = 0;
@@ -17,6 +17,12 @@ pub const FAILURE: u32 = 4;
 
 /// The request is badly formatted.
 pub const BAD_MESSAGE: u32 = 5;
+
+/// There is no connection to the server. A client makes it for itself; no server sends it.
+pub const NO_CONNECTION: u32 = 6;
+
+/// The connection to the server was lost. A client makes it for itself; no server sends it.
+pub const CONNECTION_LOST: u32 = 7;
 
 /// The server does not support the operation.
 pub const OP_UNSUPPORTED: u32 = 8;

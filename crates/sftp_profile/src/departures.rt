@@ -7,6 +7,7 @@ use crate::limits::is_beyond;
 use crate::paths::walks_loosely;
 use crate::profiles::Profile;
 use crate::refusals::{has_code, has_code_or, is_refusal};
+use sftp_wire::status::{EOF, FAILURE, NO_SUCH_FILE, OK};
 use sftp_wire::{Answer, Ask, Attrs};
 
 /// Whether the profile lets the answer pass, whatever the session.
@@ -23,14 +24,15 @@ pub(crate) fn passes_alone(profile: Profile, ask: &Ask, answer: &Answer) -> bool
 fn passes_slash(profile: Profile, ask: &Ask, answer: &Answer) -> bool
     ensures { result ≡ spec.passes_slash profile ask.now answer.now }
 {
-    walks_loosely(ask) && (has_code(answer, 2) || has_code_or(answer, 4, profile.codes))
+    walks_loosely(ask)
+        && (has_code(answer, NO_SUCH_FILE) || has_code_or(answer, FAILURE, profile.codes))
 }
 
 /// Whether the request meets a limit of the server's own, and the answer refuses it.
 fn passes_limits(profile: Profile, ask: &Ask, answer: &Answer) -> bool
     ensures { result ≡ spec.passes_limits profile ask.now answer.now }
 {
-    is_beyond(ask) && has_code_or(answer, 4, profile.codes)
+    is_beyond(ask) && has_code_or(answer, FAILURE, profile.codes)
 }
 
 /// Whether an extension that is not known is refused, or only looks.
@@ -52,14 +54,14 @@ pub(crate) fn is_modelled(profile: Profile, ask: &Ask, answer: &Answer) -> bool
 fn is_unmodelled(ask: &Ask, answer: &Answer) -> bool
     ensures { result ≡ spec.is_unmodelled ask.now answer.now }
 {
-    is_unknown(ask) && !(only_looks(ask) || is_refusal(answer) || has_code(answer, 1))
+    is_unknown(ask) && !(only_looks(ask) || is_refusal(answer) || has_code(answer, EOF))
 }
 
 /// Whether nothing is to be set, and the answer says OK.
 fn passes_empty_setstat(ask: &Ask, answer: &Answer) -> bool
     ensures { result ≡ spec.passes_empty_setstat ask.now answer.now }
 {
-    is_empty_setstat(ask) && has_code(answer, 0)
+    is_empty_setstat(ask) && has_code(answer, OK)
 }
 
 /// Whether the request is a SETSTAT that sets nothing.

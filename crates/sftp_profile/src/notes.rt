@@ -16,6 +16,7 @@ use crate::refusals::has_code;
 use sftp_handles::Listing;
 use sftp_path::{Name, Place};
 use sftp_tree::{Item, NoMemory, Refused, Ticks, Tree};
+use sftp_wire::status::OK;
 use sftp_wire::{Answer, Ask, ByteString, NameItem};
 use std::alloc::Global;
 
@@ -110,7 +111,7 @@ fn gives(handle: &ByteString) -> Result<Note, NoMemory>
 fn closed(handle: &ByteString, answer: &Answer) -> Result<Note, NoMemory>
     ensures { IfOk result (λ note. note ≡ spec.when_done answer.now (notes.Closes handle.now)) }
 {
-    if has_code(answer, 0) {
+    if has_code(answer, OK) {
         Ok(Note::Closes(handle.clone()?))
     } else {
         Ok(Note::Nothing)
@@ -126,7 +127,7 @@ fn shifts(tree: &Tree, ask: &Ask, answer: &Answer) -> Result<Note, NoMemory>
     ensures { IfOk result (λ note. note
         ≡ spec.when_done answer.now (spec.shift_note (spec.shift_of tree.now ask.now))) }
 {
-    if has_code(answer, 0) {
+    if has_code(answer, OK) {
         Ok(shift_note(shift_of(tree, ask)?))
     } else {
         Ok(Note::Nothing)

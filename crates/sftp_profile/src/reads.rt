@@ -11,6 +11,7 @@ ghost use Rattle.sftp_profile.specs.Reads as spec;
 use crate::refusals::has_code;
 use sftp_handles::{GivenTable, Session};
 use sftp_tree::{NoMemory, TreeLimits};
+use sftp_wire::status::EOF;
 use sftp_wire::{Answer, Ask};
 
 /// Whether no cause refuses a READ, and it may be answered so.
@@ -56,7 +57,7 @@ fn is_read(
             let given = given.as_slice();
             (len == 0 && given.is_empty()) || are_read(session, handle, offset, len, given)
         }
-        _ => len == 0 && has_code(answer, 1),
+        _ => len == 0 && has_code(answer, EOF),
     }
 }
 

@@ -9,6 +9,7 @@ ghost use Rattle.sftp_profile.specs.Realpaths as spec;
 use crate::refusals::has_code_or;
 use sftp_path::{Parts, Place, absolute, is_dot, is_dot_dot, is_name};
 use sftp_tree::{NoMemory, Refused, Tree};
+use sftp_wire::status::NO_SUCH_FILE;
 use sftp_wire::{Answer, Ask, NameItem};
 use std::alloc::Global;
 
@@ -98,7 +99,7 @@ fn has_one_name(answer: &Answer) -> bool
 fn says_absent(tree: &Tree, frees: bool, path: &[u8], answer: &Answer) -> Result<bool, NoMemory>
     ensures { IfOk result (λ ok. ok ≡ spec.says_absent tree.now frees path.now answer.now) }
 {
-    if !has_code_or(answer, 2, frees) {
+    if !has_code_or(answer, NO_SUCH_FILE, frees) {
         return Ok(false);
     }
     match tree.stat(path, true) {

@@ -8,6 +8,9 @@ ghost use Rattle.sftp_profile.specs.Refusals as words;
 ghost use Rattle.sftp_profile.specs.Permitted.{done_status};
 
 use crate::tellings::is_dots;
+use sftp_wire::status::{
+    BAD_MESSAGE, FAILURE, NO_SUCH_FILE, OK, OP_UNSUPPORTED, PERMISSION_DENIED,
+};
 use sftp_wire::{Answer, ByteString, NameItem};
 use std::alloc::Global;
 
@@ -77,7 +80,7 @@ pub(crate) fn done(alloc: Global) -> Answer
     ensures { result ≡ done_status }
 {
     Answer::Status {
-        code: 0,
+        code: OK,
         message: ByteString::new(Vec::new(alloc)),
         language: ByteString::new(Vec::new(alloc)),
     }
@@ -87,5 +90,9 @@ pub(crate) fn done(alloc: Global) -> Answer
 fn is_refusal_code(code: u32) -> bool
     ensures { result ≡ words.is_refusal_code code }
 {
-    code == 2 || code == 3 || code == 4 || code == 5 || code == 8
+    code == NO_SUCH_FILE
+        || code == PERMISSION_DENIED
+        || code == FAILURE
+        || code == BAD_MESSAGE
+        || code == OP_UNSUPPORTED
 }

@@ -10,6 +10,7 @@ use crate::refusals::{has_code, is_handle};
 use sftp_handles::{GivenTable, Session};
 use sftp_path::good_path;
 use sftp_tree::{Cause, Causes, EVERY_CAUSE, NoMemory};
+use sftp_wire::status::OK;
 use sftp_wire::{Answer, Ask};
 
 /// Whether a request was done, and nothing but the room in the tree refuses it: as it stands, or as the profile takes
@@ -60,7 +61,7 @@ fn is_done(ask: &Ask, answer: &Answer) -> bool
     match ask {
         Ask::Open { .. } => is_handle(answer),
         Ask::Opendir { .. } => is_handle(answer),
-        _ => has_code(answer, 0),
+        _ => has_code(answer, OK),
     }
 }
 

@@ -15,6 +15,7 @@ use crate::refusals::{has_code, is_handle, is_refusal};
 use crate::tellings::{DIRECTORY, is_type};
 use sftp_path::absolute;
 use sftp_tree::NoMemory;
+use sftp_wire::status::{EOF, FAILURE, NO_SUCH_FILE, OK};
 use sftp_wire::{Answer, Ask, Attrs, ByteString};
 use std::alloc::Global;
 
@@ -78,7 +79,7 @@ pub(crate) fn is_barred(found: Option<&Directory>, ask: &Ask) -> bool
 pub(crate) fn refuses_kind(profile: Profile, answer: &Answer) -> bool
     ensures { result ≡ spec.refuses_kind profile answer.now }
 {
-    has_code(answer, 4) || (profile.codes && is_refusal(answer))
+    has_code(answer, FAILURE) || (profile.codes && is_refusal(answer))
 }
 
 /// Whether flags of OPEN ask to read and nothing else, as the profile takes them.
@@ -188,7 +189,7 @@ fn set(
     ensures { IfOk result (λ other. other ≡ (if has_code 0 answer.now
         then option_map (λ text. asks.Setstat text attrs.now) (spec.text_of (option_copied found.entry)) else None)) }
 {
-    if !has_code(answer, 0) {
+    if !has_code(answer, OK) {
         return Ok(None);
     }
     let Some(path) = text_of(alloc, found)? else {
@@ -233,10 +234,10 @@ fn passes_open_dir(found: Option<&Directory>, ask: &Ask, answer: &Answer) -> boo
     ensures { result ≡ spec.passes_open_dir (option_copied found.entry) ask.now answer.now }
 {
     match ask {
-        Ask::Fsync { .. } => found.is_some() && has_code(answer, 0),
+        Ask::Fsync { .. } => found.is_some() && has_code(answer, OK),
         Ask::Fstat { .. } => is_removed(found) && are_directory(answer),
         Ask::Fsetstat { attrs, .. } => {
-            is_removed(found) && has_code(answer, 0) && attrs.size.is_none()
+            is_removed(found) && has_code(answer, OK) && attrs.size.is_none()
         }
         _ => false,
     }
@@ -257,8 +258,8 @@ fn passes_listing(found: Option<&Directory>, ask: &Ask, answer: &Answer) -> bool
 fn ends(found: Option<&Directory>, answer: &Answer) -> bool
     ensures { result ≡ spec.ends (option_copied found.entry) answer.now }
 {
-    (has_no_must(found) && has_code(answer, 1))
-        || (is_removed(found) && (has_code(answer, 2) || has_code(answer, 4)))
+    (has_no_must(found) && has_code(answer, EOF))
+        || (is_removed(found) && (has_code(answer, NO_SUCH_FILE) || has_code(answer, FAILURE)))
 }
 
 /// Whether no name is left that was there all the time.

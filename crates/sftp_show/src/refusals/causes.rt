@@ -1,11 +1,20 @@
 //! Causes and status codes as text (draft, section 7).
 
 use sftp_tree::{Cause, Causes, EVERY_CAUSE};
+use sftp_wire::status;
 use std::fmt;
 use std::fmt::Write;
 
 /// The codes of the draft that say that a request is refused.
-const REFUSING_CODES: [u32; 7] = [2, 3, 4, 5, 6, 7, 8];
+const REFUSING_CODES: [u32; 7] = [
+    status::NO_SUCH_FILE,
+    status::PERMISSION_DENIED,
+    status::FAILURE,
+    status::BAD_MESSAGE,
+    status::NO_CONNECTION,
+    status::CONNECTION_LOST,
+    status::OP_UNSUPPORTED,
+];
 
 /// A status code with its name.
 #[derive(Clone, Copy)]
@@ -15,15 +24,15 @@ impl Code {
     /// The name of the code in the draft, without `SSH_FX_`.
     fn name(self) -> &'static str {
         match self.0 {
-            0 => "OK",
-            1 => "EOF",
-            2 => "NO_SUCH_FILE",
-            3 => "PERMISSION_DENIED",
-            4 => "FAILURE",
-            5 => "BAD_MESSAGE",
-            6 => "NO_CONNECTION",
-            7 => "CONNECTION_LOST",
-            8 => "OP_UNSUPPORTED",
+            status::OK => "OK",
+            status::EOF => "EOF",
+            status::NO_SUCH_FILE => "NO_SUCH_FILE",
+            status::PERMISSION_DENIED => "PERMISSION_DENIED",
+            status::FAILURE => "FAILURE",
+            status::BAD_MESSAGE => "BAD_MESSAGE",
+            status::NO_CONNECTION => "NO_CONNECTION",
+            status::CONNECTION_LOST => "CONNECTION_LOST",
+            status::OP_UNSUPPORTED => "OP_UNSUPPORTED",
             _ => "unknown",
         }
     }
