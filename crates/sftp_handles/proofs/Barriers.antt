@@ -2,11 +2,14 @@
 use Rattle.std.proofs.Common.{◌≡◌, ◌≢◌, ℕ, Bool, true, false, List, Option, Some, None, refl, ap}
 use Rattle.sftp_packets.specs.declared.packets.Ask.{Ask}
 use Rattle.sftp_packets.specs.declared.packets.Ask.TheVariants as asks
+use Rattle.sftp_packets.specs.Spelling.{asked_handle}
 use Rattle.sftp_handles.specs.declared.opens.Open.{Open}
 use Rattle.sftp_handles.specs.declared.opens.Open.TheVariants.{File, Listing}
 use Rattle.sftp_handles.specs.Handles.{open_at}
 use Rattle.sftp_handles.specs.State.{State}
 use Rattle.sftp_handles.specs.Seen.{a_file, a_listing}
+use Rattle.sftp_handles.specs.HandleRequests.{row_of}
+use Rattle.sftp_handles.specs.Uses.{bars_by}
 use Rattle.sftp_handles.specs.Clash.{Touched, untouched, everything, share, is_barrier, touched_through, touched}
 
 pub barrier-touches : (s : State) (ask : Ask) → is_barrier ask ≡ true → touched s ask ≡ everything
@@ -17,23 +20,12 @@ barrier-touches s (asks.Fstat handle) is = absurd cc
 barrier-touches s (asks.Fsetstat handle attrs) is = absurd cc
 barrier-touches s (asks.Fsync handle) is = absurd cc
 barrier-touches s (asks.Readdir handle) is = absurd cc
-barrier-touches s (asks.Open path pflags attrs) is = refl
-barrier-touches s (asks.Close handle) is = refl
-barrier-touches s (asks.Lstat path) is = refl
-barrier-touches s (asks.Setstat path attrs) is = refl
-barrier-touches s (asks.Opendir path) is = refl
-barrier-touches s (asks.Remove path) is = refl
-barrier-touches s (asks.Mkdir path attrs) is = refl
-barrier-touches s (asks.Rmdir path) is = refl
-barrier-touches s (asks.Realpath path) is = refl
-barrier-touches s (asks.Stat path) is = refl
-barrier-touches s (asks.Rename oldpath newpath) is = refl
-barrier-touches s (asks.Readlink path) is = refl
-barrier-touches s (asks.Symlink targetpath linkpath) is = refl
-barrier-touches s (asks.PosixRename oldpath newpath) is = refl
-barrier-touches s (asks.Hardlink oldpath newpath) is = refl
-barrier-touches s asks.Limits is = refl
-barrier-touches s (asks.Unknown extension rest) is = refl
+barrier-touches s other is = refl
+
+-- whether it is one, by its handle and by what it needs there
+pub barrier-is : (ask : Ask) → is_barrier ask ≡ bars_by (asked_handle ask) (row_of ask).needed
+barrier-is (asks.Read handle offset len) = refl
+barrier-is other = refl
 
 of-file : (changes : Bool) (handle : List ℕ) (found : Option Open)
     → share (touched_through a_file changes handle found) untouched ≡ false

@@ -102,7 +102,7 @@ plain-alike : (attrs : Attrs) → is_plain attrs ≡ true → same_attributes at
 plain-alike attrs = fields-alike attrs.size attrs.owner attrs.permissions attrs.times attrs.extended
 
 -- the first entry of a table in order is found
-found-first : (name : Name) (attrs : Attrs) (left : Left) → get name_cmp ((name, attrs) ∷ left) name ≡ Some attrs
+pub found-first : (name : Name) (attrs : Attrs) (left : Left) → get name_cmp ((name, attrs) ∷ left) name ≡ Some attrs
 found-first name attrs left =
     get-cons name_cmp (name, attrs) left name
     ∙ ap (λ o. cond (is_eq o) (Some attrs) (get name_cmp left name)) (tied_itself nat_list_cmp_total name)

@@ -1,28 +1,19 @@
 -- The first names of a listing are struck: as many entries are dropped.
-use Rattle.std.proofs.Common.{◌≡◌, ℕ, zero, suc, cond, List, [], ◌∷◌, drop, length, Option, Some}
+use Rattle.std.proofs.Common.{◌≡◌, ℕ, zero, suc, List, [], ◌∷◌, drop, length, Option, Some}
 use Rattle.std.proofs.Common.{sym, ap, subst, ◌∙◌}
-use Rattle.std.specs.BTreeMap.{is_at}
-use Rattle.std.specs.Map.{keys_of, remove_entry}
-use Rattle.std.specs.Ordering.{is_eq}
-use Rattle.std.specs.Cmp.Lexicographic.{nat_list_cmp_total}
-use Rattle.std.proofs.lemmas.Cmp.{tied_itself}
+use Rattle.std.specs.Map.{keys_of}
 use Rattle.std.proofs.lemmas.Map.Keys.{sorted_tail}
-use Rattle.sftp_packets.specs.declared.attributes.Attrs.{Attrs}
 use Rattle.sftp_packets.specs.declared.names.NameItem.{NameItem}
-use Rattle.sftp_path.specs.Place.{Name, name_cmp}
-use Rattle.sftp_path.specs.Table.{InOrder, without}
+use Rattle.sftp_path.specs.Place.{name_cmp}
+use Rattle.sftp_path.specs.Table.{InOrder}
 use Rattle.sftp_handles.specs.declared.opens.Open.{Open}
 use Rattle.sftp_handles.specs.declared.opens.Open.TheVariants.{Listing}
 use Rattle.sftp_handles.specs.Handles.{Left}
 use Rattle.sftp_handles.specs.Replies.{names_in, struck}
 use Rattle.sftp_handles.specs.Giving.{IsListing}
 use Rattle.sftp_handles.specs.FirstNames.{first_items, names_in_reply, AreFirst}
+use Rattle.sftp_handles.proofs.MarkedItems.{without-here}
 use Rattle.sftp_handles.proofs.Strikes.{struck-first, struck-none}
-
-without-first : (e : Name × Attrs) (es : Left) → without name_cmp (e ∷ es) e.0 ≡ es
-unfolding without
-without-first e es =
-    ap (λ o. cond (is_eq o) es (e ∷ remove_entry (is_at (name_cmp e.0)) es)) (tied_itself nat_list_cmp_total e.0)
 
 struck-first_items : (n : ℕ) (left : Left) → InOrder name_cmp left
     → struck left (names_in (first_items n left)) ≡ drop (length (first_items n left)) left
@@ -31,7 +22,7 @@ struck-first_items zero (e ∷ es) order = struck-none (e ∷ es)
 struck-first_items (suc n) [] order = struck-none []
 struck-first_items (suc n) (e ∷ es) order =
     struck-first (e ∷ es) e.0 (names_in (first_items n es)) order
-    ∙ (ap (λ left. struck left (names_in (first_items n es))) (without-first e es)
+    ∙ (ap (λ left. struck left (names_in (first_items n es))) (without-here e es)
     ∙ struck-first_items n es (sorted_tail name_cmp e.0 (keys_of es) order))
 
 -- so it is with those of a reply

@@ -23,7 +23,7 @@ use Rattle.sftp_handles.specs.Replies.{names_in, names_given, are_some_left, giv
 use Rattle.sftp_handles.specs.HandleRequests.{row_of, causes_of, said_of, change_of}
 use Rattle.sftp_handles.specs.Requests.{causes, answers, after, changed}
 use Rattle.sftp_handles.specs.Judged.{IsJudged, IsJudgedCode, refusal_code}
-use Rattle.sftp_handles.specs.Giving.{IsListing, gives_names, with_struck}
+use Rattle.sftp_handles.specs.Giving.{IsListing, listing_in, gives_names, with_struck}
 use Rattle.sftp_handles.proofs.Pins.{pins-listing_again}
 use Rattle.sftp_handles.proofs.GoodStates.{left-struck, good-listing}
 use Rattle.sftp_handles.proofs.NewStates.{state_of}
@@ -190,6 +190,12 @@ judged-unlisted s handle answer code end other =
     (λ free.
     ap (λ b. b && answers s (Readdir handle) answer) (sym free) ∙ readdir-unlisted s handle answer (gives-none answer other) end))
 
+pub gives-unlisted : (items : List NameItem) (found : Option Open) → listing_in found ≡ None
+    → false ≡ gives_names found items
+gives-unlisted items None is = refl
+gives-unlisted items (Some (File number flags)) is = refl
+gives-unlisted items (Some (Listing left)) is = absurd cc
+
 -- the names come from a listing, in order
 listing-in : (s : State) (handle : List ℕ) (items : List NameItem) (found : Option Open) → Good s
     → open_at s.handles handle ≡ found → gives_names found items ≡ true → IsListing found
@@ -215,6 +221,11 @@ none-if_empty true [] both = refl
 none-if_empty false [] both = both.1 refl
 none-if_empty true (e ∷ es) both = absurd (let none = both.0 refl in cc)
 none-if_empty false (e ∷ es) both = refl
+
+pub none-listed : (found : Option Open) → listing_in found ≡ None → false ≡ has_none found
+none-listed None is = refl
+none-listed (Some (File number flags)) is = refl
+none-listed (Some (Listing left)) is = absurd cc
 
 free-end : (s : State) (handle message language : List ℕ) (found : Option Open)
     → (is_none (causes_of (limits s.tree) (row_of (Readdir handle)) (seen_among s.tree.files a_listing found))

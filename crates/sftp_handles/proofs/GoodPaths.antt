@@ -30,7 +30,7 @@ use Rattle.sftp_path.proofs.Table.Counts.{one_if}
 use Rattle.sftp_tree.specs.OpenFlags.{truncates}
 use Rattle.sftp_tree.specs.Changes.{with_opened, with_emptied_file}
 use Rattle.sftp_tree.specs.Causes.{no_causes, is_none, when}
-use Rattle.sftp_tree.specs.Requests.{Told, done, attributes, name, file, listed, led, led_to, told_at, outcome}
+use Rattle.sftp_tree.specs.Requests.{Told, done, file, led, led_to, told_at, outcome}
 use Rattle.sftp_tree.specs.Requests.{number_at}
 use Rattle.sftp_tree.specs.Requests as paths
 use Rattle.sftp_tree.specs.Refusals.{IsFree}

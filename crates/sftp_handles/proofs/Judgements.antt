@@ -15,7 +15,7 @@ use Rattle.sftp_tree.specs.declared.causes.Cause.TheVariants.{BadFlags}
 use Rattle.sftp_tree.specs.Causes.{CauseSet, every_cause, allows, allow, is_none}
 use Rattle.sftp_tree.proofs.CauseLaws.Sets.{none-each}
 use Rattle.sftp_handles.specs.State.{State}
-use Rattle.sftp_handles.specs.Replies.{Said, ok, shows, names, gives, ended, lists, opens, extends, says}
+use Rattle.sftp_handles.specs.Replies.{Said, ok, shows, names, ended, says}
 use Rattle.sftp_handles.specs.Replies.{refuses, has_code}
 use Rattle.sftp_handles.specs.Requests.{causes, said_to, answers, after}
 use Rattle.sftp_handles.specs.Allowed.{Does, Allowed, stepped, step}
@@ -130,15 +130,10 @@ judged-still s ask answer false unlike still is = judged-none s ask answer (not-
 pub says-other : (said : Said) (code : ℕ) (message language : List ℕ) → (code == 0) ≡ false → (code == 1) ≡ false
     → says said (Status code message language) ≡ false
 says-other ok code message language not_ok not_end = not_ok
-says-other (shows None) code message language not_ok not_end = refl
-says-other (shows (Some shown)) code message language not_ok not_end = refl
-says-other (names None) code message language not_ok not_end = refl
-says-other (names (Some text)) code message language not_ok not_end = refl
-says-other (gives bytes) code message language not_ok not_end = refl
 says-other ended code message language not_ok not_end = not_end
-says-other (lists left) code message language not_ok not_end = refl
-says-other (opens handles) code message language not_ok not_end = refl
-says-other (extends told) code message language not_ok not_end = refl
+says-other (shows None) code message language not_ok not_end = refl
+says-other (names None) code message language not_ok not_end = refl
+says-other other code message language not_ok not_end = refl
 
 answers-other : (s : State) (ask : Ask) (code : ℕ) (message language : List ℕ) → (code == 0) ≡ false
     → (code == 1) ≡ false → answers s ask (Status code message language) ≡ false

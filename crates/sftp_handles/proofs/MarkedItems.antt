@@ -99,7 +99,7 @@ unfolding without
 without-behind e es name less =
     ap (λ b. cond b es (e ∷ remove_entry (is_at (name_cmp name)) es)) (less-apart e.0 name less)
 
-without-here : (e : Name × Attrs) (es : Left) → without name_cmp (e ∷ es) e.0 ≡ es
+pub without-here : (e : Name × Attrs) (es : Left) → without name_cmp (e ∷ es) e.0 ≡ es
 unfolding without
 without-here e es =
     ap (λ o. cond (is_eq o) es (e ∷ remove_entry (is_at (name_cmp e.0)) es)) (tied_itself nat_list_cmp_total e.0)

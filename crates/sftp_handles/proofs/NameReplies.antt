@@ -1,13 +1,12 @@
 -- READDIR: the reply that gives the first names of a listing, and the reply that there are no more.
 use Rattle.std.proofs.Common.{◌≡◌, ◌==◌, nat_lt, ℕ, zero, suc, ◌+◌, ◌*◌, ◌≤◌, Bool, true, false, List}
 use Rattle.std.proofs.Common.{[], ◌∷◌, length, Option, Some, None, refl, sym, ap, subst, ◌∙◌, arith}
-use Rattle.std.proofs.Common.{IsTrue, lit<, inl, inr}
+use Rattle.std.proofs.Common.{lit<, inl, inr}
 use Rattle.std.specs.List.{AllByRecursion, flat_map}
 use Rattle.std.proofs.lemmas.Bool.{both_ways, eqb-true, lt-ltb}
 use Rattle.std.proofs.lemmas.List.{length-append}
 use Rattle.sftp_packets.specs.declared.attributes.Attrs.{Attrs}
 use Rattle.sftp_packets.specs.declared.names.NameItem.{NameItem}
-use Rattle.sftp_packets.specs.declared.open_flags.OpenFlags.{OpenFlags}
 use Rattle.sftp_packets.specs.declared.packets.Ask.{Ask}
 use Rattle.sftp_packets.specs.declared.packets.Ask.TheVariants.{Readdir}
 use Rattle.sftp_packets.specs.declared.packets.Answer.{Answer}
@@ -15,15 +14,11 @@ use Rattle.sftp_packets.specs.declared.packets.Answer.TheVariants as replies
 use Rattle.sftp_packets.specs.declared.packets.Packet.TheVariants.{Reply as reply_packet}
 use Rattle.sftp_packets.specs.Spelling.{spelling, attributes, name_item, FitsString, FitsNameItem}
 use Rattle.sftp_path.specs.Place.{Name}
-use Rattle.sftp_tree.specs.declared.causes.Cause.TheVariants.{BadHandle, WrongKind}
-use Rattle.sftp_tree.specs.Tree.{limits}
 use Rattle.sftp_handles.specs.declared.opens.Open.{Open}
 use Rattle.sftp_handles.specs.declared.opens.Open.TheVariants.{File, Listing}
 use Rattle.sftp_handles.specs.Handles.{Left, Handles, open_at}
 use Rattle.sftp_handles.specs.State.{State, Good, IsItem, is_plain}
-use Rattle.sftp_handles.specs.Seen.{a_listing, seen, seen_among}
 use Rattle.sftp_handles.specs.Replies.{names_in, refuses, are_some_left}
-use Rattle.sftp_handles.specs.HandleRequests.{row_of, causes_of}
 use Rattle.sftp_handles.specs.Requests.{causes}
 use Rattle.sftp_handles.specs.Allowed.{Does}
 use Rattle.sftp_handles.specs.Judged.{IsJudged}
@@ -33,7 +28,6 @@ use Rattle.sftp_handles.specs.FirstNames.{item_of, first_items, names_in_reply, 
 use Rattle.sftp_handles.proofs.FirstNames.{Extended, attributes_of, first-some}
 use Rattle.sftp_handles.proofs.GivenNames.{has_none, listing-left, given-judged, readdir-ends}
 use Rattle.sftp_handles.proofs.Judgements.{allow-one}
-use Rattle.sftp_handles.proofs.SeenAnswers.{cause-holds}
 use Rattle.sftp_handles.proofs.NewStates.{state_of}
 use Rattle.sftp_handles.proofs.Steps.{step-is_allowed}
 use Rattle.sftp_handles.proofs.TotalSteps.PlaceTexts.{name-parts}
@@ -196,25 +190,3 @@ module _ (s : State) (handle : List ℕ) (good : Good s) where
         (readdir-ends s handle true good (sym (none-in names (open_at s.handles handle) first none)) [] []);
     spelled = end-spelled;
   }
-
--- ---- no listing is open
-
-pub readdir-of_file : (s : State) (handle : List ℕ) (number : ℕ) (flags : OpenFlags)
-    → open_at s.handles handle ≡ Some (File number flags) → IsTrue (causes s (Readdir handle) WrongKind)
-unfolding causes seen
-readdir-of_file s handle number flags there =
-    ap
-    (λ found.
-    causes_of (limits s.tree) (row_of (Readdir handle)) (seen_among s.tree.files a_listing found) WrongKind)
-    there
-    ∙ cause-holds WrongKind
-
-pub readdir-of_none : (s : State) (handle : List ℕ) → open_at s.handles handle ≡ None
-    → IsTrue (causes s (Readdir handle) BadHandle)
-unfolding causes seen
-readdir-of_none s handle there =
-    ap
-    (λ found.
-    causes_of (limits s.tree) (row_of (Readdir handle)) (seen_among s.tree.files a_listing found) BadHandle)
-    there
-    ∙ cause-holds BadHandle

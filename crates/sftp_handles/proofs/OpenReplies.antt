@@ -1,12 +1,11 @@
 -- OPEN and OPENDIR: the reply that gives a new handle, and why there is none.
-use Rattle.std.proofs.Common.{◌≡◌, ◌&&◌, ◌||◌, not, ℕ, ◌+◌, ◌≤◌, Bool, true, false, List, length, refl, sym, ap, ◌∙◌}
+use Rattle.std.proofs.Common.{◌≡◌, ◌&&◌, ◌||◌, not, ℕ, ◌≤◌, Bool, true, false, List, length, refl, sym, ap, ◌∙◌}
 use Rattle.std.proofs.Common.{arith, IsTrue, nat_le, leb-true}
 use Rattle.std.proofs.lemmas.Bool.{and_parts}
 use Rattle.sftp_packets.specs.declared.packets.Ask.{Ask}
 use Rattle.sftp_packets.specs.declared.packets.Ask.TheVariants.{Open, Opendir}
 use Rattle.sftp_packets.specs.declared.packets.Answer.TheVariants as replies
-use Rattle.sftp_packets.specs.declared.packets.Packet.TheVariants.{Reply as reply_packet}
-use Rattle.sftp_packets.specs.Spelling.{spelling, AreBytes, handle_limit}
+use Rattle.sftp_packets.specs.Spelling.{AreBytes, handle_limit}
 use Rattle.sftp_tree.specs.declared.causes.Cause.TheVariants.{NoRoom}
 use Rattle.sftp_tree.specs.declared.causes.Refused.{Refused}
 use Rattle.sftp_tree.specs.Causes.{CauseSet, is_none, when}
@@ -24,7 +23,7 @@ use Rattle.sftp_handles.specs.Answered.{IsSpelledAnswer, IsAnswered}
 use Rattle.sftp_handles.proofs.HandleReplies.{opens-said}
 use Rattle.sftp_handles.proofs.Judgements.{answers-said}
 use Rattle.sftp_handles.proofs.Opened.{refused-file, refused-listing}
-use Rattle.sftp_handles.proofs.TotalSteps.SaidReplies.{reply_of}
+use Rattle.sftp_handles.proofs.TotalSteps.SaidReplies.{handle-length}
 
 -- ---- no more handles
 
@@ -60,11 +59,6 @@ path-refuses s (Opendir path) refused opening holds = refused-listing s s.tree p
 path-refuses s other refused opening holds = absurd cc
 
 -- ---- a new handle
-
-handle-length : (id : ℕ) (handle : List ℕ)
-    → length (spelling (reply_packet (reply_of id (replies.Handle handle)))) ≡ 13 + length handle
-unfolding spelling
-handle-length id handle = omega arith
 
 handle-spelled : (handle : List ℕ) → AreBytes handle → length handle ≤ handle_limit
     → IsSpelledAnswer (replies.Handle handle)

@@ -34,8 +34,10 @@ use Rattle.sftp_tree.specs.FileChanges.{after_pin}
 use Rattle.sftp_tree.specs.Listings.{listing}
 use Rattle.sftp_tree.specs.Causes.{CauseSet, is_none, when, only}
 use Rattle.sftp_tree.specs.Requests as paths
-use Rattle.sftp_tree.specs.Requests.{done, file, listed, led, led_to, told_at, outcome, number_of, names_of}
-use Rattle.sftp_tree.specs.Requests.{file_to, listing_to, outcome_led, new_led}
+use Rattle.sftp_tree.specs.Requests.{done, file, listed, led, led_to, told_at, outcome}
+use Rattle.sftp_tree.specs.Told.{number_of, names_of}
+use Rattle.sftp_tree.specs.Requests.{outcome_led, new_led}
+use Rattle.sftp_tree.specs.Told.{file_to, listing_to}
 use Rattle.sftp_tree.proofs.CauseLaws.Places.{outcome-is}
 use Rattle.sftp_tree.proofs.CauseLaws.Sets.{none-each, each-none}
 use Rattle.sftp_tree.proofs.KeptTrees.Files.{pins-stay, limits-stay}

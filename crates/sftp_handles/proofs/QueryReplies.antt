@@ -16,7 +16,8 @@ use Rattle.sftp_tree.specs.declared.file_contents.Content.{Content}
 use Rattle.sftp_tree.specs.Tree.{Tree, Files, node_at, content_at}
 use Rattle.sftp_tree.specs.Causes.{is_none}
 use Rattle.sftp_tree.specs.Requests as paths
-use Rattle.sftp_tree.specs.Requests.{Told, led, led_to, told_at, outcome, shown_to, text_to, target_to, shown_at}
+use Rattle.sftp_tree.specs.Requests.{Told, led, led_to, told_at, outcome, shown_at}
+use Rattle.sftp_tree.specs.Told.{shown_to, text_to}
 use Rattle.sftp_tree.specs.Requests.{target_of, has_step}
 use Rattle.sftp_tree.specs.Refusals.{IsFree, stat_ask}
 use Rattle.sftp_tree.specs.Refusals as of_tree
@@ -155,9 +156,9 @@ realpath-told : (t : Tree) (path text : List ℕ) → text_to t (asks.Realpath p
 unfolding text_to told_to
 realpath-told t path text is = led-name (led t (asks.Realpath path)) (λ place. Some (absolute place)) text is
 
-readlink-told : (t : Tree) (path text : List ℕ) → target_to t (asks.Readlink path) ≡ Some text
+readlink-told : (t : Tree) (path text : List ℕ) → text_to t (asks.Readlink path) ≡ Some text
     → told_to t (asks.Readlink path) ≡ paths.name (Some text)
-unfolding target_to told_to
+unfolding text_to told_to
 readlink-told t path text is =
     led-name (led t (asks.Readlink path)) (λ place. target_of (node_at t.names place)) text is
 
@@ -170,7 +171,7 @@ carries-place paths-lead s path text good bytes free is =
     (path-fits s good (asks.Realpath path) (λ place. place-fits s good paths-lead path place bytes))
 
 pub carries-target : (s : State) (path text : List ℕ) → Good s → IsFree s.tree (asks.Readlink path)
-    → target_to s.tree (asks.Readlink path) ≡ Some text → Carries s (asks.Readlink path) (names (Some text))
+    → text_to s.tree (asks.Readlink path) ≡ Some text → Carries s (asks.Readlink path) (names (Some text))
 carries-target s path text good free is =
     carries-path s (asks.Readlink path) refl refl refl (paths.name (Some text)) good free
     (readlink-told s.tree path text is)

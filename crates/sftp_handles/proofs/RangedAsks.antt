@@ -5,8 +5,9 @@ use Rattle.std.proofs.lemmas.Bool.{le-leb, leb-true}
 use Rattle.std.proofs.lemmas.Option.{same_Some}
 use Rattle.sftp_packets.specs.declared.open_flags.OpenFlags.{OpenFlags}
 use Rattle.sftp_packets.specs.declared.packets.Ask.{Ask}
-use Rattle.sftp_packets.specs.declared.packets.Ask.TheVariants.{Write}
+use Rattle.sftp_packets.specs.declared.packets.Ask.TheVariants.{Read, Write}
 use Rattle.sftp_packets.specs.Spelling.{asked_handle}
+use Rattle.sftp_treefile.specs.declared.limits.TreeLimits.{TreeLimits}
 use Rattle.sftp_tree.specs.declared.causes.Cause.{Cause}
 use Rattle.sftp_tree.specs.declared.file_contents.Content.{Content}
 use Rattle.sftp_tree.specs.Tree.{content_at, limits}
@@ -15,7 +16,7 @@ use Rattle.sftp_handles.specs.declared.opens.Open.{Open}
 use Rattle.sftp_handles.specs.declared.opens.Open.TheVariants.{File, Listing}
 use Rattle.sftp_handles.specs.Handles.{open_at}
 use Rattle.sftp_handles.specs.State.{State}
-use Rattle.sftp_handles.specs.Seen.{Needed, anything, a_file, a_listing, file, seen_file, seen_among, seen}
+use Rattle.sftp_handles.specs.Seen.{Needed, anything, a_file, a_listing, Seen, file, seen_file, seen_among, seen}
 use Rattle.sftp_handles.specs.HandleRequests.{goes_to_end, row_of}
 use Rattle.sftp_handles.specs.Found.{found_file}
 use Rattle.sftp_handles.specs.Ranges.{written_span, span, range_from, range_if, range_within, range_of, range_by, range}
@@ -170,3 +171,23 @@ unfolding seen
 range-unwritten s handle offset bytes number flags found to_end =
     by-found s (Write handle offset bytes) number flags (open_at s.handles handle) refl found
     ∙ unwritten-by s handle offset bytes number flags (content_at s.tree.files number) to_end
+
+-- ---- of other requests
+
+unspanned : (bounds : TreeLimits) (ask : Ask) (it : Seen) → ((flags : OpenFlags) → span bounds ask flags ≡ None)
+    → range_of bounds ask it ≡ None
+unspanned bounds ask (file number flags before) none = ap (range_within number (length before.bytes)) (none flags)
+unspanned bounds ask other none = refl
+
+by-unspanned : (s : State) (ask : Ask) (named : Option (List ℕ))
+    → ((flags : OpenFlags) → span (limits s.tree) ask flags ≡ None) → range_by s ask named ≡ None
+by-unspanned s ask None none = refl
+by-unspanned s ask (Some handle) none = unspanned (limits s.tree) ask (seen s (row_of ask).needed handle) none
+
+-- only READ and WRITE keep to a range
+pub range-other : (s : State) (ask : Ask) → ((handle : List ℕ) (offset len : ℕ) → ask ≡ Read handle offset len → ⊥)
+    → ((handle : List ℕ) (offset : ℕ) (bytes : List ℕ) → ask ≡ Write handle offset bytes → ⊥) → range s ask ≡ None
+unfolding range
+range-other s (Read handle offset len) read write = absurd (read handle offset len refl)
+range-other s (Write handle offset bytes) read write = absurd (write handle offset bytes refl)
+range-other s other read write = by-unspanned s other (asked_handle other) (λ flags. refl)

@@ -1,14 +1,12 @@
 -- What replies to requests on open files say, by what is found under the handle.
-use Rattle.std.proofs.Common.{◌≡◌, ◌&&◌, ◌||◌, ℕ, true, false, List, Option, Some, None, Ok, Err, option_map}
+use Rattle.std.proofs.Common.{◌≡◌, ◌&&◌, ◌||◌, ℕ, true, List, Option, Some, None, Ok, option_map}
 use Rattle.std.proofs.Common.{refl, ap, ◌∙◌, IsTrue}
 use Rattle.std.proofs.lemmas.Bool.{eq-eqb}
 use Rattle.std.proofs.lemmas.Option.{same_Some}
 use Rattle.sftp_packets.specs.declared.open_flags.OpenFlags.{OpenFlags}
 use Rattle.sftp_packets.specs.declared.packets.Ask.{Ask}
-use Rattle.sftp_packets.specs.Spelling.{asked_handle}
 use Rattle.sftp_treefile.specs.declared.limits.TreeLimits.{TreeLimits}
 use Rattle.sftp_tree.specs.declared.causes.Cause.{Cause}
-use Rattle.sftp_tree.specs.declared.causes.Cause.TheVariants.{NotOpenFor}
 use Rattle.sftp_tree.specs.declared.file_contents.Content.{Content}
 use Rattle.sftp_tree.specs.Tree.{content_at, limits}
 use Rattle.sftp_tree.specs.Causes.{row, no_causes, when, is_none}
@@ -19,7 +17,7 @@ use Rattle.sftp_handles.specs.Replies.{Said}
 use Rattle.sftp_handles.specs.HandleRequests.{Row, row_of, said_of}
 use Rattle.sftp_handles.specs.Requests.{causes, said_to}
 use Rattle.sftp_handles.specs.Found.{found_file}
-use Rattle.sftp_handles.proofs.SeenCauses.{seen-found, lost}
+use Rattle.sftp_handles.proofs.SeenCauses.{seen-found}
 
 -- no cause is in the empty set
 pub none-free : IsTrue (is_none no_causes)
@@ -31,12 +29,12 @@ pub cause-holds : (cause : Cause) → IsTrue (when no_causes cause true cause)
 unfolding when no_causes
 cause-holds cause = ap (λ b. b && true || no_causes cause) (eq-eqb (row cause) (row cause) refl)
 
--- the cause of a handle that opens no file holds
-pub lost-holds : (s : State) (ask : Ask) (handle : List ℕ) → asked_handle ask ≡ Some handle
-    → (row_of ask).needed ≡ a_file → (cause : Cause) → found_file (open_at s.handles handle) ≡ Err cause
+pub none-holds : (s : State) (ask : Ask) → causes s ask ≡ no_causes → IsTrue (is_none (causes s ask))
+none-holds s ask is = ap is_none is ∙ none-free
+
+pub only-holds : (s : State) (ask : Ask) (cause : Cause) → causes s ask ≡ when no_causes cause true
     → IsTrue (causes s ask cause)
-lost-holds s ask handle asked needs cause is =
-    ap (λ set. set cause) (lost s ask handle asked needs cause is) ∙ cause-holds cause
+only-holds s ask cause is = ap (λ set. set cause) is ∙ cause-holds cause
 
 of-content : (bounds : TreeLimits) (row : Row) (number : ℕ) (flags : OpenFlags) (content : Option Content) (said : Said)
     → option_map (row.told bounds) content ≡ Some said → said_of bounds row (seen_file number flags content) ≡ said
@@ -59,8 +57,3 @@ pub shown-found : {A B : Type 0} (f : Content → A) (g : A → B) (content : Op
     → option_map f content ≡ Some shown → option_map (λ before. g (f before)) content ≡ Some (g shown)
 shown-found f g None shown is = absurd cc
 shown-found f g (Some before) shown is = ap (λ a. Some (g a)) (same_Some (f before) shown is)
-
--- no cause is in the set of a file that was opened for what is asked
-pub open-for : IsTrue (is_none (when no_causes NotOpenFor false))
-unfolding when no_causes
-open-for = refl

@@ -1,6 +1,6 @@
 -- The causes of requests through handles, by what is found under the handle.
-use Rattle.std.proofs.Common.{◌≡◌, ◌&&◌, not, ℕ, Bool, true, List, Option, Some, None, Result, Ok, Err, IfOk, is_some, option_map}
-use Rattle.std.proofs.Common.{refl, sym, ap, ◌∙◌, IsTrue, nat_lt}
+use Rattle.std.proofs.Common.{◌≡◌, ◌==◌, ◌&&◌, ◌||◌, not, ℕ, Bool, true, false, List, Option, Some, None, Result, Ok, Err, IfOk, is_some, option_map}
+use Rattle.std.proofs.Common.{refl, sym, ap, subst, ◌∙◌, IsTrue, nat_lt}
 use Rattle.std.proofs.lemmas.Bool.{lt-ltb, eq-eqb}
 use Rattle.sftp_packets.specs.declared.open_flags.OpenFlags.{OpenFlags}
 use Rattle.sftp_packets.specs.declared.packets.Ask.{Ask}
@@ -9,7 +9,7 @@ use Rattle.sftp_path.proofs.Table.Counts.{count-found}
 use Rattle.sftp_treefile.specs.declared.limits.TreeLimits.{TreeLimits}
 use Rattle.sftp_tree.specs.declared.causes.Cause.{Cause}
 use Rattle.sftp_tree.specs.declared.file_contents.Content.{Content}
-use Rattle.sftp_tree.specs.Tree.{Tree, Files, IsKept, HasFile, content_at, content_fits, limits}
+use Rattle.sftp_tree.specs.Tree.{Tree, Files, IsKept, HasFile, is_pinned, content_at, content_fits, limits}
 use Rattle.sftp_tree.specs.Room.{size_fits}
 use Rattle.sftp_tree.specs.Attributes.{changed_content}
 use Rattle.sftp_tree.specs.FileChanges.{write_fits, written_content}
@@ -17,36 +17,46 @@ use Rattle.sftp_tree.proofs.OpenFiles.Written.{size-written}
 use Rattle.sftp_tree.proofs.CauseLaws.Limits.{changed-fits}
 use Rattle.sftp_packets.specs.declared.attributes.Attrs.{Attrs}
 use Rattle.std.proofs.lemmas.Option.{same_Some}
-use Rattle.sftp_tree.specs.Causes.{CauseSet, no_causes, when}
+use Rattle.sftp_tree.specs.Causes.{CauseSet, row, no_causes, when}
 use Rattle.sftp_handles.specs.declared.opens.Open.{Open}
 use Rattle.sftp_handles.specs.declared.opens.Open.TheVariants.{File, Listing}
-use Rattle.sftp_handles.specs.Handles.{open_at, opens_file, times_open}
+use Rattle.sftp_handles.specs.Handles.{open_at, opens_file, times_open, pins_of}
 use Rattle.sftp_handles.specs.State.{State, Good}
 use Rattle.sftp_handles.specs.Seen.{a_file, seen, seen_among, seen_file}
 use Rattle.sftp_handles.specs.HandleRequests.{Row, row_of, causes_of, with_file_room, start_of, may_write, unless_open_for}
 use Rattle.sftp_handles.specs.Requests.{causes, causes_by}
 use Rattle.sftp_packets.specs.Spelling.{asked_handle}
 use Rattle.sftp_packets.specs.declared.packets.Ask.TheVariants.{Write, Fsetstat}
-use Rattle.sftp_tree.specs.declared.causes.Cause.TheVariants.{BadHandle, NotOpenFor}
+use Rattle.sftp_tree.specs.declared.causes.Cause.TheVariants.{BadHandle, NotOpenFor, NoRoom}
 use Rattle.sftp_tree.proofs.Limits.Entries.{content-fits}
-use Rattle.sftp_handles.specs.Found.{found_file, with_room}
+use Rattle.sftp_handles.specs.Found.{found_file, with_room, refusing, granted}
 use Rattle.sftp_handles.proofs.Pins.{pins-times}
 use Rattle.sftp_handles.proofs.GoodStates.{good-opens}
 
--- a file that is open exists
-pub open-exists : (s : State) (handle : List ℕ) (number : ℕ) (flags : OpenFlags) → Good s
-    → open_at s.handles handle ≡ Some (File number flags) → HasFile s.tree.files number
-open-exists s handle number flags good there =
-    good-opens s good number
-    (ap (nat_lt 0) (pins-times s.handles number)
+-- a file that is open is pinned
+pub open-pinned : (s : State) (handle : List ℕ) (number : ℕ) (flags : OpenFlags)
+    → open_at s.handles handle ≡ Some (File number flags) → IsTrue (is_pinned (pins_of s.handles) number)
+open-pinned s handle number flags there =
+    ap (nat_lt 0) (pins-times s.handles number)
     ∙ lt-ltb 0 (times_open s.handles number)
-    (count-found bytes_cmp s.handles handle (File number flags) (opens_file number) there (eq-eqb number number refl)))
+    (count-found bytes_cmp s.handles handle (File number flags) (opens_file number) there (eq-eqb number number refl))
 
-pub found-exists : (s : State) (handle : List ℕ) (found : Option Open) → Good s → open_at s.handles handle ≡ found
+-- and exists
+open-exists : (s : State) (handle : List ℕ) (number : ℕ) (flags : OpenFlags) → Good s
+    → open_at s.handles handle ≡ Some (File number flags) → HasFile s.tree.files number
+open-exists s handle number flags good there = good-opens s good number (open-pinned s handle number flags there)
+
+found-exists : (s : State) (handle : List ℕ) (found : Option Open) → Good s → open_at s.handles handle ≡ found
     → IfOk (found_file found) (λ f. HasFile s.tree.files f.0)
 found-exists s handle None good is = tt
 found-exists s handle (Some (File number flags)) good is = open-exists s handle number flags good is
 found-exists s handle (Some (Listing left)) good is = tt
+
+pub file-there : (s : State) (handle : List ℕ) (result : Result (ℕ × OpenFlags) Cause) → Good s
+    → result ≡ found_file (open_at s.handles handle) → IfOk result (λ f. HasFile s.tree.files f.0)
+file-there s handle result good is =
+    subst (λ r. IfOk r (λ f. HasFile s.tree.files f.0)) (sym is)
+    (found-exists s handle (open_at s.handles handle) good refl)
 
 -- of a request that changes no content
 module _ (bounds : TreeLimits) (row : Row) (files : Files)
@@ -85,6 +95,41 @@ pub set-room : (t : Tree) (number : ℕ) (attrs : Attrs) (fits : Bool) (content 
 set-room t number attrs fits None kept is there same = absurd cc
 set-room t number attrs fits (Some before) kept is there same =
     ap Some (changed-fits (limits t) attrs.size before.bytes (content-fits t number before kept.within_limits is) ∙ sym same)
+
+-- ---- what is found, or the only cause
+
+-- a cause that does not hold leaves the set as it is
+leaves : (a b : Bool) → (a && false || b) ≡ b
+leaves true b = refl
+leaves false b = refl
+
+when-not : (set : CauseSet) (one : Cause) → when set one false ≡ set
+unfolding when
+when-not set one = λ i cause. leaves (row one == row cause) (set cause) i
+
+-- a file that may have too little room
+pub granted-room : {A : Type 0} (a : A) (misused fits : Bool)
+    → with_room (when no_causes NotOpenFor misused) fits ≡ refusing (granted a misused fits)
+unfolding when no_causes
+granted-room a true fits = when-not (when no_causes NotOpenFor true) NoRoom
+granted-room a false false = ap (λ set. when set NoRoom true) (when-not no_causes NotOpenFor)
+granted-room a false true = when-not (when no_causes NotOpenFor false) NoRoom ∙ when-not no_causes NotOpenFor
+
+-- a file that is only read
+pub granted-read : {A : Type 0} (a : A) (misused : Bool)
+    → when no_causes NotOpenFor misused ≡ refusing (granted a misused true)
+granted-read a true = refl
+granted-read a false = when-not no_causes NotOpenFor
+
+granted-in : {A : Type 0} (P : A → Type 0) (a : A) (misused fits : Bool) → (fits ≡ true → P a)
+    → IfOk (granted a misused fits) P
+granted-in P a true fits holds = tt
+granted-in P a false false holds = tt
+granted-in P a false true holds = holds refl
+
+pub granted-has : {A : Type 0} (P : A → Type 0) (a : A) (misused fits : Bool) (result : Result A Cause)
+    → result ≡ granted a misused fits → (fits ≡ true → P a) → IfOk result P
+granted-has P a misused fits result is holds = subst (λ r. IfOk r P) (sym is) (granted-in P a misused fits holds)
 
 -- ---- by what the code found
 
@@ -160,3 +205,15 @@ module _ (s : State) (ask : Ask) (handle : List ℕ) (asked : asked_handle ask �
       by-seen
       ∙ (ap (causes_of (limits s.tree) (row_of ask)) (seen-found s.tree.files (open_at s.handles handle) f is)
       ∙ of-content (limits s.tree) (row_of ask) s.tree.files same f.0 f.1 (content_at s.tree.files f.0) there)
+
+  -- and however the file was opened
+  module _ (same : (flags : OpenFlags) (before : Content) → (row_of ask).content flags before ≡ None)
+      (free : (flags : OpenFlags) → (row_of ask).refused flags ≡ no_causes) where
+    by-result : (result : Result (ℕ × OpenFlags) Cause) → result ≡ found_file (open_at s.handles handle)
+        → IfOk result (λ f. HasFile s.tree.files f.0) → causes s ask ≡ refusing result
+    by-result (Ok f) is there = plain-found same f (sym is) there ∙ free f.1
+    by-result (Err cause) is there = lost cause (sym is)
+
+    pub file-causes : (result : Result (ℕ × OpenFlags) Cause) → Good s
+        → result ≡ found_file (open_at s.handles handle) → causes s ask ≡ refusing result
+    file-causes result good is = by-result result is (file-there s handle result good is)

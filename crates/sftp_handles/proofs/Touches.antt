@@ -92,37 +92,16 @@ module _ (s : State) (ask : Ask) (handle : List ℕ) (answer : Answer) where
 
 pub share-everything : (at : Touched) → share at everything ≡ true
 share-everything untouched = refl
-share-everything (reads_file number) = refl
-share-everything (writes_file number) = refl
-share-everything (takes_names handle) = refl
-share-everything everything = refl
+share-everything other = refl
 
 pub share-mutual : (at other : Touched) → share at other ≡ share other at
-share-mutual untouched untouched = refl
-share-mutual untouched (reads_file n) = refl
-share-mutual untouched (writes_file n) = refl
-share-mutual untouched (takes_names k) = refl
-share-mutual untouched everything = refl
-share-mutual (reads_file m) untouched = refl
-share-mutual (reads_file m) (reads_file n) = refl
 share-mutual (reads_file m) (writes_file n) = nat_eq_equiv.symm m n
-share-mutual (reads_file m) (takes_names k) = refl
-share-mutual (reads_file m) everything = refl
-share-mutual (writes_file m) untouched = refl
 share-mutual (writes_file m) (reads_file n) = nat_eq_equiv.symm m n
 share-mutual (writes_file m) (writes_file n) = nat_eq_equiv.symm m n
-share-mutual (writes_file m) (takes_names k) = refl
-share-mutual (writes_file m) everything = refl
-share-mutual (takes_names h) untouched = refl
-share-mutual (takes_names h) (reads_file n) = refl
-share-mutual (takes_names h) (writes_file n) = refl
 share-mutual (takes_names h) (takes_names k) = nat_list_eq_equiv.symm h k
-share-mutual (takes_names h) everything = refl
+share-mutual untouched everything = refl
 share-mutual everything untouched = refl
-share-mutual everything (reads_file n) = refl
-share-mutual everything (writes_file n) = refl
-share-mutual everything (takes_names k) = refl
-share-mutual everything everything = refl
+share-mutual at other = refl
 
 -- the numbers or handles of what is not shared differ
 other-number : (m n : ℕ) → (m == n) ≡ false → m ≢ n
@@ -209,6 +188,10 @@ pub touched-is : (s : State) (ask : Ask) (handle : List ℕ) → asked_handle as
     → touched s ask ≡ touched_through (row_of ask).needed (may_change ask) handle (open_at s.handles handle)
 unfolding touched
 touched-is s ask handle asked = ap (touched_by s ask) asked
+
+pub touched-unnamed : (s : State) (ask : Ask) → asked_handle ask ≡ None → touched s ask ≡ everything
+unfolding touched
+touched-unnamed s ask none = ap (touched_by s ask) none
 
 -- a change of what a request does not share is not seen by it
 pub seen-stays : (s : State) (ask : Ask) (h k : List ℕ) (at : Touched) (change : Change)

@@ -17,6 +17,7 @@ pub mod Giving
 pub mod Slots
 pub mod FirstNames
 pub mod Found
+pub mod Uses
 pub mod Marked
 pub mod Judged
 pub mod Kinds

@@ -1,5 +1,5 @@
 -- The state of a session: its tree, and what is open.
-use Rattle.std.specs.Prelude.{◌≡◌, ◌&&◌, not, nat_le, ℕ, ◌+◌, ◌≤◌, Bool, List, length, is_some, IsTrue}
+use Rattle.std.specs.Prelude.{◌≡◌, ◌&&◌, not, nat_le, ℕ, ◌+◌, ◌≤◌, Bool, List, [], length, is_some, IsTrue}
 use Rattle.std.specs.List.{AllByRecursion}
 use Rattle.sftp_packets.specs.declared.attributes.Attrs.{Attrs}
 use Rattle.sftp_packets.specs.Spelling.{FitsAttrs, handle_limit}
@@ -18,6 +18,14 @@ pub record State : Type 0 where
 -- removed
 abbrev pub settled : Tree → Handles → State
 settled t handles = record { tree = trim (record t { pins = pins_of handles }); handles = handles }
+
+-- the state in which a session begins on a tree: nothing is open
+abbrev pub started : Tree → State
+started t = settled t []
+
+-- the tree of a state, once nothing is open
+abbrev pub closed_tree : State → Tree
+closed_tree s = trim (record s.tree { pins = [] })
 
 -- ---- limits
 

@@ -8,8 +8,6 @@ ghost use Rattle.sftp_handles.specs.declared.opens.Open.TheVariants.{File, Listi
 ghost use Rattle.sftp_handles.specs.Handles.{Left};
 ghost use Rattle.sftp_handles.specs.Judged.{IsDone, IsRefusal};
 
-use crate::found::may_write;
-use crate::handle_causes::cannot_resize;
 use crate::opens::Open;
 use crate::sessions::Session;
 use crate::tables::HandleTable;
@@ -53,14 +51,8 @@ impl<T: HandleTable> Session<T> {
         ensures refused { IfErr result (IsRefusal self.old (Write handle.now offset bytes.now)) }
         ensures kept { OnErr result (self.new ≡ self.old) }
     {
-        match self.file_at(handle) {
-            Ok(found) => {
-                if !may_write(found.1) {
-                    return Err(Refused::Cause(Cause::NotOpenFor));
-                }
-                let start = self.start_of(found.0, found.1, offset);
-                self.tree.write_at(found.0, start, bytes)
-            }
+        match self.writable_at(handle, offset, bytes) {
+            Ok(found) => self.tree.write_at(found.0, found.1, bytes),
             Err(cause) => Err(Refused::Cause(cause)),
         }
     }
@@ -77,13 +69,8 @@ impl<T: HandleTable> Session<T> {
         ensures refused { IfErr result (IsRefusal self.old (Fsetstat handle.now attrs.now)) }
         ensures kept { OnErr result (self.new ≡ self.old) }
     {
-        match self.file_at(handle) {
-            Ok(found) => {
-                if cannot_resize(found.1, attrs) {
-                    return Err(Refused::Cause(Cause::NotOpenFor));
-                }
-                self.tree.set_file(found.0, attrs)
-            }
+        match self.resizable_at(handle, attrs) {
+            Ok(found) => self.tree.set_file(found.0, attrs),
             Err(cause) => Err(Refused::Cause(cause)),
         }
     }

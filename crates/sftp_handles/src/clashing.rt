@@ -7,7 +7,9 @@ ghost use Rattle.sftp_handles.specs.Seen.{a_file, a_listing};
 ghost use Rattle.sftp_handles.specs.Clash as clashes;
 ghost use Rattle.sftp_handles.specs.Clash.{share, touched, touched_through};
 ghost use Rattle.sftp_handles.specs.Touch.{handle_in, touched_as};
+ghost use Rattle.sftp_handles.specs.Uses as uses;
 
+use crate::handle_uses::{Use, through};
 use crate::opens::Open;
 use crate::sessions::Session;
 use crate::tables::HandleTable;
@@ -51,30 +53,23 @@ impl<T: HandleTable> Session<T> {
     pub fn touch(&self, ask: &Ask) -> Touch
         ensures { touched_as result ask.now ≡ touched self.now ask.now }
     {
-        match ask {
-            Ask::Read { handle, .. } => self.file_touch(ask, handle.as_slice(), false),
-            Ask::Write { handle, .. } => self.file_touch(ask, handle.as_slice(), true),
-            Ask::Fstat { handle } => self.file_touch(ask, handle.as_slice(), false),
-            Ask::Fsetstat { handle, .. } => self.file_touch(ask, handle.as_slice(), true),
-            Ask::Fsync { handle } => self.file_touch(ask, handle.as_slice(), false),
-            Ask::Readdir { handle } => self.listing_touch(ask, handle.as_slice()),
-            Ask::Close { .. } => Touch::Everything,
-            Ask::Limits => Touch::Everything,
-            Ask::Open { .. }
-            | Ask::Lstat { .. }
-            | Ask::Setstat { .. }
-            | Ask::Opendir { .. }
-            | Ask::Remove { .. }
-            | Ask::Mkdir { .. }
-            | Ask::Rmdir { .. }
-            | Ask::Realpath { .. }
-            | Ask::Stat { .. }
-            | Ask::Rename { .. }
-            | Ask::Readlink { .. }
-            | Ask::Symlink { .. }
-            | Ask::PosixRename { .. }
-            | Ask::Hardlink { .. }
-            | Ask::Unknown { .. } => Touch::Everything,
+        match through(ask) {
+            Some((handle, access)) => self.touch_by(ask, handle, access),
+            None => Touch::Everything,
+        }
+    }
+
+    /// What a request through a handle touches, by how it uses what is open there.
+    fn touch_by(&self, ask: &Ask, handle: &[u8], access: Use) -> Touch
+        requires { asked_handle ask.now ≡ Some handle.now }
+        ensures { touched_as result ask.now ≡ touched_through (uses.needed_for access) (uses.writes access) handle.now
+            (open_at self.now.handles handle.now) }
+    {
+        match access {
+            Use::Close => Touch::Everything,
+            Use::ReadFile => self.file_touch(ask, handle, false),
+            Use::WriteFile => self.file_touch(ask, handle, true),
+            Use::TakeNames => self.listing_touch(ask, handle),
         }
     }
 
@@ -115,30 +110,9 @@ impl<T: HandleTable> Session<T> {
 pub fn is_barrier(ask: &Ask) -> bool
     ensures { result ≡ clashes.is_barrier ask.now }
 {
-    match ask {
-        Ask::Read { .. } => false,
-        Ask::Write { .. } => false,
-        Ask::Fstat { .. } => false,
-        Ask::Fsetstat { .. } => false,
-        Ask::Fsync { .. } => false,
-        Ask::Readdir { .. } => false,
-        Ask::Close { .. } => true,
-        Ask::Open { .. }
-        | Ask::Lstat { .. }
-        | Ask::Setstat { .. }
-        | Ask::Opendir { .. }
-        | Ask::Remove { .. }
-        | Ask::Mkdir { .. }
-        | Ask::Rmdir { .. }
-        | Ask::Realpath { .. }
-        | Ask::Stat { .. }
-        | Ask::Rename { .. }
-        | Ask::Readlink { .. }
-        | Ask::Symlink { .. }
-        | Ask::PosixRename { .. }
-        | Ask::Hardlink { .. }
-        | Ask::Limits
-        | Ask::Unknown { .. } => true,
+    match through(ask) {
+        Some((_, access)) => access.bars(),
+        None => true,
     }
 }
 
@@ -153,29 +127,8 @@ fn have_one_handle(ask: &Ask, other: &Ask) -> bool
 fn handle_in(ask: &Ask) -> &[u8]
     ensures { result.now ≡ handle_in (asked_handle ask.now) }
 {
-    match ask {
-        Ask::Close { handle }
-        | Ask::Read { handle, .. }
-        | Ask::Write { handle, .. }
-        | Ask::Fstat { handle }
-        | Ask::Fsetstat { handle, .. }
-        | Ask::Readdir { handle }
-        | Ask::Fsync { handle } => handle.as_slice(),
-        Ask::Open { .. }
-        | Ask::Lstat { .. }
-        | Ask::Setstat { .. }
-        | Ask::Opendir { .. }
-        | Ask::Remove { .. }
-        | Ask::Mkdir { .. }
-        | Ask::Rmdir { .. }
-        | Ask::Realpath { .. }
-        | Ask::Stat { .. }
-        | Ask::Rename { .. }
-        | Ask::Readlink { .. }
-        | Ask::Symlink { .. }
-        | Ask::PosixRename { .. }
-        | Ask::Hardlink { .. }
-        | Ask::Limits
-        | Ask::Unknown { .. } => &[],
+    match through(ask) {
+        Some((handle, _)) => handle,
+        None => &[],
     }
 }

@@ -51,10 +51,9 @@ impl<T: HandleTable> Session<T> {
         ensures gives { IfOk result (λ o.
             is_some o ≡ gives_names (open_at self.now.handles handle.now) names.now) }
     {
-        match self.table.find(handle) {
-            Some(Open::Listing { left }) => left.chosen(self.tree.allocator(), names),
-            Some(Open::File { .. }) => Ok(None),
-            None => Ok(None),
+        match self.listing_at(handle) {
+            Ok(left) => left.chosen(self.tree.allocator(), names),
+            Err(_) => Ok(None),
         }
     }
 
@@ -62,10 +61,9 @@ impl<T: HandleTable> Session<T> {
     pub(crate) fn has_given_all(&self, handle: &[u8]) -> bool
         ensures { IsJudgedCode self.now (Readdir handle.now) 1 result self.now }
     {
-        match self.table.find(handle) {
-            Some(Open::Listing { left }) => left.is_empty(),
-            Some(Open::File { .. }) => false,
-            None => false,
+        match self.listing_at(handle) {
+            Ok(left) => left.is_empty(),
+            Err(_) => false,
         }
     }
 }

@@ -14,6 +14,7 @@ mod found;
 mod given_table;
 mod giving;
 mod handle_causes;
+mod handle_uses;
 mod hints;
 mod kinds;
 pub mod laws;

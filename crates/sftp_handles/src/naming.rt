@@ -12,7 +12,6 @@ ghost use Rattle.sftp_handles.specs.Answered.{IsAnswered};
 use crate::answers::{new_handle, status};
 use crate::giving::give_first;
 use crate::not_opened::NotOpened;
-use crate::opens::Open;
 use crate::sessions::Session;
 use crate::tables::HandleTable;
 use sftp_tree::{Cause, Refused};
@@ -108,13 +107,12 @@ impl<T: HandleTable> Session<T> {
         ensures first { IfOk result (λ names. AreFirstNames (open_at self.now.handles handle.now) names.items) }
         ensures refused { IfErr result (IsRefusal self.now (asks.Readdir handle.now)) }
     {
-        match self.table.find(handle) {
-            Some(Open::Listing { left }) => {
+        match self.listing_at(handle) {
+            Ok(left) => {
                 let names = left.first(self.tree.allocator(), NAMES_IN_REPLY)?;
                 Ok(names)
             }
-            Some(Open::File { .. }) => Err(Refused::Cause(Cause::WrongKind)),
-            None => Err(Refused::Cause(Cause::BadHandle)),
+            Err(cause) => Err(Refused::Cause(cause)),
         }
     }
 }

@@ -9,7 +9,6 @@ ghost use Rattle.sftp_handles.specs.Found.{read_said};
 ghost use Rattle.sftp_handles.specs.State.{Good};
 ghost use Rattle.sftp_tree.specs.Tree.{HasFile, content_at, limits};
 
-use crate::found::may_read;
 use crate::sessions::Session;
 use crate::tables::HandleTable;
 use sftp_tree::{Cause, FileNo};
@@ -48,13 +47,8 @@ impl<T: HandleTable> Session<T> {
         ensures refused { IfErr result (λ cause. IsTrue (causes self.now (Read handle.now offset len) cause)) }
         ensures kept { OnOk result (Good self.now) }
     {
-        match self.file_at(handle) {
-            Ok(found) => {
-                if !may_read(found.1) {
-                    return Err(Cause::NotOpenFor);
-                }
-                Ok(self.bytes_of(found.0, offset, len))
-            }
+        match self.readable_at(handle) {
+            Ok(found) => Ok(self.bytes_of(found.0, offset, len)),
             Err(cause) => Err(cause),
         }
     }

@@ -60,27 +60,7 @@ impl<T: HandleTable> Session<T> {
                 offset,
                 bytes,
             } => self.write_range(handle.as_slice(), *offset, bytes.as_slice()),
-            Ask::Fstat { .. } => None,
-            Ask::Fsetstat { .. } => None,
-            Ask::Fsync { .. } => None,
-            Ask::Readdir { .. } => None,
-            Ask::Close { .. } => None,
-            Ask::Open { .. }
-            | Ask::Lstat { .. }
-            | Ask::Setstat { .. }
-            | Ask::Opendir { .. }
-            | Ask::Remove { .. }
-            | Ask::Mkdir { .. }
-            | Ask::Rmdir { .. }
-            | Ask::Realpath { .. }
-            | Ask::Stat { .. }
-            | Ask::Rename { .. }
-            | Ask::Readlink { .. }
-            | Ask::Symlink { .. }
-            | Ask::PosixRename { .. }
-            | Ask::Hardlink { .. }
-            | Ask::Limits
-            | Ask::Unknown { .. } => None,
+            _ => None,
         }
     }
 

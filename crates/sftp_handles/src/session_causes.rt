@@ -6,6 +6,7 @@ ghost use Rattle.sftp_handles.specs.State as state;
 ghost use Rattle.sftp_tree.specs.Requests as tree_requests;
 ghost use Rattle.sftp_handles.specs.Requests as requests;
 
+use crate::handle_causes::only;
 use crate::sessions::Session;
 use crate::tables::HandleTable;
 use sftp_tree::{Cause, Causes, NoMemory};
@@ -24,16 +25,19 @@ impl<T: HandleTable> Session<T> {
         // Requests of one arm would not tell the prover which of them it is.
         match ask {
             Ask::Close { handle } => Ok(self.close_causes(handle.as_slice())),
-            Ask::Read { handle, .. } => Ok(self.read_causes(handle.as_slice())),
+            Ask::Read { handle, .. } => Ok(only(self.readable_at(handle.as_slice()))),
             Ask::Write {
                 handle,
                 offset,
                 bytes,
-            } => { Ok(self.write_causes(handle.as_slice(), *offset, bytes.as_slice())) }
-            Ask::Fstat { handle } => Ok(self.file_causes(handle.as_slice())),
-            Ask::Fsetstat { handle, attrs } => Ok(self.set_causes(handle.as_slice(), attrs)),
-            Ask::Readdir { handle } => Ok(self.readdir_causes(handle.as_slice())),
-            Ask::Fsync { handle } => Ok(self.file_causes(handle.as_slice())),
+            } => { Ok(only(self.writable_at(handle.as_slice(), *offset, bytes.as_slice()))) }
+            Ask::Fstat { handle } => Ok(only(self.file_at(handle.as_slice()))),
+            Ask::Fsetstat { handle, attrs } => Ok(only(self.resizable_at(
+                handle.as_slice(),
+                attrs,
+            ))),
+            Ask::Readdir { handle } => Ok(only(self.listing_at(handle.as_slice()))),
+            Ask::Fsync { handle } => Ok(only(self.file_at(handle.as_slice()))),
             Ask::Limits => Ok(Causes::none()),
             Ask::Unknown { .. } => Ok(Causes::none().when(Cause::Unknown, true)),
             Ask::Open { .. } => self.opening_causes(ask),

@@ -14,7 +14,8 @@ use Rattle.sftp_tree.specs.Walk.{reached}
 use Rattle.sftp_tree.specs.OpenFlags.{excludes}
 use Rattle.sftp_tree.specs.Causes.{is_none}
 use Rattle.sftp_tree.specs.Refusals.{stat_ask}
-use Rattle.sftp_tree.specs.Requests.{causes, listing_to}
+use Rattle.sftp_tree.specs.Requests.{causes}
+use Rattle.sftp_tree.specs.Told.{listing_to}
 use Rattle.sftp_handles.specs.Replies.{has_code, names_given}
 use Rattle.sftp_profile.specs.declared.directories.Directory.{Directory}
 use Rattle.sftp_profile.specs.declared.directories.Shift.{Shift}

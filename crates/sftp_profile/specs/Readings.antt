@@ -6,14 +6,15 @@ use Rattle.sftp_packets.specs.declared.packets.Ask.{Ask}
 use Rattle.sftp_packets.specs.declared.packets.Ask.TheVariants as asks
 use Rattle.sftp_tree.specs.Tree.{Tree}
 use Rattle.sftp_tree.specs.Causes.{is_none}
-use Rattle.sftp_tree.specs.Requests.{causes, target_to}
+use Rattle.sftp_tree.specs.Requests.{causes}
+use Rattle.sftp_tree.specs.Told.{text_to}
 use Rattle.sftp_profile.specs.declared.profiles.Profile.{Profile}
 use Rattle.sftp_profile.specs.Paths.{is_loose}
 use Rattle.sftp_profile.specs.Flags.{mended_flags, empties}
 
 -- the target of the link at a path; `None` if READLINK of the path is refused
 abbrev pub link_at : Tree → List ℕ → Option (List ℕ)
-link_at t path = if is_none (causes t (asks.Readlink path)) then target_to t (asks.Readlink path) else None
+link_at t path = if is_none (causes t (asks.Readlink path)) then text_to t (asks.Readlink path) else None
 
 -- an LSTAT of a path that ends loosely is a STAT,
 -- an OPEN has the flags that a file system goes by,

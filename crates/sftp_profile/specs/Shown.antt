@@ -8,6 +8,7 @@ use Rattle.sftp_path.specs.Table.{get}
 use Rattle.sftp_tree.specs.Tree.{Tree}
 use Rattle.sftp_tree.specs.Causes.{is_none}
 use Rattle.sftp_tree.specs.Requests as paths
+use Rattle.sftp_tree.specs.Told as told
 use Rattle.sftp_handles.specs.Handles.{Left, open_at}
 use Rattle.sftp_handles.specs.State.{State}
 use Rattle.sftp_handles.specs.Replies.{Said, shows}
@@ -18,7 +19,7 @@ use Rattle.sftp_handles.specs.Giving.{listing_in}
 
 -- the attributes that a STAT or an LSTAT shows, if no cause refuses it
 abbrev pub shown_at : Tree → Ask → Option Attrs
-shown_at t ask = if is_none (paths.causes t ask) then paths.shown_to t ask else None
+shown_at t ask = if is_none (paths.causes t ask) then told.shown_to t ask else None
 
 abbrev pub attributes_in : Said → Option Attrs
 attributes_in (shows shown) = shown

@@ -17,6 +17,7 @@ pub mod PlaceCauses
 pub mod Changes
 pub mod FileChanges
 pub mod Requests
+pub mod Told
 pub mod Refusals
 pub mod Asks
 pub mod Picture

@@ -1,4 +1,5 @@
--- Each child has fewer places than its directory.
+-- Each child has fewer places than its directory. This is a proof: it stands among the definitions, since the code that
+-- cites it takes nothing from `proofs`.
 use Rattle.std.specs.Prelude.{◌≡◌, ◌≤◌, ◌+◌, [], ◌∷◌, ◌++◌, length}
 use Rattle.std.proofs.Common.{arith}
 use Rattle.std.specs.Map.{values_of}

@@ -83,7 +83,8 @@ pub record Row : Type 0 where
   -- what its reply says of the place
   pub told : Tree → Place → Told
 
--- of a request that is not judged yet
+-- of a request that names no path, which the tree by itself neither refuses nor lets change it; other rows say only
+-- where they differ from it
 abbrev pub no_step : Row
 no_step = record {
   path = None;
@@ -295,53 +296,3 @@ with_room plain asked = when plain NoRoom (is_none plain && not (fits asked))
 -- the causes that hold
 unfoldable pub causes : Tree → Ask → CauseSet
 causes t ask = with_room (plain_causes t ask) (outcome t ask)
-
--- ---- what the reply to a request says
-
-abbrev pub attributes_of : Told → Option Attrs
-attributes_of (attributes shown) = shown
-attributes_of (name bytes) = None
-attributes_of (file number) = None
-attributes_of (listed names) = None
-attributes_of done = None
-
-abbrev pub name_of : Told → Option (List ℕ)
-name_of (name bytes) = bytes
-name_of (attributes shown) = None
-name_of (file number) = None
-name_of (listed names) = None
-name_of done = None
-
-abbrev pub number_of : Told → Option ℕ
-number_of (file number) = number
-number_of (attributes shown) = None
-number_of (name bytes) = None
-number_of (listed names) = None
-number_of done = None
-
-abbrev pub names_of : Told → Option (Table Name Attrs)
-names_of (listed names) = Some names
-names_of (attributes shown) = None
-names_of (name bytes) = None
-names_of (file number) = None
-names_of done = None
-
--- the attributes of the node that its path leads to
-unfoldable pub shown_to : Tree → Ask → Option Attrs
-shown_to t ask = led_to None (led t ask) (λ place. attributes_of (told_at t ask place))
-
--- the target of the link that its path leads to
-unfoldable pub target_to : Tree → Ask → Option (List ℕ)
-target_to t ask = led_to None (led t ask) (λ place. name_of (told_at t ask place))
-
--- the text of the place that its path leads to
-unfoldable pub text_to : Tree → Ask → Option (List ℕ)
-text_to t ask = led_to None (led t ask) (λ place. name_of (told_at t ask place))
-
--- the number of the file that it opens
-unfoldable pub file_to : Tree → Ask → Option ℕ
-file_to t ask = led_to None (led t ask) (λ place. number_of (told_at t ask place))
-
--- the names in the directory that its path leads to, with the attributes shown of their nodes
-unfoldable pub listing_to : Tree → Ask → Option (Table Name Attrs)
-listing_to t ask = led_to None (led t ask) (λ place. names_of (told_at t ask place))

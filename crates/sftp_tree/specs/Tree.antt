@@ -117,7 +117,8 @@ pub record Tree : Type 0 where
   pub files : Files
   -- how many numbers were given to files; no number is given twice
   pub made : ℕ
-  -- how often each file is pinned
+  -- how often each file is pinned: the counts of who holds it open, which say only that it stays, and are no part of
+  -- what a tree means to a path, a limit or a tree file
   pub pins : Pins
   -- how much the tree may hold
   pub limits : TreeLimits

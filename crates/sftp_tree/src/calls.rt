@@ -6,6 +6,7 @@ ghost use Rattle.sftp_packets.specs.declared.packets.Ask.TheVariants.{Readlink, 
 ghost use Rattle.sftp_tree.specs.declared.nodes.Node.TheVariants.{Link};
 ghost use Rattle.sftp_tree.specs.Tree as tree;
 ghost use Rattle.sftp_tree.specs.Requests as requests;
+ghost use Rattle.sftp_tree.specs.Told as told;
 ghost use Rattle.sftp_tree.specs.Refusals.{IsFree, IsRefusal, stat_ask};
 ghost use Rattle.sftp_tree.specs.Found.{node_of, IsThere};
 
@@ -215,7 +216,7 @@ impl Tree {
         ensures free { OnOk result (IsFree self.old (Open path.now flags attrs.now)) }
         ensures done { OnOk result (self.new ≡ requests.after self.old (Open path.now flags attrs.now)) }
         ensures number { IfOk result
-            (λ number. requests.file_to self.old (Open path.now flags attrs.now) ≡ Some number) }
+            (λ number. told.file_to self.old (Open path.now flags attrs.now) ≡ Some number) }
         ensures valid { OnOk result (tree.IsKept self.new) }
         ensures refused { IfErr result (λ refused. IsRefusal self.old (Open path.now flags attrs.now) refused) }
         ensures kept { OnErr result (self.new ≡ self.old) }
@@ -236,7 +237,7 @@ impl Tree {
     /// `Cause` with the first cause that holds: `BadPath`, the walk's, or `NoEntry`. `NoMemory` if memory runs out.
     pub fn stat(&self, path: &[u8], follow: bool) -> Result<Attrs, Refused>
         ensures free { OnOk result (IsFree self.now (stat_ask follow path.now)) }
-        ensures shown { IfOk result (λ attrs. requests.shown_to self.now (stat_ask follow path.now) ≡ Some attrs) }
+        ensures shown { IfOk result (λ attrs. told.shown_to self.now (stat_ask follow path.now) ≡ Some attrs) }
         ensures refused { IfErr result (λ refused. IsRefusal self.now (stat_ask follow path.now) refused) }
         ensures kept { OnOk result (tree.IsKept self.now) }
     {
@@ -266,7 +267,7 @@ impl Tree {
     /// `Cause` with the first cause that holds: `BadPath`, or the walk's. `NoMemory` if memory runs out.
     pub fn real_path(&self, path: &[u8]) -> Result<Vec<u8>, Refused>
         ensures free { OnOk result (IsFree self.now (Realpath path.now)) }
-        ensures text { IfOk result (λ text. requests.text_to self.now (Realpath path.now) ≡ Some text.items) }
+        ensures text { IfOk result (λ text. told.text_to self.now (Realpath path.now) ≡ Some text.items) }
         ensures refused { IfErr result (λ refused. IsRefusal self.now (Realpath path.now) refused) }
         ensures kept { OnOk result (tree.IsKept self.now) }
     {
@@ -282,7 +283,7 @@ impl Tree {
     /// runs out.
     pub fn read_link(&self, path: &[u8]) -> Result<Vec<u8>, Refused>
         ensures free { OnOk result (IsFree self.now (Readlink path.now)) }
-        ensures target { IfOk result (λ target. requests.target_to self.now (Readlink path.now) ≡ Some target.items) }
+        ensures target { IfOk result (λ target. told.text_to self.now (Readlink path.now) ≡ Some target.items) }
         ensures refused { IfErr result (λ refused. IsRefusal self.now (Readlink path.now) refused) }
         ensures kept { OnOk result (tree.IsKept self.now) }
     {

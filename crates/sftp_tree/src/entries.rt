@@ -1,5 +1,6 @@
-//! The entries of a tree: its places, each with its node. No other module knows how they are kept: as nested
-//! directories, with the count of the places that are taken.
+//! The entries of a tree: its places, each with its node. They are kept as nested directories, with the count of the
+//! places that are taken. Of the other modules five see directories: `attributes`, `listings`, and `branches`,
+//! `measuring` and `rows` of `pictures`. The rest see places, and what a trail or a look-up lends.
 ghost use Rattle.std.specs.Prelude.{◌≡◌, [], length, false, None, IfOk, OnOk, OnErr, IsTrue};
 ghost use Rattle.sftp_path.specs.Place.{parent, begins, place_cmp};
 ghost use Rattle.sftp_path.specs.Rekeying.{rekeyed};

@@ -6,7 +6,7 @@ ghost use Rattle.sftp_tree.specs.Tree.{Names as table};
 ghost use Rattle.sftp_tree.specs.Found.{node_of, IsThere};
 ghost use Rattle.sftp_tree.specs.Trail.{IsAt};
 ghost use Rattle.sftp_tree.specs.Nesting.{branch};
-ghost use Rattle.sftp_tree.specs.Requests as requests;
+ghost use Rattle.sftp_tree.specs.Told as told;
 ghost use Rattle.sftp_tree.specs.Refusals.{IsFree, IsRefusal};
 ghost use Rattle.sftp_tree.specs.Listings.{listing, shown_child};
 ghost use Rattle.sftp_tree.specs.Items.{entry_of};
@@ -41,7 +41,7 @@ impl Tree {
     pub fn list(&self, path: &[u8]) -> Result<Vec<Item>, Refused>
         ensures free { OnOk result (IsFree self.now (Opendir path.now)) }
         ensures listed { IfOk result
-            (λ items. requests.listing_to self.now (Opendir path.now) ≡ Some (map entry_of items.items)) }
+            (λ items. told.listing_to self.now (Opendir path.now) ≡ Some (map entry_of items.items)) }
         ensures refused { IfErr result (λ refused. IsRefusal self.now (Opendir path.now) refused) }
         ensures kept { OnOk result (tree.IsKept self.now) }
     {

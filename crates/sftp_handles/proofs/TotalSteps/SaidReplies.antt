@@ -1,11 +1,9 @@
 -- What a reply has to say can be said in one that can be encoded.
-use Rattle.std.proofs.Common.{◌≡◌, ◌==◌, not, nat_le, ℕ, ◌+◌, ◌^◌, ◌<◌, ◌≤◌, true, cond}
+use Rattle.std.proofs.Common.{◌≡◌, ◌==◌, not, nat_le, ℕ, ◌+◌, ◌^◌, ◌<◌, ◌≤◌, true}
 use Rattle.std.proofs.Common.{List, [], ◌∷◌, ◌++◌, length, Option, Some, None, is_some, refl, sym, ap, subst, ◌∙◌}
 use Rattle.std.proofs.Common.{IsTrue, eq-eqb, arith, lit<, lit≤}
-use Rattle.std.specs.Ordering.{is_eq}
-use Rattle.std.specs.Cmp.Lexicographic.{nat_list_eq_equiv, nat_list_cmp_total}
+use Rattle.std.specs.Cmp.Lexicographic.{nat_list_eq_equiv}
 use Rattle.std.proofs.lemmas.Bool.{and_from, le-leb}
-use Rattle.std.proofs.lemmas.Cmp.{tied_itself}
 use Rattle.std.proofs.lemmas.List.{length-append}
 use Rattle.sftp_packets.specs.declared.attributes.Attrs.{Attrs}
 use Rattle.sftp_packets.specs.declared.names.NameItem.{NameItem}
@@ -18,9 +16,8 @@ use Rattle.sftp_packets.specs.Spelling.{HasSpelling, packet_limit, handle_limit}
 use Rattle.sftp_wire.specs.Examples.{no_attributes}
 use Rattle.sftp_treefile.specs.declared.limits.TreeLimits.{TreeLimits}
 use Rattle.sftp_treefile.specs.Limits.{highest_limits}
-use Rattle.sftp_path.specs.Place.{Name, bytes_cmp, name_cmp}
-use Rattle.sftp_path.specs.Table.{InOrder, get, size}
-use Rattle.sftp_path.proofs.Table.Laws.{get-cons}
+use Rattle.sftp_path.specs.Place.{Name, bytes_cmp}
+use Rattle.sftp_path.specs.Table.{InOrder, size}
 use Rattle.sftp_tree.specs.Attributes.{said}
 use Rattle.sftp_handles.specs.Handles.{Left, Handles, open_at, is_open}
 use Rattle.sftp_handles.specs.State.{IsItem, is_plain}
@@ -28,6 +25,7 @@ use Rattle.sftp_handles.specs.Replies.{Said, ok, shows, names, gives, ended, lis
 use Rattle.sftp_handles.specs.Replies.{same_attributes, is_left, has_attributes}
 use Rattle.sftp_handles.specs.Requests.{limits_data}
 use Rattle.sftp_handles.specs.Fitting.{FitsSaid, FitsData}
+use Rattle.sftp_handles.proofs.FirstNames.{Extended, attributes_of, found-first}
 use Rattle.sftp_handles.proofs.TotalSteps.PlaceTexts.{name-parts, bytes-joined, number-bytes}
 use Rattle.sftp_handles.proofs.TotalSteps.NewHandles.{name-left}
 
@@ -70,13 +68,6 @@ pub record IsSaid (attrs : Attrs) : Type 0 where
   pub gid : ℕ
   pub permissions : ℕ
   pub is : attrs ≡ said size uid gid permissions
-
-abbrev pub Extended : Type 0
-Extended = List (List ℕ × List ℕ)
-
-abbrev pub attributes_of : Option ℕ → Option (ℕ × ℕ) → Option ℕ → Option (ℕ × ℕ) → Option Extended → Attrs
-attributes_of size owner permissions times extended =
-    record { size = size; owner = owner; permissions = permissions; times = times; extended = extended }
 
 pub plain-said : (size : Option ℕ) (owner : Option (ℕ × ℕ)) (permissions : Option ℕ) (times : Option (ℕ × ℕ))
     → (extended : Option Extended) → is_plain (attributes_of size owner permissions times extended) ≡ true
@@ -189,16 +180,11 @@ item-spelled id text size uid gid permissions small bytes short fits = record {
 }
 
 -- the first entry is found
-first-found : (name : Name) (attrs : Attrs) (left : Left) → get name_cmp ((name, attrs) ∷ left) name ≡ Some attrs
-first-found name attrs left =
-    get-cons name_cmp (name, attrs) left name
-    ∙ ap (λ o. cond (is_eq o) (Some attrs) (get name_cmp left name)) (tied_itself nat_list_cmp_total name)
-
 first-left : (name : Name) (size uid gid permissions : ℕ) (left : Left)
     → is_left ((name, said size uid gid permissions) ∷ left) (item_of name (said size uid gid permissions)) ≡ true
 first-left name size uid gid permissions left =
     ap (λ found. has_attributes found (said size uid gid permissions))
-    (first-found name (said size uid gid permissions) left)
+    (found-first name (said size uid gid permissions) left)
     ∙ same-said size uid gid permissions
 
 first-sayable : (id : ℕ) (name : Name) (size uid gid permissions : ℕ) (left : Left) → id < 2 ^ 32
@@ -290,7 +276,7 @@ limits-fit bounds =
 
 -- ---- a new handle
 
-handle-length : (id : ℕ) (handle : List ℕ)
+pub handle-length : (id : ℕ) (handle : List ℕ)
     → length (spelling (reply_packet (reply_of id (replies.Handle handle)))) ≡ 13 + length handle
 unfolding spelling
 handle-length id handle = omega arith

@@ -187,12 +187,9 @@ room-at t other place kept own none = sym kept.within_limits
 -- ---- with the two places that both paths lead to
 
 -- nothing is at a free place, nor below it
-nothing-at : (t : Tree) (place : Place) → IsKept t → node_at t.names place ≡ None → has_entries t.names place ≡ false
-nothing-at t place kept free =
-    nothing-below t.names place kept.well_formed.ordered kept.well_formed.parents (ap is_directory free)
-
 pub free-alone : (t : Tree) (place : Place) → IsKept t → node_at t.names place ≡ None → has_entries t.names place ≡ false
-free-alone = nothing-at
+free-alone t place kept free =
+    nothing-below t.names place kept.well_formed.ordered kept.well_formed.parents (ap is_directory free)
 
 replace-room : (t : Tree) (old new : Place) (one : Bool) → are_one t.names old new ≡ one → IsKept t → MayLeave t old → ((c : Cause) → exchanging_causes t.names old new c ≡ false) → (one || move_fits t.names old new) ≡ fits (if one then t else put_in_its_stead t old new)
 replace-room t old new true is kept leave none = sym kept.within_limits
@@ -204,7 +201,7 @@ replace-room t old new false is kept leave none =
 room-between : (t : Tree) (ask : Ask) (old new : Place) → IsKept t → ((c : Cause) → causes_at t ask old c ≡ false) → ((c : Cause) → new_causes_at t ask new c ≡ false) → ((c : Cause) → causes_between t ask old new c ≡ false) → has_room_between t ask old new ≡ fits (outcome_between t ask old new)
 room-between t (Rename oldpath newpath) old new kept here there both =
     let free = free-place (node_at t.names new) there in
-    sym (fits-moved t old new kept (may-leave t old here).taken (nothing-from t.names new free (alone-there t.names new (nothing-at t new kept free))))
+    sym (fits-moved t old new kept (may-leave t old here).taken (nothing-from t.names new free (alone-there t.names new (free-alone t new kept free))))
 room-between t (PosixRename oldpath newpath) old new kept here there both = replace-room t old new (are_one t.names old new) refl kept (may-leave t old here) both
 room-between t (Hardlink oldpath newpath) old new kept here there both =
     let file = file-place (node_at t.names old) here in

@@ -15,6 +15,8 @@ use Rattle.sftp_treefile.specs.TreeFile.{is_root}
 use Rattle.sftp_tree.specs.declared.nodes.Node.{Node}
 use Rattle.sftp_tree.specs.Tree.{Names, Files, Tree, WellFormed, IsKept, IsNode, fits, node_at, without_node, is_taken, is_directory, has_entries, trim}
 use Rattle.sftp_tree.specs.Changes.{moved, put_in_its_stead}
+use Rattle.sftp_tree.proofs.Nesting.Changes.{not-taken}
+use Rattle.sftp_tree.proofs.Nesting.Entries.{below-root}
 use Rattle.sftp_tree.proofs.PlaceTables.Each.{each-get, get-each}
 use Rattle.sftp_tree.proofs.KeptTrees.Trims.{kept-trim}
 use Rattle.sftp_tree.proofs.WellFormedTrees.Places.{HaveParents, directory-taken, apart-parent, alone-there}
@@ -49,22 +51,13 @@ names-behind old new rest named h =
 never : (names : Names) (q : Place) (it : Node) → node_at names q ≡ None → node_at names q ≡ Some it → ⊥
 never names q it none some = cc
 
-never-taken : (o : Option Node) → o ≡ None → IsTrue (is_taken o) → ⊥
-never-taken None is taken = cc
-never-taken (Some it) is taken = cc
-
--- the root is neither at another place nor below it
-root-outside : (old : Place) → is_root old ≡ false → begins old [] ≡ false
-root-outside [] apart = absurd cc
-root-outside (n ∷ ns) apart = refl
-
 -- ---- the table after the move
 
 module _ (old new : Place) (names : Names) (nothing : NothingFrom names new) where
   -- what is taken is not at the new place, nor below it
   outside-new : (q : Place) → IsTrue (is_taken (node_at names q)) → begins new q ≡ false
   outside-new q taken =
-      false_from_ne_true (begins new q) (λ inside. never-taken (node_at names q) (nothing-at names new q nothing inside) taken)
+      false_from_ne_true (begins new q) (λ inside. not-taken (node_at names q) (nothing-at names new q nothing inside) taken)
 
   -- what holds of each entry, also where its place is renamed, holds of each after the move
   each-moved : (P : Place × Node → Type 0) → InOrder place_cmp names → ((rest : Place) (it : Node) → P (old ++ rest, it) → P (new ++ rest, it)) → AllByRecursion P names → AllByRecursion P (rekeyed old new names)
@@ -94,7 +87,7 @@ module _ (old new : Place) (names : Names) (nothing : NothingFrom names new) whe
   parents-moved parents apart above =
       by-place old new (λ q. IsTrue (is_taken (node_at (rekeyed old new names) q)) → IsTrue (is_directory (node_at (rekeyed old new names) (parent q))))
       (parents-behind parents apart above)
-      (λ q in_old not_new taken. absurd (never-taken (node_at (rekeyed old new names) q) (get-rekeyed_behind old new names q in_old not_new) taken))
+      (λ q in_old not_new taken. absurd (not-taken (node_at (rekeyed old new names) q) (get-rekeyed_behind old new names q in_old not_new) taken))
       (λ q not_old not_new taken.
       directory-elsewhere (parent q) (apart-parent old q not_old) (parents q (ap is_taken (sym (get-rekeyed_elsewhere old new names q not_old not_new)) ∙ taken)))
 
@@ -104,7 +97,7 @@ module _ (old new : Place) (names : Names) (nothing : NothingFrom names new) whe
     ordered = InOrder-rekeyed old new names;
     named = each-moved (λ e. IsTrue (are_names e.0)) fit.ordered (λ rest it. names-behind old new rest named) fit.named;
     nodes = each-moved (λ e. IsNode files e.1) fit.ordered (λ rest it h. h) fit.nodes;
-    root = directory-elsewhere [] (root-outside old not_root) fit.root;
+    root = directory-elsewhere [] (below-root old not_root) fit.root;
     parents = parents-moved fit.parents apart above;
   }
 

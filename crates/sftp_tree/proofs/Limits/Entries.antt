@@ -57,9 +57,8 @@ fits-again t place before node kept order there link =
 
 -- ---- another content of a file
 
-both-ways : (a b : Bool) → (a ≡ true → b ≡ true) → (b ≡ true → a ≡ true) → a ≡ b
-both-ways true true there back = refl
-both-ways true false there back = sym (there refl)
+pub both-ways : (a b : Bool) → (a ≡ true → b ≡ true) → (b ≡ true → a ≡ true) → a ≡ b
+both-ways true b there back = sym (there refl)
 both-ways false true there back = back refl
 both-ways false false there back = refl
 

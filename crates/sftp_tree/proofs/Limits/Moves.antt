@@ -13,7 +13,7 @@ use Rattle.std.proofs.Math.Bool.{and-true}
 use Rattle.sftp_path.specs.Place.{Name, Place, place_cmp, begins, depth_limit}
 use Rattle.sftp_path.specs.Table.{get, without}
 use Rattle.sftp_path.specs.Rekeying.{renamed, rekeyed, NothingFrom}
-use Rattle.sftp_path.proofs.Order.{place_cmp-same, begins-front, begins-append}
+use Rattle.sftp_path.proofs.Order.{place_cmp-same, begins-front, begins-append, begins-itself}
 use Rattle.sftp_path.proofs.Table.Laws.{InOrder-without}
 use Rattle.sftp_path.proofs.Table.Tests.{all-without}
 use Rattle.sftp_path.proofs.Move.Tests as tests
@@ -78,9 +78,6 @@ begins-length : (top place : Place) → begins top place ≡ true → length top
 begins-length top place begun =
     let behind : length place ≡ length top + length (drop (length top) place) = ap length (begins-front top place begun) ∙ length-append top (drop (length top) place) in
     omega arith
-
-begins-itself : (place : Place) → begins place place ≡ true
-begins-itself place = ap (begins place) (sym (append-nil place)) ∙ begins-append place []
 
 -- the depth of a renamed place, where the new one is not too deep
 deeper : (limit renamed old place new : ℕ) → renamed + old ≡ place + new → old ≤ place → nat_le new limit ≡ true → nat_le renamed limit ≡ nat_le (place - old) (limit - new)

@@ -240,7 +240,8 @@ not-above names old new taken apart alone =
         cc
     by (n ∷ ns) is = not-both (node_at names old) taken (ap (node_at names) is ∙ alone-there names new alone n ns)
 
-below-root : (place : Place) → is_root place ≡ false → begins place [] ≡ false
+-- the root is neither at another place nor below it
+pub below-root : (place : Place) → is_root place ≡ false → begins place [] ≡ false
 below-root [] below = cc
 below-root (n ∷ ns) below = refl
 

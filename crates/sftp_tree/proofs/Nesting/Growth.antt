@@ -42,10 +42,9 @@ starts names is =
     record { owner = first.0; rest = first.1; names_are = first.2 }
 
 -- at the first place below its directory
-first_less : (o : Ordering) → ordering_then o Equal ≡ Less → o ≡ Less
+pub first_less : (o : Ordering) → ordering_then o Equal ≡ Less → o ≡ Less
 first_less Less h = refl
-first_less Equal h = absurd cc
-first_less Greater h = absurd cc
+first_less other h = absurd cc
 
 own_less : (c : Name) (child : Child) (name : Name) → IsBranch child
     → AllByRecursion (λ place. place_cmp place (name ∷ []) ≡ Less) (keys_of (placed c (branch child)))

@@ -5,6 +5,7 @@ use Rattle.std.specs.Ordering.{is_eq}
 use Rattle.std.specs.List.{list_all, list_any}
 use Rattle.std.proofs.lemmas.Bool.{and_from}
 use Rattle.std.proofs.lemmas.Bool.Decides.{nat_tests}
+use Rattle.std.proofs.Math.Bool.{and_assoc}
 use Rattle.std.proofs.lemmas.Cmp.{tied_itself}
 use Rattle.sftp_path.specs.Place.{Name, Place, place_cmp, is_below, begins}
 use Rattle.sftp_path.proofs.Order.{begins-front, begins-append, place_cmp-total}
@@ -16,6 +17,7 @@ use Rattle.sftp_tree.specs.Tree.{Names, node_at, is_taken, has_entries}
 use Rattle.sftp_tree.specs.Room.{reaches_at_most}
 use Rattle.sftp_tree.specs.Trail.{IsAt}
 use Rattle.sftp_tree.specs.Nesting.{Children, branch, placed, flat, flat_of, have_at_most}
+use Rattle.sftp_tree.proofs.Limits.Entries.{both-ways}
 use Rattle.sftp_tree.proofs.Limits.Moves.{place-passes}
 use Rattle.sftp_tree.proofs.WellFormedTrees.Places.{alone-there}
 
@@ -25,17 +27,13 @@ one-more a room = grind (arith, nat_tests)
 none-yet : (room : ℕ) → nat_le 0 room ≡ true
 none-yet room = grind (arith, nat_tests)
 
-and-assoc : (a b c : Bool) → (a && (b && c)) ≡ ((a && b) && c)
-and-assoc true b c = refl
-and-assoc false b c = refl
-
 all-placed : (room : ℕ) (name : Name) (names rest : Names)
     → list_all (λ e. nat_le (length e.0) (room + 1)) (placed name names ++ rest)
     ≡ (list_all (λ e. nat_le (length e.0) room) names && list_all (λ e. nat_le (length e.0) (room + 1)) rest)
 all-placed room name [] rest = refl
 all-placed room name (e ∷ es) rest = (λ i. one-more (length e.0) room i && all-placed room name es rest i)
-    ∙ and-assoc (nat_le (length e.0) room) (list_all (λ e. nat_le (length e.0) room) es)
-    (list_all (λ e. nat_le (length e.0) (room + 1)) rest)
+    ∙ sym (and_assoc (nat_le (length e.0) room) (list_all (λ e. nat_le (length e.0) room) es)
+    (list_all (λ e. nat_le (length e.0) (room + 1)) rest))
 
 -- a child's places decide, and those of the other children
 pub reach-child : (room : ℕ) (name : Name) (child : Child) (cs : Children)
@@ -101,11 +99,6 @@ unfolding have_at_most
 reach-end self left rest room none before = sym (ap (λ (x : Children). have_at_most (rest + 1) (flat x)) none) ∙ before
 
 -- ---- below a place
-
-both-ways : (a b : Bool) → (a ≡ true → b ≡ true) → (b ≡ true → a ≡ true) → a ≡ b
-both-ways true b to from = sym (to refl)
-both-ways false true to from = from refl
-both-ways false false to from = refl
 
 -- a test of the places at or below another is a test of what is after it
 behind : (top rest : Place) (room : ℕ)

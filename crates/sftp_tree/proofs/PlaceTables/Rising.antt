@@ -20,6 +20,10 @@ pub all_both : {A : Type 0} (P : A → Type 0) (xs ys : List A) → AllByRecursi
 all_both P [] ys p q = q
 all_both P (x ∷ xs) ys p q = (p.0, all_both P xs ys p.1 q)
 
+pub all_left : {A : Type 0} (P : A → Type 0) (xs ys : List A) → AllByRecursion P (xs ++ ys) → AllByRecursion P xs
+all_left P [] ys p = tt
+all_left P (x ∷ xs) ys p = (p.0, all_left P xs ys p.1)
+
 pub all_right : {A : Type 0} (P : A → Type 0) (xs ys : List A) → AllByRecursion P (xs ++ ys) → AllByRecursion P ys
 all_right P [] ys p = p
 all_right P (x ∷ xs) ys p = all_right P xs ys p.1
@@ -58,10 +62,6 @@ pub sorted_left : {K : Type 0} (R : K → K → Ordering) (ks rest : List K) →
 unfolding IsStrictlySortedBy
 sorted_left R [] rest sorted = tt
 sorted_left R (q ∷ ks) rest sorted = (all_left (λ y. R q y ≡ Less) ks rest sorted.0, sorted_left R ks rest sorted.1)
-  where
-    all_left : {A : Type 0} (P : A → Type 0) (xs ys : List A) → AllByRecursion P (xs ++ ys) → AllByRecursion P xs
-    all_left P [] ys p = tt
-    all_left P (x ∷ xs) ys p = (p.0, all_left P xs ys p.1)
 
 pub keys_append : {K X : Type 0} (xs ys : List (K × X)) → keys_of (xs ++ ys) ≡ keys_of xs ++ keys_of ys
 keys_append xs ys = map-append (λ e. e.0) xs ys

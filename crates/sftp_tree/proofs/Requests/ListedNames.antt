@@ -21,14 +21,10 @@ use Rattle.sftp_tree.specs.Tree.{Names, Tree, WellFormed, IsNode, node_at, conte
 use Rattle.sftp_tree.specs.Attributes.{shown, shown_content}
 use Rattle.sftp_tree.specs.Requests.{shown_at}
 use Rattle.sftp_tree.specs.Listings.{name_below, child_below, children, shown_child, listing}
+use Rattle.sftp_tree.proofs.Nesting.Growth.{first_less}
 use Rattle.sftp_tree.proofs.Requests.Listings.{children-kept}
 
 -- ---- the names rise
-
-then-less : (o : Ordering) → ordering_then o Equal ≡ Less → o ≡ Less
-then-less Less is = refl
-then-less Equal is = cc
-then-less Greater is = cc
 
 same-first : (p x y : Name) → same_bytes p x ≡ true → same_bytes p y ≡ true → name_cmp x y ≡ Equal
 same-first p x y is_x is_y =
@@ -42,7 +38,7 @@ names-rise [] (x ∷ k ∷ ks) b m n is_a is_b less = cc
 names-rise [] (x ∷ []) [] m n is_a is_b less = cc
 names-rise [] (x ∷ []) (y ∷ k ∷ ks) m n is_a is_b less = cc
 names-rise [] (x ∷ []) (y ∷ []) m n is_a is_b less =
-    (λ i. name_cmp (sym (same_Some x m is_a) i) (sym (same_Some y n is_b) i)) ∙ then-less (name_cmp x y) less
+    (λ i. name_cmp (sym (same_Some x m is_a) i) (sym (same_Some y n is_b) i)) ∙ first_less (name_cmp x y) less
 names-rise (p ∷ ps) [] b m n is_a is_b less = cc
 names-rise (p ∷ ps) (x ∷ xs) [] m n is_a is_b less = cc
 names-rise (p ∷ ps) (x ∷ xs) (y ∷ ys) m n is_a is_b less =

@@ -9,7 +9,8 @@ use Rattle.sftp_path.specs.Place.{Name, Place}
 use Rattle.sftp_path.specs.Table.{Table}
 use Rattle.sftp_tree.specs.declared.nodes.Node.{Node}
 use Rattle.sftp_tree.specs.Tree.{Names, Files, Tree, IsNode}
-use Rattle.sftp_tree.specs.Requests.{led, led_to, listing_to}
+use Rattle.sftp_tree.specs.Requests.{led, led_to}
+use Rattle.sftp_tree.specs.Told.{listing_to}
 use Rattle.sftp_tree.specs.declared.listings.Item.{Item}
 use Rattle.sftp_tree.specs.Items.{entry_of}
 use Rattle.sftp_tree.specs.Listings.{name_below, child_below, children, listing, shown_child}

@@ -21,7 +21,8 @@ use Rattle.sftp_tree.specs.Causes.{no_causes, when}
 use Rattle.sftp_tree.specs.PlaceCauses.{removing_causes, unlinking_causes, are_one, leaving_causes, giving_causes, exchanging_causes, opening_causes}
 use Rattle.sftp_tree.specs.Walk.{reached}
 use Rattle.sftp_tree.specs.Changes.{with_further_name, put_in_its_stead, with_attributes, with_new_file, new_content, with_emptied_file, with_opened, with_changed_file}
-use Rattle.sftp_tree.specs.Requests.{outcome_at, outcome_between, led, new_led, led_to, shown_at, shown_to, target_of, target_to, text_to, number_at, file_to}
+use Rattle.sftp_tree.specs.Requests.{outcome_at, outcome_between, led, new_led, led_to, shown_at, target_of, number_at}
+use Rattle.sftp_tree.specs.Told.{shown_to, text_to, file_to}
 use Rattle.sftp_tree.specs.Refusals.{IsFree, stat_ask}
 use Rattle.sftp_tree.specs.Plans.{changed, IsReady, CanTake, HasNode, IsPlanned, IsPlanAt, IsNaming, IsPlanBetween, IsFileAt, plan_to_open, IsSettingOf, IsSetting}
 use Rattle.sftp_tree.proofs.CauseLaws.Places.{FreeAt, FreeBetween, free-at, free-between, outcome-is}
@@ -235,8 +236,8 @@ listed-directory t path place free leads =
 pub read-link : (t : Tree) (path : List ℕ) (place : Place) → IsFree t (Readlink path) → led t (Readlink path) ≡ Some (Ok place) → is_link (node_at t.names place) ≡ true
 read-link t path place free leads = link-place (node_at t.names place) (free-at t (Readlink path) place free leads refl).none
 
-pub link-told : (t : Tree) (path given : List ℕ) (place : Place) (goal : List ℕ) → led t (Readlink path) ≡ Some (Ok place) → target_of (node_at t.names place) ≡ Some goal → given ≡ goal → target_to t (Readlink path) ≡ Some given
-unfolding target_to
+pub link-told : (t : Tree) (path given : List ℕ) (place : Place) (goal : List ℕ) → led t (Readlink path) ≡ Some (Ok place) → target_of (node_at t.names place) ≡ Some goal → given ≡ goal → text_to t (Readlink path) ≡ Some given
+unfolding text_to
 link-told t path given place goal leads there is = cc
 
 pub path-told : (t : Tree) (path text : List ℕ) (place : Place) → led t (Realpath path) ≡ Some (Ok place) → text ≡ absolute place → text_to t (Realpath path) ≡ Some text

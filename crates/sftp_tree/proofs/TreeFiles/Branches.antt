@@ -23,7 +23,7 @@ use Rattle.sftp_tree.specs.Picture.{rows_after}
 use Rattle.sftp_tree.specs.PictureParts.{only_root, Firsts, firsts_with, known_kind}
 use Rattle.sftp_tree.specs.Written.{text_of, rows_from, firsts_from, AreWritable}
 use Rattle.sftp_tree.proofs.Limits.Tests.{stands-of}
-use Rattle.sftp_tree.proofs.PlaceTables.Rising.{all_right}
+use Rattle.sftp_tree.proofs.PlaceTables.Rising.{all_left, all_right}
 use Rattle.sftp_tree.proofs.TreeFiles.Files.{split_tree}
 use Rattle.sftp_tree.proofs.TreeFiles.Named.{rows_cons, IsBelowRoot}
 use Rattle.sftp_tree.proofs.TreeFiles.Tables.{IsFitNode, root_first, root_at}
@@ -51,10 +51,6 @@ firsts_both firsts next (e ∷ xs) ys =
     let more = firsts_with firsts next e.1 in
     let count : suc next + length xs ≡ next + length (e ∷ xs) = omega arith in
     firsts_both more (suc next) xs ys ∙ ap (λ n. firsts_from (firsts_from more (suc next) xs) n ys) count
-
-all_left : {A : Type 0} (P : A → Type 0) (xs ys : List A) → AllByRecursion P (xs ++ ys) → AllByRecursion P xs
-all_left P [] ys p = tt
-all_left P (x ∷ xs) ys p = (p.0, all_left P xs ys p.1)
 
 -- ---- one name further down
 

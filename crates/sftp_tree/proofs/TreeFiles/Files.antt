@@ -8,7 +8,6 @@ use Rattle.std.proofs.lemmas.List.{length-append}
 use Rattle.std.proofs.lemmas.List.Elements.{filter-append}
 use Rattle.sftp_path.specs.Place.{Place, are_names, components}
 use Rattle.sftp_path.specs.Table.{retain}
-use Rattle.sftp_path.specs.Text.{IsTextOf}
 use Rattle.sftp_path.proofs.PathTexts.AbsoluteTexts.{components-absolute}
 use Rattle.sftp_treefile.specs.declared.files.Owner.{Owner}
 use Rattle.sftp_treefile.specs.declared.files.Kind.{Kind}
@@ -252,10 +251,6 @@ tree_again t kept unpinned numbered =
     ap (λ (rs : List Row). numbered_from 0 (contents_of rs)) rows
     ∙ numbered_again t.files (contents_of (rows_after t.files (only_root s.root) s.entries)) kept.well_formed.numbered (subst (λ n. AllByRecursion (λ e. e.0 < n) t.files) (sym a.made_is) kept.well_formed.given) a.contents in
     λ i. record { names = names i; files = files i; made = made i; pins = sym unpinned i; limits = t.limits; home = components-absolute t.home kept.well_formed.home i; uid = t.uid; gid = t.gid }
-
--- the place that a text was found to be of
-pub place_found : (text : List ℕ) (place : Place) → IsTextOf text place → place ≡ place_of text
-place_found text place is = sym (ap components is.1 ∙ components-absolute place is.0)
 
 -- ---- the blank tree
 

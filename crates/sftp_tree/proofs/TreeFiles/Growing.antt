@@ -17,6 +17,7 @@ use Rattle.sftp_treefile.specs.declared.limits.TreeLimits.{TreeLimits}
 use Rattle.sftp_treefile.specs.TreeFile.{place_of, is_dir, IsOwner, IsNext, AreRows}
 use Rattle.sftp_treefile.specs.TreeFileParts.{IsLast, Follows}
 use Rattle.sftp_treefile.proofs.Order.LastEntry.{no_last, last_more, begins_last, begun_whole}
+use Rattle.sftp_treefile.proofs.Texts.Entries.{follows_next}
 use Rattle.sftp_tree.specs.declared.nodes.Node.{Node}
 use Rattle.sftp_tree.specs.Tree.{Names, with_node}
 use Rattle.sftp_tree.specs.Growth.{open_after}
@@ -60,10 +61,6 @@ pub record IsOpen (rows : List Row) (place : Place) : Type 0 where
 pub open_root : (place : Place) → place ≡ [] → IsOpen [] place
 open_root place is = record { last = []; last_is = true; fits = no_last; place_is = is }
 
-pub follows : (bounds : TreeLimits) → (rows : List Row) (row : Row) → IsNext bounds rows row → Follows rows row.path
-follows bounds rows row next = record
-    { text = next.path; below_root = next.below_root; later = next.later; parent = next.parent }
-
 behind_known : (numbers : List ℕ) (next : ℕ) (kind : Kind) (place : Place)
     → open_after place (known_node numbers next kind) ≡ (if is_dir kind then place else parent place)
 behind_known numbers next (kinds.Dir owner) place = refl
@@ -77,7 +74,7 @@ pub open_more : (bounds : TreeLimits) → (rows : List Row) (row : Row) (numbers
 open_more bounds rows row numbers next place old new node was is-next place-is node-is new-is = record {
   last = place_of row.path;
   last_is = is_dir row.kind;
-  fits = last_more rows was.last was.last_is row was.fits (follows bounds rows row is-next);
+  fits = last_more rows was.last was.last_is row was.fits (follows_next bounds rows row is-next);
   place_is = new-is ∙ (λ i. open_after (place-is i) (node-is i))
       ∙ behind_known numbers next row.kind (place_of row.path);
 }

@@ -1,7 +1,7 @@
 -- Where walks lead: to lists of names whose parents are directories.
 use Rattle.std.proofs.Common.{◌≡◌, ℕ, zero, suc, ◌-◌, ◌||◌, Bool, true, false, if◌then◌else◌, List, [], ◌∷◌, ◌++◌, length, take, refl, sym, ◌∙◌, ap, subst, Some, Result, Ok, Err, IsTrue}
 use Rattle.std.specs.List.{list_all}
-use Rattle.std.proofs.lemmas.Bool.{and_parts, and_from}
+use Rattle.std.proofs.lemmas.Bool.{and_parts, and_from, or_right}
 use Rattle.std.proofs.lemmas.List.Folds.{list_all-append}
 use Rattle.sftp_path.specs.Place.{Name, Place, parent, is_name, is_step, is_dot, is_dot_dot, are_names, components, is_absolute, is_good_path}
 use Rattle.sftp_path.proofs.PathTexts.GoodPaths.{components-steps, list_all-weaker}
@@ -98,12 +98,8 @@ found t follow (suc left) kept = found-parts t follow (suc left) kept (λ at nam
 
 -- ---- a whole path
 
-or-right : (a b : Bool) → b ≡ true → (a || b) ≡ true
-or-right true b h = refl
-or-right false b h = h
-
 name-step : (name : Name) → is_name name ≡ true → is_step name ≡ true
-name-step name is = or-right (is_dot name) (is_dot_dot name || is_name name) (or-right (is_dot_dot name) (is_name name) is)
+name-step name is = or_right (is_dot name) (is_dot_dot name || is_name name) (or_right (is_dot_dot name) (is_name name) is)
 
 -- a walk from a home goes over steps
 pub steps-from : (home : List Name) (path : List ℕ) → are_names home ≡ true → is_good_path path ≡ true → are_bytes path ≡ true → list_all is_step (home ++ components path) ≡ true

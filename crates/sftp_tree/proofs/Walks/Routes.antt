@@ -2,6 +2,7 @@
 use Rattle.std.proofs.Common.{◌≡◌, ◌==◌, ◌&&◌, Bool, true, false, List, [], ◌∷◌, ◌++◌, length, refl, sym, ap, ◌∙◌, arith}
 use Rattle.std.specs.List.{list_all}
 use Rattle.std.proofs.lemmas.Bool.{ne_eqb}
+use Rattle.std.proofs.Math.Bool.{and_comm}
 use Rattle.std.proofs.lemmas.List.{append-nil, append_assoc}
 use Rattle.sftp_path.specs.Place.{Name}
 use Rattle.sftp_path.specs.Split.{Split}
@@ -21,15 +22,10 @@ pub is_last-append : (xs ys : List Name) → is_last (xs ++ ys) ≡ (is_last xs 
 is_last-append [] ys = refl
 is_last-append (x ∷ xs) ys = refl
 
-and-swap : (a b : Bool) → (a && b) ≡ (b && a)
-and-swap true true = refl
-and-swap false true = refl
-and-swap a b = refl
-
 -- nothing is left of targets where nothing is left of each
 pub is_last-left_of : (targets : List Split) → is_last (left_of targets) ≡ list_all is_done targets
 is_last-left_of [] = refl
-is_last-left_of (t ∷ ts) = is_last-append (left_of ts) t.left ∙ and-swap (is_last (left_of ts)) (is_last t.left)
+is_last-left_of (t ∷ ts) = is_last-append (left_of ts) t.left ∙ and_comm (is_last (left_of ts)) (is_last t.left)
     ∙ ap (λ b. b && is_last (left_of ts)) (is_last-length t.left) ∙ ap (λ b. is_done t && b) (is_last-left_of ts)
 
 -- nothing is left of targets where nothing is left of the first, nor of those after it

@@ -1,19 +1,22 @@
 use Rattle.std.proofs.Common.{IsTrue, Some, sym, ap, subst, ◌∙◌}
 use Rattle.sftp_packets.specs.declared.packets.Ask.TheVariants.{Close}
 use Rattle.sftp_tree.specs.declared.causes.Cause.TheVariants.{BadHandle}
+use Rattle.sftp_tree.specs.Tree.{is_pinned}
 use Rattle.sftp_handles.specs.declared.opens.Open.{Open}
 use Rattle.sftp_handles.specs.State.{State, Good}
 use Rattle.sftp_handles.specs.Judged.{IsDone}
 use Rattle.sftp_handles.specs.Requests.{causes}
 use Rattle.sftp_handles.proofs.NewStates.{state_of}
-use Rattle.sftp_handles.proofs.OpenChanges.{open-pinned, it-closed, good-it_closed, nothing-closed}
+use Rattle.sftp_handles.proofs.SeenCauses.{open-pinned}
+use Rattle.sftp_handles.proofs.OpenChanges.{it-closed, good-it_closed, nothing-closed}
 use Rattle.sftp_handles.proofs.OpenChanges.{close-lost, close-done}
 use Rattle.sftp_handles.proofs.sessions.Session.close.Goals as goal
 
 pub unpin_closed-requires : goal.unpin_closed-requires
 unpin_closed-requires g c number flags is =
-    open-pinned (state_of c.self.inside.tree (g.T.HandleTable.handles c.self.inside.table)) c.args.handle.now number
-    flags c.self.invariant (sym c.in-Some.ensures.before ∙ ap (λ (it : Open). Some it) is)
+    ap (λ pins. is_pinned pins number) c.self.invariant.pinned
+    ∙ open-pinned (state_of c.self.inside.tree (g.T.HandleTable.handles c.self.inside.table)) c.args.handle.now number
+    flags (sym c.in-Some.ensures.before ∙ ap (λ (it : Open). Some it) is)
 
 pub invariant_of-self : goal.invariant_of-self
 invariant_of-self g c =

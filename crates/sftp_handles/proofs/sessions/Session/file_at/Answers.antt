@@ -1,13 +1,29 @@
-use Rattle.std.proofs.Common.{subst, sym, ap, ◌∙◌, Some}
+use Rattle.std.proofs.Common.{◌≡◌, refl, subst, ap, ◌∙◌, IfOk}
+use Rattle.sftp_packets.specs.declared.packets.Ask.TheVariants.{Fstat, Fsync}
 use Rattle.sftp_tree.specs.Tree.{HasFile}
 use Rattle.sftp_handles.specs.State.{State}
-use Rattle.sftp_handles.proofs.SeenCauses.{open-exists}
+use Rattle.sftp_handles.specs.Found.{found_file, refusing}
+use Rattle.sftp_handles.specs.Requests.{causes}
+use Rattle.sftp_handles.proofs.SeenCauses.{file-there, file-causes}
 use Rattle.sftp_handles.proofs.NewStates.{state_of}
 use Rattle.sftp_handles.proofs.sessions.Session.file_at.Goals as goal
 
-pub returns-in-Some-File-clause-there : goal.returns-in-Some-File-clause-there
-returns-in-Some-File-clause-there g c =
-    subst (λ (s : State). HasFile s.tree.files c.in-Some-File.file) c.self.view_is
-    (open-exists (state_of c.self.inside.tree (g.T.HandleTable.handles c.self.inside.table)) c.args.handle.now
-    c.in-Some-File.file c.in-Some-File.flags c.self.invariant
-    (sym c.in-Some-File.ensures ∙ ap Some c.in-Some-File.field-0-is))
+pub returns-clause-shown : goal.returns-clause-shown
+returns-clause-shown g c =
+    subst (λ (s : State). causes s (Fstat c.args.handle.now) ≡ refusing c.file_in.result) c.self.view_is
+    (file-causes (state_of c.self.inside.tree (g.T.HandleTable.handles c.self.inside.table)) (Fstat c.args.handle.now)
+    c.args.handle.now refl refl (λ flags before. refl) (λ flags. refl) c.file_in.result c.self.invariant
+    (c.file_in.ensures ∙ ap found_file c.find.ensures))
+
+pub returns-clause-flushed : goal.returns-clause-flushed
+returns-clause-flushed g c =
+    subst (λ (s : State). causes s (Fsync c.args.handle.now) ≡ refusing c.file_in.result) c.self.view_is
+    (file-causes (state_of c.self.inside.tree (g.T.HandleTable.handles c.self.inside.table)) (Fsync c.args.handle.now)
+    c.args.handle.now refl refl (λ flags before. refl) (λ flags. refl) c.file_in.result c.self.invariant
+    (c.file_in.ensures ∙ ap found_file c.find.ensures))
+
+pub returns-clause-there : goal.returns-clause-there
+returns-clause-there g c =
+    subst (λ (s : State). IfOk c.file_in.result (λ f. HasFile s.tree.files f.0)) c.self.view_is
+    (file-there (state_of c.self.inside.tree (g.T.HandleTable.handles c.self.inside.table)) c.args.handle.now
+    c.file_in.result c.self.invariant (c.file_in.ensures ∙ ap found_file c.find.ensures))

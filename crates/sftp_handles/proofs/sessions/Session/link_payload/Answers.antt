@@ -1,6 +1,6 @@
 use Rattle.std.proofs.Common.{◌≡◌, ℕ, List, Some, refl, sym, subst}
 use Rattle.sftp_packets.specs.declared.packets.Ask.TheVariants.{Readlink}
-use Rattle.sftp_tree.specs.Requests as paths
+use Rattle.sftp_tree.specs.Told as told
 use Rattle.sftp_tree.specs.Refusals.{IsFree}
 use Rattle.sftp_tree.specs.Refusals as of_tree
 use Rattle.sftp_handles.specs.State.{State, Good}
@@ -17,7 +17,7 @@ returns-in-Ok-clause-carried g c =
     subst (λ (x : List ℕ). Carries s ask (names (Some x))) (sym c.new.ensures)
     (carries-target s c.args.path.now target (subst Good c.self.view_is c.self.invariant)
     (subst (λ (s : State). IsFree s.tree ask) c.self.view_is c.in-Ok.ensures.free)
-    (subst (λ (s : State). paths.target_to s.tree ask ≡ Some target) c.self.view_is c.in-Ok.ensures.target))
+    (subst (λ (s : State). told.text_to s.tree ask ≡ Some target) c.self.view_is c.in-Ok.ensures.target))
 
 pub returns-in-Err-clause-refused : goal.returns-in-Err-clause-refused
 returns-in-Err-clause-refused g c =

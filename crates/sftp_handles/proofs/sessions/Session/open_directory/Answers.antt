@@ -3,6 +3,7 @@ use Rattle.sftp_packets.specs.declared.packets.Ask.TheVariants as asks
 use Rattle.sftp_tree.specs.Items.{entry_of}
 use Rattle.sftp_tree.specs.Causes.{is_none}
 use Rattle.sftp_tree.specs.Requests as paths
+use Rattle.sftp_tree.specs.Told as told
 use Rattle.sftp_handles.specs.State.{State, Good, IsLeft}
 use Rattle.sftp_handles.proofs.Opened as opened
 use Rattle.sftp_handles.proofs.sessions.Session.open_directory.Goals as goal
@@ -22,8 +23,8 @@ pub returns-in-Ok-listing_of-clause-done : goal.returns-in-Ok-listing_of-clause-
 returns-in-Ok-listing_of-clause-done g c =
     let s = c.args.self.now in
     let ask = asks.Opendir c.args.path.now in
-    let listed : paths.listing_to s.tree ask ≡ Some c.in-Ok-listing_of.left =
-    ap (λ (s : State). paths.listing_to s.tree ask) (sym c.self.view_is)
+    let listed : told.listing_to s.tree ask ≡ Some c.in-Ok-listing_of.left =
+    ap (λ (s : State). told.listing_to s.tree ask) (sym c.self.view_is)
     ∙ (c.in-Ok.ensures.listed ∙ ap Some (sym c.in-Ok-listing_of.ensures)) in
     let free = ap (λ (s : State). is_none (paths.causes s.tree ask)) (sym c.self.view_is) ∙ c.in-Ok.ensures.free in
     opened.listed-ok s c.open_listing.new.self c.args.path.now c.in-Ok-listing_of.left c.open_listing.result

@@ -1,7 +1,7 @@
 use Rattle.std.proofs.Common.{◌≡◌, ℕ, List, Some, sym, subst}
 use Rattle.sftp_packets.specs.declared.packets.Ask.TheVariants.{Realpath}
 use Rattle.sftp_path.proofs.PathTexts.GoodPaths.{list_all-octets}
-use Rattle.sftp_tree.specs.Requests as paths
+use Rattle.sftp_tree.specs.Told as told
 use Rattle.sftp_tree.proofs.Walks.Places.{path-found}
 use Rattle.sftp_tree.specs.Refusals.{IsFree}
 use Rattle.sftp_tree.specs.Refusals as of_tree
@@ -24,7 +24,7 @@ returns-in-Ok-clause-carried g c =
     }) s c.args.path.now text (subst Good c.self.view_is c.self.invariant)
     (list_all-octets c.args.path.now c.type_inv.path)
     (subst (λ (s : State). IsFree s.tree ask) c.self.view_is c.in-Ok.ensures.free)
-    (subst (λ (s : State). paths.text_to s.tree ask ≡ Some text) c.self.view_is c.in-Ok.ensures.text))
+    (subst (λ (s : State). told.text_to s.tree ask ≡ Some text) c.self.view_is c.in-Ok.ensures.text))
 
 pub returns-in-Err-clause-refused : goal.returns-in-Err-clause-refused
 returns-in-Err-clause-refused g c =

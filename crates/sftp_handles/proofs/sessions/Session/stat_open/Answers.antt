@@ -1,20 +1,14 @@
-use Rattle.std.proofs.Common.{◌≡◌, refl, sym, ap, subst, ◌∙◌, Some, option_map}
+use Rattle.std.proofs.Common.{◌≡◌, refl, sym, subst, Some, option_map}
 use Rattle.sftp_packets.specs.declared.packets.Ask.TheVariants.{Fstat}
 use Rattle.sftp_tree.specs.Tree.{content_at}
 use Rattle.sftp_tree.specs.Attributes.{shown_content}
-use Rattle.sftp_tree.specs.Causes.{is_none}
 use Rattle.sftp_handles.specs.State.{State}
 use Rattle.sftp_handles.specs.Replies.{shows}
-use Rattle.sftp_handles.proofs.SeenCauses.{plain-found}
-use Rattle.sftp_handles.proofs.SeenAnswers.{none-free, lost-holds, said-found, shown-found}
+use Rattle.sftp_handles.proofs.SeenAnswers.{none-holds, only-holds, said-found, shown-found}
 use Rattle.sftp_handles.proofs.sessions.Session.stat_open.Goals as goal
 
 pub returns-in-Ok-clause-free : goal.returns-in-Ok-clause-free
-returns-in-Ok-clause-free g c =
-    ap is_none
-    (plain-found c.args.self.now (Fstat c.args.handle.now) c.args.handle.now refl refl (λ flags before. refl)
-    c.in-Ok.found (sym c.in-Ok.ensures.found) c.in-Ok.ensures.there)
-    ∙ none-free
+returns-in-Ok-clause-free g c = none-holds c.args.self.now (Fstat c.args.handle.now) c.in-Ok.ensures.shown
 
 pub returns-in-Ok-clause-shown : goal.returns-in-Ok-clause-shown
 returns-in-Ok-clause-shown g c =
@@ -28,5 +22,4 @@ returns-in-Ok-clause-shown g c =
 
 pub returns-in-Err-clause-refused : goal.returns-in-Err-clause-refused
 returns-in-Err-clause-refused g c =
-    lost-holds c.args.self.now (Fstat c.args.handle.now) c.args.handle.now refl refl c.in-Err.cause
-    (sym c.in-Err.ensures.found)
+    only-holds c.args.self.now (Fstat c.args.handle.now) c.in-Err.cause c.in-Err.ensures.shown

@@ -1,5 +1,5 @@
 use Rattle.std.proofs.Common.{◌≡◌, Some, subst}
-use Rattle.sftp_tree.specs.Requests as paths
+use Rattle.sftp_tree.specs.Told as told
 use Rattle.sftp_tree.specs.Refusals.{IsFree, stat_ask}
 use Rattle.sftp_tree.specs.Refusals as of_tree
 use Rattle.sftp_handles.specs.State.{State, Good}
@@ -12,7 +12,7 @@ returns-in-Ok-clause-carried g c =
     carries-stat c.args.self.now c.args.follow c.args.path.now c.in-Ok.shown
     (subst Good c.self.view_is c.self.invariant)
     (subst (λ (s : State). IsFree s.tree ask) c.self.view_is c.in-Ok.ensures.free)
-    (subst (λ (s : State). paths.shown_to s.tree ask ≡ Some c.in-Ok.shown) c.self.view_is c.in-Ok.ensures.shown)
+    (subst (λ (s : State). told.shown_to s.tree ask ≡ Some c.in-Ok.shown) c.self.view_is c.in-Ok.ensures.shown)
 
 pub returns-in-Err-clause-refused : goal.returns-in-Err-clause-refused
 returns-in-Err-clause-refused g c =

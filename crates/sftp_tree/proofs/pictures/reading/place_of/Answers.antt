@@ -1,7 +1,7 @@
 -- The components of a place's text are the place.
 use Rattle.std.proofs.lemmas.Option.{MatchOption-at_some}
-use Rattle.sftp_tree.proofs.TreeFiles.Files.{place_found}
+use Rattle.sftp_treefile.proofs.Texts.Fields.{place_is}
 use Rattle.sftp_tree.proofs.pictures.reading.place_of.Goals as goal
 
 pub returns : goal.returns
-returns c = place_found c.args.text.now c.in-Some.place (MatchOption-at_some _ _ c.in-Some.place c.in-Some.is c.in_ok-place.ensures.found)
+returns c = place_is c.args.text.now c.in-Some.place (MatchOption-at_some _ _ c.in-Some.place c.in-Some.is c.in_ok-place.ensures.found)

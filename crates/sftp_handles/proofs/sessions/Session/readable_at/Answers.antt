@@ -1,0 +1,37 @@
+use Rattle.std.proofs.Common.{Ok, refl, sym, ap, ◌≡◌, ◌∙◌, true, not}
+use Rattle.sftp_packets.specs.declared.packets.Ask.TheVariants.{Read}
+use Rattle.sftp_tree.specs.declared.causes.Cause.TheVariants.{NotOpenFor}
+use Rattle.sftp_tree.specs.Causes.{no_causes, when}
+use Rattle.sftp_tree.specs.Tree.{HasFile}
+use Rattle.sftp_handles.specs.Handles.{open_at}
+use Rattle.sftp_handles.specs.State.{Good}
+use Rattle.sftp_handles.specs.Found.{found_file, refusing}
+use Rattle.sftp_handles.proofs.SeenCauses.{plain-found, lost, granted-read, granted-has}
+use Rattle.sftp_handles.proofs.sessions.Session.readable_at.Goals as goal
+
+pub returns-in-Ok-clause-causes : goal.returns-in-Ok-clause-causes
+returns-in-Ok-clause-causes g c offset len =
+    plain-found c.args.self.now (Read c.args.handle.now offset len) c.args.handle.now refl refl (λ flags before. refl)
+    c.in-Ok.found (sym c.in-Ok.ensures.found) c.in-Ok.ensures.there
+    ∙ (ap (λ b. when no_causes NotOpenFor (not b)) (sym c.may_read.ensures)
+    ∙ (granted-read c.in-Ok.found (not c.may_read.result) ∙ ap refusing (sym c.grant.ensures)))
+
+pub returns-in-Ok-clause-found : goal.returns-in-Ok-clause-found
+returns-in-Ok-clause-found g c =
+    granted-has (λ f. found_file (open_at c.args.self.now.handles c.args.handle.now) ≡ Ok f) c.in-Ok.found
+    (not c.may_read.result) true c.grant.result c.grant.ensures (λ fit. sym c.in-Ok.ensures.found)
+
+pub returns-in-Ok-clause-there : goal.returns-in-Ok-clause-there
+returns-in-Ok-clause-there g c =
+    granted-has (λ f. HasFile c.args.self.now.tree.files f.0) c.in-Ok.found (not c.may_read.result) true c.grant.result
+    c.grant.ensures (λ fit. c.in-Ok.ensures.there)
+
+pub returns-in-Ok-clause-kept : goal.returns-in-Ok-clause-kept
+returns-in-Ok-clause-kept g c =
+    granted-has (λ f. Good c.args.self.now) c.in-Ok.found (not c.may_read.result) true c.grant.result c.grant.ensures
+    (λ fit. c.in-Ok.ensures.kept)
+
+pub returns-in-Err-clause-causes : goal.returns-in-Err-clause-causes
+returns-in-Err-clause-causes g c offset len =
+    lost c.args.self.now (Read c.args.handle.now offset len) c.args.handle.now refl refl c.in-Err.cause
+    (sym c.in-Err.ensures.found)

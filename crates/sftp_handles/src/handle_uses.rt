@@ -1,0 +1,69 @@
+//! The requests through handles, and how each uses what is open under its handle.
+ghost use Rattle.std.specs.Prelude.{◌≡◌, Some, None, IfNone, IfSome};
+ghost use Rattle.sftp_packets.specs.Spelling.{asked_handle};
+ghost use Rattle.sftp_handles.specs.Clash.{may_change};
+ghost use Rattle.sftp_handles.specs.HandleRequests.{row_of};
+ghost use Rattle.sftp_handles.specs.Uses as uses;
+
+use sftp_wire::Ask;
+
+/// How a request uses what is open under its handle.
+#[derive(Clone, Copy)]
+pub(crate) enum Use {
+    /// It closes it, be it a file or a listing.
+    Close,
+    /// It reads the file, or changes nothing of it.
+    ReadFile,
+    /// It may change the file.
+    WriteFile,
+    /// It takes names of the listing.
+    TakeNames,
+}
+
+impl Use {
+    /// Whether the request touches everything.
+    pub(crate) fn bars(self) -> bool
+        ensures { result ≡ uses.bars (uses.needed_for self) }
+    {
+        match self {
+            Use::Close => true,
+            Use::ReadFile => false,
+            Use::WriteFile => false,
+            Use::TakeNames => false,
+        }
+    }
+}
+
+/// The handle that a request names, and how it uses what is open there; `None` if it names none.
+pub(crate) fn through(ask: &Ask) -> Option<(&[u8], Use)>
+    ensures none { IfNone result (asked_handle ask.now ≡ None) }
+    ensures asked { IfSome result (λ it. asked_handle ask.now ≡ Some it.0.now) }
+    ensures needed { IfSome result (λ it. (row_of ask.now).needed ≡ uses.needed_for it.1) }
+    ensures writes { IfSome result (λ it. may_change ask.now ≡ uses.writes it.1) }
+{
+    match ask {
+        Ask::Close { handle } => Some((handle.as_slice(), Use::Close)),
+        Ask::Read { handle, .. } => Some((handle.as_slice(), Use::ReadFile)),
+        Ask::Write { handle, .. } => Some((handle.as_slice(), Use::WriteFile)),
+        Ask::Fstat { handle } => Some((handle.as_slice(), Use::ReadFile)),
+        Ask::Fsetstat { handle, .. } => Some((handle.as_slice(), Use::WriteFile)),
+        Ask::Readdir { handle } => Some((handle.as_slice(), Use::TakeNames)),
+        Ask::Fsync { handle } => Some((handle.as_slice(), Use::ReadFile)),
+        Ask::Open { .. }
+        | Ask::Lstat { .. }
+        | Ask::Setstat { .. }
+        | Ask::Opendir { .. }
+        | Ask::Remove { .. }
+        | Ask::Mkdir { .. }
+        | Ask::Rmdir { .. }
+        | Ask::Realpath { .. }
+        | Ask::Stat { .. }
+        | Ask::Rename { .. }
+        | Ask::Readlink { .. }
+        | Ask::Symlink { .. }
+        | Ask::PosixRename { .. }
+        | Ask::Hardlink { .. }
+        | Ask::Limits
+        | Ask::Unknown { .. } => None,
+    }
+}
