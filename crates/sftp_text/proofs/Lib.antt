@@ -5,6 +5,7 @@ pub mod DigitLaws
 pub mod QuotedLaws
 pub mod FlagLaws
 pub mod ListLaws
+pub mod KindLaws
 pub mod SpaceLaws
 pub mod FileLaws
 pub mod TextLaws

@@ -4,7 +4,13 @@ use Rattle.std.specs.Prelude.{Option, Some, None, IfSome, option_and_then, Resul
 use Rattle.std.specs.Int.RustNames.{bit_and, bit_or}
 use Rattle.sftp_text.specs.declared.errors.Stop.{Stop}
 use Rattle.sftp_text.specs.declared.errors.Stop.TheVariants.{NoMemory, Unfit}
+use Rattle.sftp_text.specs.declared.attributes.Value.{Value}
+use Rattle.sftp_text.specs.declared.attributes.Value.TheVariants.{Long, TwoNumbers, Octal, Pairs}
+use Rattle.sftp_text.specs.Formats.{Format}
+use Rattle.sftp_text.specs.Digits.{long, octal}
 use Rattle.sftp_text.specs.Quoted.{byte_of, is_plain}
+use Rattle.sftp_text.specs.Fields.{two_numbers, counted_pairs}
+use Rattle.sftp_text.specs.Trees.{kind_text}
 
 -- what is done and what is left are as the step says, unless memory runs out
 abbrev pub Moves : {A : Type 0} → Result A Stop → List ℕ → List ℕ → Option (List ℕ × List ℕ) → Type 0
@@ -92,3 +98,21 @@ abbrev pub TellsWhether : Result Bool Stop → Bool → Type 0
 TellsWhether (Ok is) told = told ≡ is
 TellsWhether (Err NoMemory) told = Unit {0}
 TellsWhether (Err (Unfit expected)) told = ⊥
+
+-- what an attribute says behind its label
+abbrev pub value_text : Value → Format
+value_text Long = long
+value_text TwoNumbers = two_numbers
+value_text Octal = octal
+value_text Pairs = counted_pairs
+
+-- the fields, if there are some
+abbrev pub behind : Option Format → Format
+behind fields = record {
+  show = λ text bytes. option_and_then (λ f. f.show text bytes) fields;
+  read = λ bytes text. option_and_then (λ f. f.read bytes text) fields;
+}
+
+-- what an entry of a kind says behind its path
+abbrev pub behind_path : ℕ → Format
+behind_path kind = behind (kind_text kind)

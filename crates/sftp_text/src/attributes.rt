@@ -1,14 +1,13 @@
 //! Attributes (draft, section 5): each field that there is, with its label, in the order of the bytes.
 ghost use Rattle.std.specs.Prelude.{◌≡◌, [], ◌∷◌, ◌≤◌, codes, IfOk};
-ghost use Rattle.sftp_text.specs.Digits.{long, octal};
-ghost use Rattle.sftp_text.specs.Fields.{two_numbers, counted_pairs, part, show_part, read_part, show_parts};
-ghost use Rattle.sftp_text.specs.Fields.{read_parts};
+ghost use Rattle.sftp_text.specs.Digits.{octal};
+ghost use Rattle.sftp_text.specs.Fields.{two_numbers, counted_pairs, part, show_part, show_parts, read_parts};
 ghost use Rattle.sftp_text.specs.Fields.{attribute_parts};
 ghost use Rattle.sftp_text.specs.Fields as fields;
-ghost use Rattle.sftp_text.specs.Moves.{Moves, Counts};
+ghost use Rattle.sftp_text.specs.Moves.{Moves, Counts, value_text};
 
 use crate::errors::{Expected, Stop};
-use crate::lists::{put_counted_pairs, read_counted_pairs};
+use crate::lists::{Pair, put_counted, read_counted};
 use crate::numbers::{put_long, put_number, put_octal, read_long, read_number, read_octal};
 use crate::quoted::append_numbered;
 use crate::words::{read_label, read_word};
@@ -36,59 +35,44 @@ fn put_two(bytes: &mut &[u8], text: &mut Vec<u8>) -> Result<(), Stop>
     put_number(bytes, text)
 }
 
-fn put_size(flags: u32, bytes: &mut &[u8], text: &mut Vec<u8>) -> Result<(), Stop>
-    ensures { Moves result text.new.items bytes.new.now
-        (show_part (part 0x00000001 (codes " size=") long) flags text.old.items bytes.old.now) }
-{
-    if flags & SIZE != SIZE {
-        return Ok(());
-    }
-    text.extend_from_slice(b" size=")?;
-    put_long(bytes, text)
+/// What an attribute says behind its label.
+#[derive(Clone, Copy)]
+pub(crate) enum Value {
+    Long,
+    TwoNumbers,
+    Octal,
+    Pairs,
 }
 
-fn put_owner(flags: u32, bytes: &mut &[u8], text: &mut Vec<u8>) -> Result<(), Stop>
-    ensures { Moves result text.new.items bytes.new.now
-        (show_part (part 0x00000002 (codes " owner=") two_numbers) flags text.old.items bytes.old.now) }
+#[tactic(auto, unfolding(crate::specs::Fields::counted_pairs))]
+fn put_value(value: Value, bytes: &mut &[u8], text: &mut Vec<u8>) -> Result<(), Stop>
+    ensures { Moves result text.new.items bytes.new.now ((value_text value).show text.old.items bytes.old.now) }
 {
-    if flags & OWNER != OWNER {
-        return Ok(());
+    match value {
+        Value::Long => put_long(bytes, text),
+        Value::TwoNumbers => put_two(bytes, text),
+        Value::Octal => put_octal(bytes, text),
+        Value::Pairs => put_counted::<Pair>(b',', bytes, text),
     }
-    text.extend_from_slice(b" owner=")?;
-    put_two(bytes, text)
 }
 
-fn put_permissions(flags: u32, bytes: &mut &[u8], text: &mut Vec<u8>) -> Result<(), Stop>
+/// Shows an attribute with its label, if its flag is among these.
+fn put_part(
+    flag: u32,
+    label: &[u8],
+    value: Value,
+    flags: u32,
+    bytes: &mut &[u8],
+    text: &mut Vec<u8>,
+) -> Result<(), Stop>
     ensures { Moves result text.new.items bytes.new.now
-        (show_part (part 0x00000004 (codes " permissions=") octal) flags text.old.items bytes.old.now) }
+        (show_part (part flag label.now (value_text value)) flags text.old.items bytes.old.now) }
 {
-    if flags & PERMISSIONS != PERMISSIONS {
+    if flags & flag != flag {
         return Ok(());
     }
-    text.extend_from_slice(b" permissions=")?;
-    put_octal(bytes, text)
-}
-
-fn put_times(flags: u32, bytes: &mut &[u8], text: &mut Vec<u8>) -> Result<(), Stop>
-    ensures { Moves result text.new.items bytes.new.now
-        (show_part (part 0x00000008 (codes " times=") two_numbers) flags text.old.items bytes.old.now) }
-{
-    if flags & TIMES != TIMES {
-        return Ok(());
-    }
-    text.extend_from_slice(b" times=")?;
-    put_two(bytes, text)
-}
-
-fn put_extended(flags: u32, bytes: &mut &[u8], text: &mut Vec<u8>) -> Result<(), Stop>
-    ensures { Moves result text.new.items bytes.new.now
-        (show_part (part 0x80000000 (codes " extended=") counted_pairs) flags text.old.items bytes.old.now) }
-{
-    if flags & EXTENDED != EXTENDED {
-        return Ok(());
-    }
-    text.extend_from_slice(b" extended=")?;
-    put_counted_pairs(bytes, text)
+    text.extend_from_slice(label)?;
+    put_value(value, bytes, text)
 }
 
 /// Shows the permissions, the times and the extended attributes.
@@ -97,9 +81,16 @@ fn put_later_parts(flags: u32, bytes: &mut &[u8], text: &mut Vec<u8>) -> Result<
         (show_parts (part 0x00000004 (codes " permissions=") octal ∷ part 0x00000008 (codes " times=") two_numbers
         ∷ part 0x80000000 (codes " extended=") counted_pairs ∷ []) flags text.old.items bytes.old.now) }
 {
-    put_permissions(flags, bytes, text)?;
-    put_times(flags, bytes, text)?;
-    put_extended(flags, bytes, text)
+    put_part(
+        PERMISSIONS,
+        b" permissions=",
+        Value::Octal,
+        flags,
+        bytes,
+        text,
+    )?;
+    put_part(TIMES, b" times=", Value::TwoNumbers, flags, bytes, text)?;
+    put_part(EXTENDED, b" extended=", Value::Pairs, flags, bytes, text)
 }
 
 #[tactic(auto, unfolding(crate::specs::Fields::attribute_parts))]
@@ -107,8 +98,8 @@ fn put_parts(flags: u32, bytes: &mut &[u8], text: &mut Vec<u8>) -> Result<(), St
     ensures { Moves result text.new.items bytes.new.now
         (show_parts attribute_parts flags text.old.items bytes.old.now) }
 {
-    put_size(flags, bytes, text)?;
-    put_owner(flags, bytes, text)?;
+    put_part(SIZE, b" size=", Value::Long, flags, bytes, text)?;
+    put_part(OWNER, b" owner=", Value::TwoNumbers, flags, bytes, text)?;
     put_later_parts(flags, bytes, text)
 }
 
@@ -134,69 +125,35 @@ fn read_two(line: &mut &[u8], bytes: &mut Vec<u8>) -> Result<(), Stop>
     read_number(line, bytes)
 }
 
-/// Reads the size, if its label is in front. Returns its flag, or 0.
-fn read_size(line: &mut &[u8], bytes: &mut Vec<u8>) -> Result<u32, Stop>
-    ensures found { Counts result bytes.new.items line.new.now
-        (read_part (part 0x00000001 (codes " size=") long) bytes.old.items line.old.now) }
-    ensures small { IfOk result (λ flag. flag ≤ 0x00000001) }
+#[tactic(auto, unfolding(crate::specs::Fields::counted_pairs))]
+fn read_value(value: Value, line: &mut &[u8], bytes: &mut Vec<u8>) -> Result<(), Stop>
+    ensures { Moves result bytes.new.items line.new.now ((value_text value).read bytes.old.items line.old.now) }
 {
-    if !read_label(b" size=", line) {
-        return Ok(0);
+    match value {
+        Value::Long => read_long(line, bytes),
+        Value::TwoNumbers => read_two(line, bytes),
+        Value::Octal => read_octal(line, bytes),
+        Value::Pairs => read_counted::<Pair>(b'"', b',', line, bytes),
     }
-    read_long(line, bytes)?;
-    Ok(SIZE)
 }
 
-/// Reads the owner, if its label is in front. Returns its flag, or 0.
-fn read_owner(line: &mut &[u8], bytes: &mut Vec<u8>) -> Result<u32, Stop>
+/// Reads an attribute, if its label is in front. Returns its flag, or 0.
+fn read_part(
+    flag: u32,
+    label: &[u8],
+    value: Value,
+    line: &mut &[u8],
+    bytes: &mut Vec<u8>,
+) -> Result<u32, Stop>
     ensures found { Counts result bytes.new.items line.new.now
-        (read_part (part 0x00000002 (codes " owner=") two_numbers) bytes.old.items line.old.now) }
-    ensures small { IfOk result (λ flag. flag ≤ 0x00000002) }
+        (fields.read_part (part flag label.now (value_text value)) bytes.old.items line.old.now) }
+    ensures small { IfOk result (λ found. found ≤ flag) }
 {
-    if !read_label(b" owner=", line) {
+    if !read_label(label, line) {
         return Ok(0);
     }
-    read_two(line, bytes)?;
-    Ok(OWNER)
-}
-
-/// Reads the permissions, if their label is in front. Returns their flag, or 0.
-fn read_permissions(line: &mut &[u8], bytes: &mut Vec<u8>) -> Result<u32, Stop>
-    ensures found { Counts result bytes.new.items line.new.now
-        (read_part (part 0x00000004 (codes " permissions=") octal) bytes.old.items line.old.now) }
-    ensures small { IfOk result (λ flag. flag ≤ 0x00000004) }
-{
-    if !read_label(b" permissions=", line) {
-        return Ok(0);
-    }
-    read_octal(line, bytes)?;
-    Ok(PERMISSIONS)
-}
-
-/// Reads the times, if their label is in front. Returns their flag, or 0.
-fn read_times(line: &mut &[u8], bytes: &mut Vec<u8>) -> Result<u32, Stop>
-    ensures found { Counts result bytes.new.items line.new.now
-        (read_part (part 0x00000008 (codes " times=") two_numbers) bytes.old.items line.old.now) }
-    ensures small { IfOk result (λ flag. flag ≤ 0x00000008) }
-{
-    if !read_label(b" times=", line) {
-        return Ok(0);
-    }
-    read_two(line, bytes)?;
-    Ok(TIMES)
-}
-
-/// Reads the extended attributes, if their label is in front. Returns their flag, or 0.
-fn read_extended(line: &mut &[u8], bytes: &mut Vec<u8>) -> Result<u32, Stop>
-    ensures found { Counts result bytes.new.items line.new.now
-        (read_part (part 0x80000000 (codes " extended=") counted_pairs) bytes.old.items line.old.now) }
-    ensures small { IfOk result (λ flag. flag ≤ 0x80000000) }
-{
-    if !read_label(b" extended=", line) {
-        return Ok(0);
-    }
-    read_counted_pairs(line, bytes)?;
-    Ok(EXTENDED)
+    read_value(value, line, bytes)?;
+    Ok(flag)
 }
 
 /// Reads the permissions, the times and the extended attributes. Returns their flags.
@@ -206,9 +163,9 @@ fn read_later_parts(line: &mut &[u8], bytes: &mut Vec<u8>) -> Result<u32, Stop>
         ∷ part 0x80000000 (codes " extended=") counted_pairs ∷ []) bytes.old.items line.old.now) }
     ensures small { IfOk result (λ flags. flags ≤ 0x8000000c) }
 {
-    let permissions = read_permissions(line, bytes)?;
-    let times = read_times(line, bytes)?;
-    let extended = read_extended(line, bytes)?;
+    let permissions = read_part(PERMISSIONS, b" permissions=", Value::Octal, line, bytes)?;
+    let times = read_part(TIMES, b" times=", Value::TwoNumbers, line, bytes)?;
+    let extended = read_part(EXTENDED, b" extended=", Value::Pairs, line, bytes)?;
     Ok(permissions + (times + extended))
 }
 
@@ -217,8 +174,8 @@ fn read_later_parts(line: &mut &[u8], bytes: &mut Vec<u8>) -> Result<u32, Stop>
 fn read_fields(line: &mut &[u8], bytes: &mut Vec<u8>) -> Result<u32, Stop>
     ensures { Counts result bytes.new.items line.new.now (read_parts attribute_parts bytes.old.items line.old.now) }
 {
-    let size = read_size(line, bytes)?;
-    let owner = read_owner(line, bytes)?;
+    let size = read_part(SIZE, b" size=", Value::Long, line, bytes)?;
+    let owner = read_part(OWNER, b" owner=", Value::TwoNumbers, line, bytes)?;
     let later = read_later_parts(line, bytes)?;
     Ok(size + (owner + later))
 }

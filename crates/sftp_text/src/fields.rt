@@ -9,7 +9,9 @@ use crate::attributes::{put_attributes, read_attributes};
 use crate::errors::{Expected, Stop};
 use crate::flags::{put_flags, read_flags};
 use crate::layouts::{Field, Tail};
-use crate::lists::{put_message, put_names, put_pairs, read_message, read_names, read_pairs};
+use crate::lists::{
+    Name, put_counted, put_message, put_pairs, read_counted, read_message, read_pairs,
+};
 use crate::numbers::{put_long, put_number, read_long, read_number};
 use crate::quoted::{put_rest, put_string, read_quoted, read_string};
 use crate::words::read_word;
@@ -91,7 +93,7 @@ fn read_any(line: &mut &[u8], bytes: &mut Vec<u8>) -> Result<(), Stop>
 }
 
 /// Shows what comes after the fields.
-#[tactic(auto, unfolding(crate::specs::Fields::tail_text))]
+#[tactic(auto, unfolding(crate::specs::Fields::tail_text, crate::specs::Fields::names))]
 pub(crate) fn put_tail(tail: Tail, bytes: &mut &[u8], text: &mut Vec<u8>) -> Result<(), Stop>
     ensures { Moves result text.new.items bytes.new.now ((tail_text tail).show text.old.items bytes.old.now) }
 {
@@ -99,14 +101,14 @@ pub(crate) fn put_tail(tail: Tail, bytes: &mut &[u8], text: &mut Vec<u8>) -> Res
         Tail::Nothing => Ok(()),
         Tail::Attrs => put_attributes(bytes, text),
         Tail::Pairs => put_pairs(bytes, text),
-        Tail::Names => put_names(bytes, text),
+        Tail::Names => put_counted::<Name>(b';', bytes, text),
         Tail::Message => put_message(bytes, text),
         Tail::Rest => put_any(bytes, text),
     }
 }
 
 /// Reads what comes after the fields.
-#[tactic(auto, unfolding(crate::specs::Fields::tail_text))]
+#[tactic(auto, unfolding(crate::specs::Fields::tail_text, crate::specs::Fields::names))]
 pub(crate) fn read_tail(tail: Tail, line: &mut &[u8], bytes: &mut Vec<u8>) -> Result<(), Stop>
     ensures { Moves result bytes.new.items line.new.now ((tail_text tail).read bytes.old.items line.old.now) }
 {
@@ -114,7 +116,7 @@ pub(crate) fn read_tail(tail: Tail, line: &mut &[u8], bytes: &mut Vec<u8>) -> Re
         Tail::Nothing => Ok(()),
         Tail::Attrs => read_attributes(line, bytes),
         Tail::Pairs => read_pairs(line, bytes),
-        Tail::Names => read_names(line, bytes),
+        Tail::Names => read_counted::<Name>(b' ', b';', line, bytes),
         Tail::Message => read_message(line, bytes),
         Tail::Rest => read_any(line, bytes),
     }

@@ -1,9 +1,10 @@
 //! Pairs, and names of a directory (draft, sections 4, 5 and 7). A loop over items goes round at most as often as its
 //! list has items, or as there are bytes left, since each item takes some.
-ghost use Rattle.std.specs.Prelude.{◌≡◌, ℕ, List, [], codes, length};
-ghost use Rattle.sftp_text.specs.Formats.{begins_with, show_list, show_each, read_list, read_each, numbered, word};
-ghost use Rattle.sftp_text.specs.Formats.{◌then◌};
-ghost use Rattle.sftp_text.specs.Fields.{pair, pairs, counted_pairs, name_item, names, message, two_texts};
+ghost use Rattle.std.specs.Prelude.{◌≡◌, ℕ, List, [], ◌∷◌, codes, length, option_and_then};
+ghost use Rattle.sftp_text.specs.Formats.{Format, begins_with, show_list, show_each, read_each, numbered};
+ghost use Rattle.sftp_text.specs.Formats.{◌then◌, word, ahead, listed, front_uint32};
+ghost use Rattle.sftp_text.specs.Formats as formats;
+ghost use Rattle.sftp_text.specs.Fields.{pair, pairs, name_item, message, two_texts};
 ghost use Rattle.sftp_text.specs.Moves.{Moves, Counts};
 
 use crate::attributes::{put_attributes, read_attributes};
@@ -12,23 +13,55 @@ use crate::quoted::{append_numbered, put_string, read_string};
 use crate::words::{read_label, read_word};
 use bytes::Buf;
 
-/// Shows a name and its data with `=` between.
-#[tactic(auto, unfolding(crate::specs::Fields::pair))]
-fn put_pair(bytes: &mut &[u8], text: &mut Vec<u8>) -> Result<(), Stop>
-    ensures { Moves result text.new.items bytes.new.now (pair.show text.old.items bytes.old.now) }
-{
-    put_string(bytes, text)?;
-    text.push(b'=')?;
-    put_string(bytes, text)
+/// What a list has: pairs, or names of a directory.
+pub(crate) trait Item {
+    ghost form: { Format };
+
+    fn put(bytes: &mut &[u8], text: &mut Vec<u8>) -> Result<(), Stop>
+        ensures { Moves result text.new.items bytes.new.now (form.show text.old.items bytes.old.now) };
+
+    fn read(line: &mut &[u8], bytes: &mut Vec<u8>) -> Result<(), Stop>
+        ensures { Moves result bytes.new.items line.new.now (form.read bytes.old.items line.old.now) };
 }
 
-#[tactic(auto, unfolding(crate::specs::Fields::pair))]
-fn read_pair(line: &mut &[u8], bytes: &mut Vec<u8>) -> Result<(), Stop>
-    ensures { Moves result bytes.new.items line.new.now (pair.read bytes.old.items line.old.now) }
-{
-    read_string(line, bytes)?;
-    read_word(b"=", Expected::Equals, line)?;
-    read_string(line, bytes)
+/// A name and its data with `=` between.
+pub(crate) struct Pair;
+
+impl Item for Pair {
+    ghost form = { pair };
+
+    #[tactic(auto, unfolding(crate::specs::Fields::pair))]
+    fn put(bytes: &mut &[u8], text: &mut Vec<u8>) -> Result<(), Stop> {
+        put_string(bytes, text)?;
+        text.push(b'=')?;
+        put_string(bytes, text)
+    }
+
+    #[tactic(auto, unfolding(crate::specs::Fields::pair))]
+    fn read(line: &mut &[u8], bytes: &mut Vec<u8>) -> Result<(), Stop> {
+        read_string(line, bytes)?;
+        read_word(b"=", Expected::Equals, line)?;
+        read_string(line, bytes)
+    }
+}
+
+/// A name of a directory: two texts and attributes, each after a space.
+pub(crate) struct Name;
+
+impl Item for Name {
+    ghost form = { name_item };
+
+    #[tactic(auto, unfolding(crate::specs::Fields::name_item))]
+    fn put(bytes: &mut &[u8], text: &mut Vec<u8>) -> Result<(), Stop> {
+        put_two_texts(bytes, text)?;
+        put_attributes(bytes, text)
+    }
+
+    #[tactic(auto, unfolding(crate::specs::Fields::name_item))]
+    fn read(line: &mut &[u8], bytes: &mut Vec<u8>) -> Result<(), Stop> {
+        read_two_texts(line, bytes)?;
+        read_attributes(line, bytes)
+    }
 }
 
 /// Shows a space and a pair.
@@ -37,7 +70,7 @@ fn put_spaced_pair(bytes: &mut &[u8], text: &mut Vec<u8>) -> Result<(), Stop>
         ((word (codes " ") then pair).show text.old.items bytes.old.now) }
 {
     text.push(b' ')?;
-    put_pair(bytes, text)
+    Pair::put(bytes, text)
 }
 
 /// Reads a space and a pair.
@@ -46,7 +79,7 @@ fn read_spaced_pair(line: &mut &[u8], bytes: &mut Vec<u8>) -> Result<(), Stop>
         ((word (codes " ") then pair).read bytes.old.items line.old.now) }
 {
     read_word(b" ", Expected::Space, line)?;
-    read_pair(line, bytes)
+    Pair::read(line, bytes)
 }
 
 /// Shows pairs up to the end of the bytes, each after a space.
@@ -81,41 +114,55 @@ pub(crate) fn read_pairs(line: &mut &[u8], bytes: &mut Vec<u8>) -> Result<(), St
     Ok(())
 }
 
-/// Shows `count` pairs, each after a comma.
+/// Shows `count` items, each after a separator.
 #[tactic(auto, using(crate::proofs::ListLaws::show_each_goes_on, crate::proofs::ListLaws::show_each_fails))]
-fn put_more_pairs(count: u32, bytes: &mut &[u8], text: &mut Vec<u8>) -> Result<(), Stop>
+fn put_more<I: Item>(
+    separator: u8,
+    count: u32,
+    bytes: &mut &[u8],
+    text: &mut Vec<u8>,
+) -> Result<(), Stop>
     ensures { Moves result text.new.items bytes.new.now
-        (show_each pair (codes ",") count text.old.items bytes.old.now) }
+        (show_each I.form (separator ∷ []) count text.old.items bytes.old.now) }
 {
     let mut left = count;
-    'pairs: while left > 0 {
-        text.push(b',')?;
-        put_pair(bytes, text)?;
+    'items: while left > 0 {
+        text.push(separator)?;
+        I::put(bytes, text)?;
         left -= 1;
     }
     Ok(())
 }
 
-/// Shows `count` pairs with a comma between.
+/// Shows `count` items with a separator between.
 #[tactic(auto, using(crate::proofs::ListLaws::show_list_goes_on, crate::proofs::ListLaws::show_list_fails))]
-fn put_pair_list(count: u32, bytes: &mut &[u8], text: &mut Vec<u8>) -> Result<(), Stop>
+fn put_list<I: Item>(
+    separator: u8,
+    count: u32,
+    bytes: &mut &[u8],
+    text: &mut Vec<u8>,
+) -> Result<(), Stop>
     ensures { Moves result text.new.items bytes.new.now
-        (show_list pair (codes ",") count text.old.items bytes.old.now) }
+        (show_list I.form (separator ∷ []) count text.old.items bytes.old.now) }
 {
     if count == 0 {
         return Ok(());
     }
-    put_pair(bytes, text)?;
-    put_more_pairs(count - 1, bytes, text)
+    I::put(bytes, text)?;
+    put_more::<I>(separator, count - 1, bytes, text)
 }
 
-/// Shows pairs after their count, with a comma between.
-#[tactic(auto, unfolding(crate::specs::Fields::counted_pairs))]
-pub(crate) fn put_counted_pairs(bytes: &mut &[u8], text: &mut Vec<u8>) -> Result<(), Stop>
-    ensures { Moves result text.new.items bytes.new.now (counted_pairs.show text.old.items bytes.old.now) }
+/// Shows items after their count, with a separator between.
+pub(crate) fn put_counted<I: Item>(
+    separator: u8,
+    bytes: &mut &[u8],
+    text: &mut Vec<u8>,
+) -> Result<(), Stop>
+    ensures { Moves result text.new.items bytes.new.now (option_and_then
+        (λ front. show_list I.form (separator ∷ []) front.0 text.old.items front.1) (front_uint32 bytes.old.now)) }
 {
     let count = bytes.try_get_u32()?;
-    put_pair_list(count, bytes, text)
+    put_list::<I>(separator, count, bytes, text)
 }
 
 /// Whether a line begins with a character.
@@ -128,35 +175,41 @@ fn begins(first: u8, line: &[u8]) -> bool
     }
 }
 
-/// Reads pairs, each after a comma, up to where no comma follows. Returns how many there are and one more.
+/// Reads items, each after a separator, up to where none follows. Returns how many there are and one more.
 #[tactic(auto, using(crate::proofs::ListLaws::read_each_goes_on, crate::proofs::ListLaws::read_each_fails, crate::proofs::ListLaws::read_each_ends))]
-fn read_more_pairs(line: &mut &[u8], bytes: &mut Vec<u8>) -> Result<usize, Stop>
+fn read_more<I: Item>(separator: u8, line: &mut &[u8], bytes: &mut Vec<u8>) -> Result<usize, Stop>
     ensures { Counts result bytes.new.items line.new.now
-        (read_each pair (codes ",") (length line.old.now) 1 bytes.old.items line.old.now) }
+        (read_each I.form (separator ∷ []) (length line.old.now) 1 bytes.old.items line.old.now) }
 {
     let mut most = line.len();
     let mut count: usize = 1;
-    'pairs: while most > 0 {
-        if !read_label(b",", line) {
+    'items: while most > 0 {
+        if !read_label(&[separator], line) {
             return Ok(count);
         }
-        read_pair(line, bytes)?;
+        I::read(line, bytes)?;
         count += 1;
         most -= 1;
     }
     Ok(count)
 }
 
-/// Reads pairs with a comma between into nothing, and returns how many there are.
-fn read_pair_list(line: &mut &[u8], bytes: &mut Vec<u8>) -> Result<usize, Stop>
+/// Reads items with a separator between into nothing, and returns how many there are. `first` begins each item.
+fn read_list<I: Item>(
+    first: u8,
+    separator: u8,
+    line: &mut &[u8],
+    bytes: &mut Vec<u8>,
+) -> Result<usize, Stop>
     requires { bytes.old.items ≡ [] }
-    ensures { Counts result bytes.new.items line.new.now (read_list pair 34 (codes ",") line.old.now) }
+    ensures { Counts result bytes.new.items line.new.now
+        (formats.read_list I.form first (separator ∷ []) line.old.now) }
 {
-    if !begins(b'"', line) {
+    if !begins(first, line) {
         return Ok(0);
     }
-    read_pair(line, bytes)?;
-    read_more_pairs(line, bytes)
+    I::read(line, bytes)?;
+    read_more::<I>(separator, line, bytes)
 }
 
 /// Appends items after their number.
@@ -171,13 +224,18 @@ fn append_items(count: usize, items: &[u8], bytes: &mut Vec<u8>) -> Result<(), S
     Ok(())
 }
 
-/// Reads pairs with a comma between as their count and the pairs.
-#[tactic(auto, unfolding(crate::specs::Fields::counted_pairs))]
-pub(crate) fn read_counted_pairs(line: &mut &[u8], bytes: &mut Vec<u8>) -> Result<(), Stop>
-    ensures { Moves result bytes.new.items line.new.now (counted_pairs.read bytes.old.items line.old.now) }
+/// Reads items with a separator between as their count and the items. `first` begins each item.
+pub(crate) fn read_counted<I: Item>(
+    first: u8,
+    separator: u8,
+    line: &mut &[u8],
+    bytes: &mut Vec<u8>,
+) -> Result<(), Stop>
+    ensures { Moves result bytes.new.items line.new.now
+        ((ahead (listed I.form first (separator ∷ []))).read bytes.old.items line.old.now) }
 {
     let mut items = Vec::new(*bytes.allocator());
-    let count = read_pair_list(line, &mut items)?;
+    let count = read_list::<I>(first, separator, line, &mut items)?;
     append_items(count, items.as_slice(), bytes)
 }
 
@@ -199,101 +257,6 @@ fn read_two_texts(line: &mut &[u8], bytes: &mut Vec<u8>) -> Result<(), Stop>
     read_string(line, bytes)?;
     read_word(b" ", Expected::Space, line)?;
     read_string(line, bytes)
-}
-
-/// Shows a name of a directory: two texts and attributes, each after a space.
-#[tactic(auto, unfolding(crate::specs::Fields::name_item))]
-fn put_name(bytes: &mut &[u8], text: &mut Vec<u8>) -> Result<(), Stop>
-    ensures { Moves result text.new.items bytes.new.now (name_item.show text.old.items bytes.old.now) }
-{
-    put_two_texts(bytes, text)?;
-    put_attributes(bytes, text)
-}
-
-#[tactic(auto, unfolding(crate::specs::Fields::name_item))]
-fn read_name(line: &mut &[u8], bytes: &mut Vec<u8>) -> Result<(), Stop>
-    ensures { Moves result bytes.new.items line.new.now (name_item.read bytes.old.items line.old.now) }
-{
-    read_two_texts(line, bytes)?;
-    read_attributes(line, bytes)
-}
-
-/// Shows `count` names, each after `;`.
-#[tactic(auto, using(crate::proofs::ListLaws::show_each_goes_on, crate::proofs::ListLaws::show_each_fails))]
-fn put_more_names(count: u32, bytes: &mut &[u8], text: &mut Vec<u8>) -> Result<(), Stop>
-    ensures { Moves result text.new.items bytes.new.now
-        (show_each name_item (codes ";") count text.old.items bytes.old.now) }
-{
-    let mut left = count;
-    'names: while left > 0 {
-        text.push(b';')?;
-        put_name(bytes, text)?;
-        left -= 1;
-    }
-    Ok(())
-}
-
-/// Shows `count` names with `;` between.
-#[tactic(auto, using(crate::proofs::ListLaws::show_list_goes_on, crate::proofs::ListLaws::show_list_fails))]
-fn put_name_list(count: u32, bytes: &mut &[u8], text: &mut Vec<u8>) -> Result<(), Stop>
-    ensures { Moves result text.new.items bytes.new.now
-        (show_list name_item (codes ";") count text.old.items bytes.old.now) }
-{
-    if count == 0 {
-        return Ok(());
-    }
-    put_name(bytes, text)?;
-    put_more_names(count - 1, bytes, text)
-}
-
-/// Shows names after their count, with `;` between.
-#[tactic(auto, unfolding(crate::specs::Fields::names))]
-pub(crate) fn put_names(bytes: &mut &[u8], text: &mut Vec<u8>) -> Result<(), Stop>
-    ensures { Moves result text.new.items bytes.new.now (names.show text.old.items bytes.old.now) }
-{
-    let count = bytes.try_get_u32()?;
-    put_name_list(count, bytes, text)
-}
-
-/// Reads names, each after `;`, up to where no `;` follows. Returns how many there are and one more.
-#[tactic(auto, using(crate::proofs::ListLaws::read_each_goes_on, crate::proofs::ListLaws::read_each_fails, crate::proofs::ListLaws::read_each_ends))]
-fn read_more_names(line: &mut &[u8], bytes: &mut Vec<u8>) -> Result<usize, Stop>
-    ensures { Counts result bytes.new.items line.new.now
-        (read_each name_item (codes ";") (length line.old.now) 1 bytes.old.items line.old.now) }
-{
-    let mut most = line.len();
-    let mut count: usize = 1;
-    'names: while most > 0 {
-        if !read_label(b";", line) {
-            return Ok(count);
-        }
-        read_name(line, bytes)?;
-        count += 1;
-        most -= 1;
-    }
-    Ok(count)
-}
-
-/// Reads names with `;` between into nothing, and returns how many there are.
-fn read_name_list(line: &mut &[u8], bytes: &mut Vec<u8>) -> Result<usize, Stop>
-    requires { bytes.old.items ≡ [] }
-    ensures { Counts result bytes.new.items line.new.now (read_list name_item 32 (codes ";") line.old.now) }
-{
-    if !begins(b' ', line) {
-        return Ok(0);
-    }
-    read_name(line, bytes)?;
-    read_more_names(line, bytes)
-}
-
-/// Reads names with `;` between as their count and the names.
-#[tactic(auto, unfolding(crate::specs::Fields::names))]
-pub(crate) fn read_names(line: &mut &[u8], bytes: &mut Vec<u8>) -> Result<(), Stop>
-    ensures { Moves result bytes.new.items line.new.now (names.read bytes.old.items line.old.now) }
-{
-    let mut items = Vec::new(*bytes.allocator());
-    let count = read_name_list(line, &mut items)?;
-    append_items(count, items.as_slice(), bytes)
 }
 
 /// Shows a message and its language, each after a space, or nothing where both are empty.

@@ -1,13 +1,13 @@
 //! Tree files as text: a line for the head, one for the root, and one an entry.
-ghost use Rattle.std.specs.Prelude.{◌≡◌, [], codes};
+ghost use Rattle.std.specs.Prelude.{◌≡◌, [], codes, is_some};
 ghost use Rattle.sftp_text.specs.Formats.{◌then◌, word};
 ghost use Rattle.sftp_text.specs.Digits.{number};
 ghost use Rattle.sftp_text.specs.Quoted.{string_text};
 ghost use Rattle.sftp_text.specs.Trees as trees;
-ghost use Rattle.sftp_text.specs.Trees.{owner_text, entry_of, show_kind, read_kind};
+ghost use Rattle.sftp_text.specs.Trees.{owner_text, entry_of, kind_text};
 ghost use Rattle.sftp_text.specs.Trees.{entry_line, first_lines};
 ghost use Rattle.sftp_text.specs.Formats.{repeat_to_end};
-ghost use Rattle.sftp_text.specs.Moves.{Moves, FindsKind, TellsWhether};
+ghost use Rattle.sftp_text.specs.Moves.{Moves, FindsKind, TellsWhether, behind_path};
 ghost use Rattle.sftp_text.specs.Reads.{ShowsAs, ShowsWhole, ReadsAs, EndsAt};
 ghost use Rattle.sftp_text.specs.Lines.{whole};
 ghost use Rattle.sftp_text.specs.Texts.{GivesLine, GivesText, onto, form_of, due_after, lines_from};
@@ -246,67 +246,37 @@ fn put_file(bytes: &mut &[u8], text: &mut Vec<u8>) -> Result<(), Stop>
     put_text(b" ", bytes, text)
 }
 
-/// Shows a directory.
-fn put_directory_entry(bytes: &mut &[u8], text: &mut Vec<u8>) -> Result<(), Stop>
-    ensures { Moves result text.new.items bytes.new.now
-        ((entry_of 68 owner_text).show text.old.items bytes.old.now) }
-{
-    put_text(b"D ", bytes, text)?;
-    read_word(b"D", Expected::Kind, bytes)?;
-    put_owner(bytes, text)
-}
-
-/// Shows the first name of a file.
-fn put_first_entry(bytes: &mut &[u8], text: &mut Vec<u8>) -> Result<(), Stop>
-    ensures { Moves result text.new.items bytes.new.now
-        ((entry_of 70 (owner_text then word (codes " ") then string_text)).show text.old.items bytes.old.now) }
-{
-    put_text(b"F ", bytes, text)?;
-    read_word(b"F", Expected::Kind, bytes)?;
-    put_file(bytes, text)
-}
-
-/// Shows a further name of a file.
-fn put_further_entry(bytes: &mut &[u8], text: &mut Vec<u8>) -> Result<(), Stop>
-    ensures { Moves result text.new.items bytes.new.now
-        ((entry_of 72 (word (codes " ") then number)).show text.old.items bytes.old.now) }
-{
-    put_text(b"H ", bytes, text)?;
-    read_word(b"H", Expected::Kind, bytes)?;
-    put_labelled(b" ", bytes, text)
-}
-
-/// Shows a link.
-fn put_link_entry(bytes: &mut &[u8], text: &mut Vec<u8>) -> Result<(), Stop>
-    ensures { Moves result text.new.items bytes.new.now
-        ((entry_of 76 (word (codes " ") then string_text)).show text.old.items bytes.old.now) }
-{
-    put_text(b"L ", bytes, text)?;
-    read_word(b"L", Expected::Kind, bytes)?;
-    put_text(b" ", bytes, text)
-}
-
-/// Shows an entry of a kind.
+/// Shows what an entry of a kind says behind its path.
 #[tactic(auto, unfolding(crate::specs::Trees::kind_text))]
-fn put_kind(kind: u8, bytes: &mut &[u8], text: &mut Vec<u8>) -> Result<(), Stop>
-    ensures { Moves result text.new.items bytes.new.now (show_kind text.old.items bytes.old.now kind) }
+fn put_behind_path(kind: u8, bytes: &mut &[u8], text: &mut Vec<u8>) -> Result<(), Stop>
+    ensures { Moves result text.new.items bytes.new.now ((behind_path kind).show text.old.items bytes.old.now) }
 {
     if kind == b'D' {
-        put_directory_entry(bytes, text)
+        put_owner(bytes, text)
     } else if kind == b'F' {
-        put_first_entry(bytes, text)
+        put_file(bytes, text)
     } else if kind == b'H' {
-        put_further_entry(bytes, text)
+        put_labelled(b" ", bytes, text)
     } else if kind == b'L' {
-        put_link_entry(bytes, text)
+        put_text(b" ", bytes, text)
     } else {
         Err(Stop::Unfit(Expected::Kind))
     }
 }
 
+/// Shows an entry of a kind.
+fn put_kind(kind: u8, bytes: &mut &[u8], text: &mut Vec<u8>) -> Result<(), Stop>
+    ensures { Moves result text.new.items bytes.new.now
+        ((entry_of kind (behind_path kind)).show text.old.items bytes.old.now) }
+{
+    put_text(&[kind, b' '], bytes, text)?;
+    read_word(&[kind], Expected::Kind, bytes)?;
+    put_behind_path(kind, bytes, text)
+}
+
 /// Shows an entry: its kind, its path, and by its kind its owner, its owner and bytes, the number of the entry that
 /// is its file's first name, or its target.
-#[tactic(auto, unfolding(crate::specs::Trees::entry_text))]
+#[tactic(auto, unfolding(crate::specs::Trees::entry_text), using(crate::proofs::KindLaws::kind_is_shown))]
 fn put_entry_parts(bytes: &mut &[u8], text: &mut Vec<u8>) -> Result<(), Stop>
     ensures { Moves result text.new.items bytes.new.now (trees.entry_text.show text.old.items bytes.old.now) }
 {
@@ -323,66 +293,44 @@ fn read_file(line: &mut &[u8], bytes: &mut Vec<u8>) -> Result<(), Stop>
     read_text(b" ", Expected::Space, line, bytes)
 }
 
-/// Reads a directory.
-fn read_directory_entry(line: &mut &[u8], bytes: &mut Vec<u8>) -> Result<(), Stop>
-    ensures { Moves result bytes.new.items line.new.now
-        ((entry_of 68 owner_text).read bytes.old.items line.old.now) }
-{
-    read_text(b"D ", Expected::Space, line, bytes)?;
-    bytes.push(b'D')?;
-    read_owner(line, bytes)
-}
-
-/// Reads the first name of a file.
-fn read_first_entry(line: &mut &[u8], bytes: &mut Vec<u8>) -> Result<(), Stop>
-    ensures { Moves result bytes.new.items line.new.now
-        ((entry_of 70 (owner_text then word (codes " ") then string_text)).read bytes.old.items line.old.now) }
-{
-    read_text(b"F ", Expected::Space, line, bytes)?;
-    bytes.push(b'F')?;
-    read_file(line, bytes)
-}
-
-/// Reads a further name of a file.
-fn read_further_entry(line: &mut &[u8], bytes: &mut Vec<u8>) -> Result<(), Stop>
-    ensures { Moves result bytes.new.items line.new.now
-        ((entry_of 72 (word (codes " ") then number)).read bytes.old.items line.old.now) }
-{
-    read_text(b"H ", Expected::Space, line, bytes)?;
-    bytes.push(b'H')?;
-    read_labelled(b" ", line, bytes)
-}
-
-/// Reads a link.
-fn read_link_entry(line: &mut &[u8], bytes: &mut Vec<u8>) -> Result<(), Stop>
-    ensures { Moves result bytes.new.items line.new.now
-        ((entry_of 76 (word (codes " ") then string_text)).read bytes.old.items line.old.now) }
-{
-    read_text(b"L ", Expected::Space, line, bytes)?;
-    bytes.push(b'L')?;
-    read_text(b" ", Expected::Space, line, bytes)
-}
-
-/// Reads an entry of a kind.
+/// Reads what an entry of a kind says behind its path.
 #[tactic(auto, unfolding(crate::specs::Trees::kind_text))]
-fn read_kind(kind: u8, line: &mut &[u8], bytes: &mut Vec<u8>) -> Result<(), Stop>
-    ensures { Moves result bytes.new.items line.new.now (read_kind bytes.old.items line.old.now kind) }
+fn read_behind_path(kind: u8, line: &mut &[u8], bytes: &mut Vec<u8>) -> Result<(), Stop>
+    ensures { Moves result bytes.new.items line.new.now ((behind_path kind).read bytes.old.items line.old.now) }
 {
     if kind == b'D' {
-        read_directory_entry(line, bytes)
+        read_owner(line, bytes)
     } else if kind == b'F' {
-        read_first_entry(line, bytes)
+        read_file(line, bytes)
     } else if kind == b'H' {
-        read_further_entry(line, bytes)
+        read_labelled(b" ", line, bytes)
     } else if kind == b'L' {
-        read_link_entry(line, bytes)
+        read_text(b" ", Expected::Space, line, bytes)
     } else {
         Err(Stop::Unfit(Expected::Kind))
     }
 }
 
+/// Whether a letter is that of a kind.
+#[tactic(auto, unfolding(crate::specs::Trees::kind_text))]
+fn is_kind(letter: u8) -> bool
+    ensures { result ≡ is_some (kind_text letter) }
+{
+    letter == b'D' || letter == b'F' || letter == b'H' || letter == b'L'
+}
+
+/// Reads an entry of a kind.
+fn read_kind(kind: u8, line: &mut &[u8], bytes: &mut Vec<u8>) -> Result<(), Stop>
+    ensures { Moves result bytes.new.items line.new.now
+        ((entry_of kind (behind_path kind)).read bytes.old.items line.old.now) }
+{
+    read_text(&[kind, b' '], Expected::Space, line, bytes)?;
+    bytes.push(kind)?;
+    read_behind_path(kind, line, bytes)
+}
+
 /// Reads an entry.
-#[tactic(auto, unfolding(crate::specs::Trees::entry_text))]
+#[tactic(auto, unfolding(crate::specs::Trees::entry_text), using(crate::proofs::KindLaws::kind_is_read, crate::proofs::KindLaws::no_kind_is_read))]
 fn read_entry_parts(line: &mut &[u8], bytes: &mut Vec<u8>) -> Result<(), Stop>
     ensures { Moves result bytes.new.items line.new.now (trees.entry_text.read bytes.old.items line.old.now) }
 {
@@ -390,6 +338,9 @@ fn read_entry_parts(line: &mut &[u8], bytes: &mut Vec<u8>) -> Result<(), Stop>
         return Err(Stop::Unfit(Expected::Kind));
     };
     let kind = *kind;
+    if !is_kind(kind) {
+        return Err(Stop::Unfit(Expected::Kind));
+    }
     read_kind(kind, line, bytes)
 }
 
