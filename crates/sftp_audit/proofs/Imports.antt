@@ -22,7 +22,7 @@ pub use Rattle.sftp_audit.specs.declared.errors.AuditError.{AuditError}
 pub use Rattle.sftp_audit.specs.declared.errors.Refusal.{Refusal}
 pub use Rattle.sftp_audit.specs.declared.exchanges.Exchange.{Exchange}
 pub use Rattle.sftp_audit.specs.declared.exchanges.RecordedReply.{RecordedReply}
-pub use Rattle.sftp_handles.proofs.Steps.{step-is_allowed, allowed-step}
+pub use Rattle.sftp_handles.proofs.Judged.Steps.{step-is_allowed, allowed-step}
 pub use Rattle.sftp_handles.specs.Allowed.{Allowed, and_then}
 unfoldable pub use Rattle.sftp_handles.specs.Allowed.{step}
 unfoldable pub use Rattle.sftp_path.specs.Table.{get, put, retain, without}

@@ -5,8 +5,8 @@ ghost use Rattle.sftp_handles.specs.Fitting.{FitsSaid};
 ghost use Rattle.sftp_handles.specs.Payloads.{said_in};
 ghost use Rattle.sftp_handles.specs.Answered.{IsReplyOf};
 
-use crate::answers::{has_code, one_name, status};
-use crate::shown::same_attributes;
+use crate::answer::forms::{has_code, one_name, status};
+use crate::attributes::same_attributes;
 use sftp_tree::NoMemory;
 use sftp_wire::{Answer, Attrs, ByteString, Names};
 use std::alloc::Global;

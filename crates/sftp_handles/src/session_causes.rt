@@ -6,7 +6,7 @@ ghost use Rattle.sftp_handles.specs.State as state;
 ghost use Rattle.sftp_tree.specs.Requests as tree_requests;
 ghost use Rattle.sftp_handles.specs.Requests as requests;
 
-use crate::handle_causes::only;
+use crate::handle_requests::only;
 use crate::sessions::Session;
 use crate::tables::HandleTable;
 use sftp_tree::{Cause, Causes, NoMemory};

@@ -15,7 +15,7 @@ use Rattle.sftp_tree.specs.OpenFlags.{excludes}
 use Rattle.sftp_handles.specs.Handles.{Left}
 use Rattle.sftp_handles.specs.State as sessions
 use Rattle.sftp_handles.specs.Allowed as strictly
-use Rattle.sftp_handles.proofs.Steps.{step-is_allowed, allowed-step}
+use Rattle.sftp_handles.proofs.Judged.Steps.{step-is_allowed, allowed-step}
 use Rattle.sftp_profile.specs.declared.profiles.Profile.{Profile}
 use Rattle.sftp_profile.specs.Profiles.{strict, keeps_requests, is_stateless}
 use Rattle.sftp_profile.specs.Replaced.{put, replaced, attributes_where}

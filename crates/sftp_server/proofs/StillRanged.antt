@@ -4,7 +4,7 @@ use Rattle.sftp_server.proofs.Imports.{true≢false, eq-eqb, eqb-true, Ask, Requ
 use Rattle.sftp_server.proofs.Imports.{Touched, untouched, reads_file, writes_file, everything, share, touched, range}
 use Rattle.sftp_server.proofs.Imports.{may_resize, portion_in, is_on, HasItsRange, IsPortion, resizes_by, resizes}
 use Rattle.std.specs.Cmp.{nat_eq_equiv}
-use Rattle.sftp_handles.proofs.RangesKept.{ranges-kept, other-ranges, range-touches}
+use Rattle.sftp_handles.proofs.RangeLaws.RangesKept.{ranges-kept, other-ranges, range-touches}
 use Rattle.sftp_server.proofs.RangedNotes.{all-none}
 
 -- ---- a range is one of the file that is touched

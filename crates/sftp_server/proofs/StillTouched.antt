@@ -9,8 +9,8 @@ use Rattle.sftp_server.proofs.Imports.{ByteRange, range}
 use Rattle.sftp_packets.specs.declared.packets.Answer.{Answer}
 use Rattle.sftp_handles.specs.Seen.{seen}
 use Rattle.sftp_handles.specs.HandleRequests.{row_of, Change, nothing, change_of}
-use Rattle.sftp_handles.proofs.Touches.{applied, change-touches, touched-stays}
-use Rattle.sftp_handles.proofs.Exchanges.{handle-of}
+use Rattle.sftp_handles.proofs.ClashLaws.Touches.{applied, change-touches, touched-stays}
+use Rattle.sftp_handles.proofs.ClashLaws.Exchanges.{handle-of}
 use Rattle.sftp_server.proofs.RangedNotes.{resizes-on}
 use Rattle.sftp_server.proofs.StillRanged.{ranges-still, other-ranges-still}
 use Rattle.sftp_server.proofs.DoneNotes.{IsStep, done_notes, marked-done}

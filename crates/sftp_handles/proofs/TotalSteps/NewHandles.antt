@@ -1,17 +1,9 @@
 -- A table with fewer than n handles leaves one of n names free.
-use Rattle.std.proofs.Common.{◌≡◌, ◌≢◌, ℕ, zero, suc, ◌<◌, ◌≤◌, ◌^◌, Option, Some}
-use Rattle.std.proofs.Common.{None, refl, sym, ap, ◌∙◌, arith}
-use Rattle.std.specs.Int.{w32, from_be_bytes}
-use Rattle.std.specs.Cmp.Lexicographic.{nat_list_cmp_total}
-use Rattle.std.specs.declared.cmp.Ordering.TheVariants.{Equal}
+use Rattle.sftp_handles.proofs.Imports.{◌≡◌, ◌≢◌, ℕ, zero, suc, ◌<◌, ◌≤◌, ◌^◌, Option, Some, None, refl, sym, ap, ◌∙◌}
+use Rattle.sftp_handles.proofs.Imports.{arith, w32, from_be_bytes, nat_list_cmp_total, Equal, uint32, bytes_cmp}
+use Rattle.sftp_handles.proofs.Imports.{InOrder, size, bytes_cmp-same, InOrder-without, size-without}
+use Rattle.sftp_handles.proofs.Imports.{get-without_elsewhere, Open, Handles, open_at, without_open}
 use Rattle.std.proofs.lemmas.Nat.{from_be_bytes-to_be_bytes_4}
-use Rattle.sftp_packets.specs.Spelling.{uint32}
-use Rattle.sftp_path.specs.Place.{bytes_cmp}
-use Rattle.sftp_path.specs.Table.{InOrder, size}
-use Rattle.sftp_path.proofs.Order.{bytes_cmp-same}
-use Rattle.sftp_path.proofs.Table.Laws.{InOrder-without, size-without, get-without_elsewhere}
-use Rattle.sftp_handles.specs.declared.opens.Open.{Open}
-use Rattle.sftp_handles.specs.Handles.{Handles, open_at, without_open}
 
 -- names of different numbers are different
 numbers-differ : (m n : ℕ) → n < m → m < 2 ^ 32 → bytes_cmp (uint32 m) (uint32 n) ≢ Equal

@@ -1,36 +1,16 @@
 -- What the replies to requests on paths say fits a reply.
-use Rattle.std.proofs.Common.{◌≡◌, ℕ, ◌+◌, true, false, List, length, Option, Some, None, Result}
-use Rattle.std.proofs.Common.{Ok, Err, is_some, refl, sym, subst, arith, IsTrue, leb-true}
+use Rattle.sftp_handles.proofs.Imports.{◌≡◌, ℕ, ◌+◌, true, false, List, length, Option, Some, None, Result, Ok, Err}
+use Rattle.sftp_handles.proofs.Imports.{is_some, refl, sym, subst, arith, IsTrue, leb-true, same_Some, Attrs, Ask, Stat}
+use Rattle.sftp_handles.proofs.Imports.{Lstat, Realpath, Readlink, Place, place_cmp, size, place_cmp-same, are_bytes}
+use Rattle.sftp_handles.proofs.Imports.{Cause, NoEntry, NotLink, Content, Node, Tree, IsKept, IsNode, node_at}
+use Rattle.sftp_handles.proofs.Imports.{content_at, link_fits, limits, reached, said, shown, shown_content, no_causes}
+use Rattle.sftp_handles.proofs.Imports.{when, needing_causes, link_causes, done, led, led_to, told_at, shown_at, IsFree}
+use Rattle.sftp_handles.proofs.Imports.{each-get, each-all, fits-parts, free-at, PathsLeadWell, State, Good}
+use Rattle.sftp_handles.proofs.Imports.{has_handle_left, shows, names, opens, FitsSaid, said_by, told_to}
 use Rattle.std.specs.Option.{option_map}
-use Rattle.std.proofs.lemmas.Option.{same_Some}
-use Rattle.sftp_packets.specs.declared.attributes.Attrs.{Attrs}
-use Rattle.sftp_packets.specs.declared.packets.Ask.{Ask}
-use Rattle.sftp_packets.specs.declared.packets.Ask.TheVariants.{Stat, Lstat, Realpath, Readlink}
-use Rattle.sftp_path.specs.Place.{Place, place_cmp}
-use Rattle.sftp_path.specs.Table.{size}
-use Rattle.sftp_path.proofs.Order.{place_cmp-same}
-use Rattle.sftp_treefile.specs.TreeFile.{are_bytes}
-use Rattle.sftp_tree.specs.declared.causes.Cause.{Cause}
-use Rattle.sftp_tree.specs.declared.causes.Cause.TheVariants.{NoEntry, NotLink}
-use Rattle.sftp_tree.specs.declared.file_contents.Content.{Content}
-use Rattle.sftp_tree.specs.declared.nodes.Node.{Node}
 use Rattle.sftp_tree.specs.declared.nodes.Node.TheVariants.{Dir, File, Link}
-use Rattle.sftp_tree.specs.Tree.{Tree, IsKept, IsNode, node_at, content_at, link_fits, limits}
-use Rattle.sftp_tree.specs.Walk.{reached}
-use Rattle.sftp_tree.specs.Attributes.{said, shown, shown_content}
-use Rattle.sftp_tree.specs.Causes.{no_causes, when}
-use Rattle.sftp_tree.specs.PlaceCauses.{needing_causes, link_causes}
-use Rattle.sftp_tree.specs.Requests.{done, led, led_to, told_at, shown_at, target_of}
-use Rattle.sftp_tree.specs.Refusals.{IsFree}
-use Rattle.sftp_tree.proofs.PlaceTables.Each.{each-get, each-all}
-use Rattle.sftp_tree.proofs.Limits.Tests.{fits-parts}
-use Rattle.sftp_tree.proofs.CauseLaws.Places.{free-at}
-use Rattle.sftp_tree.proofs.Requests.Trees.{PathsLeadWell}
-use Rattle.sftp_handles.specs.State.{State, Good, has_handle_left}
-use Rattle.sftp_handles.specs.Replies.{shows, names, opens}
-use Rattle.sftp_handles.specs.Fitting.{FitsSaid}
-use Rattle.sftp_handles.specs.Requests.{said_by, told_to}
-use Rattle.sftp_handles.proofs.FirstListings.{node-shown, short-target}
+use Rattle.sftp_tree.specs.Requests.{target_of}
+use Rattle.sftp_handles.proofs.Listings.FirstListings.{node-shown, short-target}
 use Rattle.sftp_handles.proofs.TotalSteps.PlaceTexts.{bytes-by, text-fits}
 
 -- ---- what is at a place

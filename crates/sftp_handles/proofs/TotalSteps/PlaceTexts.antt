@@ -1,19 +1,11 @@
 -- How long names and the texts of places are, and that they are bytes.
-use Rattle.std.proofs.Common.{◌≡◌, ◌&&◌, not, nat_lt, ◌==◌, ℕ, zero, suc, ◌+◌, ◌-◌, ◌*◌, ◌/◌, ◌^◌, ◌<◌, ◌≤◌, true, List}
-use Rattle.std.proofs.Common.{[], ◌∷◌, ◌++◌, length, Option, Some, None, refl, IsTrue, arith, ltb-true, leb-true, lit<}
-use Rattle.std.proofs.lemmas.Bool.{and_parts}
-use Rattle.std.specs.Int.{byte_at, bytes_high_first}
-use Rattle.std.specs.List.{list_all, flat_map}
-use Rattle.std.proofs.Math.Nat.{mod-lt}
-use Rattle.std.proofs.lemmas.List.{length-append, length-take}
-use Rattle.sftp_packets.specs.Spelling.{AreBytes, FitsString}
-use Rattle.sftp_path.specs.Place.{Name, Place, place_cmp, parent, absolute, are_names, is_name, is_name_byte}
-use Rattle.sftp_path.proofs.Order.{place_cmp-same}
-use Rattle.sftp_treefile.specs.TreeFile.{are_bytes}
-use Rattle.sftp_tree.specs.declared.nodes.Node.{Node}
-use Rattle.sftp_tree.specs.Tree.{Tree, IsKept, node_at, is_directory, depth_fits}
-use Rattle.sftp_tree.proofs.PlaceTables.Each.{each-get, each-all}
-use Rattle.sftp_tree.proofs.Limits.Tests.{fits-parts}
+use Rattle.sftp_handles.proofs.Imports.{◌≡◌, ◌&&◌, not, nat_lt, ◌==◌, ℕ, zero, suc, ◌+◌, ◌-◌, ◌*◌, ◌/◌, ◌^◌, ◌<◌, ◌≤◌}
+use Rattle.sftp_handles.proofs.Imports.{true, List, [], ◌∷◌, ◌++◌, length, Option, Some, None, refl, IsTrue, arith}
+use Rattle.sftp_handles.proofs.Imports.{ltb-true, leb-true, lit<, and_parts, byte_at, bytes_high_first, list_all}
+use Rattle.sftp_handles.proofs.Imports.{flat_map, mod-lt, length-append, length-take, AreBytes, FitsString, Name, Place}
+use Rattle.sftp_handles.proofs.Imports.{place_cmp, absolute, is_name, place_cmp-same, are_bytes, Node, Tree, IsKept}
+use Rattle.sftp_handles.proofs.Imports.{node_at, is_directory, depth_fits, each-get, each-all, fits-parts}
+use Rattle.sftp_path.specs.Place.{parent, are_names, is_name_byte}
 
 -- ---- bytes
 

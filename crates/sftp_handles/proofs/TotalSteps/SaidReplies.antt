@@ -1,31 +1,16 @@
 -- What a reply has to say can be said in one that can be encoded.
-use Rattle.std.proofs.Common.{◌≡◌, ◌==◌, not, nat_le, ℕ, ◌+◌, ◌^◌, ◌<◌, ◌≤◌, true}
-use Rattle.std.proofs.Common.{List, [], ◌∷◌, ◌++◌, length, Option, Some, None, is_some, refl, sym, ap, subst, ◌∙◌}
-use Rattle.std.proofs.Common.{IsTrue, eq-eqb, arith, lit<, lit≤}
-use Rattle.std.specs.Cmp.Lexicographic.{nat_list_eq_equiv}
-use Rattle.std.proofs.lemmas.Bool.{and_from, le-leb}
-use Rattle.std.proofs.lemmas.List.{length-append}
-use Rattle.sftp_packets.specs.declared.attributes.Attrs.{Attrs}
-use Rattle.sftp_packets.specs.declared.names.NameItem.{NameItem}
-use Rattle.sftp_packets.specs.declared.packets.Answer.{Answer}
+use Rattle.sftp_handles.proofs.Imports.{◌≡◌, ◌==◌, not, nat_le, ℕ, ◌+◌, ◌^◌, ◌<◌, ◌≤◌, true, List, [], ◌∷◌, ◌++◌}
+use Rattle.sftp_handles.proofs.Imports.{length, Option, Some, None, is_some, refl, sym, ap, subst, ◌∙◌, IsTrue, eq-eqb}
+use Rattle.sftp_handles.proofs.Imports.{arith, lit<, lit≤, nat_list_eq_equiv, and_from, le-leb, length-append, Attrs}
+use Rattle.sftp_handles.proofs.Imports.{NameItem, Answer, reply_packet, Reply, spelling, string, uint32, uint64}
+use Rattle.sftp_handles.proofs.Imports.{attributes, AreBytes, FitsString, FitsAttrs, HasSpelling, packet_limit}
+use Rattle.sftp_handles.proofs.Imports.{handle_limit, no_attributes, TreeLimits, Name, bytes_cmp, InOrder, size, said}
+use Rattle.sftp_handles.proofs.Imports.{Left, Handles, open_at, is_open, IsItem, is_plain, Said, ok, shows, names}
+use Rattle.sftp_handles.proofs.Imports.{gives, ended, lists, opens, extends, says, same_attributes, is_left}
+use Rattle.sftp_handles.proofs.Imports.{has_attributes, limits_data, FitsSaid, FitsData}
 use Rattle.sftp_packets.specs.declared.packets.Answer.TheVariants as replies
-use Rattle.sftp_packets.specs.declared.packets.Packet.TheVariants.{Reply as reply_packet}
-use Rattle.sftp_packets.specs.declared.packets.Reply.{Reply}
-use Rattle.sftp_packets.specs.Spelling.{spelling, string, uint32, uint64, attributes, AreBytes, FitsString, FitsAttrs}
-use Rattle.sftp_packets.specs.Spelling.{HasSpelling, packet_limit, handle_limit}
-use Rattle.sftp_wire.specs.Examples.{no_attributes}
-use Rattle.sftp_treefile.specs.declared.limits.TreeLimits.{TreeLimits}
 use Rattle.sftp_treefile.specs.Limits.{highest_limits}
-use Rattle.sftp_path.specs.Place.{Name, bytes_cmp}
-use Rattle.sftp_path.specs.Table.{InOrder, size}
-use Rattle.sftp_tree.specs.Attributes.{said}
-use Rattle.sftp_handles.specs.Handles.{Left, Handles, open_at, is_open}
-use Rattle.sftp_handles.specs.State.{IsItem, is_plain}
-use Rattle.sftp_handles.specs.Replies.{Said, ok, shows, names, gives, ended, lists, opens, extends, says}
-use Rattle.sftp_handles.specs.Replies.{same_attributes, is_left, has_attributes}
-use Rattle.sftp_handles.specs.Requests.{limits_data}
-use Rattle.sftp_handles.specs.Fitting.{FitsSaid, FitsData}
-use Rattle.sftp_handles.proofs.FirstNames.{Extended, attributes_of, found-first}
+use Rattle.sftp_handles.proofs.Listings.FirstNames.{Extended, attributes_of, found-first}
 use Rattle.sftp_handles.proofs.TotalSteps.PlaceTexts.{name-parts, bytes-joined, number-bytes}
 use Rattle.sftp_handles.proofs.TotalSteps.NewHandles.{name-left}
 

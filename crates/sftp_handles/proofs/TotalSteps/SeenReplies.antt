@@ -1,32 +1,14 @@
 -- What the replies to requests through handles say fits a reply.
-use Rattle.std.proofs.Common.{◌≡◌, nat_lt, ℕ, zero, suc, ◌≤◌, Bool, true, false, if◌then◌else◌, min, List, []}
-use Rattle.std.proofs.Common.{◌∷◌, length, take, drop, Option, Some, None, refl, IsTrue, arith}
-use Rattle.std.specs.Ordering.{nat_cmp}
-use Rattle.std.specs.FinMap.{nat_cmp-IsAntisymmetric}
-use Rattle.std.proofs.lemmas.List.{length-take}
-use Rattle.sftp_packets.specs.declared.open_flags.OpenFlags.{OpenFlags}
-use Rattle.sftp_packets.specs.declared.packets.Ask.{Ask}
-use Rattle.sftp_packets.specs.declared.packets.Ask.TheVariants.{Read, Fstat}
-use Rattle.sftp_packets.specs.Spelling.{AreBytes}
-use Rattle.sftp_path.specs.Place.{bytes_cmp}
-use Rattle.sftp_path.proofs.Order.{bytes_cmp-same}
+use Rattle.sftp_handles.proofs.Imports.{◌≡◌, nat_lt, ℕ, zero, suc, ◌≤◌, Bool, true, false, if◌then◌else◌, min, List, []}
+use Rattle.sftp_handles.proofs.Imports.{◌∷◌, length, take, drop, Option, Some, None, refl, IsTrue, arith, nat_cmp}
+use Rattle.sftp_handles.proofs.Imports.{nat_cmp-IsAntisymmetric, length-take, OpenFlags, Ask, Read, Fstat, AreBytes}
+use Rattle.sftp_handles.proofs.Imports.{bytes_cmp, bytes_cmp-same, are_bytes, Content, IsContent, content_at, limits}
+use Rattle.sftp_handles.proofs.Imports.{bytes_at, each-get, bytes-dropped, Open, File, Listing, Left, open_at, State}
+use Rattle.sftp_handles.proofs.Imports.{Good, IsHandle, IsLeft, Needed, anything, a_file, a_listing, seen, seen_among}
+use Rattle.sftp_handles.proofs.Imports.{seen_file, gives, ended, FitsData, FitsSaid, row_of, said_of, seen_by}
 use Rattle.sftp_treefile.specs.Limits.{highest_limits}
-use Rattle.sftp_treefile.specs.TreeFile.{are_bytes}
-use Rattle.sftp_tree.specs.declared.file_contents.Content.{Content}
-use Rattle.sftp_tree.specs.Tree.{IsContent, content_at, limits}
-use Rattle.sftp_tree.specs.FileChanges.{bytes_at}
-use Rattle.sftp_tree.proofs.PlaceTables.Each.{each-get}
-use Rattle.sftp_tree.proofs.WellFormedTrees.Fields.{bytes-dropped}
-use Rattle.sftp_handles.specs.declared.opens.Open.{Open}
-use Rattle.sftp_handles.specs.declared.opens.Open.TheVariants.{File, Listing}
-use Rattle.sftp_handles.specs.Handles.{Left, open_at}
-use Rattle.sftp_handles.specs.State.{State, Good, IsHandle, IsLeft}
-use Rattle.sftp_handles.specs.Seen.{Needed, anything, a_file, a_listing, seen, seen_among, seen_file}
-use Rattle.sftp_handles.specs.Replies.{gives, ended}
-use Rattle.sftp_handles.specs.Fitting.{FitsData, FitsSaid}
-use Rattle.sftp_handles.specs.HandleRequests.{row_of, said_of, listed}
-use Rattle.sftp_handles.specs.Requests.{seen_by}
-use Rattle.sftp_handles.proofs.FirstListings.{content-shown}
+use Rattle.sftp_handles.specs.HandleRequests.{listed}
+use Rattle.sftp_handles.proofs.Listings.FirstListings.{content-shown}
 use Rattle.sftp_handles.proofs.TotalSteps.PlaceTexts.{bytes-by}
 
 -- ---- the bytes that a READ gives

@@ -1,24 +1,12 @@
 -- Some reply to each request is allowed, and can be encoded.
-use Rattle.std.proofs.Common.{◌≡◌, ◌&&◌, ◌||◌, ℕ, ◌^◌, ◌<◌, Bool, true, false, not, List, [], ◌∷◌, refl, ap, inl, inr}
-use Rattle.std.proofs.Common.{IsTrue, IfSome, lit<}
-use Rattle.std.specs.List.{list_any}
-use Rattle.sftp_packets.specs.declared.packets.Ask.{Ask}
+use Rattle.sftp_handles.proofs.Imports.{◌≡◌, ◌&&◌, ◌||◌, ℕ, ◌^◌, ◌<◌, Bool, true, false, not, List, [], ◌∷◌, refl, ap}
+use Rattle.sftp_handles.proofs.Imports.{inl, inr, IsTrue, IfSome, lit<, list_any, Ask, Request, asked_handle, are_bytes}
+use Rattle.sftp_handles.proofs.Imports.{Cause, NoEntry, NotDir, Loop, Unknown, limits, CauseSet, every_cause, allows}
+use Rattle.sftp_handles.proofs.Imports.{is_none, path_of, PathsLeadWell, State, Good, has_handle_left, causes, answers}
+use Rattle.sftp_handles.proofs.Imports.{after, said_to, FitsSaid, IsAskable, IsAnswerable}
 use Rattle.sftp_packets.specs.declared.packets.Ask.TheVariants as asks
-use Rattle.sftp_packets.specs.declared.packets.Request.{Request}
-use Rattle.sftp_packets.specs.Spelling.{asked_handle}
-use Rattle.sftp_treefile.specs.TreeFile.{are_bytes}
-use Rattle.sftp_tree.specs.declared.causes.Cause.{Cause}
-use Rattle.sftp_tree.specs.declared.causes.Cause.TheVariants.{NoEntry, NotDir, Loop, Unknown}
-use Rattle.sftp_tree.specs.Tree.{limits}
-use Rattle.sftp_tree.specs.Causes.{CauseSet, every_cause, allows, is_none}
-use Rattle.sftp_tree.specs.Requests.{path_of}
 use Rattle.sftp_tree.specs.Requests as paths
-use Rattle.sftp_tree.proofs.Requests.Trees.{PathsLeadWell}
-use Rattle.sftp_handles.specs.State.{State, Good, has_handle_left}
-use Rattle.sftp_handles.specs.Requests.{causes, answers, after, said_to}
-use Rattle.sftp_handles.specs.Fitting.{FitsSaid}
-use Rattle.sftp_handles.specs.Laws.{IsAskable, IsAnswerable}
-use Rattle.sftp_handles.proofs.GoodSteps.{room-of}
+use Rattle.sftp_handles.proofs.Good.GoodSteps.{room-of}
 use Rattle.sftp_handles.proofs.TotalSteps.SaidReplies.{reply_of, status_of, status-spelled, limits-fit, fits-sayable}
 use Rattle.sftp_handles.proofs.TotalSteps.SeenReplies.{seen-fits}
 use Rattle.sftp_handles.proofs.TotalSteps.PathReplies.{path-fits, stat-fits, lstat-fits, target-fits, place-fits}

@@ -1,14 +1,7 @@
 -- Requests that can be encoded have an id of 32 bits and paths of bytes.
-use Rattle.std.proofs.Common.{IsTrue, IfSome}
-use Rattle.sftp_packets.specs.declared.packets.Ask.{Ask}
+use Rattle.sftp_handles.proofs.Imports.{IsTrue, IfSome, Ask, request_packet, Request, FitsAsk, HasSpelling, are_bytes}
+use Rattle.sftp_handles.proofs.Imports.{path_of, bytes-fit, IsAskable}
 use Rattle.sftp_packets.specs.declared.packets.Ask.TheVariants as asks
-use Rattle.sftp_packets.specs.declared.packets.Packet.TheVariants.{Request as request_packet}
-use Rattle.sftp_packets.specs.declared.packets.Request.{Request}
-use Rattle.sftp_packets.specs.Spelling.{FitsAsk, HasSpelling}
-use Rattle.sftp_treefile.specs.TreeFile.{are_bytes}
-use Rattle.sftp_tree.specs.Requests.{path_of}
-use Rattle.sftp_tree.proofs.WellFormedTrees.Fields.{bytes-fit}
-use Rattle.sftp_handles.specs.Laws.{IsAskable}
 
 path-bytes : (ask : Ask) → FitsAsk ask → IfSome (path_of ask) (λ path. IsTrue (are_bytes path))
 path-bytes (asks.Open path flags attrs) fits = bytes-fit path fits.0.bytes_fit

@@ -3,7 +3,7 @@ use Rattle.sftp_server.proofs.Imports.{◌≡◌, ◌≤◌, ℕ, true, false, L
 use Rattle.sftp_server.proofs.Imports.{Event, Explained, BeginsFrom, in_window, full_window, Machine, at_start, IsSent}
 use Rattle.sftp_server.proofs.Imports.{server_clash, IsValue, IsReached, LeadsTo}
 use Rattle.sftp_handles.specs.Laws.{IsAskable, IsAnswerable}
-use Rattle.sftp_handles.proofs.SteadyRanges.{ranges-exchanged, still-free}
+use Rattle.sftp_handles.proofs.RangeLaws.SteadyRanges.{ranges-exchanged, still-free}
 use Rattle.sftp_server.proofs.Machines.Premises.{Premises, HasReply}
 use Rattle.sftp_server.proofs.Machines.Histories.{Follows, done, IsReplyFor}
 use Rattle.sftp_server.proofs.Machines.Acts.{follows-start, follows-acts, follows-reply}

@@ -10,8 +10,8 @@ use Rattle.sftp_server.proofs.Imports.{stream_bytes, Passed, IsAfterDone, IsLeft
 use Rattle.sftp_server.proofs.Imports.{IsRunning, FailsToSend, Stops, tree_left}
 use Rattle.sftp_tree.proofs.Walks.Places.{path-found}
 use Rattle.sftp_tree.proofs.Requests.Trees.{PathsLeadWell}
-use Rattle.sftp_handles.proofs.GoodLaws.{allowed-good}
-use Rattle.sftp_handles.proofs.FirstListings.{listing-fits}
+use Rattle.sftp_handles.proofs.Good.GoodLaws.{allowed-good}
+use Rattle.sftp_handles.proofs.Listings.FirstListings.{listing-fits}
 use Rattle.sftp_handles.proofs.TotalSteps.SomeReplies.{some-allowed}
 use Rattle.sftp_server.specs.declared.ends.Stop.TheVariants as stops
 use Rattle.sftp_server.specs.declared.ends.Stream.TheVariants as streams

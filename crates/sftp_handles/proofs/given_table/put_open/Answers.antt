@@ -1,8 +1,5 @@
-use Rattle.std.proofs.Common.{◌≡◌, ◌∙◌, sym, ap, is_some}
-use Rattle.std.specs.Map.{lookup}
-use Rattle.sftp_handles.specs.Handles.{open_at}
-use Rattle.sftp_handles.specs.Given.{handles_in}
-use Rattle.sftp_handles.proofs.GivenTables.{has_bytes, open-found, not-open, changed-put}
+use Rattle.sftp_handles.proofs.Imports.{◌≡◌, ◌∙◌, sym, ap, is_some, lookup, open_at, handles_in}
+use Rattle.sftp_handles.proofs.HandleTables.GivenTables.{has_bytes, open-found, not-open, changed-put}
 use Rattle.sftp_handles.proofs.given_table.put_open.Goals as goal
 
 pub returns-then-contains_key-clause-taken : goal.returns-then-contains_key-clause-taken

@@ -1,6 +1,5 @@
-use Rattle.std.proofs.Common.{◌∙◌, sym, ap, Some, is_some}
-use Rattle.sftp_handles.specs.declared.opens.Open.{Open}
-use Rattle.sftp_handles.proofs.GivenTables.{open-found, changed-put}
+use Rattle.sftp_handles.proofs.Imports.{◌∙◌, sym, ap, Some, is_some, Open}
+use Rattle.sftp_handles.proofs.HandleTables.GivenTables.{open-found, changed-put}
 use Rattle.sftp_handles.proofs.given_table.swap_open.Goals as goal
 
 pub returns-in-Some-clause-before : goal.returns-in-Some-clause-before

@@ -1,4 +1,4 @@
-use Rattle.sftp_handles.proofs.NewHandles.{handle-opens}
+use Rattle.sftp_handles.proofs.HandleTables.NewHandles.{handle-opens}
 use Rattle.sftp_handles.proofs.laws.handles_open_something.Goals as goal
 
 pub returns : goal.returns

@@ -1,6 +1,5 @@
-use Rattle.std.proofs.Common.{◌∙◌}
-use Rattle.sftp_handles.specs.Clash.{clash, share}
-use Rattle.sftp_handles.proofs.Exchanges.{touched-after}
+use Rattle.sftp_handles.proofs.Imports.{◌∙◌, clash, share}
+use Rattle.sftp_handles.proofs.ClashLaws.Exchanges.{touched-after}
 use Rattle.sftp_handles.proofs.order_laws.no_clash_arises.Goals as goal
 
 pub returns : goal.returns

@@ -1,5 +1,5 @@
-use Rattle.sftp_handles.proofs.Pins.{pins-open_file, pins-open_listing, pins-listing_again, pins-close_file}
-use Rattle.sftp_handles.proofs.Pins.{pins-close_listing}
+use Rattle.sftp_handles.proofs.Good.Pins.{pins-open_file, pins-open_listing, pins-listing_again, pins-close_file}
+use Rattle.sftp_handles.proofs.Good.Pins.{pins-close_listing}
 use Rattle.sftp_handles.proofs.pin_laws.pins_follow_handles.Goals as goal
 
 pub returns : goal.returns

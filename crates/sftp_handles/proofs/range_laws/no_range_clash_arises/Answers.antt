@@ -1,4 +1,4 @@
-use Rattle.sftp_handles.proofs.SteadyRanges.{still-free}
+use Rattle.sftp_handles.proofs.RangeLaws.SteadyRanges.{still-free}
 use Rattle.sftp_handles.proofs.range_laws.no_range_clash_arises.Goals as goal
 
 pub returns : goal.returns

@@ -1,4 +1,4 @@
-use Rattle.sftp_handles.proofs.SteadyRanges.{ranges-exchanged}
+use Rattle.sftp_handles.proofs.RangeLaws.SteadyRanges.{ranges-exchanged}
 use Rattle.sftp_handles.proofs.range_laws.ranged_requests_change_places.Goals as goal
 
 pub returns : goal.returns

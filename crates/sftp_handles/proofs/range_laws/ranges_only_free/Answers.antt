@@ -1,4 +1,4 @@
-use Rattle.sftp_handles.proofs.SteadyRanges.{range_clash-less}
+use Rattle.sftp_handles.proofs.RangeLaws.SteadyRanges.{range_clash-less}
 use Rattle.sftp_handles.proofs.range_laws.ranges_only_free.Goals as goal
 
 pub returns : goal.returns

@@ -1,4 +1,4 @@
-use Rattle.sftp_handles.proofs.RangesKept.{ranges-kept, other-ranges}
+use Rattle.sftp_handles.proofs.RangeLaws.RangesKept.{ranges-kept, other-ranges}
 use Rattle.sftp_handles.proofs.range_laws.ranges_stay.Goals as goal
 
 pub returns-clause-all : goal.returns-clause-all

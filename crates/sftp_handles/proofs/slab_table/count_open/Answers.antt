@@ -1,5 +1,5 @@
-use Rattle.std.proofs.Common.{◌∙◌, sym}
-use Rattle.sftp_handles.proofs.SlotTables.{open-count}
+use Rattle.sftp_handles.proofs.Imports.{◌∙◌, sym}
+use Rattle.sftp_handles.proofs.HandleTables.SlotTables.{open-count}
 use Rattle.sftp_handles.proofs.slab_table.count_open.Goals as goal
 
 pub returns : goal.returns

@@ -1,5 +1,5 @@
-use Rattle.std.proofs.Common.{sym}
-use Rattle.sftp_handles.proofs.SlotTables.{open-named}
+use Rattle.sftp_handles.proofs.Imports.{sym}
+use Rattle.sftp_handles.proofs.HandleTables.SlotTables.{open-named}
 use Rattle.sftp_handles.proofs.slab_table.find_open.Goals as goal
 
 pub returns : goal.returns

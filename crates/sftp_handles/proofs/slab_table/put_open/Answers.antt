@@ -1,7 +1,5 @@
-use Rattle.std.proofs.Common.{◌∙◌, sym, ap, subst}
-use Rattle.sftp_packets.specs.Spelling.{AreBytes}
-use Rattle.sftp_handles.specs.Slots.{slot_name}
-use Rattle.sftp_handles.proofs.SlotTables.{opened-put, closed-put, slot_name-bytes}
+use Rattle.sftp_handles.proofs.Imports.{◌∙◌, sym, ap, subst, AreBytes, slot_name}
+use Rattle.sftp_handles.proofs.HandleTables.SlotTables.{opened-put, closed-put, slot_name-bytes}
 use Rattle.sftp_handles.proofs.slab_table.put_open.Goals as goal
 
 pub returns-clause-closed : goal.returns-clause-closed

@@ -1,6 +1,7 @@
-use Rattle.std.proofs.Common.{◌≡◌, ◌∙◌, sym, ap, None, Some, option_copied, arith}
+use Rattle.sftp_handles.proofs.Imports.{◌≡◌, ◌∙◌, sym, ap, None, Some, option_copied, arith}
 use Rattle.slab.specs.Slab.{get}
-use Rattle.sftp_handles.proofs.SlotTables.{name-read, serial-read, name-differs, open-length, open-free, open-other}
+use Rattle.sftp_handles.proofs.HandleTables.SlotTables.{name-read, serial-read, name-differs, open-length, open-free}
+use Rattle.sftp_handles.proofs.HandleTables.SlotTables.{open-other}
 use Rattle.sftp_handles.proofs.slab_table.slot_of.Goals as goal
 
 pub returns-then-name-ne12-clause-absent : goal.returns-then-name-ne12-clause-absent

@@ -1,8 +1,6 @@
-use Rattle.std.proofs.Common.{◌∙◌, Some, sym, ap}
+use Rattle.sftp_handles.proofs.Imports.{◌∙◌, Some, sym, ap, Open, slab_handles}
 use Rattle.slab.specs.Slab.{with_value}
-use Rattle.sftp_handles.specs.declared.opens.Open.{Open}
-use Rattle.sftp_handles.specs.Slots.{slab_handles}
-use Rattle.sftp_handles.proofs.SlotTables.{open-named, swapped-at}
+use Rattle.sftp_handles.proofs.HandleTables.SlotTables.{open-named, swapped-at}
 use Rattle.sftp_handles.proofs.slab_table.swap_open.Goals as goal
 
 pub returns-clause-before : goal.returns-clause-before

@@ -1,8 +1,5 @@
-use Rattle.std.proofs.Common.{sym}
-use Rattle.sftp_path.specs.Place.{bytes_cmp}
-use Rattle.sftp_path.proofs.Table.Entries.{without-absent}
-use Rattle.sftp_handles.specs.Slots.{slab_handles}
-use Rattle.sftp_handles.proofs.SlotTables.{open-named, freed-at}
+use Rattle.sftp_handles.proofs.Imports.{sym, bytes_cmp, without-absent, slab_handles}
+use Rattle.sftp_handles.proofs.HandleTables.SlotTables.{open-named, freed-at}
 use Rattle.sftp_handles.proofs.slab_table.take_slot.Goals as goal
 
 pub returns-in_err-freed-clause-closed : goal.returns-in_err-freed-clause-closed

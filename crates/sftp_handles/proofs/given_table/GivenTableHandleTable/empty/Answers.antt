@@ -1,6 +1,4 @@
-use Rattle.std.proofs.Common.{ap}
-use Rattle.sftp_path.specs.Table.{from_entries}
-use Rattle.sftp_handles.specs.Given.{handles_in}
+use Rattle.sftp_handles.proofs.Imports.{ap, from_entries, handles_in}
 use Rattle.sftp_handles.proofs.given_table.GivenTableHandleTable.empty.Goals as goal
 
 pub returns : goal.returns

@@ -1,14 +1,9 @@
-use Rattle.std.proofs.Common.{◌≡◌, ℕ, List, Some, IfOk, sym, subst}
-use Rattle.std.proofs.lemmas.Result.{IfOk-weaker}
-use Rattle.sftp_packets.specs.declared.packets.Answer.{Answer}
+use Rattle.sftp_handles.proofs.Imports.{◌≡◌, ℕ, List, Some, IfOk, sym, subst, IfOk-weaker, Answer, names, gives, ended}
+use Rattle.sftp_handles.proofs.Imports.{FitsSaid, said_in, IsReplyOf, only_name}
 use Rattle.sftp_packets.specs.declared.packets.Answer.TheVariants as replies
 use Rattle.sftp_handles.specs.declared.payloads.Payload.{Payload}
-use Rattle.sftp_handles.specs.Replies.{names, gives, ended}
-use Rattle.sftp_handles.specs.Fitting.{FitsSaid}
-use Rattle.sftp_handles.specs.Payloads.{said_in}
-use Rattle.sftp_handles.specs.Answered.{IsReplyOf, only_name}
-use Rattle.sftp_handles.proofs.AnswersSpelled.{reply-attributes, reply-name, reply-data, reply-extended}
-use Rattle.sftp_handles.proofs.AnswersSpelled.{reply-end}
+use Rattle.sftp_handles.proofs.Answered.AnswersSpelled.{reply-attributes, reply-name, reply-data, reply-extended}
+use Rattle.sftp_handles.proofs.Answered.AnswersSpelled.{reply-end}
 use Rattle.sftp_handles.proofs.payloads.Payload.answer.Goals as goal
 
 pub returns-in-Attrs : goal.returns-in-Attrs

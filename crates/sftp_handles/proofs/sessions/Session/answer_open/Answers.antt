@@ -1,7 +1,5 @@
-use Rattle.std.proofs.Common.{sym, subst}
-use Rattle.sftp_packets.specs.declared.packets.Answer.{Answer}
-use Rattle.sftp_handles.specs.Answered.{IsAnswered}
-use Rattle.sftp_handles.proofs.OpenReplies.{handle-answered}
+use Rattle.sftp_handles.proofs.Imports.{sym, subst, Answer, IsAnswered}
+use Rattle.sftp_handles.proofs.Answered.OpenReplies.{handle-answered}
 use Rattle.sftp_handles.proofs.sessions.Session.answer_open.Goals as goal
 
 pub returns-in-Ok-clause-done : goal.returns-in-Ok-clause-done

@@ -1,5 +1,5 @@
-use Rattle.sftp_handles.specs.Payloads.{said_in}
-use Rattle.sftp_handles.proofs.QueryReplies.{answered-query}
+use Rattle.sftp_handles.proofs.Imports.{said_in}
+use Rattle.sftp_handles.proofs.Judged.QueryReplies.{answered-query}
 use Rattle.sftp_handles.proofs.sessions.Session.answer_query.Goals as goal
 
 pub answer-requires : goal.answer-requires

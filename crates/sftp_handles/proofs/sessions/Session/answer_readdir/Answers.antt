@@ -1,15 +1,10 @@
-use Rattle.std.proofs.Common.{◌≡◌, ◌==◌, true, nat_lt, length, refl, sym, ap, subst, ◌∙◌}
-use Rattle.sftp_packets.specs.declared.packets.Ask.TheVariants.{Readdir}
-use Rattle.sftp_packets.specs.declared.packets.Answer.{Answer}
+use Rattle.sftp_handles.proofs.Imports.{◌≡◌, ◌==◌, true, nat_lt, length, refl, sym, ap, subst, ◌∙◌, Readdir, Answer}
+use Rattle.sftp_handles.proofs.Imports.{State, Good, open_at, names_in, AreFirstNames, IsAnswered}
 use Rattle.sftp_packets.specs.declared.packets.Answer.TheVariants.{Name}
-use Rattle.sftp_handles.specs.State.{State, Good}
-use Rattle.sftp_handles.specs.Handles.{open_at}
-use Rattle.sftp_handles.specs.Replies.{names_in}
-use Rattle.sftp_handles.specs.FirstNames.{AreFirstNames}
-use Rattle.sftp_handles.specs.Answered.{IsAnswered}
-use Rattle.sftp_handles.proofs.GivenNames.{good-given}
-use Rattle.sftp_handles.proofs.NameReplies.{some-items, no-items, first-listing, first-given, readdir-answered, readdir-ended}
-use Rattle.sftp_handles.proofs.NewStates.{state_of}
+use Rattle.sftp_handles.proofs.Judged.GivenNames.{good-given}
+use Rattle.sftp_handles.proofs.Answered.NameReplies.{some-items, no-items, first-listing, first-given, readdir-answered}
+use Rattle.sftp_handles.proofs.Answered.NameReplies.{readdir-ended}
+use Rattle.sftp_handles.proofs.Good.NewStates.{state_of}
 use Rattle.sftp_handles.proofs.sessions.Session.answer_readdir.Goals as goal
 
 pub returns-then-is_empty-clause-done : goal.returns-then-is_empty-clause-done

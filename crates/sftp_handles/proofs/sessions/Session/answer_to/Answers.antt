@@ -1,9 +1,6 @@
-use Rattle.std.proofs.Common.{◌≡◌, Some, sym, ap, subst, ◌∙◌}
-use Rattle.sftp_handles.specs.State.{State}
-use Rattle.sftp_handles.specs.Allowed.{step}
-use Rattle.sftp_handles.specs.Answered.{IsSpelledAnswer}
-use Rattle.sftp_handles.proofs.AnswersSpelled.{spelled-status}
-use Rattle.sftp_handles.proofs.AnswersSteps.{answered-step, refusal-step}
+use Rattle.sftp_handles.proofs.Imports.{◌≡◌, Some, sym, ap, subst, ◌∙◌, State, step, IsSpelledAnswer}
+use Rattle.sftp_handles.proofs.Answered.AnswersSpelled.{spelled-status}
+use Rattle.sftp_handles.proofs.Answered.AnswersSteps.{answered-step, refusal-step}
 use Rattle.sftp_handles.proofs.sessions.Session.answer_to.Goals as goal
 
 pub returns-in-Ok-clause-answered : goal.returns-in-Ok-clause-answered

@@ -1,8 +1,6 @@
-use Rattle.std.proofs.Common.{sym, subst, ◌∙◌}
-use Rattle.std.proofs.lemmas.Result.{err_from_is_err_and}
-use Rattle.sftp_tree.specs.Refusals.{IsFree, IsRefusal}
-use Rattle.sftp_handles.specs.State.{State}
-use Rattle.sftp_handles.proofs.OpenReplies.{handles-refuse, path-refuses}
+use Rattle.sftp_handles.proofs.Imports.{sym, subst, ◌∙◌, err_from_is_err_and, IsFree, State}
+use Rattle.sftp_tree.specs.Refusals.{IsRefusal}
+use Rattle.sftp_handles.proofs.Answered.OpenReplies.{handles-refuse, path-refuses}
 use Rattle.sftp_handles.proofs.sessions.Session.check_handles.Goals as goal
 
 pub returns-in_err-check-clause-refused : goal.returns-in_err-check-clause-refused

@@ -1,15 +1,8 @@
-use Rattle.std.proofs.Common.{IsTrue, Some, sym, ap, subst, ◌∙◌}
-use Rattle.sftp_packets.specs.declared.packets.Ask.TheVariants.{Close}
-use Rattle.sftp_tree.specs.declared.causes.Cause.TheVariants.{BadHandle}
-use Rattle.sftp_tree.specs.Tree.{is_pinned}
-use Rattle.sftp_handles.specs.declared.opens.Open.{Open}
-use Rattle.sftp_handles.specs.State.{State, Good}
-use Rattle.sftp_handles.specs.Judged.{IsDone}
-use Rattle.sftp_handles.specs.Requests.{causes}
-use Rattle.sftp_handles.proofs.NewStates.{state_of}
-use Rattle.sftp_handles.proofs.SeenCauses.{open-pinned}
-use Rattle.sftp_handles.proofs.OpenChanges.{it-closed, good-it_closed, nothing-closed}
-use Rattle.sftp_handles.proofs.OpenChanges.{close-lost, close-done}
+use Rattle.sftp_handles.proofs.Imports.{IsTrue, Some, sym, ap, subst, ◌∙◌, Close, BadHandle, is_pinned, Open, State}
+use Rattle.sftp_handles.proofs.Imports.{Good, IsDone, causes}
+use Rattle.sftp_handles.proofs.Good.NewStates.{state_of}
+use Rattle.sftp_handles.proofs.OpenFiles.SeenCauses.{open-pinned}
+use Rattle.sftp_handles.proofs.OpenFiles.OpenChanges.{it-closed, good-it_closed, nothing-closed, close-lost, close-done}
 use Rattle.sftp_handles.proofs.sessions.Session.close.Goals as goal
 
 pub unpin_closed-requires : goal.unpin_closed-requires

@@ -1,7 +1,4 @@
-use Rattle.std.proofs.Common.{sym, ap, subst, ◌∙◌, OnOk}
-use Rattle.sftp_packets.specs.declared.packets.Ask.{Ask}
-use Rattle.sftp_packets.specs.declared.packets.Ask.TheVariants.{Close, Write, Fsetstat, Fsync}
-use Rattle.sftp_handles.specs.Judged.{IsDone}
+use Rattle.sftp_handles.proofs.Imports.{sym, ap, subst, ◌∙◌, OnOk, Ask, Close, Write, Fsetstat, Fsync, IsDone}
 use Rattle.sftp_handles.proofs.sessions.Session.do_ok.Goals as goal
 
 pub returns-in-Close-clause-done : goal.returns-in-Close-clause-done

@@ -1,11 +1,7 @@
-use Rattle.std.proofs.Common.{◌≡◌, refl, subst, ap, ◌∙◌, IfOk}
-use Rattle.sftp_packets.specs.declared.packets.Ask.TheVariants.{Fstat, Fsync}
-use Rattle.sftp_tree.specs.Tree.{HasFile}
-use Rattle.sftp_handles.specs.State.{State}
-use Rattle.sftp_handles.specs.Found.{found_file, refusing}
-use Rattle.sftp_handles.specs.Requests.{causes}
-use Rattle.sftp_handles.proofs.SeenCauses.{file-there, file-causes}
-use Rattle.sftp_handles.proofs.NewStates.{state_of}
+use Rattle.sftp_handles.proofs.Imports.{◌≡◌, refl, subst, ap, ◌∙◌, IfOk, Fstat, Fsync, HasFile, State, found_file}
+use Rattle.sftp_handles.proofs.Imports.{refusing, causes}
+use Rattle.sftp_handles.proofs.OpenFiles.SeenCauses.{file-there, file-causes}
+use Rattle.sftp_handles.proofs.Good.NewStates.{state_of}
 use Rattle.sftp_handles.proofs.sessions.Session.file_at.Goals as goal
 
 pub returns-clause-shown : goal.returns-clause-shown

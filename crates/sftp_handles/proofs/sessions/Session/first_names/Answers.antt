@@ -1,5 +1,5 @@
-use Rattle.sftp_packets.specs.declared.packets.Ask.TheVariants.{Readdir}
-use Rattle.sftp_handles.proofs.SeenAnswers.{only-holds}
+use Rattle.sftp_handles.proofs.Imports.{Readdir}
+use Rattle.sftp_handles.proofs.OpenFiles.SeenAnswers.{only-holds}
 use Rattle.sftp_handles.proofs.sessions.Session.first_names.Goals as goal
 
 pub returns-in-Err-clause-refused : goal.returns-in-Err-clause-refused

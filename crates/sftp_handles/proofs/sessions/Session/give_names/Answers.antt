@@ -1,12 +1,7 @@
-use Rattle.std.proofs.Common.{◌≡◌, subst, sym, ◌∙◌, true}
-use Rattle.sftp_packets.specs.declared.packets.Ask.TheVariants.{Readdir}
+use Rattle.sftp_handles.proofs.Imports.{◌≡◌, subst, sym, ◌∙◌, true, Readdir, State, open_at, gives_names, IsJudged}
 use Rattle.sftp_packets.specs.declared.packets.Answer.TheVariants.{Name}
-use Rattle.sftp_handles.specs.State.{State}
-use Rattle.sftp_handles.specs.Handles.{open_at}
-use Rattle.sftp_handles.specs.Giving.{gives_names}
-use Rattle.sftp_handles.specs.Judged.{IsJudged}
-use Rattle.sftp_handles.proofs.GivenNames.{listing-found, good-given, given-judged, judged-not_given}
-use Rattle.sftp_handles.proofs.NewStates.{state_of}
+use Rattle.sftp_handles.proofs.Judged.GivenNames.{listing-found, good-given, given-judged, judged-not_given}
+use Rattle.sftp_handles.proofs.Good.NewStates.{state_of}
 use Rattle.sftp_handles.proofs.sessions.Session.give_names.Goals as goal
 
 pub strike_names-requires : goal.strike_names-requires

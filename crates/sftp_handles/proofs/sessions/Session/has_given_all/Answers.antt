@@ -1,6 +1,5 @@
-use Rattle.std.proofs.Common.{◌∙◌, sym, ap, false}
-use Rattle.sftp_handles.specs.Handles.{open_at}
-use Rattle.sftp_handles.proofs.GivenNames.{has_none, readdir-ends, none-if_empty, none-listed}
+use Rattle.sftp_handles.proofs.Imports.{◌∙◌, sym, ap, false, open_at}
+use Rattle.sftp_handles.proofs.Judged.GivenNames.{has_none, readdir-ends, none-if_empty, none-listed}
 use Rattle.sftp_handles.proofs.sessions.Session.has_given_all.Goals as goal
 
 pub returns-in-Ok : goal.returns-in-Ok

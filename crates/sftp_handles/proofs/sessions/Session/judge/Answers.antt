@@ -1,6 +1,5 @@
-use Rattle.std.proofs.Common.{sym, ◌∙◌}
-use Rattle.sftp_tree.specs.Causes.{allow}
-use Rattle.sftp_handles.proofs.Judgements.{judged-refusal}
+use Rattle.sftp_handles.proofs.Imports.{sym, ◌∙◌, allow}
+use Rattle.sftp_handles.proofs.Judged.Judgements.{judged-refusal}
 use Rattle.sftp_handles.proofs.sessions.Session.judge.Goals as goal
 
 pub returns-in_ok-causes-in-Some-clause-ok : goal.returns-in_ok-causes-in-Some-clause-ok

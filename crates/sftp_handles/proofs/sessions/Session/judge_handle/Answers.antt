@@ -1,7 +1,5 @@
-use Rattle.std.proofs.Common.{sym, subst, ◌∙◌, IfOk}
-use Rattle.sftp_packets.specs.declared.packets.Answer.TheVariants.{Handle}
-use Rattle.sftp_handles.specs.Judged.{IsJudged}
-use Rattle.sftp_handles.proofs.HandleReplies.{judged-lacking, judged-opened, judged-failed, held}
+use Rattle.sftp_handles.proofs.Imports.{sym, subst, ◌∙◌, IfOk, Handle, IsJudged}
+use Rattle.sftp_handles.proofs.Judged.HandleReplies.{judged-lacking, judged-opened, judged-failed, held}
 use Rattle.sftp_handles.proofs.sessions.Session.judge_handle.Goals as goal
 
 pub returns-then-not-has_place_for-clause-ok : goal.returns-then-not-has_place_for-clause-ok

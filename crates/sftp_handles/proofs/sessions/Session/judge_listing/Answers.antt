@@ -1,7 +1,6 @@
-use Rattle.std.proofs.Common.{sym, ◌∙◌}
-use Rattle.sftp_packets.specs.declared.packets.Ask.TheVariants.{Readdir}
-use Rattle.sftp_handles.proofs.GivenNames.{judged-unlisted}
-use Rattle.sftp_handles.proofs.Judgements.{judged-coded}
+use Rattle.sftp_handles.proofs.Imports.{sym, ◌∙◌, Readdir}
+use Rattle.sftp_handles.proofs.Judged.GivenNames.{judged-unlisted}
+use Rattle.sftp_handles.proofs.Judged.Judgements.{judged-coded}
 use Rattle.sftp_handles.proofs.sessions.Session.judge_listing.Goals as goal
 
 pub returns-then-has_code-clause-ok : goal.returns-then-has_code-clause-ok

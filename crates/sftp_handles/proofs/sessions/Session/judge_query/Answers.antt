@@ -1,8 +1,6 @@
-use Rattle.std.proofs.Common.{subst}
-use Rattle.sftp_handles.specs.Judged.{IsRefusal}
-use Rattle.sftp_handles.specs.Payloads.{said_in}
-use Rattle.sftp_handles.proofs.Judgements.{judged-refused, unlike}
-use Rattle.sftp_handles.proofs.QueryReplies.{judged-query}
+use Rattle.sftp_handles.proofs.Imports.{subst, IsRefusal, said_in}
+use Rattle.sftp_handles.proofs.Judged.Judgements.{judged-refused, unlike}
+use Rattle.sftp_handles.proofs.Judged.QueryReplies.{judged-query}
 use Rattle.sftp_handles.proofs.sessions.Session.judge_query.Goals as goal
 
 pub returns-in-Ok : goal.returns-in-Ok

@@ -1,11 +1,6 @@
-use Rattle.std.proofs.Common.{ℕ, List, sym, ap, subst, ◌∙◌}
-use Rattle.sftp_packets.specs.declared.packets.Ask.TheVariants.{Limits}
-use Rattle.sftp_tree.specs.Tree.{limits}
-use Rattle.sftp_handles.specs.State.{State, Good}
-use Rattle.sftp_handles.specs.Replies.{extends}
-use Rattle.sftp_handles.specs.Requests.{limits_data}
-use Rattle.sftp_handles.specs.Payloads.{Carries}
-use Rattle.sftp_handles.proofs.LimitsAnswers.{carries-limits}
+use Rattle.sftp_handles.proofs.Imports.{ℕ, List, sym, ap, subst, ◌∙◌, Limits, limits, State, Good, extends, limits_data}
+use Rattle.sftp_handles.proofs.Imports.{Carries}
+use Rattle.sftp_handles.proofs.Answered.LimitsAnswers.{carries-limits}
 use Rattle.sftp_handles.proofs.sessions.Session.limits_payload.Goals as goal
 
 pub returns-clause-carried : goal.returns-clause-carried

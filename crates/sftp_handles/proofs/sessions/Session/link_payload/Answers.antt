@@ -1,12 +1,8 @@
-use Rattle.std.proofs.Common.{◌≡◌, ℕ, List, Some, refl, sym, subst}
-use Rattle.sftp_packets.specs.declared.packets.Ask.TheVariants.{Readlink}
+use Rattle.sftp_handles.proofs.Imports.{◌≡◌, ℕ, List, Some, refl, sym, subst, Readlink, IsFree, State, Good, names}
+use Rattle.sftp_handles.proofs.Imports.{Carries}
 use Rattle.sftp_tree.specs.Told as told
-use Rattle.sftp_tree.specs.Refusals.{IsFree}
 use Rattle.sftp_tree.specs.Refusals as of_tree
-use Rattle.sftp_handles.specs.State.{State, Good}
-use Rattle.sftp_handles.specs.Replies.{names}
-use Rattle.sftp_handles.specs.Payloads.{Carries}
-use Rattle.sftp_handles.proofs.QueryReplies.{carries-target, path-refusal}
+use Rattle.sftp_handles.proofs.Judged.QueryReplies.{carries-target, path-refusal}
 use Rattle.sftp_handles.proofs.sessions.Session.link_payload.Goals as goal
 
 pub returns-in-Ok-clause-carried : goal.returns-in-Ok-clause-carried

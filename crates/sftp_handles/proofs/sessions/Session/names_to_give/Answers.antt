@@ -1,4 +1,4 @@
-use Rattle.sftp_handles.proofs.GivenNames.{listing-left}
+use Rattle.sftp_handles.proofs.Judged.GivenNames.{listing-left}
 use Rattle.sftp_handles.proofs.sessions.Session.names_to_give.Goals as goal
 
 pub chosen-requires : goal.chosen-requires

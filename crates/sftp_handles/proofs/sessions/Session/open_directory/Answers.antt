@@ -1,11 +1,8 @@
-use Rattle.std.proofs.Common.{◌≡◌, sym, ap, subst, ◌∙◌, map, Some}
+use Rattle.sftp_handles.proofs.Imports.{◌≡◌, sym, ap, subst, ◌∙◌, map, Some, entry_of, is_none, State, Good, IsLeft}
 use Rattle.sftp_packets.specs.declared.packets.Ask.TheVariants as asks
-use Rattle.sftp_tree.specs.Items.{entry_of}
-use Rattle.sftp_tree.specs.Causes.{is_none}
 use Rattle.sftp_tree.specs.Requests as paths
 use Rattle.sftp_tree.specs.Told as told
-use Rattle.sftp_handles.specs.State.{State, Good, IsLeft}
-use Rattle.sftp_handles.proofs.Opened as opened
+use Rattle.sftp_handles.proofs.OpenFiles.Opened as opened
 use Rattle.sftp_handles.proofs.sessions.Session.open_directory.Goals as goal
 
 pub listing_of-requires : goal.listing_of-requires

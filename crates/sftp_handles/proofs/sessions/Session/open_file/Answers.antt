@@ -1,12 +1,9 @@
-use Rattle.std.proofs.Common.{◌<◌, ◌^◌, sym, ap, subst, ◌∙◌}
-use Rattle.std.proofs.lemmas.Result.{err_from_is_err_and}
+use Rattle.sftp_handles.proofs.Imports.{◌<◌, ◌^◌, sym, ap, subst, ◌∙◌, err_from_is_err_and, Tree, WellFormed, HasFile}
+use Rattle.sftp_handles.proofs.Imports.{times_pinned, pins-stay, State, Good}
 use Rattle.sftp_packets.specs.declared.packets.Ask.TheVariants as asks
-use Rattle.sftp_tree.specs.Tree.{Tree, WellFormed, HasFile, times_pinned}
-use Rattle.sftp_tree.proofs.KeptTrees.Files.{pins-stay}
-use Rattle.sftp_handles.specs.State.{State, Good}
-use Rattle.sftp_handles.proofs.NewStates.{state_of}
-use Rattle.sftp_handles.proofs.MarkedItems.{none-left}
-use Rattle.sftp_handles.proofs.Opened as opened
+use Rattle.sftp_handles.proofs.Good.NewStates.{state_of}
+use Rattle.sftp_handles.proofs.Listings.MarkedItems.{none-left}
+use Rattle.sftp_handles.proofs.OpenFiles.Opened as opened
 use Rattle.sftp_handles.proofs.sessions.Session.open_file.Goals as goal
 
 pub returns-in_err-name-clause-failed : goal.returns-in_err-name-clause-failed

@@ -1,7 +1,6 @@
-use Rattle.std.proofs.Common.{sym, ap, subst, ◌∙◌}
-use Rattle.sftp_handles.specs.State.{Good, has_handle_left}
-use Rattle.sftp_handles.proofs.NewStates.{state_of}
-use Rattle.sftp_handles.proofs.Opened.{good-listed}
+use Rattle.sftp_handles.proofs.Imports.{sym, ap, subst, ◌∙◌, Good, has_handle_left}
+use Rattle.sftp_handles.proofs.Good.NewStates.{state_of}
+use Rattle.sftp_handles.proofs.OpenFiles.Opened.{good-listed}
 use Rattle.sftp_handles.proofs.sessions.Session.open_listing.Goals as goal
 
 pub invariant_of-self : goal.invariant_of-self

@@ -1,7 +1,5 @@
-use Rattle.std.proofs.Common.{Some, refl}
-use Rattle.sftp_packets.specs.declared.packets.Ask.TheVariants.{Fstat}
-use Rattle.sftp_handles.specs.Replies.{shows}
-use Rattle.sftp_handles.proofs.QueryReplies.{carries-open}
+use Rattle.sftp_handles.proofs.Imports.{Some, refl, Fstat, shows}
+use Rattle.sftp_handles.proofs.Judged.QueryReplies.{carries-open}
 use Rattle.sftp_handles.proofs.sessions.Session.open_payload.Goals as goal
 
 pub returns-in-Ok-clause-carried : goal.returns-in-Ok-clause-carried

@@ -1,16 +1,11 @@
-use Rattle.std.proofs.Common.{◌≡◌, ℕ, List, Some, sym, subst}
-use Rattle.sftp_packets.specs.declared.packets.Ask.TheVariants.{Realpath}
+use Rattle.sftp_handles.proofs.Imports.{◌≡◌, ℕ, List, Some, sym, subst, Realpath, IsFree, State, Good, names, Carries}
+use Rattle.sftp_handles.proofs.Imports.{refl}
 use Rattle.sftp_path.proofs.PathTexts.GoodPaths.{list_all-octets}
 use Rattle.sftp_tree.specs.Told as told
 use Rattle.sftp_tree.proofs.Walks.Places.{path-found}
-use Rattle.sftp_tree.specs.Refusals.{IsFree}
 use Rattle.sftp_tree.specs.Refusals as of_tree
-use Rattle.sftp_handles.specs.State.{State, Good}
-use Rattle.sftp_handles.specs.Replies.{names}
-use Rattle.sftp_handles.specs.Payloads.{Carries}
-use Rattle.sftp_handles.proofs.QueryReplies.{carries-place, path-refusal}
+use Rattle.sftp_handles.proofs.Judged.QueryReplies.{carries-place, path-refusal}
 use Rattle.sftp_handles.proofs.sessions.Session.place_payload.Goals as goal
-use Rattle.std.proofs.Common.{refl}
 
 pub returns-in-Ok-clause-carried : goal.returns-in-Ok-clause-carried
 returns-in-Ok-clause-carried g c =

@@ -1,5 +1,5 @@
-use Rattle.std.proofs.Common.{sym}
-use Rattle.sftp_handles.proofs.RangedAsks.{range-other}
+use Rattle.sftp_handles.proofs.Imports.{sym}
+use Rattle.sftp_handles.proofs.RangeLaws.RangedAsks.{range-other}
 use Rattle.sftp_handles.proofs.sessions.Session.range.Goals as goal
 
 pub returns-in_default : goal.returns-in_default

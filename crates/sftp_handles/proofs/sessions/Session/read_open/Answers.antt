@@ -1,7 +1,5 @@
-use Rattle.std.proofs.Common.{refl, option_copied}
-use Rattle.sftp_packets.specs.declared.packets.Ask.TheVariants.{Read}
-use Rattle.sftp_handles.specs.Found.{read_said}
-use Rattle.sftp_handles.proofs.SeenAnswers.{none-holds, only-holds, said-found}
+use Rattle.sftp_handles.proofs.Imports.{refl, option_copied, Read, read_said}
+use Rattle.sftp_handles.proofs.OpenFiles.SeenAnswers.{none-holds, only-holds, said-found}
 use Rattle.sftp_handles.proofs.sessions.Session.read_open.Goals as goal
 
 pub returns-in-Ok-clause-free : goal.returns-in-Ok-clause-free

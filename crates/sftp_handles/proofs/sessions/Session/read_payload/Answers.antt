@@ -1,7 +1,5 @@
-use Rattle.std.proofs.Common.{refl}
-use Rattle.sftp_packets.specs.declared.packets.Ask.TheVariants.{Read}
-use Rattle.sftp_handles.specs.Replies.{gives, ended}
-use Rattle.sftp_handles.proofs.QueryReplies.{carries-open}
+use Rattle.sftp_handles.proofs.Imports.{refl, Read, gives, ended}
+use Rattle.sftp_handles.proofs.Judged.QueryReplies.{carries-open}
 use Rattle.sftp_handles.proofs.sessions.Session.read_payload.Goals as goal
 
 pub returns-in-Ok-Some-clause-carried : goal.returns-in-Ok-Some-clause-carried

@@ -1,9 +1,7 @@
-use Rattle.std.proofs.Common.{◌+◌, min, Some, length, option_map, refl, sym, ap, ◌∙◌}
-use Rattle.sftp_packets.specs.declared.packets.Ask.TheVariants.{Read}
-use Rattle.sftp_tree.specs.Tree.{content_at, limits}
-use Rattle.sftp_handles.specs.State.{State}
+use Rattle.sftp_handles.proofs.Imports.{◌+◌, min, Some, length, option_map, refl, sym, ap, ◌∙◌, Read, content_at}
+use Rattle.sftp_handles.proofs.Imports.{limits, State}
 use Rattle.sftp_handles.specs.Ranges.{range_within}
-use Rattle.sftp_handles.proofs.RangedAsks.{range-found, range-refused}
+use Rattle.sftp_handles.proofs.RangeLaws.RangedAsks.{range-found, range-refused}
 use Rattle.sftp_handles.proofs.sessions.Session.read_range.Goals as goal
 
 pub returns-in-Ok : goal.returns-in-Ok

@@ -1,12 +1,6 @@
-use Rattle.std.proofs.Common.{Ok, refl, sym, ap, ◌≡◌, ◌∙◌, true, not}
-use Rattle.sftp_packets.specs.declared.packets.Ask.TheVariants.{Read}
-use Rattle.sftp_tree.specs.declared.causes.Cause.TheVariants.{NotOpenFor}
-use Rattle.sftp_tree.specs.Causes.{no_causes, when}
-use Rattle.sftp_tree.specs.Tree.{HasFile}
-use Rattle.sftp_handles.specs.Handles.{open_at}
-use Rattle.sftp_handles.specs.State.{Good}
-use Rattle.sftp_handles.specs.Found.{found_file, refusing}
-use Rattle.sftp_handles.proofs.SeenCauses.{plain-found, lost, granted-read, granted-has}
+use Rattle.sftp_handles.proofs.Imports.{Ok, refl, sym, ap, ◌≡◌, ◌∙◌, true, not, Read, NotOpenFor, no_causes, when}
+use Rattle.sftp_handles.proofs.Imports.{HasFile, open_at, Good, found_file, refusing}
+use Rattle.sftp_handles.proofs.OpenFiles.SeenCauses.{plain-found, lost, granted-read, granted-has}
 use Rattle.sftp_handles.proofs.sessions.Session.readable_at.Goals as goal
 
 pub returns-in-Ok-clause-causes : goal.returns-in-Ok-clause-causes

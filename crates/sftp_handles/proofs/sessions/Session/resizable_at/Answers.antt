@@ -1,13 +1,7 @@
-use Rattle.std.proofs.Common.{◌≡◌, Ok, refl, subst, sym, ap, ◌∙◌, IsTrue}
-use Rattle.sftp_packets.specs.declared.packets.Ask.TheVariants.{Fsetstat}
-use Rattle.sftp_tree.specs.declared.causes.Cause.TheVariants.{NotOpenFor}
-use Rattle.sftp_tree.specs.Causes.{no_causes, when}
-use Rattle.sftp_tree.specs.Room.{size_fits}
-use Rattle.sftp_tree.specs.Tree.{IsKept, HasFile, content_at, limits}
-use Rattle.sftp_handles.specs.Handles.{open_at}
-use Rattle.sftp_handles.specs.State.{State}
-use Rattle.sftp_handles.specs.Found.{found_file, with_room, refusing}
-use Rattle.sftp_handles.proofs.SeenCauses.{set-found, set-room, lost, granted-room, granted-has}
+use Rattle.sftp_handles.proofs.Imports.{◌≡◌, Ok, refl, subst, sym, ap, ◌∙◌, IsTrue, Fsetstat, NotOpenFor, no_causes}
+use Rattle.sftp_handles.proofs.Imports.{when, size_fits, IsKept, HasFile, content_at, limits, open_at, State}
+use Rattle.sftp_handles.proofs.Imports.{found_file, with_room, refusing}
+use Rattle.sftp_handles.proofs.OpenFiles.SeenCauses.{set-found, set-room, lost, granted-room, granted-has}
 use Rattle.sftp_handles.proofs.sessions.Session.resizable_at.Goals as goal
 
 pub returns-in-Ok-clause-causes : goal.returns-in-Ok-clause-causes

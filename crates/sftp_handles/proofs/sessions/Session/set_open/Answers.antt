@@ -1,12 +1,8 @@
-use Rattle.std.proofs.Common.{◌≡◌, subst, ap, IfErr, OnOk}
-use Rattle.sftp_packets.specs.declared.packets.Ask.TheVariants.{Fsetstat}
-use Rattle.sftp_tree.specs.Tree.{limits}
-use Rattle.sftp_tree.specs.Room.{size_fits}
-use Rattle.sftp_tree.specs.FileChanges.{after_set, IsRoomRefusal}
-use Rattle.sftp_handles.specs.State.{State, Good}
-use Rattle.sftp_handles.proofs.NewStates.{state_of}
-use Rattle.sftp_handles.proofs.SeenAnswers.{only-holds}
-use Rattle.sftp_handles.proofs.OpenChanges.{set-ends, call-refused}
+use Rattle.sftp_handles.proofs.Imports.{◌≡◌, subst, ap, IfErr, OnOk, Fsetstat, limits, size_fits, after_set}
+use Rattle.sftp_handles.proofs.Imports.{IsRoomRefusal, State, Good}
+use Rattle.sftp_handles.proofs.Good.NewStates.{state_of}
+use Rattle.sftp_handles.proofs.OpenFiles.SeenAnswers.{only-holds}
+use Rattle.sftp_handles.proofs.OpenFiles.OpenChanges.{set-ends, call-refused}
 use Rattle.sftp_handles.proofs.sessions.Session.set_open.Goals as goal
 
 pub returns-in-Ok-clause-done : goal.returns-in-Ok-clause-done

@@ -1,10 +1,6 @@
-use Rattle.std.proofs.Common.{◌≡◌, refl, sym, subst, Some, option_map}
-use Rattle.sftp_packets.specs.declared.packets.Ask.TheVariants.{Fstat}
-use Rattle.sftp_tree.specs.Tree.{content_at}
-use Rattle.sftp_tree.specs.Attributes.{shown_content}
-use Rattle.sftp_handles.specs.State.{State}
-use Rattle.sftp_handles.specs.Replies.{shows}
-use Rattle.sftp_handles.proofs.SeenAnswers.{none-holds, only-holds, said-found, shown-found}
+use Rattle.sftp_handles.proofs.Imports.{◌≡◌, refl, sym, subst, Some, option_map, Fstat, content_at, shown_content}
+use Rattle.sftp_handles.proofs.Imports.{State, shows}
+use Rattle.sftp_handles.proofs.OpenFiles.SeenAnswers.{none-holds, only-holds, said-found, shown-found}
 use Rattle.sftp_handles.proofs.sessions.Session.stat_open.Goals as goal
 
 pub returns-in-Ok-clause-free : goal.returns-in-Ok-clause-free

@@ -1,9 +1,7 @@
-use Rattle.std.proofs.Common.{◌≡◌, Some, subst}
+use Rattle.sftp_handles.proofs.Imports.{◌≡◌, Some, subst, IsFree, stat_ask, State, Good}
 use Rattle.sftp_tree.specs.Told as told
-use Rattle.sftp_tree.specs.Refusals.{IsFree, stat_ask}
 use Rattle.sftp_tree.specs.Refusals as of_tree
-use Rattle.sftp_handles.specs.State.{State, Good}
-use Rattle.sftp_handles.proofs.QueryReplies.{carries-stat, stat-refusal}
+use Rattle.sftp_handles.proofs.Judged.QueryReplies.{carries-stat, stat-refusal}
 use Rattle.sftp_handles.proofs.sessions.Session.stat_payload.Goals as goal
 
 pub returns-in-Ok-clause-carried : goal.returns-in-Ok-clause-carried

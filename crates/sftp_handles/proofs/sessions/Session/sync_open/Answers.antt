@@ -1,8 +1,6 @@
-use Rattle.std.proofs.Common.{refl, sym}
-use Rattle.sftp_packets.specs.declared.packets.Ask.TheVariants.{Fsync}
-use Rattle.sftp_tree.specs.Tree.{content_at}
-use Rattle.sftp_handles.proofs.SeenAnswers.{only-holds}
-use Rattle.sftp_handles.proofs.OpenChanges.{synced}
+use Rattle.sftp_handles.proofs.Imports.{refl, sym, Fsync, content_at}
+use Rattle.sftp_handles.proofs.OpenFiles.SeenAnswers.{only-holds}
+use Rattle.sftp_handles.proofs.OpenFiles.OpenChanges.{synced}
 use Rattle.sftp_handles.proofs.sessions.Session.sync_open.Goals as goal
 
 pub returns-in-Ok-clause-done : goal.returns-in-Ok-clause-done

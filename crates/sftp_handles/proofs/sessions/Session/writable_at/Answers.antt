@@ -1,12 +1,6 @@
-use Rattle.std.proofs.Common.{refl, subst, sym, ap, ◌∙◌, not}
-use Rattle.sftp_packets.specs.declared.packets.Ask.TheVariants.{Write}
-use Rattle.sftp_tree.specs.declared.causes.Cause.TheVariants.{NotOpenFor}
-use Rattle.sftp_tree.specs.Causes.{no_causes, when}
-use Rattle.sftp_tree.specs.FileChanges.{write_fits}
-use Rattle.sftp_tree.specs.Tree.{IsKept, HasFile, content_at, limits}
-use Rattle.sftp_handles.specs.State.{State}
-use Rattle.sftp_handles.specs.Found.{with_room, refusing, IsWritable}
-use Rattle.sftp_handles.proofs.SeenCauses.{write-found, write-room, lost, granted-room, granted-has}
+use Rattle.sftp_handles.proofs.Imports.{refl, subst, sym, ap, ◌∙◌, not, Write, NotOpenFor, no_causes, when, write_fits}
+use Rattle.sftp_handles.proofs.Imports.{IsKept, HasFile, content_at, limits, State, with_room, refusing, IsWritable}
+use Rattle.sftp_handles.proofs.OpenFiles.SeenCauses.{write-found, write-room, lost, granted-room, granted-has}
 use Rattle.sftp_handles.proofs.sessions.Session.writable_at.Goals as goal
 
 pub returns-in-Ok-clause-causes : goal.returns-in-Ok-clause-causes

@@ -1,8 +1,6 @@
-use Rattle.std.proofs.Common.{length, option_map, refl, sym, ap, ◌∙◌}
-use Rattle.sftp_packets.specs.declared.packets.Ask.TheVariants.{Write}
-use Rattle.sftp_tree.specs.Tree.{content_at}
+use Rattle.sftp_handles.proofs.Imports.{length, option_map, refl, sym, ap, ◌∙◌, Write, content_at}
 use Rattle.sftp_handles.specs.Ranges.{written_span, range_within}
-use Rattle.sftp_handles.proofs.RangedAsks.{range-found, range-unwritten, range-refused}
+use Rattle.sftp_handles.proofs.RangeLaws.RangedAsks.{range-found, range-unwritten, range-refused}
 use Rattle.sftp_handles.proofs.sessions.Session.write_range.Goals as goal
 
 pub returns-then-goes_to_end : goal.returns-then-goes_to_end

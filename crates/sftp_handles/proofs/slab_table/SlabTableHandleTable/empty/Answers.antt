@@ -1,6 +1,4 @@
-use Rattle.std.proofs.Common.{ap}
-use Rattle.sftp_path.specs.Table.{from_entries}
-use Rattle.sftp_handles.specs.Slots.{handles_from, slot_name}
+use Rattle.sftp_handles.proofs.Imports.{ap, from_entries, handles_from, slot_name}
 use Rattle.sftp_handles.proofs.slab_table.SlabTableHandleTable.empty.Goals as goal
 
 pub returns-clause-empty : goal.returns-clause-empty

@@ -1,6 +1,5 @@
-use Rattle.std.proofs.Common.{◌≡◌, ◌==◌, ◌∙◌, ap, if◌then◌else◌}
-use Rattle.sftp_handles.specs.Slots.{serial_before}
-use Rattle.sftp_handles.proofs.SlotTables.{first-bytes, given-newest, given-older}
+use Rattle.sftp_handles.proofs.Imports.{◌≡◌, ◌==◌, ◌∙◌, ap, if◌then◌else◌, serial_before}
+use Rattle.sftp_handles.proofs.HandleTables.SlotTables.{first-bytes, given-newest, given-older}
 use Rattle.sftp_handles.proofs.slab_table.SlabTableHandleTable.give_back.Goals as goal
 
 pub returns-clause-next : goal.returns-clause-next

@@ -1,4 +1,4 @@
-use Rattle.sftp_handles.proofs.SlotTables.{first-bytes}
+use Rattle.sftp_handles.proofs.HandleTables.SlotTables.{first-bytes}
 use Rattle.sftp_handles.proofs.slab_table.SlabTableHandleTable.take.Goals as goal
 
 pub returns-clause-next : goal.returns-clause-next

@@ -1,0 +1,7 @@
+-- The answers that this program gives.
+pub mod AnswersSpelled
+pub mod AnswersSteps
+pub mod LimitsAnswers
+pub mod ReadLimits
+pub mod NameReplies
+pub mod OpenReplies

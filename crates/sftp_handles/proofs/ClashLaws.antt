@@ -1,0 +1,4 @@
+-- Requests that do not conflict.
+pub mod Touches
+pub mod Barriers
+pub mod Exchanges

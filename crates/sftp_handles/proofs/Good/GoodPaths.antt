@@ -1,0 +1,255 @@
+-- Good states: that requests on paths leave a good state good.
+use Rattle.sftp_handles.proofs.Imports.{◌≡◌, ◌==◌, not, nat_lt, nat_le, ℕ, ◌+◌, ◌≤◌, Bool, true, false, length}
+use Rattle.sftp_handles.proofs.Imports.{if◌then◌else◌, List, Option, Some, None, Result, Ok, Err, leb-true, refl, sym}
+use Rattle.sftp_handles.proofs.Imports.{ap, subst, ◌∙◌, IsTrue, arith, is_some, nat_list_cmp_total, and_parts, eqb-true}
+use Rattle.sftp_handles.proofs.Imports.{same_Some, Attrs, Ask, Answer, handle_limit, IsAsk, Place, bytes_cmp, place_cmp}
+use Rattle.sftp_handles.proofs.Imports.{size, bytes_cmp-same, place_cmp-same, place_cmp-total, InOrder-put, size-put}
+use Rattle.sftp_handles.proofs.Imports.{get-put_here, Cause, Unknown, listing, Content, Node, Tree, Files, Pins, IsNode}
+use Rattle.sftp_handles.proofs.Imports.{HasFile, node_at, content_at, limits, is_pinned, times_pinned, with_pin, one_if}
+use Rattle.sftp_handles.proofs.Imports.{truncates, no_causes, is_none, when, Told, done, led, led_to, told_at, outcome}
+use Rattle.sftp_handles.proofs.Imports.{IsFree, each-get, each-put, pins-stay, limits-stay, Stands, outcome-is}
+use Rattle.sftp_handles.proofs.Imports.{none-each, PathsLeadWell, outcome-stands, Opened, File, Listing, Left, open_at}
+use Rattle.sftp_handles.proofs.Imports.{with_open, is_open, pins_of, kept_flags, State, Good, settled, IsOpen, IsHandle}
+use Rattle.sftp_handles.proofs.Imports.{IsLeft, has_handle_left, is_new_handle, says, causes, answers, after}
+use Rattle.sftp_handles.proofs.Imports.{with_handle_room, told_to, said_by, flags_of, opened_by, with_new}
+use Rattle.sftp_packets.specs.declared.packets.Ask.TheVariants.{Open, Opendir}
+use Rattle.sftp_packets.specs.declared.packets.Answer.TheVariants as replies
+use Rattle.sftp_packets.specs.declared.packets.Ask.TheVariants as asks
+use Rattle.sftp_tree.specs.declared.nodes.Node.TheVariants as nodes
+use Rattle.sftp_tree.specs.Changes.{with_opened, with_emptied_file}
+use Rattle.sftp_tree.specs.Requests.{file, number_at}
+use Rattle.sftp_tree.specs.Requests as paths
+use Rattle.sftp_handles.proofs.Good.Pins.{pin-times, pins-open_file, pins-open_listing}
+use Rattle.sftp_handles.proofs.Good.GoodSteps.{room-of, good-through}
+use Rattle.sftp_handles.proofs.Good.GoodStates.{OpensExist, pinned-exist, good-by}
+use Rattle.sftp_handles.proofs.Answered.LimitsAnswers.{limits-still}
+
+not-open : (o : Option Opened) → not (is_some o) ≡ true → o ≡ None
+not-open None is = refl
+not-open (Some it) is = absurd cc
+
+-- ---- nothing is opened
+
+module _ (paths-lead : PathsLeadWell) (s : State) (ask : Ask) (good : Good s) (fit : IsAsk ask)
+    (free : IsFree s.tree ask) where
+  stands : Stands (outcome s.tree ask)
+  stands = outcome-stands paths-lead s.tree ask good.tree.well_formed good.tree.within_limits fit free
+
+  -- the files that are open exist still
+  opens-left : OpensExist (outcome s.tree ask).files s.handles
+  opens-left = pinned-exist (outcome s.tree ask) s.handles stands.well_formed (pins-stay s.tree ask ∙ good.pinned)
+
+  same-few : (n : ℕ) → nat_le n (limits s.tree).open_handles ≡ true
+      → nat_le n (limits (outcome s.tree ask)).open_handles ≡ true
+  same-few n few = ap (λ bounds. nat_le n bounds.open_handles) (limits-stay s.tree ask) ∙ few
+
+  pub good-plain : Good (settled (outcome s.tree ask) s.handles)
+  good-plain =
+      good-by (outcome s.tree ask) s.handles stands.well_formed stands.within_limits opens-left
+      good.ordered good.handles (same-few (size s.handles) good.few)
+
+  -- ---- something is opened under a new handle
+
+  module _ (handle : List ℕ) (it : Opened) (short : length handle ≤ handle_limit)
+      (absent : open_at s.handles handle ≡ None)
+      (room : nat_le (size s.handles + 1) (limits s.tree).open_handles ≡ true)
+      (is_open : IsOpen it)
+      (exist : OpensExist (outcome s.tree ask).files (with_open s.handles handle it)) where
+    pub good-opened : Good (settled (outcome s.tree ask) (with_open s.handles handle it))
+    good-opened =
+        good-by (outcome s.tree ask) (with_open s.handles handle it) stands.well_formed stands.within_limits exist
+        (InOrder-put bytes_cmp nat_list_cmp_total s.handles handle it good.ordered)
+        (each-put bytes_cmp bytes_cmp-same nat_list_cmp_total IsHandle s.handles handle it good.ordered
+        (short, is_open) good.handles)
+        (same-few (size (with_open s.handles handle it))
+        (ap (λ n. nat_le n (limits s.tree).open_handles) (size-put bytes_cmp s.handles handle it absent) ∙ room))
+
+-- ---- OPEN
+
+-- the place that OPEN led to has a name of the file that is opened
+pub opened-named : (t : Tree) (pflags : ℕ) (attrs : Attrs) (place : Place) (found : Option Node)
+    → node_at t.names place ≡ found → (n : ℕ) → number_at t found ≡ Some n
+    → node_at (with_opened t pflags attrs place found).names place ≡ Some (nodes.File n)
+opened-named t pflags attrs place None there n is =
+    subst (λ m. node_at (with_opened t pflags attrs place None).names place ≡ Some (nodes.File m))
+    (same_Some t.made n is)
+    (get-put_here place_cmp place_cmp-total t.names place (nodes.File t.made))
+opened-named t pflags attrs place (Some (nodes.File m)) there n is =
+    let same : node_at t.names place ≡ Some (nodes.File n) = there ∙ ap (λ k. Some (nodes.File k)) (same_Some m n is) in
+    by (truncates pflags) (content_at t.files m) same
+  where
+    by : (b : Bool) (content : Option Content) → node_at t.names place ≡ Some (nodes.File n)
+        → node_at (if b then with_emptied_file t m content else t).names place ≡ Some (nodes.File n)
+    by true None same = same
+    by true (Some content) same = same
+    by false content same = same
+opened-named t pflags attrs place (Some (nodes.Dir owner)) there n is = absurd cc
+opened-named t pflags attrs place (Some (nodes.Link linktarget)) there n is = absurd cc
+
+-- a file that is pinned once more exists, if it does and the others do
+exist-with_pin : (files : Files) (pins : Pins) (m : ℕ) → HasFile files m
+    → ((number : ℕ) → IsTrue (is_pinned pins number) → HasFile files number)
+    → (number : ℕ) → IsTrue (is_pinned (with_pin pins m) number) → HasFile files number
+exist-with_pin files pins m here others number pinned =
+    by (number == m) refl (ap (nat_lt 0) (sym (pin-times pins m number)) ∙ pinned)
+  where
+    by : (b : Bool) → (number == m) ≡ b → nat_lt 0 (one_if b + times_pinned pins number) ≡ true → HasFile files number
+    by true is more = subst (HasFile files) (sym (eqb-true number m is)) here
+    by false is more =
+        let none : times_pinned pins number ≡ one_if false + times_pinned pins number = omega arith in
+        others number (ap (nat_lt 0) none ∙ more)
+
+module _ (paths-lead : PathsLeadWell) (s : State) (path : List ℕ) (pflags : ℕ) (attrs : Attrs) (good : Good s)
+    (fit : IsAsk (Open path pflags attrs))
+    (free : is_none (with_handle_room s (paths.causes s.tree (Open path pflags attrs))) ≡ true) where
+  abbrev ask : Ask
+  ask = Open path pflags attrs
+
+  plain : Good (settled (outcome s.tree ask) s.handles)
+  plain = good-plain paths-lead s ask good fit (room-of (paths.causes s.tree ask) (has_handle_left s) free).0
+
+  file-there : (place : Place) (n : ℕ) → led s.tree ask ≡ Some (Ok place)
+      → number_at s.tree (node_at s.tree.names place) ≡ Some n → HasFile (outcome s.tree ask).files n
+  file-there place n leads is =
+      let is_free = (room-of (paths.causes s.tree ask) (has_handle_left s) free).0 in
+      let well = (stands paths-lead s ask good fit is_free).well_formed in
+      let there = ap (λ (t : Tree). node_at t.names place) (outcome-is s.tree ask (Some (Ok place)) None leads refl)
+      ∙ opened-named s.tree pflags attrs place (node_at s.tree.names place) refl n is in
+      each-get place_cmp place_cmp-same (λ e. IsNode (outcome s.tree ask).files e.1) (outcome s.tree ask).names place
+      (nodes.File n) well.nodes there
+
+  open-file : (place : Place) (n : ℕ) (answer : Answer) → led s.tree ask ≡ Some (Ok place)
+      → number_at s.tree (node_at s.tree.names place) ≡ Some n → is_new_handle s.handles answer ≡ true
+      → Good (settled (outcome s.tree ask) (with_new s.handles (Some (File n (kept_flags pflags))) answer))
+  open-file place n (replies.Handle handle) leads is new =
+      let parts = and_parts (nat_le (length handle) handle_limit) (not (is_open s.handles handle)) new in
+      let room = room-of (paths.causes s.tree ask) (has_handle_left s) free in
+      let absent = not-open (open_at s.handles handle) parts.1 in
+      let same = pins-open_file s.handles handle n (kept_flags pflags) absent in
+      good-opened paths-lead s ask good fit room.0 handle (File n (kept_flags pflags))
+      (leb-true (length handle) handle_limit parts.0) absent room.1 tt
+      (λ number pinned.
+      exist-with_pin (outcome s.tree ask).files (pins_of s.handles) n (file-there place n leads is)
+      (opens-left paths-lead s ask good fit room.0) number (ap (λ pins. is_pinned pins number) (sym same) ∙ pinned))
+  open-file place n other leads is new = plain
+
+  open-number : (place : Place) (answer : Answer) (number : Option ℕ) → led s.tree ask ≡ Some (Ok place)
+      → number_at s.tree (node_at s.tree.names place) ≡ number → is_new_handle s.handles answer ≡ true
+      → Good (settled (outcome s.tree ask) (with_new s.handles (opened_by pflags (file number)) answer))
+  open-number place answer None leads is new = plain
+  open-number place answer (Some n) leads is new = open-file place n answer leads is new
+
+  open-led : (answer : Answer) (end : Option (Result Place Cause)) → led s.tree ask ≡ end
+      → says (said_by s.handles (led_to done end (told_at s.tree ask))) answer ≡ true
+      → Good (settled (outcome s.tree ask)
+      (with_new s.handles (opened_by pflags (led_to done end (told_at s.tree ask))) answer))
+  open-led answer None leads answered = plain
+  open-led answer (Some (Err cause)) leads answered = plain
+  open-led answer (Some (Ok place)) leads answered =
+      open-number place answer (number_at s.tree (node_at s.tree.names place)) leads refl answered
+
+  pub good-open : (answer : Answer) → says (said_by s.handles (told_to s.tree ask)) answer ≡ true
+      → Good (settled (outcome s.tree ask) (with_new s.handles (opened_by pflags (told_to s.tree ask)) answer))
+  unfolding told_to
+  good-open answer = open-led answer (led s.tree ask) refl
+
+-- ---- OPENDIR
+
+-- what the listing of each directory gives at first can be given
+abbrev pub ListingsFit : Tree → Type 0
+ListingsFit t = (place : Place) → IsLeft (listing t place)
+
+module _ (paths-lead : PathsLeadWell) (s : State) (listings-fit : ListingsFit s.tree) (path : List ℕ)
+    (good : Good s)
+    (fit : IsAsk (Opendir path))
+    (free : is_none (with_handle_room s (paths.causes s.tree (Opendir path))) ≡ true) where
+  abbrev list_ask : Ask
+  list_ask = Opendir path
+
+  list-plain : Good (settled (outcome s.tree list_ask) s.handles)
+  list-plain =
+      good-plain paths-lead s list_ask good fit
+      (room-of (paths.causes s.tree list_ask) (has_handle_left s) free).0
+
+  open-listing : (left : Left) (answer : Answer) → IsLeft left → is_new_handle s.handles answer ≡ true
+      → Good (settled (outcome s.tree list_ask) (with_new s.handles (Some (Listing left)) answer))
+  open-listing left (replies.Handle handle) is new =
+      let parts = and_parts (nat_le (length handle) handle_limit) (not (is_open s.handles handle)) new in
+      let room = room-of (paths.causes s.tree list_ask) (has_handle_left s) free in
+      let absent = not-open (open_at s.handles handle) parts.1 in
+      let same = pins-open_listing s.handles handle left absent in
+      good-opened paths-lead s list_ask good fit room.0 handle (Listing left)
+      (leb-true (length handle) handle_limit parts.0) absent room.1 is
+      (λ number pinned.
+      opens-left paths-lead s list_ask good fit room.0 number (ap (λ pins. is_pinned pins number) (sym same) ∙ pinned))
+  open-listing left other is new = list-plain
+
+  list-led : (answer : Answer) (end : Option (Result Place Cause)) → led s.tree list_ask ≡ end
+      → says (said_by s.handles (led_to done end (told_at s.tree list_ask))) answer ≡ true
+      → Good (settled (outcome s.tree list_ask)
+      (with_new s.handles (opened_by 0 (led_to done end (told_at s.tree list_ask))) answer))
+  list-led answer None leads answered = list-plain
+  list-led answer (Some (Err cause)) leads answered = list-plain
+  list-led answer (Some (Ok place)) leads answered =
+      open-listing (listing s.tree place) answer (listings-fit place) answered
+
+  pub good-list : (answer : Answer) → says (said_by s.handles (told_to s.tree list_ask)) answer ≡ true
+      → Good (settled (outcome s.tree list_ask) (with_new s.handles (opened_by 0 (told_to s.tree list_ask)) answer))
+  unfolding told_to
+  good-list answer = list-led answer (led s.tree list_ask) refl
+
+-- ---- each request
+
+unknown : when no_causes Unknown true Unknown ≡ false → ⊥
+unfolding when no_causes
+unknown is = cc
+
+-- a request that opens nothing
+opens-none : (flags : ℕ) (at : Place → Told) → ((place : Place) → opened_by flags (at place) ≡ None)
+    → (end : Option (Result Place Cause)) → opened_by flags (led_to done end at) ≡ None
+opens-none flags at none None = refl
+opens-none flags at none (Some (Ok place)) = none place
+opens-none flags at none (Some (Err cause)) = refl
+
+with-none : (s : State) (o : Option Opened) (answer : Answer) → o ≡ None → with_new s.handles o answer ≡ s.handles
+with-none s None answer is = refl
+with-none s (Some it) answer is = absurd cc
+
+good-other : PathsLeadWell → (s : State) (ask : Ask) (answer : Answer) → Good s → IsAsk ask → IsFree s.tree ask
+    → ((place : Place) → opened_by (flags_of ask) (told_at s.tree ask place) ≡ None)
+    → Good (settled (outcome s.tree ask) (with_new s.handles (opened_by (flags_of ask) (told_to s.tree ask)) answer))
+unfolding told_to
+good-other paths-lead s ask answer good fit free none =
+    subst (λ handles. Good (settled (outcome s.tree ask) handles))
+    (sym (with-none s (opened_by (flags_of ask) (told_to s.tree ask)) answer
+    (opens-none (flags_of ask) (told_at s.tree ask) none (led s.tree ask))))
+    (good-plain paths-lead s ask good fit free)
+
+pub good-after : PathsLeadWell → (s : State) (ask : Ask) (answer : Answer)
+    → ListingsFit s.tree → Good s → IsAsk ask
+    → is_none (causes s ask) ≡ true → answers s ask answer ≡ true → Good (after s ask answer)
+unfolding causes answers after
+good-after paths-lead s (Open path pflags attrs) answer lists good fit free answered =
+    good-open paths-lead s path pflags attrs good fit free answer answered
+good-after paths-lead s (Opendir path) answer lists good fit free answered =
+    good-list paths-lead s lists path good fit free answer answered
+good-after paths-lead s (asks.Unknown extension rest) answer lists good fit free answered =
+    absurd (let one = none-each (when no_causes Unknown true) free Unknown in unknown one)
+good-after paths-lead s asks.Limits answer lists good fit free answered =
+    subst Good (sym (limits-still s answer good)) good
+good-after paths-lead s (asks.Close handle) answer lists good fit free answered =
+    good-through s (asks.Close handle) handle answer good fit free
+good-after paths-lead s (asks.Read handle offset len) answer lists good fit free answered =
+    good-through s (asks.Read handle offset len) handle answer good fit free
+good-after paths-lead s (asks.Write handle offset bytes) answer lists good fit free answered =
+    good-through s (asks.Write handle offset bytes) handle answer good fit free
+good-after paths-lead s (asks.Fstat handle) answer lists good fit free answered =
+    good-through s (asks.Fstat handle) handle answer good fit free
+good-after paths-lead s (asks.Fsetstat handle attrs) answer lists good fit free answered =
+    good-through s (asks.Fsetstat handle attrs) handle answer good fit free
+good-after paths-lead s (asks.Readdir handle) answer lists good fit free answered =
+    good-through s (asks.Readdir handle) handle answer good fit free
+good-after paths-lead s (asks.Fsync handle) answer lists good fit free answered =
+    good-through s (asks.Fsync handle) handle answer good fit free
+good-after paths-lead s other answer lists good fit free answered =
+    good-other paths-lead s other answer good fit free (λ place. refl)

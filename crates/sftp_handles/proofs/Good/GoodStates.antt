@@ -1,0 +1,205 @@
+-- Good states: that a step of a request through a handle keeps a state good.
+use Rattle.sftp_handles.proofs.Imports.{◌≡◌, not, nat_lt, nat_le, ℕ, zero, suc, ◌+◌, ◌≤◌, Bool, true, false, cond, List}
+use Rattle.sftp_handles.proofs.Imports.{Option, Some, None, unwrap_or, ◌↔◌, refl, sym, ap, subst, ◌∙◌, arith, IsTrue}
+use Rattle.sftp_handles.proofs.Imports.{nat_cmp, is_eq, AllByRecursion, nat_cmp_total, nat_list_cmp_total}
+use Rattle.sftp_handles.proofs.Imports.{nat_cmp-IsAntisymmetric, lt-ltb, Name, bytes_cmp, name_cmp, InOrder, get, size}
+use Rattle.sftp_handles.proofs.Imports.{bytes_cmp-same, InOrder-put, InOrder-retain, InOrder-without, size-put_present}
+use Rattle.sftp_handles.proofs.Imports.{size-without, get-without, get-put_here, count-without, Content, Tree, Files}
+use Rattle.sftp_handles.proofs.Imports.{Pins, WellFormed, IsPin, HasFile, IsContent, content_at, with_content}
+use Rattle.sftp_handles.proofs.Imports.{times_pinned, is_pinned, limits, fits, trim, content_fits, each-get, get-each}
+use Rattle.sftp_handles.proofs.Imports.{each-put, each-retain, each-all, trimmed-already, fits-parts, fits-from, Open}
+use Rattle.sftp_handles.proofs.Imports.{Listing, Left, Handles, open_at, with_open, without_open, opens_file, pins_of}
+use Rattle.sftp_handles.proofs.Imports.{State, settled, Good, IsHandle, IsLeft, IsItem, struck, is_among}
+use Rattle.std.proofs.lemmas.Bool.Decides.{nat_tests}
+use Rattle.sftp_tree.proofs.KeptTrees.Trims.{kept-trim}
+use Rattle.sftp_tree.proofs.KeptTrees.Values.{well-formed-content, node-content}
+use Rattle.sftp_tree.proofs.Limits.Changes.{files-again}
+use Rattle.sftp_tree.specs.declared.nodes.Node.TheVariants as nodes
+use Rattle.sftp_handles.proofs.Good.Pins.{pins-times, pins-order, pins-positive, pins-listing_again}
+
+-- ---- a good state is settled
+
+abbrev state_of : Tree → Handles → State
+state_of t handles = record { tree = t; handles = handles }
+
+with_pins_of : Tree → Pins → Tree
+with_pins_of t pins = record t { pins = pins }
+
+pub good-settled : (s : State) → Good s → settled s.tree s.handles ≡ s
+unfolding with_pins_of
+good-settled s good =
+    ap (λ pins. state_of (trim (with_pins_of s.tree pins)) s.handles) (sym good.pinned)
+    ∙ ap (λ t. state_of t s.handles) (trimmed-already s.tree good.tree.trimmed)
+
+-- ---- the files that are open exist
+
+-- each file that is open exists
+abbrev pub OpensExist : Files → Handles → Type 0
+OpensExist files handles = (number : ℕ) → IsTrue (is_pinned (pins_of handles) number) → HasFile files number
+
+pinned-found : (found : Option ℕ) → nat_lt 0 (unwrap_or found 0) ≡ true → (often : ℕ) × (found ≡ Some often)
+pinned-found None is = absurd cc
+pinned-found (Some often) is = (often, refl)
+
+-- the files that are pinned exist in each tree
+pub pinned-exist : (t : Tree) (handles : Handles) → WellFormed t → t.pins ≡ pins_of handles
+    → OpensExist t.files handles
+pinned-exist t handles well same number pinned =
+    let found = pinned-found (get nat_cmp (pins_of handles) number) pinned in
+    let pins = subst (λ pins. AllByRecursion (λ e. IsPin t.files e) pins) same well.pinned in
+    (each-get nat_cmp nat_cmp-IsAntisymmetric (λ e. IsPin t.files e) (pins_of handles) number found.0 pins found.1).1
+
+pub good-opens : (s : State) → Good s → OpensExist s.tree.files s.handles
+good-opens s good = pinned-exist s.tree s.handles good.tree.well_formed good.pinned
+
+pins-exist : (files : Files) (handles : Handles) → OpensExist files handles
+    → AllByRecursion (λ e. IsPin files e) (pins_of handles)
+pins-exist files handles exist =
+    get-each nat_cmp nat_cmp-IsAntisymmetric nat_cmp_total (λ e. IsPin files e) (pins_of handles) (pins-order handles)
+    (λ number often there.
+    let more = pins-positive handles number often there in
+    (more, exist number (ap (λ o. nat_lt 0 (unwrap_or o 0)) there ∙ lt-ltb 0 often more)))
+
+-- ---- a state that is settled is good
+
+well-pinned : (t : Tree) (handles : Handles) → WellFormed t → OpensExist t.files handles
+    → WellFormed (record t { pins = pins_of handles })
+well-pinned t handles well exist = record {
+  ordered = well.ordered;
+  named = well.named;
+  nodes = well.nodes;
+  root = well.root;
+  parents = well.parents;
+  numbered = well.numbered;
+  contents = well.contents;
+  given = well.given;
+  pins = pins-order handles;
+  pinned = pins-exist t.files handles exist;
+  limits = well.limits;
+  home = well.home;
+  uid = well.uid;
+  gid = well.gid;
+}
+
+pub good-by : (t : Tree) (handles : Handles) → WellFormed t → IsTrue (fits t) → OpensExist t.files handles
+    → InOrder bytes_cmp handles → AllByRecursion IsHandle handles
+    → IsTrue (nat_le (size handles) (limits t).open_handles) → Good (settled t handles)
+unfolding fits
+good-by t handles well within exist order each few = record {
+  tree = kept-trim (record t { pins = pins_of handles }) (well-pinned t handles well exist) within;
+  pinned = refl;
+  ordered = order;
+  handles = each;
+  few = few;
+}
+
+-- nothing changes
+pub good-again : (s : State) → Good s → Good (settled s.tree s.handles)
+good-again s good = subst Good (sym (good-settled s good)) good
+
+-- a tree with another content of a file is within the limits, if the content is
+content-within : (t : Tree) (number : ℕ) (next : Content) → IsTrue (fits t) → IsTrue (content_fits (limits t) next)
+    → IsTrue (fits (record t { files = with_content t.files number next }))
+content-within t number next within room =
+    let parts = fits-parts t within in
+    fits-from (record t { files = with_content t.files number next }) (record {
+      entries = parts.entries;
+      depths = parts.depths;
+      home = parts.home;
+      links = parts.links;
+      files = files-again t number next parts.files room;
+      numbers = parts.numbers;
+    })
+
+-- and only then
+content-fits : (t : Tree) (number : ℕ) (next : Content)
+    → IsTrue (fits (record t { files = with_content t.files number next })) → IsTrue (content_fits (limits t) next)
+content-fits t number next within =
+    let parts = fits-parts (record t { files = with_content t.files number next }) within in
+    let test = λ (e : ℕ × Content). content_fits (limits t) e.1 in
+    each-get nat_cmp nat_cmp-IsAntisymmetric (λ e. IsTrue (test e)) (with_content t.files number next) number next
+    (each-all test (with_content t.files number next) parts.files)
+    (get-put_here nat_cmp nat_cmp_total t.files number next)
+
+pub content-room : (t : Tree) (number : ℕ) (next : Content) → IsTrue (fits t)
+    → IsTrue (fits (record t { files = with_content t.files number next })) ↔ IsTrue (content_fits (limits t) next)
+content-room t number next within = (content-fits t number next, content-within t number next within)
+
+-- a file has another content
+pub good-rewritten : (s : State) (number : ℕ) (before next : Content) → Good s
+    → content_at s.tree.files number ≡ Some before → IsContent next → IsTrue (content_fits (limits s.tree) next)
+    → Good (settled (record s.tree { files = with_content s.tree.files number next }) s.handles)
+good-rewritten s number before next good there is_content room =
+    good-by (record s.tree { files = with_content s.tree.files number next }) s.handles
+    (well-formed-content s.tree number before next good.tree.well_formed there is_content)
+    (content-within s.tree number next good.tree.within_limits room)
+    (λ other pinned.
+    node-content s.tree.files number next (nodes.File other) (good-opens s good other pinned))
+    good.ordered good.handles good.few
+
+-- a listing has given names
+pub left-struck : (left : Left) (names : List Name) → IsLeft left → IsLeft (struck left names)
+left-struck left names is = record {
+  ordered = InOrder-retain name_cmp left (λ e. not (is_among e.0 names)) is.ordered;
+  items =
+      each-retain IsItem IsItem left (λ e. not (is_among e.0 names)) (λ e item kept. item) is.items;
+}
+
+pub good-listing : (s : State) (handle : List ℕ) (before left : Left) → Good s
+    → open_at s.handles handle ≡ Some (Listing before) → IsLeft left
+    → Good (settled s.tree (with_open s.handles handle (Listing left)))
+good-listing s handle before left good there is_left =
+    let same = pins-listing_again s.handles handle before left good.ordered there in
+    let old : IsHandle (handle, Listing before) =
+    each-get bytes_cmp bytes_cmp-same IsHandle s.handles handle (Listing before) good.handles there in
+    good-by s.tree (with_open s.handles handle (Listing left)) good.tree.well_formed good.tree.within_limits
+    (λ number pinned. good-opens s good number (ap (λ pins. is_pinned pins number) (sym same) ∙ pinned))
+    (InOrder-put bytes_cmp nat_list_cmp_total s.handles handle (Listing left) good.ordered)
+    (each-put bytes_cmp bytes_cmp-same nat_list_cmp_total IsHandle s.handles handle (Listing left) good.ordered
+    (old.0, is_left) good.handles)
+    (ap (λ n. nat_le n (limits s.tree).open_handles)
+    (size-put_present bytes_cmp nat_list_cmp_total s.handles handle (Listing left) (Listing before) good.ordered there)
+    ∙ good.few)
+
+-- ---- a handle is closed
+
+found-before : (b : Bool) (o : Option Open) (it : Open) → cond b None o ≡ Some it → o ≡ Some it
+found-before true o it e = absurd cc
+found-before false o it e = e
+
+each-left : (handles : Handles) (handle : List ℕ) → InOrder bytes_cmp handles → AllByRecursion IsHandle handles
+    → AllByRecursion IsHandle (without_open handles handle)
+each-left handles handle order each =
+    get-each bytes_cmp bytes_cmp-same nat_list_cmp_total IsHandle (without_open handles handle)
+    (InOrder-without bytes_cmp handles handle order)
+    (λ at it there.
+    each-get bytes_cmp bytes_cmp-same IsHandle handles at it each
+    (found-before (is_eq (bytes_cmp handle at)) (open_at handles at) it
+    (sym (get-without bytes_cmp nat_list_cmp_total handles handle at order) ∙ there)))
+
+fewer-pins : (n m : ℕ) → m ≤ n → nat_lt 0 m ≡ true → nat_lt 0 n ≡ true
+fewer-pins zero zero less is = is
+fewer-pins (suc n) m less is = lt-ltb 0 (suc n) (omega arith)
+fewer-pins zero (suc m) less is = absurd (omega (arith, less))
+
+less-pinned : (handles : Handles) (handle : List ℕ) (it : Open) (number : ℕ) → open_at handles handle ≡ Some it
+    → IsTrue (is_pinned (pins_of (without_open handles handle)) number) → IsTrue (is_pinned (pins_of handles) number)
+less-pinned handles handle it number there pinned =
+    let before = pins-times handles number in
+    let after = pins-times (without_open handles handle) number in
+    let less = count-without bytes_cmp handles handle it (opens_file number) there in
+    fewer-pins (times_pinned (pins_of handles) number) (times_pinned (pins_of (without_open handles handle)) number)
+    (omega (arith, before, after, less)) pinned
+
+fewer-handles : (n m limit : ℕ) → m + 1 ≡ n → nat_le n limit ≡ true → nat_le m limit ≡ true
+fewer-handles n m limit less fit = grind (arith, nat_tests)
+
+pub good-closed : (s : State) (handle : List ℕ) (it : Open) → Good s → open_at s.handles handle ≡ Some it
+    → Good (settled s.tree (without_open s.handles handle))
+good-closed s handle it good there =
+    good-by s.tree (without_open s.handles handle) good.tree.well_formed good.tree.within_limits
+    (λ number pinned. good-opens s good number (less-pinned s.handles handle it number there pinned))
+    (InOrder-without bytes_cmp s.handles handle good.ordered)
+    (each-left s.handles handle good.ordered good.handles)
+    (fewer-handles (size s.handles) (size (without_open s.handles handle)) (limits s.tree).open_handles
+    (size-without bytes_cmp s.handles handle it there) good.few)

@@ -1,0 +1,6 @@
+-- Tables of handles.
+pub mod GivenTables
+pub mod SlotTables
+pub mod NewHandles
+pub mod HandleRoom
+pub mod Swaps

@@ -1,0 +1,7 @@
+-- Requests on ranges of files that do not conflict.
+pub mod RangedAsks
+pub mod RangedSteps
+pub mod RangeExchanges
+pub mod SteadyRanges
+pub mod RangesKept
+pub mod Overwrites

@@ -1,0 +1,80 @@
+//! Requests whose reply says OK.
+ghost use Rattle.std.specs.Prelude.{◌≡◌, None, IsTrue, IfOk, IfErr, OnOk, OnErr};
+ghost use Rattle.sftp_handles.specs.declared.kinds.Kind.TheVariants.{Change};
+ghost use Rattle.sftp_handles.specs.Kinds as kinds;
+ghost use Rattle.sftp_handles.specs.Judged.{IsJudged, IsDone, IsRefusal, changes_tree, is_done, refusal_code};
+
+use crate::answer::forms::has_code;
+use crate::sessions::Session;
+use crate::tables::HandleTable;
+use sftp_tree::{NoMemory, Refused};
+use sftp_wire::{Answer, Ask};
+
+impl<T: HandleTable> Session<T> {
+    /// Whether an answer to a change is allowed: it is done, and the answer says OK.
+    ///
+    /// # Errors
+    ///
+    /// `NoMemory` if memory runs out; the session is unchanged.
+    pub(crate) fn judge_change(&mut self, ask: &Ask, answer: &Answer) -> Result<bool, NoMemory>
+        requires kind { kinds.kind_of ask.now ≡ Change }
+        requires unlike { refusal_code answer.now ≡ None }
+        ensures ok { IfOk result (λ ok. IsJudged self.old ask.now answer.now ok self.new) }
+        ensures err { OnErr result (self.new ≡ self.old) }
+    {
+        if !has_code(answer, 0) {
+            return Ok(false);
+        }
+        is_done(self.do_ok(ask))
+    }
+
+    /// Does a request whose reply says OK.
+    ///
+    /// # Errors
+    ///
+    /// `Cause` with the first cause that holds. `NoMemory` if memory runs out. On error the session is unchanged.
+    pub(crate) fn do_ok(&mut self, ask: &Ask) -> Result<(), Refused>
+        requires { kinds.kind_of ask.now ≡ Change }
+        ensures done { OnOk result (IsDone self.old ask.now self.new) }
+        ensures refused { IfErr result (IsRefusal self.old ask.now) }
+        ensures kept { OnErr result (self.new ≡ self.old) }
+    {
+        match ask {
+            Ask::Close { handle } => self.close(handle.as_slice()),
+            Ask::Write {
+                handle,
+                offset,
+                bytes,
+            } => self.write_open(handle.as_slice(), *offset, bytes.as_slice()),
+            Ask::Fsetstat { handle, attrs } => self.set_open(handle.as_slice(), attrs),
+            Ask::Fsync { handle } => self.sync_open(handle.as_slice()),
+            _ => self.change_tree(ask),
+        }
+    }
+
+    /// Does a request that changes the tree, and removes the files that nothing holds any more.
+    ///
+    /// # Errors
+    ///
+    /// `Cause` with the first cause that holds. `NoMemory` if memory runs out. On error the session is unchanged.
+    fn change_tree(&mut self, ask: &Ask) -> Result<(), Refused>
+        requires { IsTrue (changes_tree ask.now) }
+        ensures done { OnOk result (IsDone self.old ask.now self.new) }
+        ensures refused { IfErr result (IsRefusal self.old ask.now) }
+        ensures kept { OnErr result (self.new ≡ self.old) }
+    {
+        self.tree.carry_out(ask)?;
+        Ok(())
+    }
+}
+
+/// Whether a call was done, and not refused by a cause.
+fn is_done(outcome: Result<(), Refused>) -> Result<bool, NoMemory>
+    ensures { result ≡ is_done outcome }
+{
+    match outcome {
+        Ok(()) => Ok(true),
+        Err(Refused::Cause(_)) => Ok(false),
+        Err(Refused::NoMemory) => Err(NoMemory),
+    }
+}

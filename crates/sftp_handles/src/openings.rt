@@ -1,0 +1,217 @@
+//! OPEN and OPENDIR (draft, sections 6.3 and 6.7).
+ghost use Rattle.std.specs.Prelude.{◌≡◌, ◌≤◌, ◌&&◌, None, length, nat_le, IsTrue, IfOk, IfErr, OnErr};
+ghost use Rattle.sftp_packets.specs.Spelling.{AreBytes, handle_limit};
+ghost use Rattle.sftp_packets.specs.declared.packets.Ask.{Ask as ask};
+ghost use Rattle.sftp_packets.specs.declared.packets.Ask.TheVariants as asks;
+ghost use Rattle.sftp_packets.specs.declared.packets.Answer.TheVariants as replies;
+ghost use Rattle.sftp_handles.specs.declared.not_opened.NotOpened.TheVariants as failures;
+ghost use Rattle.sftp_handles.specs.declared.opens.Open.TheVariants as opens;
+ghost use Rattle.sftp_handles.specs.declared.kinds.Kind.TheVariants as variants;
+ghost use Rattle.sftp_handles.specs.Kinds as kinds;
+ghost use Rattle.sftp_handles.specs.Handles as handles;
+ghost use Rattle.sftp_handles.specs.State.{IsLeft, has_handle_left};
+ghost use Rattle.sftp_handles.specs.Allowed.{Does};
+ghost use Rattle.sftp_handles.specs.Judged.{IsJudged};
+ghost use Rattle.sftp_handles.specs.Opening.{IsNotOpened, not_opened};
+
+use crate::listing::Listing;
+use crate::listing::items::listing_of;
+use crate::not_opened::NotOpened;
+use crate::opens::Open;
+use crate::sessions::Session;
+use crate::tables::{HandleTable, PutError};
+use bitflags::Flags;
+use sftp_tree::{FileNo, NoMemory, Refused};
+use sftp_wire::{Ask, Attrs, HANDLE_LIMIT, OpenFlags};
+
+impl<T: HandleTable> Session<T> {
+    /// OPEN and OPENDIR: opens a file, or a listing of a directory, under a new handle, and returns the handle's name.
+    /// A table that gives names of its own ignores the one that is wanted.
+    ///
+    /// # Errors
+    ///
+    /// `Taken` if the wanted name is open already, and else as the tree's call. On error the session is unchanged.
+    pub(crate) fn open_for(&mut self, ask: &Ask, want: Vec<u8>) -> Result<Vec<u8>, NotOpened>
+        requires kind { kinds.kind_of ask.now ≡ variants.Open }
+        requires short { length want.items ≤ handle_limit }
+        requires room { IsTrue (has_handle_left self.old) }
+        ensures done { IfOk result (λ name. Does self.old ask.now (replies.Handle name.items) self.new) }
+        ensures bytes { IfOk result (λ name. AreBytes name.items) }
+        ensures wanted { IfOk result (λ name. IsTrue T.takes_want → name.items ≡ want.items) }
+        ensures failed { IfErr result (IsNotOpened self.old ask.now want.items) }
+        ensures taken { IfErr result (λ e. e ≡ failures.Taken → IsTrue T.takes_want) }
+        ensures kept { OnErr result (self.new ≡ self.old) }
+    {
+        match ask {
+            Ask::Open {
+                path,
+                pflags,
+                attrs,
+            } => self.open_file(path.as_slice(), *pflags, attrs, want),
+            Ask::Opendir { path } => self.open_directory(path.as_slice(), want),
+            _ => unreachable!(),
+        }
+    }
+
+    /// OPEN: opens a file under a new handle, and returns the handle's name. A table that gives names of its own
+    /// ignores the one that is wanted.
+    ///
+    /// # Errors
+    ///
+    /// `Taken` if the wanted name is open already, and else as the tree's call. On error the session is unchanged.
+    fn open_file(
+        &mut self,
+        path: &[u8],
+        pflags: u32,
+        attrs: &Attrs,
+        want: Vec<u8>,
+    ) -> Result<Vec<u8>, NotOpened>
+        requires short { length want.items ≤ handle_limit }
+        requires room { IsTrue (has_handle_left self.old) }
+        ensures done { IfOk result
+            (λ name. Does self.old (asks.Open path.now pflags attrs.now) (replies.Handle name.items) self.new) }
+        ensures bytes { IfOk result (λ name. AreBytes name.items) }
+        ensures wanted { IfOk result (λ name. IsTrue T.takes_want → name.items ≡ want.items) }
+        ensures failed { IfErr result (IsNotOpened self.old (asks.Open path.now pflags attrs.now) want.items) }
+        ensures taken { IfErr result (λ e. e ≡ failures.Taken → IsTrue T.takes_want) }
+        ensures kept { OnErr result (self.new ≡ self.old) }
+    {
+        let alloc = self.tree.allocator();
+        let name = self.open_listing(Listing::empty(alloc), want)?;
+        match self.tree.open_file(path, pflags, attrs) {
+            Ok(file) => {
+                self.tree.pin(file);
+                put_file(&mut self.table, name.as_slice(), file, kept_flags(pflags));
+                Ok(name)
+            }
+            Err(refused) => {
+                give_back(&mut self.table, name.as_slice());
+                Err(NotOpened::Refused(refused))
+            }
+        }
+    }
+
+    /// OPENDIR: opens a listing of a directory under a new handle, and returns the handle's name. A table that gives
+    /// names of its own ignores the one that is wanted.
+    ///
+    /// # Errors
+    ///
+    /// `Taken` if the wanted name is open already, and else as the tree's call. On error the session is unchanged.
+    fn open_directory(&mut self, path: &[u8], want: Vec<u8>) -> Result<Vec<u8>, NotOpened>
+        requires short { length want.items ≤ handle_limit }
+        requires room { IsTrue (has_handle_left self.old) }
+        ensures done { IfOk result
+            (λ name. Does self.old (asks.Opendir path.now) (replies.Handle name.items) self.new) }
+        ensures bytes { IfOk result (λ name. AreBytes name.items) }
+        ensures wanted { IfOk result (λ name. IsTrue T.takes_want → name.items ≡ want.items) }
+        ensures failed { IfErr result (IsNotOpened self.old (asks.Opendir path.now) want.items) }
+        ensures taken { IfErr result (λ e. e ≡ failures.Taken → IsTrue T.takes_want) }
+        ensures kept { OnErr result (self.new ≡ self.old) }
+    {
+        match self.tree.list(path) {
+            Ok(items) => match listing_of(items) {
+                Ok(left) => self.open_listing(left, want),
+                Err(_) => Err(NotOpened::Refused(Refused::NoMemory)),
+            },
+            Err(refused) => Err(NotOpened::Refused(refused)),
+        }
+    }
+
+    /// Opens a listing under a new handle, and returns the handle's name. The tree stays as it is. A table that gives
+    /// names of its own ignores the one that is wanted.
+    ///
+    /// # Errors
+    ///
+    /// `Taken` if the wanted name is open already, else that memory ran out. On error the session is unchanged.
+    fn open_listing(&mut self, left: Listing, want: Vec<u8>) -> Result<Vec<u8>, NotOpened>
+        requires short { length want.items ≤ handle_limit }
+        requires room { IsTrue (has_handle_left self.old) }
+        requires left { IsLeft left }
+        ensures closed { IfOk result (λ name. handles.open_at self.old.handles name.items ≡ None) }
+        ensures opened { IfOk result (λ name. self.new ≡ record self.old {
+          handles = handles.with_open self.old.handles name.items (opens.Listing left);
+        }) }
+        ensures short { IfOk result (λ name. length name.items ≤ handle_limit) }
+        ensures bytes { IfOk result (λ name. AreBytes name.items) }
+        ensures wanted { IfOk result (λ name. IsTrue T.takes_want → name.items ≡ want.items) }
+        ensures failed { IfErr result (λ e. (asked : ask) → IsNotOpened self.old asked want.items e) }
+        ensures taken { IfErr result (λ e. e ≡ failures.Taken → IsTrue T.takes_want) }
+        ensures kept { OnErr result (self.new ≡ self.old) }
+    {
+        match self.table.put(Open::Listing { left }, want) {
+            Ok(name) => Ok(name),
+            Err(back) => match back.1 {
+                PutError::Taken => Err(NotOpened::Taken),
+                PutError::NoMemory => Err(NotOpened::Refused(Refused::NoMemory)),
+            },
+        }
+    }
+
+    /// Whether a handle is an allowed answer to OPEN or OPENDIR. What these open is then open under it.
+    ///
+    /// # Errors
+    ///
+    /// `NoMemory` if memory runs out; the session is unchanged.
+    pub(crate) fn judge_handle(&mut self, ask: &Ask, handle: &[u8]) -> Result<bool, NoMemory>
+        requires table { IsTrue T.takes_want }
+        requires kind { kinds.kind_of ask.now ≡ variants.Open }
+        ensures ok { IfOk result (λ ok. IsJudged self.old ask.now (replies.Handle handle.now) ok self.new) }
+        ensures err { OnErr result (self.new ≡ self.old) }
+    {
+        if !self.has_place_for(handle) {
+            return Ok(false);
+        }
+        let want = Vec::from_slice(self.tree.allocator(), handle)?;
+        match self.open_for(ask, want) {
+            Ok(_name) => Ok(true),
+            Err(failed) => not_opened(failed),
+        }
+    }
+
+    /// Whether a handle is not too long, and one more may be opened.
+    fn has_place_for(&self, handle: &[u8]) -> bool
+        ensures { result ≡ (nat_le (length handle.now) handle_limit && has_handle_left self.now) }
+    {
+        handle.len() <= HANDLE_LIMIT && self.has_handle_left()
+    }
+}
+
+/// Says that nothing was opened.
+///
+/// # Errors
+///
+/// `NoMemory` if that is since memory ran out.
+fn not_opened(failed: NotOpened) -> Result<bool, NoMemory>
+    ensures { result ≡ not_opened failed }
+{
+    match failed {
+        NotOpened::Taken => Ok(false),
+        NotOpened::Refused(Refused::Cause(_)) => Ok(false),
+        NotOpened::Refused(Refused::NoMemory) => Err(NoMemory),
+    }
+}
+
+/// Opens a file under a handle in place of what is open under it.
+fn put_file<T: HandleTable>(table: &mut T, handle: &[u8], file: FileNo, flags: OpenFlags)
+    requires { IsTrue (handles.is_open (T.handles table.old) handle.now) }
+    ensures { T.handles table.new ≡ handles.with_open (T.handles table.old) handle.now (opens.File file flags) }
+{
+    drop(table.swap(handle, Open::File { file, flags }));
+}
+
+/// Closes the newest handle, as if it had not been opened.
+fn give_back<T: HandleTable>(table: &mut T, handle: &[u8])
+    ensures { T.handles table.new ≡ handles.without_open (T.handles table.old) handle.now }
+{
+    drop(table.give_back(handle));
+}
+
+/// What an open file keeps of the flags of its OPEN: READ, WRITE and APPEND.
+fn kept_flags(pflags: u32) -> OpenFlags
+    ensures { result ≡ handles.kept_flags pflags }
+{
+    let kept = OpenFlags::READ
+        .union(OpenFlags::WRITE)
+        .union(OpenFlags::APPEND);
+    OpenFlags::from_bits_retain(pflags).intersection(kept)
+}
