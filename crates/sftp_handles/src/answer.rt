@@ -17,6 +17,7 @@ use crate::sessions::Session;
 use crate::slab_table::SlabTable;
 use crate::tables::HandleTable;
 use sftp_tree::{Cause, NoMemory, Refused};
+use sftp_wire::status::OK;
 use sftp_wire::{Answer, Ask, Reply, Request};
 
 impl Session<SlabTable> {
@@ -89,7 +90,7 @@ impl<T: HandleTable> Session<T> {
     {
         let alloc = self.tree.allocator();
         match self.do_ok(ask) {
-            Ok(()) => Ok(status(alloc, 0)),
+            Ok(()) => Ok(status(alloc, OK)),
             Err(refused) => Err(refused),
         }
     }

@@ -8,6 +8,7 @@ use crate::answer::forms::has_code;
 use crate::sessions::Session;
 use crate::tables::HandleTable;
 use sftp_tree::{NoMemory, Refused};
+use sftp_wire::status::OK;
 use sftp_wire::{Answer, Ask};
 
 impl<T: HandleTable> Session<T> {
@@ -22,7 +23,7 @@ impl<T: HandleTable> Session<T> {
         ensures ok { IfOk result (λ ok. IsJudged self.old ask.now answer.now ok self.new) }
         ensures err { OnErr result (self.new ≡ self.old) }
     {
-        if !has_code(answer, 0) {
+        if !has_code(answer, OK) {
             return Ok(false);
         }
         is_done(self.do_ok(ask))

@@ -13,6 +13,7 @@ use crate::kinds::{Kind, kind_of};
 use crate::sessions::Session;
 use crate::tables::HandleTable;
 use sftp_tree::{NoMemory, Refused};
+use sftp_wire::status::EOF;
 use sftp_wire::{Answer, Ask, Reply, Request};
 
 impl Session<GivenTable> {
@@ -123,7 +124,7 @@ impl<T: HandleTable> Session<T> {
         ensures ok { IfOk result (λ ok. IsJudged self.old (Readdir handle.now) answer.now ok self.new) }
         ensures err { OnErr result (self.new ≡ self.old) }
     {
-        if has_code(answer, 1) {
+        if has_code(answer, EOF) {
             return Ok(self.has_given_all(handle));
         }
         match answer {
@@ -155,7 +156,7 @@ fn refusal_code(answer: &Answer) -> Option<u32>
     ensures { result ≡ refusal_code answer.now }
 {
     match answer {
-        Answer::Status { code, .. } => { if *code > 1 { Some(*code) } else { None } }
+        Answer::Status { code, .. } => { if *code > EOF { Some(*code) } else { None } }
         _ => None,
     }
 }

@@ -8,6 +8,7 @@ ghost use Rattle.sftp_handles.specs.Answered.{IsReplyOf};
 use crate::answer::forms::{has_code, one_name, status};
 use crate::attributes::same_attributes;
 use sftp_tree::NoMemory;
+use sftp_wire::status::EOF;
 use sftp_wire::{Answer, Attrs, ByteString, Names};
 use std::alloc::Global;
 
@@ -49,7 +50,7 @@ impl<'a> Payload<'a> {
                 Answer::Extended(given) => told.as_slice() == given.as_slice(),
                 _ => false,
             },
-            Payload::End => has_code(answer, 1),
+            Payload::End => has_code(answer, EOF),
         }
     }
 
@@ -70,7 +71,7 @@ impl<'a> Payload<'a> {
                 Ok(Answer::Data(copy))
             }
             Payload::Extended(told) => Ok(Answer::Extended(told)),
-            Payload::End => Ok(status(alloc, 1)),
+            Payload::End => Ok(status(alloc, EOF)),
         }
     }
 }

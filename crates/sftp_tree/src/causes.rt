@@ -5,6 +5,7 @@ ghost use Rattle.sftp_tree.specs.Causes as sets;
 ghost use Rattle.sftp_tree.specs.Refusals.{in_set};
 
 use sftp_path::NoMemory;
+use sftp_wire::status::{BAD_MESSAGE, FAILURE, NO_SUCH_FILE, OP_UNSUPPORTED, PERMISSION_DENIED};
 use std::alloc::{AllocError, AllocFailed};
 use std::fmt;
 use thiserror::Error;
@@ -95,8 +96,8 @@ impl Cause {
         ensures { IsTrue (sets.allows self result) }
     {
         match self {
-            Cause::NoEntry | Cause::NotDir | Cause::Loop => 2,
-            Cause::NotOpenFor => 3,
+            Cause::NoEntry | Cause::NotDir | Cause::Loop => NO_SUCH_FILE,
+            Cause::NotOpenFor => PERMISSION_DENIED,
             Cause::BadFlags
             | Cause::BadPath
             | Cause::Exists
@@ -108,8 +109,8 @@ impl Cause {
             | Cause::Inside
             | Cause::BadHandle
             | Cause::WrongKind
-            | Cause::NoRoom => 4,
-            Cause::Unknown => 8,
+            | Cause::NoRoom => FAILURE,
+            Cause::Unknown => OP_UNSUPPORTED,
         }
     }
 
@@ -118,9 +119,9 @@ impl Cause {
         ensures { result ≡ sets.allows self code }
     {
         match self {
-            Cause::BadFlags | Cause::BadPath => code == 4 || code == 5,
-            Cause::NoEntry => code == 2,
-            Cause::NotDir | Cause::Loop => code == 2 || code == 4,
+            Cause::BadFlags | Cause::BadPath => code == FAILURE || code == BAD_MESSAGE,
+            Cause::NoEntry => code == NO_SUCH_FILE,
+            Cause::NotDir | Cause::Loop => code == NO_SUCH_FILE || code == FAILURE,
             Cause::Exists
             | Cause::IsDir
             | Cause::NotLink
@@ -130,9 +131,9 @@ impl Cause {
             | Cause::Inside
             | Cause::BadHandle
             | Cause::WrongKind
-            | Cause::NoRoom => code == 4,
-            Cause::NotOpenFor => code == 3 || code == 4,
-            Cause::Unknown => code == 8,
+            | Cause::NoRoom => code == FAILURE,
+            Cause::NotOpenFor => code == PERMISSION_DENIED || code == FAILURE,
+            Cause::Unknown => code == OP_UNSUPPORTED,
         }
     }
 }

@@ -15,6 +15,7 @@ use crate::open_listings::give_first;
 use crate::sessions::Session;
 use crate::tables::HandleTable;
 use sftp_tree::{Cause, Refused};
+use sftp_wire::status::EOF;
 use sftp_wire::{Answer, Ask, ByteString};
 
 /// How many names a reply to READDIR gives at most.
@@ -91,7 +92,7 @@ impl<T: HandleTable> Session<T> {
         let longnames = self.first_names(handle)?;
         let alloc = self.tree.allocator();
         if longnames.is_empty() {
-            return Ok(status(alloc, 1));
+            return Ok(status(alloc, EOF));
         }
         let room = Vec::with_capacity(alloc, longnames.len())?;
         let names = give_first(&mut self.table, alloc, handle, longnames, room);
