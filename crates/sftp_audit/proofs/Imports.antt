@@ -1,49 +1,35 @@
--- The names that the proofs of this crate cite, passed on from one place. Declares nothing.
+-- The names that the proofs of this crate take from below it and from its definitions, passed on from one place, so
+-- that a proof has a line or two of imports in place of twenty. Declares nothing.
 pub use Rattle.std.proofs.Common.{◌≡◌, ◌==◌, ◌&&◌, ◌||◌, not, ℕ, suc, ◌+◌, ◌≤◌, min, Bool, true, false, cond, List, []}
 pub use Rattle.std.proofs.Common.{◌∷◌, ◌++◌, Option, Some, None, is_some, length, refl, sym, ap, ◌∙◌, ◌⊎◌, arith, inl}
-pub use Rattle.std.proofs.Common.{inr, ◌≢◌, if◌then◌else◌, subst, nat_eq, zero, ◌%◌, ◌^◌, ◌<◌, set, drop, slice_get}
-pub use Rattle.std.proofs.Common.{IsTrue, append_assoc, Ok, Err, Result, OnOk, ◌-◌, codes, nat_lt, lit<, lit≤, ltb-true}
-pub use Rattle.std.proofs.lemmas.Bool.{eqb-true, eqb-false, eq-eqb, ne_eqb, cases_Bool, or_parts, or_right, cases_lt}
-pub use Rattle.std.proofs.lemmas.Bool.{true≢false, and_parts}
+pub use Rattle.std.proofs.Common.{inr, eqb-true, eq-eqb, ◌≢◌, if◌then◌else◌, subst, nat_eq, zero, ◌%◌, ◌^◌, ◌<◌, set}
+pub use Rattle.std.proofs.Common.{drop, slice_get, IsTrue, append_assoc, Ok, Err, Result, OnOk, ◌-◌, codes, nat_lt}
+pub use Rattle.std.proofs.Common.{lit<, lit≤, ltb-true}
+pub use Rattle.std.proofs.lemmas.Bool.{eqb-false, ne_eqb, cases_Bool, true≢false, and_parts}
 pub use Rattle.std.proofs.lemmas.List.{length-map, map-append, length-append, append-nil, length-drop}
 pub use Rattle.std.proofs.lemmas.Option.{none-some, same_Some, slice_get-map, slice_get_within, slice_get_read}
 pub use Rattle.std.proofs.lemmas.Result.{err_from_is_err_and, IfErr-weaker, IfOk-weaker}
 pub use Rattle.std.specs.List.{AllByRecursion, list_all, flat_map, list_any}
 pub use Rattle.std.specs.Option.{option_map}
-pub use Rattle.sftp_audit.specs.Audit.{request_count, RefusedAt, RefusedAtEnd, FaultAt, IsFirstFaultBy, IsTreeError}
-pub use Rattle.sftp_audit.specs.Audit.{IsPlain, IsNew, IsNoJudgement, WasFed, StopsFeed, IsToldOf, is_request}
-pub use Rattle.sftp_audit.specs.Audit.{HasRefused, error_of_transcript, error_of_session, closed_tree, AccountsBy}
-pub use Rattle.sftp_audit.specs.Audit.{JudgesTree, IsToldBy, ToldAt, IsExcusedBy, Accounts, started, IsFirstFaultOf}
-pub use Rattle.sftp_audit.specs.Audit.{IsFirstFault}
-pub use Rattle.sftp_audit.specs.Auditor.{Refuses, LacksReply, IsFirstWrong, IsTold, Audited, StandsFor, RefusesToSettle}
-pub use Rattle.sftp_audit.specs.Auditor.{IsWrongIn, HasNoted, HasReason, StopsIn, Reports, IsOldestOpen}
-pub use Rattle.sftp_audit.specs.Ledger.{starts_answered, IsOrdinal, WaitsAt, IsIndexed, RefusesRequest, RefusesReply}
-pub use Rattle.sftp_audit.specs.declared.errors.AuditError.{AuditError}
-pub use Rattle.sftp_audit.specs.declared.errors.Refusal.{Refusal}
-pub use Rattle.sftp_audit.specs.declared.exchanges.Exchange.{Exchange}
-pub use Rattle.sftp_audit.specs.declared.exchanges.RecordedReply.{RecordedReply}
-pub use Rattle.sftp_handles.proofs.Judged.Steps.{step-is_allowed, allowed-step}
 pub use Rattle.sftp_handles.specs.Allowed.{Allowed, and_then}
 unfoldable pub use Rattle.sftp_handles.specs.Allowed.{step}
-unfoldable pub use Rattle.sftp_path.specs.Table.{get, put, retain, without}
-pub use Rattle.sftp_profile.proofs.Permissions.{permitted-one_end, strictly-permitted, strict-both}
+pub use Rattle.sftp_handles.specs.State.{closed_tree, started}
+pub use Rattle.sftp_packets.specs.declared.packets.Reply.{Reply}
+pub use Rattle.sftp_packets.specs.declared.packets.Request.{Request}
+pub use Rattle.sftp_profile.proofs.Permissions.{permitted-one_end, strict-both}
 pub use Rattle.sftp_profile.specs.Permitted.{Permitted, follows_in}
 pub use Rattle.sftp_profile.specs.Profiles.{strict}
-pub use Rattle.sftp_profile.specs.State.{State, begun, bare}
+pub use Rattle.sftp_profile.specs.State.{bare, State, begun}
 pub use Rattle.sftp_profile.specs.declared.profiles.Profile.{Profile}
 pub use Rattle.sftp_transcript.proofs.pairing.Soundness.{sound_by, settled_by, explained_by}
-pub use Rattle.sftp_transcript.proofs.transcripts.Beginnings.{begins_each, faulty_records_none, record_from_beginning}
+pub use Rattle.sftp_transcript.proofs.transcripts.Beginnings.{begins_each, faulty_records_none}
 pub use Rattle.sftp_transcript.proofs.transcripts.OneRecord.{records_are_one_lem}
-pub use Rattle.sftp_transcript.specs.Begun.{first_number, number_after_events, BeginsRecord, ReadUpTo, HasGiven}
-pub use Rattle.sftp_transcript.specs.Begun.{GaveFrom, FaultOf}
-pub use Rattle.sftp_transcript.specs.Examples.{of_link, with_no_permissions, mkdir, rmdir, status, handshake_bytes}
-pub use Rattle.sftp_transcript.specs.Explained.{closed, waiting, Run, Explained, window, Turn, broken, after_event}
-pub use Rattle.sftp_transcript.specs.Explained.{StepOf}
+pub use Rattle.sftp_transcript.specs.Begun.{first_number, number_after_events}
+pub use Rattle.sftp_transcript.specs.Explained.{closed, waiting, Run, Explained, window, Turn, broken, StepOf}
 unfoldable pub use Rattle.sftp_transcript.specs.Explained.{next_reply, exchanges_of, leading_pairs, turn_after}
 unfoldable pub use Rattle.sftp_transcript.specs.Explained.{in_window, requests_before_reply}
 pub use Rattle.sftp_transcript.specs.Recorded.{Reading}
 pub use Rattle.sftp_transcript.specs.Sound.{Sound, IsWaiting, InTurn}
-pub use Rattle.sftp_transcript.specs.Transcript.{IsRecord, IsEvent, event_record, transcript_opening, packet_of}
 pub use Rattle.sftp_transcript.specs.declared.errors.TranscriptError.{TranscriptError}
 pub use Rattle.sftp_transcript.specs.declared.events.Event.{Event}
 pub use Rattle.sftp_transcript.specs.declared.events.Event.TheVariants.{Asked, Replied}
@@ -51,9 +37,19 @@ pub use Rattle.sftp_tree.proofs.TreeFiles.Files.{one_start}
 pub use Rattle.sftp_tree.specs.Picture.{IsStart, blank}
 unfoldable pub use Rattle.sftp_tree.specs.Picture.{picture}
 pub use Rattle.sftp_tree.specs.Tree.{Tree, raised}
-unfoldable pub use Rattle.sftp_tree.specs.Tree.{fits, has_entries}
-pub use Rattle.sftp_wire.proofs.StreamLaws.Front.{spellings-apart}
 pub use Rattle.sftp_wire.specs.Examples.{no_attributes}
 unfoldable pub use Rattle.sftp_wire.specs.Examples.{hex}
-pub use Rattle.sftp_packets.specs.declared.packets.Reply.{Reply}
-pub use Rattle.sftp_packets.specs.declared.packets.Request.{Request}
+pub use mathlib.Core.Bool.{or_assoc, and-false}
+pub use Rattle.sftp_audit.specs.Audit.{request_count, RefusedAt, RefusedAtEnd, FaultAt, IsFirstFaultBy, IsTreeError}
+pub use Rattle.sftp_audit.specs.Audit.{IsPlain, IsNew, IsNoJudgement, WasFed, StopsFeed, IsToldOf, is_request}
+pub use Rattle.sftp_audit.specs.Audit.{HasRefused, error_of_transcript, error_of_session, AccountsBy, JudgesTree}
+pub use Rattle.sftp_audit.specs.Audit.{IsToldBy, ToldAt, IsExcusedBy, Accounts, IsFirstFaultOf, IsFirstFault}
+pub use Rattle.sftp_audit.specs.Auditor.{Refuses, LacksReply, IsFirstWrong, IsTold, Audited, StandsFor}
+pub use Rattle.sftp_audit.specs.Examples.{Unexplained}
+pub use Rattle.sftp_audit.specs.Exchanges.{recorded_exchanges, is_answered, AreAnswered, reply_of, ledger_of}
+unfoldable pub use Rattle.sftp_audit.specs.Exchanges.{next_recorded, exchanges_from, unsettled, is_open}
+pub use Rattle.sftp_audit.specs.Ledger.{starts_answered, IsOrdinal, WaitsAt, IsIndexed, RefusesRequest, RefusesReply}
+pub use Rattle.sftp_audit.specs.declared.errors.AuditError.{AuditError}
+pub use Rattle.sftp_audit.specs.declared.errors.Refusal.{Refusal}
+pub use Rattle.sftp_audit.specs.declared.exchanges.Exchange.{Exchange}
+pub use Rattle.sftp_audit.specs.declared.exchanges.RecordedReply.{RecordedReply}

@@ -11,30 +11,22 @@ use Rattle.sftp_audit.specs.declared.errors.Refusal.{Refusal}
 use Rattle.sftp_audit.specs.declared.errors.Refusal.TheVariants as refusals
 use Rattle.sftp_audit.specs.declared.errors.AuditError.{AuditError}
 use Rattle.sftp_audit.specs.declared.errors.AuditError.TheVariants as audit_errors
-use Rattle.sftp_tree.specs.Tree.{Tree, trim}
+use Rattle.sftp_tree.specs.Tree.{Tree}
 use Rattle.sftp_tree.specs.Picture.{IsStart}
-use Rattle.sftp_handles.specs.State.{State, settled}
+use Rattle.sftp_handles.specs.State.{State, started, closed_tree}
 use Rattle.sftp_handles.specs.Allowed.{Allowed}
 use Rattle.sftp_profile.specs.declared.profiles.Profile.{Profile}
 use Rattle.sftp_profile.specs.State as judges
 use Rattle.sftp_profile.specs.Permitted.{Permitted}
-use Rattle.sftp_transcript.specs.Transcript.{IsRecord}
+use Rattle.sftp_transcript.specs.Transcript.{BeginsRecord, IsRecord}
 use Rattle.sftp_transcript.specs.Explained.{StepOf, Explained, exchanges_of}
 use Rattle.sftp_transcript.specs.Sound.{Sound}
 use Rattle.sftp_transcript.specs.Streams.{one_more}
-use Rattle.sftp_transcript.specs.Begun.{BeginsRecord, FaultAfter, HasGiven}
+use Rattle.sftp_transcript.specs.Begun.{FaultAfter, HasGiven}
 use Rattle.sftp_transcript.specs.Recorded.{Reading}
 use Rattle.sftp_transcript.specs.declared.stage.Stage.TheVariants as stages
 use Rattle.sftp_audit.specs.Exchanges.{recorded_exchanges}
 use Rattle.sftp_audit.specs.Auditor.{Audited, StandsFor, Refuses, LacksReply, IsTold}
-
--- the state in which a session begins on a tree, without a profile: nothing is open
-abbrev pub started : Tree → State
-started t = settled t []
-
--- the tree of a session, once nothing is open
-abbrev pub closed_tree : State → Tree
-closed_tree s = trim (record s.tree { pins = [] })
 
 -- the tree file is the start, the transcript records the events, these are explained from the start to a last state,
 -- and the end is the tree of that state once nothing is open

@@ -14,14 +14,13 @@ use Rattle.sftp_tree.specs.declared.nodes.Node.{Node}
 use Rattle.sftp_tree.specs.declared.nodes.Node.TheVariants.{Dir, Link}
 use Rattle.sftp_tree.specs.Tree.{Tree}
 use Rattle.sftp_tree.specs.Picture.{blank}
-use Rattle.sftp_handles.specs.State.{State}
+use Rattle.sftp_handles.specs.State.{State, started}
 use Rattle.sftp_handles.specs.Allowed.{Allowed}
 use Rattle.sftp_handles.specs.Examples.{with_text}
 use Rattle.sftp_profile.specs.Profiles.{strict}
 use Rattle.sftp_profile.specs.State.{begun}
 use Rattle.sftp_transcript.specs.Explained.{Explained}
 use Rattle.sftp_audit.specs.declared.exchanges.Exchange.{Exchange}
-use Rattle.sftp_audit.specs.Audit.{started}
 use Rattle.sftp_audit.specs.Auditor.{Audited}
 
 -- ---- trees

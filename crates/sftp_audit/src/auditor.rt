@@ -3,11 +3,11 @@ ghost use Rattle.std.specs.Prelude.{◌≡◌, ◌≤◌, List, [], length, Some
 ghost use Rattle.sftp_profile.specs.Profiles.{strict};
 ghost use Rattle.sftp_profile.specs.State.{State, begun};
 ghost use Rattle.sftp_profile.specs.Permitted.{Permitted};
+ghost use Rattle.sftp_handles.specs.State.{closed_tree};
 ghost use Rattle.sftp_transcript.specs.declared.events.Event.{Event};
 ghost use Rattle.sftp_transcript.specs.Begun.{first_number};
 ghost use Rattle.sftp_transcript.specs.Explained.{Explained, window};
 ghost use Rattle.sftp_audit.specs.declared.errors.Refusal.{Refusal};
-ghost use Rattle.sftp_audit.specs.Audit.{closed_tree};
 ghost use Rattle.sftp_audit.specs.Auditor.{StandsFor, LacksReply, GoesOn, HasNoted, HasReason, StopsIn, Reports};
 
 use crate::errors::Refusal;

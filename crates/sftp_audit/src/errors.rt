@@ -4,31 +4,48 @@ ghost use Rattle.std.specs.Prelude.{◌≡◌};
 use sftp_transcript::TranscriptError;
 use sftp_tree::{NoMemory, TreeError};
 use std::alloc::{AllocError, AllocFailed};
+use std::fmt;
 use thiserror::Error;
 
 /// Why the tree does not explain a session, and the number of the record that shows it (draft, section 6.1).
-// Its derived `Display` is dear to prove: six texts, each of its own parts.
 #[derive(Clone, Copy, Debug, PartialEq, Eq, Error)]
 pub enum Refusal {
     /// A reply whose id is not that of an unanswered request.
-    #[error("record {record}: UnknownReply")]
     UnknownReply { record: u64 },
     /// A request with the id of an unanswered one.
-    #[error("record {record}: IdInUse")]
     IdInUse { record: u64 },
     /// A request that comes 1,024 requests or more after one that is unanswered. This limit is this profile's own.
-    #[error("record {record}: Window")]
     Window { record: u64 },
     /// A reply that is not allowed, or not permitted under the profile, when the requests are done one at a time in the
     /// order asked.
-    #[error("record {record}: NotAllowed")]
     NotAllowed { record: u64 },
     /// A request that has no reply: the oldest one.
-    #[error("record {record}: Unanswered")]
     Unanswered { record: u64 },
     /// Memory ran out.
-    #[error("out of memory")]
     NoMemory,
+}
+
+/// Writes why a session is refused, with the number of the record.
+fn put_refusal<W: fmt::Write>(
+    f: &mut fmt::Formatter<W>,
+    record: u64,
+    refusal: &str,
+) -> fmt::Result {
+    write!(f, "record {record}: {refusal}")
+}
+
+// `thiserror` would format the number of the record for each refusal anew, which is slow to prove.
+impl fmt::Display for Refusal {
+    fn fmt<W: fmt::Write>(&self, f: &mut fmt::Formatter<W>) -> fmt::Result {
+        match self {
+            Refusal::UnknownReply { record } => put_refusal(f, *record, "UnknownReply"),
+            Refusal::IdInUse { record } => put_refusal(f, *record, "IdInUse"),
+            Refusal::Window { record } => put_refusal(f, *record, "Window"),
+            Refusal::NotAllowed { record } => put_refusal(f, *record, "NotAllowed"),
+            Refusal::Unanswered { record } => put_refusal(f, *record, "Unanswered"),
+            Refusal::NoMemory => f.write_str("out of memory"),
+        }
+    }
 }
 
 impl From<AllocError> for Refusal {

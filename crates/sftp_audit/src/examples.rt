@@ -3,6 +3,7 @@
 ghost use Rattle.std.specs.Prelude.{◌≡◌, List, [], ◌∷◌, codes};
 ghost use Rattle.sftp_tree.specs.Tree.{raised};
 ghost use Rattle.sftp_tree.specs.Picture.{picture, blank};
+ghost use Rattle.sftp_handles.specs.State.{started};
 ghost use Rattle.sftp_transcript.specs.Transcript.{IsRecord};
 ghost use Rattle.sftp_handles.specs.Allowed.{Allowed};
 ghost use Rattle.sftp_profile.specs.Profiles.{strict};
@@ -10,7 +11,7 @@ ghost use Rattle.sftp_profile.specs.State.{begun};
 ghost use Rattle.sftp_transcript.specs.Explained.{Explained};
 ghost use Rattle.sftp_audit.specs.declared.errors.Refusal.TheVariants.{UnknownReply, IdInUse, Window, NotAllowed};
 ghost use Rattle.sftp_audit.specs.declared.errors.Refusal.TheVariants.{Unanswered};
-ghost use Rattle.sftp_audit.specs.Audit.{started, RefusedAt};
+ghost use Rattle.sftp_audit.specs.Audit.{RefusedAt};
 ghost use Rattle.sftp_audit.specs.Auditor.{StandsFor, Refuses, LacksReply};
 ghost use Rattle.sftp_audit.specs.Exchanges.{recorded_exchanges};
 ghost use Rattle.sftp_audit.specs.Examples.{with_a, with_a_and_b, with_a_and_b_bytes, with_link};

@@ -4,9 +4,8 @@ use Rattle.sftp_server.proofs.Imports.{is_some, if◌then◌else◌, length, sli
 use Rattle.sftp_server.proofs.Imports.{AllByRecursion, true≢false, none-some, same_Some, Reply, StepOf, Choice, Entry}
 use Rattle.sftp_server.proofs.Imports.{Progress, Pending, Done, Sent, Machine, ClashOf, is_sent, is_free_of, is_ready}
 use Rattle.sftp_server.proofs.Imports.{reply_at, from_unsent, IsWorked, IsSent, choices_at, choices_from, choices_of}
-use Rattle.sftp_server.proofs.Imports.{IsPossible, steps_left, owed}
+use Rattle.sftp_server.proofs.Imports.{IsPossible, steps_left, owed, all_both}
 use Rattle.sftp_server.proofs.Queues.{from_unsent-short}
-use Rattle.sftp_server.proofs.Machines.Acts.{all-append}
 
 -- ---- acts bring a machine nearer to its end
 
@@ -119,7 +118,7 @@ possible-from : {S : Type 0} (clash : ClashOf S) (machine : Machine S) (k count 
 unfolding choices_from
 possible-from clash machine k zero = tt
 possible-from clash machine k (suc count) =
-    all-append (IsPossible clash machine) (choices_at clash machine k) (choices_from clash machine (suc k) count)
+    all_both (IsPossible clash machine) (choices_at clash machine k) (choices_from clash machine (suc k) count)
     (possible-at clash machine k) (possible-from clash machine (suc k) count)
 
 all-get : {X : Type 0} (P : X → Type 0) (xs : List X) (k : ℕ) (x : X) → AllByRecursion P xs → slice_get xs k ≡ Some x

@@ -1,11 +1,11 @@
 -- What the calls of the notes say of the core.
 use Rattle.sftp_server.proofs.Imports.{◌≡◌, ◌++◌, ◌<◌, ◌≤◌, ◌-◌, ◌&&◌, ℕ, Bool, true, false, List, [], ◌∷◌, Option}
 use Rattle.sftp_server.proofs.Imports.{Some, None, is_some, if◌then◌else◌, length, take, drop, set, slice_get, refl}
-use Rattle.sftp_server.proofs.Imports.{sym, ap, ◌∙◌, arith, none-some, same_Some, sum_by_more_le, or-true, and_parts}
-use Rattle.sftp_server.proofs.Imports.{Request, Reply, State, Allowed, Entry, Pending, Done, Sent, Note, Machine}
-use Rattle.sftp_server.proofs.Imports.{is_pending, ready_in, reply_at, from_unsent, request_in, pending_at}
-use Rattle.sftp_server.proofs.Imports.{with_progress, choices_of, server_clash, blank, note_at, ask_in, as_count}
-use Rattle.sftp_server.proofs.Imports.{possible_count, CanRefresh, AreNotes, KeepsNotes}
+use Rattle.sftp_server.proofs.Imports.{sym, ap, ◌∙◌, arith, none-some, same_Some, or-true, and_parts, Request, Reply}
+use Rattle.sftp_server.proofs.Imports.{State, Allowed, Entry, Pending, Done, Sent, Note, Machine, is_pending, ready_in}
+use Rattle.sftp_server.proofs.Imports.{reply_at, from_unsent, request_in, pending_at, with_progress, choices_of}
+use Rattle.sftp_server.proofs.Imports.{server_clash, blank, note_at, as_count, possible_count, AreNotes, sum_by_more_le}
+use Rattle.sftp_server.specs.Readiness.{ask_in, CanRefresh, KeepsNotes}
 use Rattle.sftp_server.specs.declared.cores.Choice.TheVariants as choices
 use Rattle.sftp_server.specs.declared.readiness.Readiness.{Readiness}
 use Rattle.sftp_server.proofs.Queues.{length-progress, from_unsent-short}

@@ -5,11 +5,11 @@ use Rattle.sftp_server.proofs.Imports.{AllByRecursion, IfSome, none-some, same_S
 use Rattle.sftp_server.proofs.Imports.{HasSpelling, full_window, State, Allowed, Entry, Progress, Pending, Done, Sent}
 use Rattle.sftp_server.proofs.Imports.{Machine, is_pending, is_free_of, ready_in, reply_of, reply_at, IsSent, IsWorked}
 use Rattle.sftp_server.proofs.Imports.{from_unsent, is_sent, request_in, pending_at, with_progress, server_clash}
-use Rattle.sftp_server.proofs.Imports.{HasGoodReply, IsSendable, IsCore}
+use Rattle.sftp_server.proofs.Imports.{HasGoodReply, IsSendable, IsCore, all_both}
 use Rattle.std.specs.Option.{IfNone}
 use Rattle.sftp_server.proofs.Queues.{length-progress, from_unsent-short, from_unsent-pushed, front-done}
 use Rattle.sftp_server.proofs.Queues.{from_unsent-again}
-use Rattle.sftp_server.proofs.Machines.Acts.{all-append, all-parts}
+use Rattle.sftp_server.proofs.Machines.Acts.{all-parts}
 
 -- ---- what is ready
 
@@ -158,7 +158,7 @@ core-taken window queue request is room = record {
   bounded = is.bounded;
   few = simp length-append (omega (arith, room));
   front = from_unsent-pushed queue request is.front;
-  sendable = all-append IsSendable queue (record { request = request; progress = Pending } ∷ []) is.sendable (tt, tt);
+  sendable = all_both IsSendable queue (record { request = request; progress = Pending } ∷ []) is.sendable (tt, tt);
 }
 
 sendable-worked : (queue : List Entry) (k : ℕ) (request : Request) (reply : Reply) → IsAt queue k request Pending
@@ -170,7 +170,7 @@ sendable-worked queue k request reply at same spelled all =
     let parts = all-parts IsSendable at.front entry at.back (subst
     (λ q. AllByRecursion IsSendable q) at.queue_is all) in
     subst (λ q. AllByRecursion IsSendable q) (sym (at.changed (Done reply)))
-    (all-append IsSendable at.front (changed ∷ at.back) parts.before ((same, spelled), parts.after))
+    (all_both IsSendable at.front (changed ∷ at.back) parts.before ((same, spelled), parts.after))
 
 pub core-worked : (window : ℕ) (queue : List Entry) (k : ℕ) (request : Request) (reply : Reply)
     → pending_at queue k ≡ Some request → reply.id ≡ request.id

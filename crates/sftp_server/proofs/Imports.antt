@@ -4,117 +4,33 @@ pub use Rattle.std.proofs.Common.{◌≡◌, ◌<◌, ◌≤◌, ◌+◌, ◌++�
 pub use Rattle.std.proofs.Common.{is_some, if◌then◌else◌, length, slice_get, refl, ap, subst, arith, ◌-◌, ◌&&◌, Option}
 pub use Rattle.std.proofs.Common.{None, take, drop, set, sym, ◌∙◌, IfSome, ◌≢◌, not, ◌==◌, nat_lt, ◌⊎◌, inl, inr}
 pub use Rattle.std.proofs.Common.{get_or, ap₂, subst₂, append_assoc, append-nil, map, ◌||◌, max, nat_eq, cond, ◌^◌}
-pub use Rattle.std.proofs.Common.{Result, Ok, Err, IsTrue, add-one, OnOk, length-drop, IfOk, IfErr, OnErr, ◌*◌, codes}
-pub use Rattle.std.proofs.Common.{MatchResult, lit<, lit≤}
-pub use Rattle.std.proofs.KnownBytes.{Appends-trans, Consumes-nil, Consumes-trans, Appends-nil, Keeps-refl}
-pub use Rattle.std.proofs.KnownBytes.{Consumes-kept, Appends-kept}
+pub use Rattle.std.proofs.Common.{Result, Ok, Err, add-one, OnOk, length-drop, IfOk, IfErr, OnErr, IsTrue, ◌*◌, codes}
+pub use Rattle.std.proofs.Common.{lit<, lit≤, MatchResult}
+pub use Rattle.std.proofs.KnownBytes.{Appends-trans, Consumes-trans, Keeps-refl, Consumes-kept, Appends-kept}
 pub use Rattle.std.proofs.lemmas.Bool.{true≢false, and_parts, ltb-true, ltb-false, and_from, cases_Bool, eqb-true}
 pub use Rattle.std.proofs.lemmas.Bool.{eqb-false, not-true, not_from_false, and_left, and_right, or_parts, ne_eqb}
 pub use Rattle.std.proofs.lemmas.Bool.{eq-eqb, or_cases, or_left, or_right, le-ltb}
-pub use Rattle.std.proofs.lemmas.List.{length-append, length-set, get_or-set_other, map-append, take_at, length-map}
-pub use Rattle.std.proofs.lemmas.List.{get_or_append_left, get_or_push, get_or-drop, get_or-set_same, take_all}
-pub use Rattle.std.proofs.lemmas.List.{drop_more, get_or_past, flat_map_more, drop_at}
+pub use Rattle.std.proofs.lemmas.List.{length-append, length-set, get_or-set_other, map-append, take_at, get_or-drop}
+pub use Rattle.std.proofs.lemmas.List.{get_or-set_same, take_all, drop_more, get_or_past, flat_map_more, drop_at}
 pub use Rattle.std.proofs.lemmas.List.Sums.{sum_by_more_le, sum_by_push, sum_by-set, sum_by-cons, sum_by-take-drop}
-pub use Rattle.std.proofs.lemmas.Option.{none-some, same_Some, slice_get_read, get_or_from_slice_get, slice_get_within}
+pub use Rattle.std.proofs.lemmas.Option.{none-some, same_Some, slice_get_read, slice_get_within}
 pub use Rattle.std.proofs.lemmas.Result.{err_from_is_err_and, on_ok_weaker}
 pub use Rattle.std.specs.Io.KnownBytes.{Appends, Consumes, IsAtEnd, Keeps}
 pub use Rattle.std.specs.List.{AllByRecursion, flat_map}
 pub use Rattle.std.specs.Map.{lookup}
-pub use mathlib.Core.Bool.{or-true, and-false, and-true, or-false, or_assoc, or_comm}
 pub use Rattle.sftp_handles.proofs.TotalSteps.PlaceTexts.{bytes-by}
-pub use Rattle.sftp_handles.specs.Allowed.{Allowed, Refuses, Does}
+pub use Rattle.sftp_handles.specs.Allowed.{Allowed}
 pub use Rattle.sftp_handles.specs.Clash.{Touched, share, untouched, everything, reads_file, writes_file, takes_names}
-pub use Rattle.sftp_handles.specs.Clash.{touched_by, touched_through, may_change}
 unfoldable pub use Rattle.sftp_handles.specs.Clash.{touched, clash}
-pub use Rattle.sftp_handles.specs.Handles.{Handles, open_at}
 unfoldable pub use Rattle.sftp_handles.specs.Handles.{pins_of}
 pub use Rattle.sftp_handles.specs.Ranges.{are_apart, may_resize}
 unfoldable pub use Rattle.sftp_handles.specs.Ranges.{range, range_clash}
-pub use Rattle.sftp_handles.specs.Requests.{changed, after_by}
-unfoldable pub use Rattle.sftp_handles.specs.Requests.{after, causes, told_to, answers}
-pub use Rattle.sftp_handles.specs.State.{State, Good, settled}
+pub use Rattle.sftp_handles.specs.State.{State, Good, started, closed_tree, settled}
 pub use Rattle.sftp_handles.specs.Touch.{touched_as}
 pub use Rattle.sftp_handles.specs.declared.byte_range.ByteRange.{ByteRange}
 pub use Rattle.sftp_handles.specs.declared.touch.Touch.{Touch}
-pub use Rattle.sftp_handles.specs.declared.touch.Touch.TheVariants.{Everything, Nothing, ReadsFile, WritesFile}
-unfoldable pub use Rattle.sftp_path.specs.Table.{get, retain, put}
-pub use Rattle.sftp_server.specs.Choices.{choices_at, choices_of, IsPossible, steps_left}
-unfoldable pub use Rattle.sftp_server.specs.Choices.{choices_from, owed}
-pub use Rattle.sftp_server.specs.Core.{server_clash, HasGoodReply, IsSendable, IsCore, IsValue, IsReached, started}
-pub use Rattle.sftp_server.specs.Core.{IsRefusedFor, AreDeliverable}
-pub use Rattle.sftp_server.specs.Ending.{closed_end, IsNext}
-pub use Rattle.sftp_server.specs.Examples.{init_bytes, made_and_removed, answered_backwards, root_attributes}
-pub use Rattle.sftp_server.specs.Examples.{stat_answered, remove_and_byte, EndsAfterVersion, mkdir_beginning}
-pub use Rattle.sftp_server.specs.Examples.{stat_bytes}
-pub use Rattle.sftp_server.specs.Fronts.{fault_of, found_refused, TakesOn}
-pub use Rattle.sftp_server.specs.Left.{LeadsTo, Leaves, LeavesAt, IsAfterDone, IsLeftAfter}
-unfoldable pub use Rattle.sftp_server.specs.Left.{AreDone}
-pub use Rattle.sftp_server.specs.Machine.{Machine, ClashOf, is_sent, is_ready, reply_at, IsWorked, IsSent, is_pending}
-pub use Rattle.sftp_server.specs.Machine.{ready_in, reply_of, is_pending_at, pending_in, reply_in, at_start, taken}
-pub use Rattle.sftp_server.specs.Machine.{can_take, IsIdle, IsDelivery, IsWork, IsSend, IsAct, AreActs, Delivers}
-unfoldable pub use Rattle.sftp_server.specs.Machine.{is_free_of, from_unsent, is_unsent}
-pub use Rattle.sftp_server.specs.Opening.{IsFirst, IsInFront, IsGreetingOf}
-pub use Rattle.sftp_server.specs.Queue.{request_in, pending_at, sent_in, HasReply, IsQueue}
-unfoldable pub use Rattle.sftp_server.specs.Queue.{with_progress, AreUnsentApart}
-pub use Rattle.sftp_server.specs.RangedNotes.{Portion, portion_in, portions_clash, is_on, IsPortion, resizes, is_behind}
-pub use Rattle.sftp_server.specs.RangedNotes.{AreKnown, AreKnownBut, is_behind_by, any_below, HasItsRange, resizes_by}
-pub use Rattle.sftp_server.specs.RangedNotes.{stands_in_way, IsClear, IsHindered, looked_at, without}
-pub use Rattle.sftp_server.specs.Readiness.{blank, note_at, ask_in, as_count, possible_count, CanRefresh, AreNotes}
-pub use Rattle.sftp_server.specs.Readiness.{KeepsNotes, ask_at, touched_at, portion_at, portion_now, is_in_way, is_all}
-pub use Rattle.sftp_server.specs.Readiness.{pending_by, is_late, IsFree, IsBlocked, IsStopped, IsNoted, AreBlocked}
-pub use Rattle.sftp_server.specs.Readiness.{AreBlockedBut, AreBlockedButOn, AreNotReadyOn, IsMarkedAsked}
-pub use Rattle.sftp_server.specs.Readiness.{HaveTheirRanges, IsMarked, IsMarkedBut, IsDone, IsFreeFrom, IsBlockedBack}
-pub use Rattle.sftp_server.specs.Readiness.{only_reads, IsShut, held, AreAlike, IsPlaced, raised, IsSettling, IsSettled}
-pub use Rattle.sftp_server.specs.Readiness.{touches_file, resized_file, resizes_noted, IsMeasured}
-pub use Rattle.sftp_server.specs.Served.{session_packets, recorded, IsListed, IsBeginning, IsCutInLast, StreamBytes}
-pub use Rattle.sftp_server.specs.Served.{stream_bytes, Passed, EndsSession, IsUnopenedBy, IsOpened, IsServed}
-pub use Rattle.sftp_server.specs.Served.{closed_tree, Serves, spelled_if, our_version, IsGreeting, IsNoGreeting}
-pub use Rattle.sftp_server.specs.Served.{opened_record}
-unfoldable pub use Rattle.sftp_server.specs.Served.{sent_by, answered_last}
-pub use Rattle.sftp_server.specs.Sessions.{Stops, tree_left, IsLogging, Ahead, ahead_without, IsRunning, IsFaultAhead}
-pub use Rattle.sftp_server.specs.Sessions.{IsEnding, input_limit, IsUnopenedYet, ended_by, IsSessionEnd}
-pub use Rattle.sftp_server.specs.Sessions.{BeginsWithGreeting, FailsToSend, SendsOn}
-pub use Rattle.sftp_server.specs.declared.acts.Act.{Act}
-pub use Rattle.sftp_server.specs.declared.acts.Act.TheVariants.{Deliver, Work, Send}
-pub use Rattle.sftp_server.specs.declared.cores.Choice.{Choice}
-pub use Rattle.sftp_server.specs.declared.ends.SessionFault.{SessionFault}
-pub use Rattle.sftp_server.specs.declared.ends.Stop.{Stop}
-pub use Rattle.sftp_server.specs.declared.opening.First.{First}
-pub use Rattle.sftp_server.specs.declared.queue.Entry.{Entry}
-pub use Rattle.sftp_server.specs.declared.queue.Progress.{Progress}
-pub use Rattle.sftp_server.specs.declared.queue.Progress.TheVariants.{Pending, Done, Sent}
-pub use Rattle.sftp_server.specs.declared.readiness.Note.{Note}
-pub use Rattle.sftp_server.specs.declared.refusals.Refuse.{Refuse}
-pub use Rattle.sftp_server.specs.declared.taking.Front.{Front}
-pub use Rattle.sftp_transcript.proofs.pairing.Standing.{stands_from_start, stands_replied, complete, stands_asked}
-pub use Rattle.sftp_transcript.proofs.pairing.Standing.{is_open-append, none_open, keeps_window-answered}
-pub use Rattle.sftp_transcript.proofs.pairing.Standing.{keeps_window-few}
-pub use Rattle.sftp_transcript.specs.Examples.{handshake_bytes, mkdir, rmdir, status}
-pub use Rattle.sftp_transcript.specs.Explained.{StepOf, window as full_window, Run, window, Explained, BeginsFrom}
-unfoldable pub use Rattle.sftp_transcript.specs.Explained.{leading_pairs, exchanges_of, in_window, next_reply}
-unfoldable pub use Rattle.sftp_transcript.specs.Explained.{turn_after, requests_before_reply}
-pub use Rattle.sftp_transcript.specs.Ledger.{Exchange, StandsFor, keeps_window, IsAnswered}
-unfoldable pub use Rattle.sftp_transcript.specs.Ledger.{with_replies, is_open}
-pub use Rattle.sftp_transcript.specs.Log.{Log, IsAppended, FailsToRecord, opened_text, FailsToFlush}
-pub use Rattle.sftp_transcript.specs.Streams.{AppendsPart}
-pub use Rattle.sftp_transcript.specs.Transcript.{IsEvent, record_text, transcript_opening, event_record, IsRecord}
-pub use Rattle.sftp_transcript.specs.Transcript.{packet_of}
-pub use Rattle.sftp_transcript.specs.declared.errors.TranscriptError.{TranscriptError}
-pub use Rattle.sftp_transcript.specs.declared.errors.TranscriptError.TheVariants.{Io}
-pub use Rattle.sftp_transcript.specs.declared.events.Event.{Event}
-pub use Rattle.sftp_transcript.specs.declared.events.Event.TheVariants.{Asked, Replied}
+pub use Rattle.sftp_handles.specs.declared.touch.Touch.TheVariants.{Everything, Nothing, WritesFile}
 pub use Rattle.sftp_packets.specs.AskValues.{IsAsk}
-pub use Rattle.sftp_tree.specs.Requests.{path_of}
-unfoldable pub use Rattle.sftp_tree.specs.Requests.{led, plain_causes, causes as path_causes, outcome}
-pub use Rattle.sftp_tree.specs.Tree.{Tree}
-unfoldable pub use Rattle.sftp_tree.specs.Tree.{has_entries, fits}
-pub use Rattle.sftp_wire.proofs.StreamLaws.Front.{length-spelling, none-leaves_room, front_again, spellings-apart}
-pub use Rattle.sftp_wire.specs.Examples.{version_bytes, no_attributes}
-unfoldable pub use Rattle.sftp_wire.specs.Examples.{hex}
-pub use Rattle.sftp_wire.specs.Framing.{place_after}
-pub use Rattle.sftp_wire.specs.Fronts.{StandsInFront}
-unfoldable pub use Rattle.sftp_packets.specs.Reading.{client_packet_at, uint32_at, pairs_at, pair_at, string_at}
-unfoldable pub use Rattle.sftp_wire.specs.Fronts.{front_of}
 pub use Rattle.sftp_packets.specs.Spelling.{HasSpelling, side_of, server_extensions, FitsString, posix_rename_name}
 pub use Rattle.sftp_packets.specs.Spelling.{hardlink_name, fsync_name, limits_name, asked_handle, packet_limit}
 unfoldable pub use Rattle.sftp_packets.specs.Spelling.{spelling}
@@ -122,8 +38,68 @@ pub use Rattle.sftp_packets.specs.declared.errors.WireError.TheVariants.{Unreada
 pub use Rattle.sftp_packets.specs.declared.packets.Ask.{Ask}
 pub use Rattle.sftp_packets.specs.declared.packets.Packet.{Packet}
 pub use Rattle.sftp_packets.specs.declared.packets.Packet.TheVariants.{Reply as reply_packet, Request as request_packet}
-pub use Rattle.sftp_packets.specs.declared.packets.Packet.TheVariants.{Init, Version}
+pub use Rattle.sftp_packets.specs.declared.packets.Packet.TheVariants.{Init}
 pub use Rattle.sftp_packets.specs.declared.packets.Reply.{Reply}
 pub use Rattle.sftp_packets.specs.declared.packets.Request.{Request}
 pub use Rattle.sftp_packets.specs.declared.packets.Side.{Side}
 pub use Rattle.sftp_packets.specs.declared.packets.Side.TheVariants.{Client, Server}
+unfoldable pub use Rattle.sftp_path.specs.Table.{get, retain}
+pub use Rattle.sftp_transcript.proofs.Begun.{all_more}
+pub use Rattle.sftp_transcript.specs.Examples.{handshake_bytes}
+pub use Rattle.sftp_transcript.specs.Explained.{StepOf, window as full_window, Run, window, Explained, BeginsFrom}
+unfoldable pub use Rattle.sftp_transcript.specs.Explained.{leading_pairs, exchanges_of, in_window, next_reply}
+unfoldable pub use Rattle.sftp_transcript.specs.Explained.{turn_after, requests_before_reply}
+pub use Rattle.sftp_transcript.specs.Ledger.{Exchange, StandsFor, keeps_window}
+pub use Rattle.sftp_transcript.specs.Log.{Log, IsAppended, FailsToRecord, opened_text}
+pub use Rattle.sftp_transcript.specs.Streams.{AppendsPart}
+pub use Rattle.sftp_transcript.specs.Transcript.{IsEvent, record_text, packet_of, transcript_opening}
+pub use Rattle.sftp_transcript.specs.declared.errors.TranscriptError.{TranscriptError}
+pub use Rattle.sftp_transcript.specs.declared.errors.TranscriptError.TheVariants.{Io}
+pub use Rattle.sftp_transcript.specs.declared.events.Event.{Event}
+pub use Rattle.sftp_transcript.specs.declared.events.Event.TheVariants.{Asked, Replied}
+pub use Rattle.sftp_tree.proofs.PlaceTables.Rising.{all_both}
+pub use Rattle.sftp_tree.proofs.Requests.Trees.{path-bytes, PathsLeadWell}
+pub use Rattle.sftp_tree.specs.Tree.{Tree}
+pub use Rattle.sftp_wire.proofs.StreamLaws.Front.{length-spelling, none-leaves_room, front_again, spellings-apart}
+pub use Rattle.sftp_wire.specs.Examples.{version_bytes, no_attributes}
+unfoldable pub use Rattle.sftp_wire.specs.Examples.{hex}
+pub use Rattle.sftp_wire.specs.Framing.{place_after}
+pub use Rattle.sftp_wire.specs.Fronts.{StandsInFront}
+unfoldable pub use Rattle.sftp_wire.specs.Fronts.{front_of}
+pub use mathlib.Core.Bool.{or-true, and-false, and-true, or-false, or_assoc, or_comm}
+pub use Rattle.sftp_server.specs.Choices.{choices_at, choices_of, IsPossible, steps_left}
+unfoldable pub use Rattle.sftp_server.specs.Choices.{choices_from, owed}
+pub use Rattle.sftp_server.specs.Core.{server_clash, HasGoodReply, IsSendable, IsCore, IsValue, IsReached, IsRefusedFor}
+pub use Rattle.sftp_server.specs.Core.{AreDeliverable}
+pub use Rattle.sftp_server.specs.Fronts.{fault_of, found_refused, TakesOn}
+pub use Rattle.sftp_server.specs.Left.{LeadsTo, Leaves, LeavesAt, IsAfterDone, IsLeftAfter}
+unfoldable pub use Rattle.sftp_server.specs.Left.{AreDone}
+pub use Rattle.sftp_server.specs.Machine.{Machine, ClashOf, is_sent, is_ready, reply_at, IsWorked, IsSent, is_pending}
+pub use Rattle.sftp_server.specs.Machine.{ready_in, reply_of, is_pending_at, pending_in, reply_in, at_start, taken}
+pub use Rattle.sftp_server.specs.Machine.{can_take, IsIdle, IsDelivery, IsWork, IsSend, IsAct, AreActs, Delivers}
+unfoldable pub use Rattle.sftp_server.specs.Machine.{is_free_of, from_unsent, is_unsent}
+pub use Rattle.sftp_server.specs.Queue.{request_in, pending_at, HasReply, sent_in, IsQueue}
+unfoldable pub use Rattle.sftp_server.specs.Queue.{with_progress, AreUnsentApart}
+pub use Rattle.sftp_server.specs.RangedNotes.{Portion, portion_in, portions_clash, is_on, IsPortion, resizes, is_behind}
+pub use Rattle.sftp_server.specs.RangedNotes.{AreKnown, AreKnownBut, without, is_behind_by, any_below, HasItsRange}
+pub use Rattle.sftp_server.specs.RangedNotes.{resizes_by, stands_in_way, IsClear, IsHindered, looked_at}
+pub use Rattle.sftp_server.specs.Readiness.{blank, note_at, as_count, possible_count, AreNotes, ask_at, touched_at}
+pub use Rattle.sftp_server.specs.Readiness.{portion_at, portion_now, is_in_way, pending_by, is_late, IsNoted}
+pub use Rattle.sftp_server.specs.Readiness.{IsMarkedBut, IsDone, is_all, only_reads, IsPlaced, IsSettling, touches_file}
+pub use Rattle.sftp_server.specs.Served.{IsOpened, session_packets, recorded, IsListed, IsBeginning, IsCutInLast}
+pub use Rattle.sftp_server.specs.Served.{StreamBytes, stream_bytes, Passed, EndsSession, IsUnopenedBy, IsServed, Serves}
+pub use Rattle.sftp_server.specs.Served.{spelled_if, our_version, IsGreeting, IsNoGreeting, opened_record}
+unfoldable pub use Rattle.sftp_server.specs.Served.{sent_by, answered_last}
+pub use Rattle.sftp_server.specs.Sessions.{Stops, tree_left, IsLogging, Ahead, IsRunning, IsFaultAhead, ahead_without}
+pub use Rattle.sftp_server.specs.Sessions.{IsUnopenedYet, input_limit, FailsToSend, BeginsWithGreeting, SendsOn}
+pub use Rattle.sftp_server.specs.declared.acts.Act.{Act}
+pub use Rattle.sftp_server.specs.declared.acts.Act.TheVariants.{Deliver, Work, Send}
+pub use Rattle.sftp_server.specs.declared.cores.Choice.{Choice}
+pub use Rattle.sftp_server.specs.declared.ends.SessionFault.{SessionFault}
+pub use Rattle.sftp_server.specs.declared.ends.Stop.{Stop}
+pub use Rattle.sftp_server.specs.declared.queue.Entry.{Entry}
+pub use Rattle.sftp_server.specs.declared.queue.Progress.{Progress}
+pub use Rattle.sftp_server.specs.declared.queue.Progress.TheVariants.{Pending, Done, Sent}
+pub use Rattle.sftp_server.specs.declared.readiness.Note.{Note}
+pub use Rattle.sftp_server.specs.declared.refusals.Refuse.{Refuse}
+pub use Rattle.sftp_server.specs.declared.taking.Front.{Front}

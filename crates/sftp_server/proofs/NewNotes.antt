@@ -1,11 +1,12 @@
 -- The notes of no requests, and what one request more changes.
 use Rattle.sftp_server.proofs.Imports.{◌≡◌, ◌+◌, ◌<◌, ◌≤◌, ◌++◌, nat_lt, ℕ, zero, suc, Bool, true, false, List, [], ◌∷◌}
 use Rattle.sftp_server.proofs.Imports.{Option, is_some, length, slice_get, refl, sym, ap, subst, ◌∙◌, arith}
-use Rattle.sftp_server.proofs.Imports.{length-append, inl, inr, ltb-true, ltb-false, get_or_append_left, get_or_push}
-use Rattle.sftp_server.proofs.Imports.{sum_by_push, Request, State, Entry, Pending, Note, is_pending_at, reply_at}
-use Rattle.sftp_server.proofs.Imports.{Portion, portion_in, IsPortion, is_behind_by, blank, note_at, ask_in, portion_at}
-use Rattle.sftp_server.proofs.Imports.{portion_now, is_in_way, as_count, possible_count, pending_by, is_late, IsFree}
-use Rattle.sftp_server.proofs.Imports.{IsBlocked, IsStopped, IsNoted, IsMarked, AreNotes}
+use Rattle.sftp_server.proofs.Imports.{length-append, inl, inr, ltb-true, ltb-false, sum_by_push, Request, State, Entry}
+use Rattle.sftp_server.proofs.Imports.{Pending, Note, is_pending_at, reply_at, Portion, portion_in, IsPortion}
+use Rattle.sftp_server.proofs.Imports.{is_behind_by, blank, note_at, portion_at, portion_now, is_in_way, as_count}
+use Rattle.sftp_server.proofs.Imports.{possible_count, pending_by, is_late, IsNoted, AreNotes}
+use Rattle.std.proofs.lemmas.List.{get_or_append_left, get_or_push}
+use Rattle.sftp_server.specs.Readiness.{ask_in, IsFree, IsBlocked, IsStopped, IsMarked}
 use Rattle.sftp_server.proofs.NotePlaces.{in_way-same, behind-alike}
 
 -- the note of a request that was just taken

@@ -3,14 +3,15 @@ use Rattle.sftp_server.proofs.Imports.{◌≡◌, ◌≢◌, ◌==◌, ◌&&◌,
 use Rattle.sftp_server.proofs.Imports.{◌∷◌, not, Option, inl, inr, length, set, max, nat_lt, refl, sym, ap, subst, ◌∙◌}
 use Rattle.sftp_server.proofs.Imports.{arith, true≢false, eqb-true, eqb-false, ltb-true, ltb-false, and_left}
 use Rattle.sftp_server.proofs.Imports.{length-set, get_or-set_same, get_or-set_other, sum_by-set, sum_by-cons}
-use Rattle.sftp_server.proofs.Imports.{slice_get_read, get_or_from_slice_get, get_or, Ask, ByteRange, Touch, Nothing}
-use Rattle.sftp_server.proofs.Imports.{ReadsFile, touched, share, range, are_apart, touched_as, State, Entry, Note}
-use Rattle.sftp_server.proofs.Imports.{blank, note_at, ask_at, touched_at, is_in_way, IsFree, IsFreeFrom, IsBlockedBack}
-use Rattle.sftp_server.proofs.Imports.{IsBlocked, only_reads, is_all, as_count, possible_count, IsNoted, AreBlocked}
-use Rattle.sftp_server.proofs.Imports.{AreBlockedBut, IsShut, IsMarked, held, AreAlike, IsPlaced, raised, portion_at}
-use Rattle.sftp_server.proofs.Imports.{pending_by, is_late, IsStopped, portion_now, IsMarkedAsked, HaveTheirRanges}
-use Rattle.sftp_server.proofs.Imports.{IsMarkedBut, Portion, portions_clash, IsPortion, is_behind_by, is_behind}
-use Rattle.sftp_server.proofs.Imports.{AreKnown, AreKnownBut}
+use Rattle.sftp_server.proofs.Imports.{slice_get_read, get_or, Ask, ByteRange, Touch, Nothing, touched, share, range}
+use Rattle.sftp_server.proofs.Imports.{are_apart, touched_as, State, Entry, Note, blank, note_at, ask_at, touched_at}
+use Rattle.sftp_server.proofs.Imports.{is_in_way, only_reads, as_count, possible_count, IsNoted, IsPlaced, portion_at}
+use Rattle.sftp_server.proofs.Imports.{pending_by, is_late, portion_now, IsMarkedBut, Portion, portions_clash}
+use Rattle.sftp_server.proofs.Imports.{IsPortion, is_behind_by, is_behind, AreKnown, AreKnownBut, is_all}
+use Rattle.std.proofs.lemmas.Option.{get_or_from_slice_get}
+use Rattle.sftp_handles.specs.declared.touch.Touch.TheVariants.{ReadsFile}
+use Rattle.sftp_server.specs.Readiness.{IsFree, IsFreeFrom, IsBlocked, AreBlockedBut, IsMarked, AreAlike, IsStopped}
+use Rattle.sftp_server.specs.Readiness.{HaveTheirRanges, IsBlockedBack, AreBlocked, IsShut, held, raised, IsMarkedAsked}
 use Rattle.std.proofs.Math.Nat.{le-max_left, le-max_right}
 use Rattle.sftp_server.proofs.RangedNotes.{behind-local}
 use Rattle.sftp_server.proofs.StillRanged.{portion-sound}

@@ -1,42 +1,26 @@
 -- What comes of an act of a script, and of the acts so far.
 use Rattle.sftp_server.proofs.Imports.{◌≡◌, ◌≢◌, ◌<◌, ◌≤◌, ◌+◌, ◌^◌, ℕ, zero, suc, Bool, true, false, List, [], ◌∷◌}
-use Rattle.sftp_server.proofs.Imports.{◌++◌, Result, Ok, Err, IfSome, IsTrue, length, take, get_or, refl, sym, ap}
-use Rattle.sftp_server.proofs.Imports.{subst, ◌∙◌, arith, append-nil, add-one, OnOk, le-ltb, Ask, Request, IsAsk}
-use Rattle.sftp_server.proofs.Imports.{path_of, Tree, State, Good, Allowed, Event, Asked, Explained, BeginsFrom, window}
-use Rattle.sftp_server.proofs.Imports.{Act, Deliver, Refuse, Machine, at_start, taken, can_take, IsDelivery, AreActs}
-use Rattle.sftp_server.proofs.Imports.{Delivers, server_clash, started, IsRefusedFor, IsValue, AreDeliverable}
+use Rattle.sftp_server.proofs.Imports.{◌++◌, Result, Ok, Err, length, take, get_or, refl, sym, ap, subst, ◌∙◌, arith}
+use Rattle.sftp_server.proofs.Imports.{append-nil, add-one, OnOk, le-ltb, Request, IsAsk, Tree, State, Good, Allowed}
+use Rattle.sftp_server.proofs.Imports.{Event, Asked, Explained, BeginsFrom, window, Act, Deliver, Refuse, Machine}
+use Rattle.sftp_server.proofs.Imports.{at_start, taken, can_take, IsDelivery, AreActs, Delivers, server_clash, started}
+use Rattle.sftp_server.proofs.Imports.{IsRefusedFor, IsValue, AreDeliverable, all_both, path-bytes}
 use Rattle.std.proofs.Math.Seq.{take-suc}
 use Rattle.sftp_path.specs.declared.errors.NoMemory.{NoMemory}
-use Rattle.sftp_packets.specs.declared.packets.Ask.TheVariants as asks
-use Rattle.sftp_treefile.specs.TreeFile.{are_bytes}
-use Rattle.sftp_tree.proofs.WellFormedTrees.Fields.{bytes-fit}
 use Rattle.sftp_server.specs.declared.refusals.Refuse.TheVariants as refuses
 use Rattle.sftp_server.specs.Scripts.{IsPerformed}
-use Rattle.sftp_server.proofs.Machines.Acts.{all-append, acts-more}
+use Rattle.sftp_server.proofs.Machines.Acts.{acts-more}
 use Rattle.sftp_server.proofs.Machines.Laws as core_laws
 use Rattle.sftp_server.proofs.Sessions.Stops.{stays-good, each-answered, reached-begins}
 
 -- ---- values
 
-path-bytes : (ask : Ask) → IsAsk ask → IfSome (path_of ask) (λ path. IsTrue (are_bytes path))
-path-bytes (asks.Open path flags attrs) is = bytes-fit path is.0
-path-bytes (asks.Opendir path) is = bytes-fit path is
-path-bytes (asks.Mkdir path attrs) is = bytes-fit path is.0
-path-bytes (asks.Setstat path attrs) is = bytes-fit path is.0
-path-bytes (asks.Rmdir path) is = bytes-fit path is
-path-bytes (asks.Remove path) is = bytes-fit path is
-path-bytes (asks.Stat path) is = bytes-fit path is
-path-bytes (asks.Lstat path) is = bytes-fit path is
-path-bytes (asks.Realpath path) is = bytes-fit path is
-path-bytes (asks.Readlink path) is = bytes-fit path is
-path-bytes (asks.Symlink linktarget link) is = bytes-fit link is.1
-path-bytes (asks.Rename oldpath newpath) is = bytes-fit oldpath is.0
-path-bytes (asks.PosixRename oldpath newpath) is = bytes-fit oldpath is.0
-path-bytes (asks.Hardlink oldpath newpath) is = bytes-fit oldpath is.0
-path-bytes other is = tt
-
-pub request-value : (request : Request) → request.id < 2 ^ 32 → IsAsk request.ask → IsValue request
-request-value request id ask = record { askable = record { id = id; path = path-bytes request.ask ask }; ask = ask }
+-- a request whose ask was copied
+pub request-value : (request : Request) (copy : Ask) → request.id < 2 ^ 32 → (copy ≡ request.ask) × IsAsk copy
+    → IsValue request
+request-value request copy id copied =
+    let ask : IsAsk request.ask = subst IsAsk copied.0 copied.1 in
+    record { askable = record { id = id; path = path-bytes request.ask ask }; ask = ask }
 
 -- ---- deliveries
 
@@ -91,7 +75,7 @@ acts-next start acts i next act mid after old new some is next_is steps values p
     ap (λ (n : ℕ). take n acts) next_is ∙ (take-one ∙ ap (λ (a : Act). take i acts ++ a ∷ []) (sym is)) in
     let more = acts-more Allowed server_clash (at_start start window) mid after
     (take i acts) old act performed.events steps performed.acted in
-    let all = all-append (Delivers IsValue) (take i acts) (act ∷ []) values (performed.value, tt) in (
+    let all = all_both (Delivers IsValue) (take i acts) (act ∷ []) values (performed.value, tt) in (
       subst (λ (list : List Act). AreActs Allowed server_clash (at_start start window) list new after) (sym one) (subst
           (λ (es : List Event). AreActs Allowed server_clash (at_start start window) (take i acts ++ act ∷ []) es after)
           (sym performed.appended) more),

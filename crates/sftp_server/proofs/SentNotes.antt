@@ -1,14 +1,13 @@
 -- How the notes of a queue change once a reply is sent.
 use Rattle.sftp_server.proofs.Imports.{◌≡◌, ◌≢◌, ◌+◌, ◌-◌, ◌<◌, ◌≤◌, ◌==◌, nat_lt, ℕ, Bool, true, false, List, Option}
 use Rattle.sftp_server.proofs.Imports.{Some, is_some, length, set, drop, slice_get, refl, sym, ap, subst, ◌∙◌, arith}
-use Rattle.sftp_server.proofs.Imports.{◌⊎◌, inl, inr, length-drop, ltb-true, ltb-false, and_parts, true≢false}
-use Rattle.sftp_server.proofs.Imports.{cases_Bool, eqb-true, eqb-false, length-set, get_or-set_other, Reply, State}
-use Rattle.sftp_server.proofs.Imports.{touched, range, Entry, Sent, Note, is_pending_at, pending_in, reply_at, reply_in}
-use Rattle.sftp_server.proofs.Imports.{from_unsent, with_progress, Portion, portion_in, portions_clash, IsPortion}
-use Rattle.sftp_server.proofs.Imports.{is_behind, AreKnown, blank, note_at, portion_at, portion_now, is_in_way}
-use Rattle.sftp_server.proofs.Imports.{possible_count, pending_by, is_late, IsFree, IsBlocked, IsStopped, IsNoted}
-use Rattle.sftp_server.proofs.Imports.{AreBlocked, IsMarkedAsked, IsMarked, AreNotes}
-use Rattle.sftp_server.specs.Readiness.{IsOpened}
+use Rattle.sftp_server.proofs.Imports.{◌⊎◌, inl, inr, ltb-true, ltb-false, and_parts, true≢false, cases_Bool, eqb-true}
+use Rattle.sftp_server.proofs.Imports.{eqb-false, length-set, get_or-set_other, Reply, State, touched, range, Entry}
+use Rattle.sftp_server.proofs.Imports.{Sent, Note, is_pending_at, pending_in, reply_at, reply_in, from_unsent}
+use Rattle.sftp_server.proofs.Imports.{with_progress, Portion, portion_in, portions_clash, IsPortion, is_behind}
+use Rattle.sftp_server.proofs.Imports.{AreKnown, blank, note_at, portion_at, portion_now, is_in_way, possible_count}
+use Rattle.sftp_server.proofs.Imports.{pending_by, is_late, IsNoted, AreNotes, length-drop}
+use Rattle.sftp_server.specs.Readiness.{IsFree, IsBlocked, IsStopped, IsMarked, AreBlocked, IsMarkedAsked, IsOpened}
 use Rattle.sftp_server.proofs.Queues.{length-progress}
 use Rattle.sftp_server.proofs.NotePlaces.{part-set, fails-set, fails-still, passed-before, count-set, other-progress}
 use Rattle.sftp_server.proofs.NotePlaces.{ask-progress, worked-here, reply-here, in_way-same, portion-set, reply-within}

@@ -6,10 +6,10 @@ use Rattle.sftp_server.proofs.Imports.{eqb-true, eqb-false, same_Some, length-se
 use Rattle.sftp_server.proofs.Imports.{Nothing, WritesFile, range, touched_as, State, Entry, Note, Portion, is_on}
 use Rattle.sftp_server.proofs.Imports.{IsPortion, resizes_by, resizes, is_behind_by, is_behind, stands_in_way}
 use Rattle.sftp_server.proofs.Imports.{AreKnownBut, looked_at, blank, note_at, ask_at, touched_at, portion_at}
-use Rattle.sftp_server.proofs.Imports.{is_in_way, as_count, IsFree, only_reads, is_all, IsNoted, IsBlocked, pending_by}
-use Rattle.sftp_server.proofs.Imports.{is_late, IsStopped, AreBlockedBut, AreBlockedButOn, AreNotReadyOn}
-use Rattle.sftp_server.proofs.Imports.{HaveTheirRanges, portion_now, IsMarkedBut, IsPlaced, IsSettling, IsSettled}
-use Rattle.sftp_server.proofs.Imports.{touches_file, resized_file, resizes_noted, IsMeasured}
+use Rattle.sftp_server.proofs.Imports.{is_in_way, as_count, only_reads, IsNoted, pending_by, is_late, portion_now}
+use Rattle.sftp_server.proofs.Imports.{IsMarkedBut, IsPlaced, IsSettling, touches_file, is_all}
+use Rattle.sftp_server.specs.Readiness.{IsFree, IsBlocked, IsStopped, AreBlockedBut, AreNotReadyOn, HaveTheirRanges}
+use Rattle.sftp_server.specs.Readiness.{AreBlockedButOn, IsSettled, resized_file, resizes_noted, IsMeasured}
 use Rattle.sftp_server.proofs.Notes.{by_place, below, set-same, set-other, set-field, stopped-kept, marks_but-alike}
 use Rattle.sftp_server.proofs.RangedNotes.{some-behind, behind-after, way-after, after-touched, known-passed}
 use Rattle.sftp_server.proofs.RangedNotes.{known-stopped, known-ended, known-looked}

@@ -1,11 +1,13 @@
 -- A request that does not touch everything changes nothing of what requests touch.
 use Rattle.sftp_server.proofs.Imports.{◌≡◌, ◌≢◌, ◌<◌, nat_lt, ℕ, zero, suc, Bool, true, false, List, [], ◌∷◌, Option}
 use Rattle.sftp_server.proofs.Imports.{Some, None, length, refl, sym, ap, ◌∙◌, ◌⊎◌, inl, inr, arith, true≢false}
-use Rattle.sftp_server.proofs.Imports.{ltb-true, ltb-false, Ask, Request, Reply, asked_handle, Handles, open_at, State}
-use Rattle.sftp_server.proofs.Imports.{changed, after, after_by, Allowed, Refuses, Does, Touched, everything, touched}
-use Rattle.sftp_server.proofs.Imports.{touched_by, touched_through, may_change, Entry, Done, Note, is_pending_at}
-use Rattle.sftp_server.proofs.Imports.{with_progress, note_at, ask_at, IsNoted, IsDone, AreNotes, is_on, resizes_by}
-use Rattle.sftp_server.proofs.Imports.{ByteRange, range}
+use Rattle.sftp_server.proofs.Imports.{ltb-true, ltb-false, Ask, Request, Reply, asked_handle, State, Allowed, Touched}
+use Rattle.sftp_server.proofs.Imports.{everything, touched, Entry, Done, Note, is_pending_at, with_progress, note_at}
+use Rattle.sftp_server.proofs.Imports.{ask_at, IsNoted, IsDone, AreNotes, is_on, resizes_by, ByteRange, range}
+use Rattle.sftp_handles.specs.Handles.{Handles, open_at}
+use Rattle.sftp_handles.specs.Requests.{changed, after, after_by}
+use Rattle.sftp_handles.specs.Allowed.{Refuses, Does}
+use Rattle.sftp_handles.specs.Clash.{touched_by, touched_through, may_change}
 use Rattle.sftp_packets.specs.declared.packets.Answer.{Answer}
 use Rattle.sftp_handles.specs.Seen.{seen}
 use Rattle.sftp_handles.specs.HandleRequests.{row_of, Change, nothing, change_of}

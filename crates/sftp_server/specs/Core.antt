@@ -1,13 +1,12 @@
 -- The core of this server: the general machine over the states of sessions.
-use Rattle.std.specs.Prelude.{◌≡◌, nat_lt, ℕ, ◌≤◌, List, [], length, IsTrue}
+use Rattle.std.specs.Prelude.{◌≡◌, nat_lt, ℕ, ◌≤◌, List, length, IsTrue}
 use Rattle.std.specs.List.{AllByRecursion}
 use Rattle.sftp_packets.specs.declared.packets.Packet.TheVariants.{Reply as reply_packet}
 use Rattle.sftp_packets.specs.declared.packets.Request.{Request}
 use Rattle.sftp_packets.specs.Spelling.{HasSpelling}
 use Rattle.sftp_transcript.specs.declared.events.Event.{Event}
 use Rattle.sftp_transcript.specs.Explained.{window as full_window}
-use Rattle.sftp_tree.specs.Tree.{Tree}
-use Rattle.sftp_handles.specs.State.{State, settled}
+use Rattle.sftp_handles.specs.State.{State}
 use Rattle.sftp_handles.specs.Allowed.{Allowed}
 use Rattle.sftp_handles.specs.Ranges.{range_clash}
 use Rattle.sftp_server.specs.declared.queue.Entry.{Entry}
@@ -25,10 +24,6 @@ use Rattle.sftp_server.specs.Machine.{from_unsent}
 -- to ranges of one file that do not meet
 abbrev pub server_clash : ClashOf State
 server_clash s earlier later = range_clash s earlier later
-
--- the state in which a session begins on a tree: nothing is open
-abbrev pub started : Tree → State
-started t = settled t []
 
 -- why a request is not taken: the queue is full, or an unsent request has the id, or, if neither, memory ran out
 abbrev pub IsRefusedFor : Machine State → Request → Refuse → Type 0

@@ -1,7 +1,7 @@
 -- How an open session goes on after a batch of requests, and how it ends.
 use Rattle.std.specs.Prelude.{◌≡◌, ◌<◌, ◌≤◌, ℕ, [], length, Option, Some, None, Result, MatchResult}
 use Rattle.sftp_tree.specs.Tree.{Tree}
-use Rattle.sftp_handles.specs.State.{State}
+use Rattle.sftp_handles.specs.State.{State, closed_tree}
 use Rattle.sftp_server.specs.declared.ends.Ended.{Ended}
 use Rattle.sftp_server.specs.declared.ends.Ended.TheVariants as ends
 use Rattle.sftp_server.specs.declared.ends.SessionFault.{SessionFault}
@@ -11,7 +11,7 @@ use Rattle.sftp_server.specs.declared.serving.Next.TheVariants.{Batch, End}
 use Rattle.sftp_server.specs.declared.taking.Front.{Front}
 use Rattle.sftp_server.specs.declared.taking.Front.TheVariants.{Taken, Full, Waiting, Fault}
 use Rattle.sftp_server.specs.Machine.{Machine}
-use Rattle.sftp_server.specs.Served.{closed_tree, StreamBytes}
+use Rattle.sftp_server.specs.Served.{StreamBytes}
 use Rattle.sftp_server.specs.Sessions.{Ahead, input_limit, IsRunning, IsEnding, Stops, tree_left}
 use Rattle.sftp_server.specs.Fronts.{fault_of}
 

@@ -9,11 +9,11 @@ use Rattle.sftp_transcript.specs.declared.events.Event.{Event}
 use Rattle.sftp_transcript.specs.Transcript.{packet_of}
 use Rattle.sftp_transcript.specs.Explained.{StepOf, Run, exchanges_of}
 use Rattle.sftp_tree.specs.Tree.{Tree}
-use Rattle.sftp_handles.specs.State.{State, settled}
+use Rattle.sftp_handles.specs.State.{State, started, closed_tree}
 use Rattle.sftp_handles.specs.Allowed.{Allowed}
 use Rattle.sftp_server.specs.declared.ends.Ended.{Ended}
 use Rattle.sftp_server.specs.declared.ends.Ended.TheVariants as ends
-use Rattle.sftp_server.specs.Served.{sent_by, closed_tree, IsListed, IsBeginning, IsCutInLast, StreamBytes, Passed}
+use Rattle.sftp_server.specs.Served.{sent_by, IsListed, IsBeginning, IsCutInLast, StreamBytes, Passed}
 
 -- The requests that were done, with their replies, out of all requests in the order asked: each whose reply was sent,
 -- with that reply, and some of the others, each with a reply.
@@ -34,7 +34,7 @@ pub record LeadsTo {S : Type 0} (step : StepOf S) (start : S) (events : List Eve
 -- they lead from the starting tree to this one, once nothing is open
 pub record IsAfterDone (start : Tree) (events : List Event) (end : Tree) : Type 0 where
   pub last : State
-  pub leads : LeadsTo Allowed (settled start []) events last
+  pub leads : LeadsTo Allowed (started start) events last
   pub end_is : end ≡ closed_tree last
 
 -- The tree that a session with these packets leaves: none if it was not opened, and otherwise that of the requests

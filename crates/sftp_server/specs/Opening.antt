@@ -6,13 +6,12 @@ use Rattle.sftp_wire.specs.Fronts.{front_of}
 use Rattle.sftp_transcript.specs.Records.{IsInit}
 use Rattle.sftp_transcript.specs.Explained.{window}
 use Rattle.sftp_tree.specs.Tree.{Tree}
-use Rattle.sftp_handles.specs.State.{Good}
+use Rattle.sftp_handles.specs.State.{Good, started}
 use Rattle.sftp_server.specs.declared.ends.SessionFault.TheVariants as faults
 use Rattle.sftp_server.specs.declared.ends.Stop.{Stop}
 use Rattle.sftp_server.specs.declared.opening.First.{First}
 use Rattle.sftp_server.specs.declared.opening.First.TheVariants.{Init, Fault}
 use Rattle.sftp_server.specs.Machine.{at_start}
-use Rattle.sftp_server.specs.Core.{started}
 use Rattle.sftp_server.specs.Served.{IsUnopenedBy, StreamBytes, stream_bytes}
 use Rattle.sftp_server.specs.Sessions.{Ahead, Stops, tree_left, IsRunning, IsUnopenedYet, BeginsWithGreeting}
 

@@ -21,8 +21,8 @@ use Rattle.sftp_transcript.specs.Log.{Log}
 use Rattle.sftp_transcript.specs.Transcript.{packet_of, record_text, transcript_opening, IsEvent}
 use Rattle.sftp_transcript.specs.Records.{IsInit}
 use Rattle.sftp_transcript.specs.Explained.{Explained, BeginsFrom}
-use Rattle.sftp_tree.specs.Tree.{Tree, trim}
-use Rattle.sftp_handles.specs.State.{State, settled}
+use Rattle.sftp_tree.specs.Tree.{Tree}
+use Rattle.sftp_handles.specs.State.{State, started, closed_tree}
 use Rattle.sftp_handles.specs.Allowed.{Allowed}
 use Rattle.sftp_server.specs.declared.ends.Ended.{Ended}
 use Rattle.sftp_server.specs.declared.ends.Ended.TheVariants as ends
@@ -113,14 +113,10 @@ EndsSession events rest place over faults.BadInit = BeginsWithInit rest
 EndsSession events rest place over (faults.Cut at) =
     over × (rest ≢ []) × (front_of Client rest ≡ Ok None) × (at ≡ place)
 
--- the tree of a session's last state, once nothing is open
-abbrev pub closed_tree : State → Tree
-closed_tree last = trim (record last.tree { pins = [] })
-
 -- the events are explained, and the tree is that of the last state
 pub record IsServed (start : Tree) (events : List Event) (end : Tree) : Type 0 where
   pub last : State
-  pub explained : Explained Allowed (settled start []) events last
+  pub explained : Explained Allowed (started start) events last
   pub end_is : end ≡ closed_tree last
 
 pub record IsFinished (start : Tree) (input : List ℕ) (over : Type 0) (output log : List ℕ) (end : Tree) : Type 0 where
@@ -172,7 +168,7 @@ IsListed start [] = Unit {0}
 IsListed start (init ∷ []) = IsGreeting init
 IsListed start (init ∷ version ∷ packets) =
     IsGreeting init × (version ≡ our_version) × (events : List Event) × (packets ≡ map packet_of events)
-    × AllByRecursion IsEvent events × BeginsFrom Allowed (settled start []) events
+    × AllByRecursion IsEvent events × BeginsFrom Allowed (started start) events
 
 -- the first is a beginning of the second
 abbrev pub IsBeginning : List ℕ → List ℕ → Type 0

@@ -16,7 +16,7 @@ use Rattle.sftp_transcript.specs.Log.{Log, opened_text}
 use Rattle.sftp_transcript.specs.Transcript.{record_text, IsEvent}
 use Rattle.sftp_transcript.specs.Explained.{window}
 use Rattle.sftp_tree.specs.Tree.{Tree}
-use Rattle.sftp_handles.specs.State.{State, Good}
+use Rattle.sftp_handles.specs.State.{State, Good, started, closed_tree}
 use Rattle.sftp_server.specs.declared.ends.Ended.{Ended}
 use Rattle.sftp_server.specs.declared.ends.Ended.TheVariants as ends
 use Rattle.sftp_server.specs.declared.ends.SessionEnd.{SessionEnd}
@@ -28,9 +28,9 @@ use Rattle.sftp_server.specs.declared.ends.Stop.{Stop}
 use Rattle.sftp_server.specs.declared.ends.Stop.TheVariants as stops
 use Rattle.sftp_server.specs.declared.queue.Entry.{Entry}
 use Rattle.sftp_server.specs.Machine.{Machine, is_unsent}
-use Rattle.sftp_server.specs.Core.{started, IsReached}
+use Rattle.sftp_server.specs.Core.{IsReached}
 use Rattle.sftp_server.specs.Served.{session_packets, sent_by, recorded, IsGreeting, answered_last, BeginsWithId}
-use Rattle.sftp_server.specs.Served.{BeginsWithInit, EndsSession, closed_tree, StreamBytes, stream_bytes, Passed}
+use Rattle.sftp_server.specs.Served.{BeginsWithInit, EndsSession, StreamBytes, stream_bytes, Passed}
 use Rattle.sftp_server.specs.Served.{Serves, is_same_stream, failures_if}
 use Rattle.sftp_server.specs.Left.{Leaves, LeavesAt}
 

@@ -7,6 +7,7 @@ ghost use Rattle.sftp_packets.specs.declared.packets.Packet.TheVariants.{Reply a
 ghost use Rattle.sftp_packets.specs.Spelling.{HasSpelling};
 ghost use Rattle.sftp_transcript.specs.Explained.{window as full_window};
 ghost use Rattle.sftp_handles.specs.State as states;
+ghost use Rattle.sftp_handles.specs.State.{started, closed_tree};
 ghost use Rattle.sftp_handles.specs.Allowed.{Allowed};
 ghost use Rattle.sftp_server.specs.declared.refusals.Did.TheVariants as did;
 ghost use Rattle.sftp_server.specs.declared.refusals.Refuse.TheVariants.{Full as full, IdInUse as in_use};
@@ -15,8 +16,7 @@ ghost use Rattle.sftp_server.specs.Machine.{is_unsent};
 ghost use Rattle.sftp_server.specs.Machine.{at_start, taken, can_take, is_ready, is_pending_at, reply_at, IsWorked};
 ghost use Rattle.sftp_server.specs.Machine.{IsSent, from_unsent};
 ghost use Rattle.sftp_server.specs.Choices.{choices_of};
-ghost use Rattle.sftp_server.specs.Core.{server_clash, started, IsRefusedFor};
-ghost use Rattle.sftp_server.specs.Served.{closed_tree};
+ghost use Rattle.sftp_server.specs.Core.{server_clash, IsRefusedFor};
 
 use crate::queue::Queue;
 use crate::readiness::Readiness;

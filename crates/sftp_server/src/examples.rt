@@ -2,13 +2,14 @@
 //! `run_script` and `serve` name. The functions do nothing; each promise is in the contract.
 ghost use Rattle.std.specs.Prelude.{◌≡◌, ℕ, ◌∷◌, ◌++◌, [], codes, length};
 ghost use Rattle.sftp_wire.specs.Examples.{hex, version_bytes};
+ghost use Rattle.sftp_handles.specs.State.{started};
 ghost use Rattle.sftp_transcript.specs.Examples.{handshake_bytes};
 ghost use Rattle.sftp_transcript.specs.Explained.{window};
 ghost use Rattle.sftp_tree.specs.Tree.{Tree};
 ghost use Rattle.sftp_tree.specs.Picture.{blank};
 ghost use Rattle.sftp_handles.specs.Allowed.{Allowed};
 ghost use Rattle.sftp_server.specs.Machine.{at_start, AreActs};
-ghost use Rattle.sftp_server.specs.Core.{server_clash, started};
+ghost use Rattle.sftp_server.specs.Core.{server_clash};
 ghost use Rattle.sftp_server.specs.Served.{Served};
 ghost use Rattle.sftp_server.specs.Examples.{made_and_removed, answered_backwards, init_bytes, remove_and_byte};
 ghost use Rattle.sftp_server.specs.Examples.{mkdir_beginning, stat_bytes, attrs_bytes, EndsAfterVersion};

@@ -3,7 +3,6 @@
 #![tactic(auto)]
 
 mod acts;
-mod copying;
 mod cores;
 mod ends;
 pub mod examples;

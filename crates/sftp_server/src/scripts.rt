@@ -1,21 +1,22 @@
 //! Acts of a server that are done one after the other.
-ghost use Rattle.std.specs.Prelude.{◌≡◌, ◌≢◌, ◌++◌, [], ◌∷◌, IfOk, OnOk};
+ghost use Rattle.std.specs.Prelude.{◌≡◌, ◌≢◌, ◌<◌, ◌^◌, ◌++◌, [], ◌∷◌, IfOk, OnOk};
 ghost use Rattle.sftp_handles.specs.Allowed.{Allowed};
+ghost use Rattle.sftp_handles.specs.State.{started};
 ghost use Rattle.sftp_transcript.specs.declared.events.Event.TheVariants.{Asked};
 ghost use Rattle.sftp_transcript.specs.Explained.{Explained, BeginsFrom, window};
 ghost use Rattle.sftp_server.specs.declared.acts.Act.TheVariants as acts;
 ghost use Rattle.sftp_server.specs.declared.refusals.Refuse.TheVariants.{NoMemory as no_memory};
 ghost use Rattle.sftp_server.specs.Machine.{at_start, AreActs, IsAct};
-ghost use Rattle.sftp_server.specs.Core.{server_clash, started};
+ghost use Rattle.sftp_server.specs.Core.{server_clash, IsValue};
 ghost use Rattle.sftp_server.specs.Scripts.{IsPerformed};
 
 use crate::acts::Act;
-use crate::copying::copy_request;
 use crate::cores::Core;
 use crate::refusals::Refuse;
 use sftp_transcript::{Event, WINDOW};
 use sftp_tree::{NoMemory, Tree};
-use sftp_wire::Request;
+use sftp_wire::{Ask, Request};
+use std::alloc::AllocError;
 
 /// Does the acts in their order on a core of this tree, with nothing open and a window of `sftp_transcript::WINDOW`
 /// requests. Returns the events that they make, and the core after them. An act that is not possible, such as the
@@ -77,6 +78,23 @@ fn note(request: &Request, events: &mut Vec<Event>) -> Result<(), NoMemory>
     let copy = copy_request(request)?;
     events.push(Event::Asked(copy))?;
     Ok(())
+}
+
+/// A copy of a request.
+fn copy_request(request: &Request) -> Result<Request, AllocError>
+    ensures same { IfOk result (λ copy. copy ≡ request.now) }
+    ensures value { OnOk result (IsValue request.now) }
+{
+    let ask = request.ask.clone()?;
+    Ok(request_with(request.id, ask))
+}
+
+/// The request with this id.
+fn request_with(id: u32, ask: Ask) -> Request
+    ensures request { result ≡ record { id = id; ask = ask } }
+    ensures fits { id < 2 ^ 32 }
+{
+    Request { id, ask }
 }
 
 /// Drops the request that the core did not take. That leaves no event.

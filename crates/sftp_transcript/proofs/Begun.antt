@@ -1,12 +1,13 @@
 -- What a reader has given of known bytes, before and after each step.
 use Rattle.sftp_transcript.proofs.Imports.{◌≡◌, ◌⊎◌, inl, inr, ℕ, true, List, [], ◌∷◌, ◌++◌, Option, Some, None, refl}
 use Rattle.sftp_transcript.proofs.Imports.{sym, ap, ◌∙◌, subst, append_assoc, append-nil, arith, flat_map}
-use Rattle.sftp_transcript.proofs.Imports.{AllByRecursion, length-append, flat_map-cons, flat_map-append}
-use Rattle.sftp_transcript.proofs.Imports.{TranscriptError, NoMemory, Event, Stage, IsSameAhead, bytes_ahead}
-use Rattle.sftp_transcript.proofs.Imports.{number_after_events, BeginsRecord, ReadUpTo, HasGiven, HasGivenOf}
-use Rattle.sftp_transcript.proofs.Imports.{FaultAhead, FaultOf, GaveFrom, HasStillGiven, MayCome, stage_after}
-use Rattle.sftp_transcript.proofs.Imports.{is_greeting, BeginsKind, Reading, number_after, reported, HasAhead, IsExcuse}
+use Rattle.sftp_transcript.proofs.Imports.{AllByRecursion, length-append, flat_map-cons, TranscriptError, NoMemory}
+use Rattle.sftp_transcript.proofs.Imports.{Event, Stage, IsSameAhead, bytes_ahead, number_after_events, BeginsRecord}
+use Rattle.sftp_transcript.proofs.Imports.{ReadUpTo, HasGiven, HasGivenOf, FaultAhead, FaultOf, GaveFrom, HasStillGiven}
+use Rattle.sftp_transcript.proofs.Imports.{MayCome, stage_after, is_greeting, BeginsKind, Reading, HasAhead, IsExcuse}
 use Rattle.sftp_transcript.proofs.Imports.{IsOpened, Took, BeginsEvent, TookEvent, event_record, IsEvent}
+use Rattle.std.proofs.lemmas.Grind.{flat_map-append}
+use Rattle.sftp_transcript.specs.Recorded.{number_after, reported}
 use Rattle.sftp_transcript.specs.declared.stage.Stage.TheVariants as stages
 use Rattle.sftp_transcript.proofs.Taking.{known_kept}
 use Rattle.sftp_transcript.proofs.transcripts.Reading.{handshake_by}
@@ -52,7 +53,7 @@ greeting_read stages.Version greets bytes events before after read is =
     subst (λ (l : List Event). BeginsRecord l bytes after) (sym read.0) none
 greeting_read stages.Events greets bytes events before after read is = absurd cc
 
-all_more : (events : List Event) (event : Event) → AllByRecursion IsEvent events → IsEvent event → AllByRecursion IsEvent (events ++ event ∷ [])
+pub all_more : (events : List Event) (event : Event) → AllByRecursion IsEvent events → IsEvent event → AllByRecursion IsEvent (events ++ event ∷ [])
 all_more [] event all is = (is, tt)
 all_more (e ∷ events) event all is = (all.0, all_more events event all.1 is)
 

@@ -4,7 +4,7 @@ use Rattle.sftp_transcript.proofs.Imports.{sym, ap, subst, ◌∙◌, refl, leng
 use Rattle.sftp_transcript.proofs.Imports.{length-append, IsAtEnd, Packet, Side, TranscriptError, Magic, Wire}
 use Rattle.sftp_transcript.proofs.Imports.{Truncated, NoMemory, Ahead, HoldsOpening, CutsPacket, CutsAtEnd, FaultAhead}
 use Rattle.sftp_transcript.proofs.Imports.{side_of_direction, HasAhead, IsExcuse, transcript_opening, record_text}
-use Rattle.sftp_wire.specs.Fronts.{front_of}
+use Rattle.sftp_transcript.proofs.Imports.{front_of}
 use Rattle.sftp_transcript.specs.declared.stage.Stage.TheVariants as stages
 use Rattle.sftp_transcript.specs.Refused.{PacketFault, DirectedFault, RecordFault, BeginsOther, KindFault}
 use Rattle.sftp_transcript.specs.Refused.{IsEventPacket, EventFault}

@@ -3,10 +3,10 @@ use Rattle.sftp_transcript.proofs.Imports.{◌≡◌, ℕ, ◌+◌, ◌^◌, ◌
 use Rattle.sftp_transcript.proofs.Imports.{List, ◌∷◌, ◌++◌, length, take, drop, Option, Some, None, Result, Ok, Err}
 use Rattle.sftp_transcript.proofs.Imports.{refl, sym, ap, ◌∙◌, arith, w32, from_be_bytes, or_parts, ltb-true, ltb-false}
 use Rattle.sftp_transcript.proofs.Imports.{le-ltb, take_at, take-append-le, drop-append-le, length-append, length-drop}
-use Rattle.sftp_transcript.proofs.Imports.{Fault, Length, Packet, Side, uint32, packet_limit, wide32, CutsPacket}
-use Rattle.std.specs.Prelude.{◌||◌}
+use Rattle.sftp_transcript.proofs.Imports.{Fault, Packet, Side, wide32, CutsPacket, ◌||◌, front_of}
+use Rattle.sftp_packets.specs.declared.errors.Fault.TheVariants.{Length}
+use Rattle.sftp_packets.specs.Spelling.{uint32, packet_limit}
 use Rattle.sftp_packets.specs.Reading.{◌>>=◌, packet_of}
-use Rattle.sftp_wire.specs.Fronts.{front_of}
 use Rattle.sftp_transcript.proofs.Inputs.{same_cons}
 
 -- ---- a fault in front stays, whatever follows

@@ -2,8 +2,8 @@
 use Rattle.sftp_transcript.proofs.Imports.{◌≡◌, ℕ, ◌+◌, ◌^◌, ◌<◌, ◌≤◌, List, ◌∷◌, ◌++◌, length, take, Option, None}
 use Rattle.sftp_transcript.proofs.Imports.{Some, refl, sym, ap, ◌∙◌, append_assoc, append-nil, arith, take_at}
 use Rattle.sftp_transcript.proofs.Imports.{length-append, same_Some, w32, from_be_bytes, Consumes, Keeps, IsAtEnd}
-use Rattle.sftp_transcript.proofs.Imports.{prepend_known, Packet, uint32, contents, spelling, packet_limit, HasSpelling}
-use Rattle.sftp_transcript.proofs.Imports.{wide32, record_text, Ahead, bytes_ahead}
+use Rattle.sftp_transcript.proofs.Imports.{prepend_known, Packet, wide32, record_text, Ahead, bytes_ahead}
+use Rattle.sftp_packets.specs.Spelling.{uint32, contents, spelling, packet_limit, HasSpelling}
 
 -- ---- bytes that are read
 

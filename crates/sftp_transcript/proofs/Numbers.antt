@@ -1,7 +1,8 @@
 -- An error is of the record in hand.
 use Rattle.sftp_transcript.proofs.Imports.{◌≡◌, ◌⊎◌, inl, inr, ℕ, List, [], ◌∷◌, Option, Some, None, refl, sym, subst}
-use Rattle.sftp_transcript.proofs.Imports.{Packet, Side, TranscriptError, Magic, Direction, Start, Wire, Truncated, Io}
-use Rattle.sftp_transcript.proofs.Imports.{NoMemory, Stage, side_of_direction, IsInit, IsVersion}
+use Rattle.sftp_transcript.proofs.Imports.{Packet, Side, TranscriptError, Magic, Wire, Truncated, Io, NoMemory, Stage}
+use Rattle.sftp_transcript.proofs.Imports.{side_of_direction, IsInit, IsVersion}
+use Rattle.sftp_transcript.specs.declared.errors.TranscriptError.TheVariants.{Direction, Start}
 use Rattle.sftp_transcript.specs.declared.stage.Stage.TheVariants as stages
 use Rattle.sftp_transcript.specs.Refused.{PacketFault, DirectedFault, RecordFault, KindFault, IsEventPacket, FaultIn}
 use Rattle.sftp_transcript.specs.Refused.{NamesRecord, number_in_hand}

@@ -1,20 +1,20 @@
 -- The next record, before and after each step of a reader.
 use Rattle.sftp_transcript.proofs.Imports.{◌≡◌, ◌≢◌, ℕ, ◌<◌, ◌≤◌, ◌⊎◌, inl, inr, List, [], ◌++◌, length, Option, Some}
 use Rattle.sftp_transcript.proofs.Imports.{None, Result, Ok, Err, OnErr, MatchResult, refl, sym, ap, ◌∙◌, subst, arith}
-use Rattle.sftp_transcript.proofs.Imports.{IsAtEnd, append_cancel_left, Packet, Init, Version, Request, TranscriptError}
-use Rattle.sftp_transcript.proofs.Imports.{Io, NoMemory, Event, Asked, Replied, Stage, Ahead, CutsAtEnd, FaultAhead}
+use Rattle.sftp_transcript.proofs.Imports.{IsAtEnd, append_cancel_left, Packet, Init, Version, TranscriptError, Io}
+use Rattle.sftp_transcript.proofs.Imports.{NoMemory, Event, Asked, Replied, Stage, Ahead, CutsAtEnd, FaultAhead}
 use Rattle.sftp_transcript.proofs.Imports.{ReadUpTo, HasGiven, HasGivenOf, number_after_events, with_given, MayCome}
-use Rattle.sftp_transcript.proofs.Imports.{record_number, stage_opened, stage_after, IsAfterOpening, BeginsNext}
-use Rattle.sftp_transcript.proofs.Imports.{FaultNext, GivenRecord, GivesPacket, GivesNext, event_from, event_in}
-use Rattle.sftp_transcript.proofs.Imports.{number_past, number_then, IsStageThen, TookNoRecord, Begins, IsInit}
-use Rattle.sftp_transcript.proofs.Imports.{IsVersion, Reading, rank, HasAhead, IsExcuse, IsOpened, Took}
-use Rattle.sftp_transcript.proofs.Imports.{transcript_opening, packet_of}
-use Rattle.sftp_packets.specs.declared.packets.Packet.TheVariants.{Reply}
+use Rattle.sftp_transcript.proofs.Imports.{record_number, stage_after, BeginsNext, FaultNext, GivenRecord, GivesPacket}
+use Rattle.sftp_transcript.proofs.Imports.{GivesNext, number_then, IsStageThen, Begins, IsInit, IsVersion, Reading}
+use Rattle.sftp_transcript.proofs.Imports.{rank, HasAhead, IsExcuse, IsOpened, Took, transcript_opening, packet_of}
+use Rattle.sftp_packets.specs.declared.packets.Packet.TheVariants.{Request, Reply}
+use Rattle.sftp_transcript.specs.Packets.{stage_opened, IsAfterOpening, event_from, event_in, number_past, TookNoRecord}
 use Rattle.sftp_transcript.specs.declared.stage.Stage.TheVariants as stages
 use Rattle.sftp_transcript.specs.Refused.{KindFault, IsEventPacket}
 use Rattle.sftp_transcript.proofs.Begun.{opening_read, greeting_read, event_read, number_more, given_kept, given_passed}
 use Rattle.sftp_transcript.proofs.Faults.{fault_ahead, event_fault}
-use Rattle.sftp_transcript.proofs.transcripts.Beginnings.{begins_one, not_both}
+use Rattle.sftp_transcript.proofs.transcripts.Beginnings.{not_both}
+use Rattle.sftp_transcript.proofs.transcripts.OneRecord.{begins_one}
 
 -- ---- what is taken from the bytes held
 

@@ -2,9 +2,10 @@
 use Rattle.sftp_transcript.proofs.Imports.{◌≡◌, ℕ, ◌≤◌, true, List, [], ◌∷◌, ◌++◌, Option, Some, None, Result, Ok, Err}
 use Rattle.sftp_transcript.proofs.Imports.{OnErr, refl, sym, ap, ◌∙◌, subst, arith, flat_map, flat_map-cons, same_Some}
 use Rattle.sftp_transcript.proofs.Imports.{TranscriptError, Event, Stage, IsSameAhead, bytes_ahead, size_of, MayCome}
-use Rattle.sftp_transcript.proofs.Imports.{stage_after, is_greeting, BeginsKind, Reading, RecordsFrom, RecordsFromInit}
-use Rattle.sftp_transcript.proofs.Imports.{IsKnown, Records, RecordsSame, Gave, Gives, HasAhead, IsExcuse, IsOpened}
-use Rattle.sftp_transcript.proofs.Imports.{Took, BeginsEvent, TookEvent, event_record, AreRecords, IsRecord}
+use Rattle.sftp_transcript.proofs.Imports.{stage_after, is_greeting, BeginsKind, Reading, IsKnown, Records, RecordsSame}
+use Rattle.sftp_transcript.proofs.Imports.{Gave, Gives, HasAhead, IsExcuse, IsOpened, Took, BeginsEvent, TookEvent}
+use Rattle.sftp_transcript.proofs.Imports.{event_record, AreRecords, IsRecord}
+use Rattle.sftp_transcript.specs.Recorded.{RecordsFrom, RecordsFromInit}
 use Rattle.sftp_transcript.specs.declared.stage.Stage.TheVariants as stages
 use Rattle.sftp_transcript.proofs.Taking.{known_kept}
 use Rattle.sftp_transcript.proofs.transcripts.Reading.{record_parts, record_by}

@@ -1,7 +1,6 @@
 -- A transcript file that is read in part: the events read so far, the bytes after them, and the first fault in these.
 -- This profile's own.
 use Rattle.std.specs.Prelude.{◌≡◌, ◌≢◌, ◌⊎◌, ℕ, ◌+◌, min, List, [], ◌∷◌, ◌++◌, length, Option, Some, None}
-use Rattle.std.specs.List.{flat_map, AllByRecursion}
 use Rattle.sftp_transcript.specs.declared.errors.TranscriptError.{TranscriptError}
 use Rattle.sftp_transcript.specs.declared.errors.TranscriptError.TheVariants.{Magic, NoMemory}
 use Rattle.sftp_transcript.specs.declared.events.Event.{Event}
@@ -12,7 +11,7 @@ use Rattle.sftp_transcript.specs.Recorded.{Reading}
 use Rattle.sftp_transcript.specs.Refused.{InitFault, VersionFault, EventFault}
 use Rattle.sftp_transcript.specs.Steps.{HasAhead, IsExcuse}
 use Rattle.sftp_transcript.specs.Streams.{largest_count}
-use Rattle.sftp_transcript.specs.Transcript.{transcript_opening, event_record, IsEvent, IsHandshake}
+use Rattle.sftp_transcript.specs.Transcript.{transcript_opening, BeginsRecord}
 
 -- the number of the first event's record: INIT and VERSION have the numbers 1 and 2
 abbrev pub first_number : ℕ
@@ -21,15 +20,6 @@ first_number = 3
 -- the number of the record after these events, capped at 2^64 - 1
 abbrev pub number_after_events : List Event → ℕ
 number_after_events events = min (first_number + length events) largest_count
-
--- the bytes begin with a transcript file of these events, and the rest follows
-pub record BeginsRecord (events : List Event) (bytes rest : List ℕ) : Type 0 where
-  pub opened : List ℕ
-  pub records : List ℕ
-  pub opening : bytes ≡ transcript_opening ++ opened
-  pub handshake : IsHandshake opened records
-  pub spelled : AllByRecursion IsEvent events
-  pub records_are : records ≡ flat_map event_record events ++ rest
 
 -- the opening and the client's INIT come first, and then these bytes
 pub record BeginsWithInit (bytes rest : List ℕ) : Type 0 where

@@ -1,6 +1,6 @@
 -- Recorded sessions as bytes: the transcript file. This profile's own; the packets are those of
 -- draft-ietf-secsh-filexfer-02, section 4 on.
-use Rattle.std.specs.Prelude.{◌≡◌, ℕ, ◌≤◌, List, ◌∷◌, ◌++◌, codes}
+use Rattle.std.specs.Prelude.{◌≡◌, ℕ, ◌≤◌, List, [], ◌∷◌, ◌++◌, codes}
 use Rattle.std.specs.List.{flat_map, AllByRecursion}
 use Rattle.sftp_packets.specs.declared.packets.Packet.{Packet}
 use Rattle.sftp_packets.specs.declared.packets.Packet.TheVariants.{Init, Version, Request as request_packet}
@@ -53,10 +53,15 @@ pub record IsHandshake (bytes rest : List ℕ) : Type 0 where
   pub answer : HasSpelling (Version 3 told)
   pub bytes_are : bytes ≡ record_text (Init version asked) ++ (record_text (Version 3 told) ++ rest)
 
--- the bytes record the events
-pub record IsRecord (events : List Event) (bytes : List ℕ) : Type 0 where
+-- the bytes begin with a transcript file of these events, and the rest follows
+pub record BeginsRecord (events : List Event) (bytes rest : List ℕ) : Type 0 where
   pub opened : List ℕ
   pub records : List ℕ
   pub opening : bytes ≡ transcript_opening ++ opened
   pub handshake : IsHandshake opened records
-  pub recorded : AreRecords events records
+  pub spelled : AllByRecursion IsEvent events
+  pub records_are : records ≡ flat_map event_record events ++ rest
+
+-- the bytes record the events: nothing follows
+abbrev pub IsRecord : List Event → List ℕ → Type 0
+IsRecord events bytes = BeginsRecord events bytes []

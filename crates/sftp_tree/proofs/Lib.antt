@@ -1,3 +1,4 @@
+pub mod Imports
 pub mod PlaceTables
 pub mod Nesting
 pub mod WellFormedTrees

@@ -4,11 +4,11 @@ use Rattle.sftp_audit.proofs.Imports.{[], ◌∷◌, ◌++◌, Option, Some, Non
 use Rattle.sftp_audit.proofs.Imports.{arith, inl, inr, option_map, eqb-true, eqb-false, eq-eqb, ne_eqb, cases_Bool}
 use Rattle.sftp_audit.proofs.Imports.{length-map, map-append, Request, Reply, Event, Asked, Replied, first_number}
 use Rattle.sftp_audit.proofs.Imports.{number_after_events, next_reply, exchanges_of, leading_pairs, RecordedReply}
-use Rattle.sftp_audit.proofs.Imports.{Exchange}
+use Rattle.sftp_audit.proofs.Imports.{Exchange, next_recorded, exchanges_from, recorded_exchanges, is_answered}
+use Rattle.sftp_audit.proofs.Imports.{unsettled, AreAnswered, is_open, reply_of, ledger_of, or_assoc}
 use Rattle.sftp_transcript.specs.Streams.{one_more, largest_count}
 use Rattle.sftp_transcript.specs.Ledger as ledgers
-use Rattle.sftp_audit.specs.Exchanges.{next_recorded, exchanges_from, recorded_exchanges, is_answered, unsettled}
-use Rattle.sftp_audit.specs.Exchanges.{AreAnswered, is_open, answered_by, with_reply, reply_of, ledger_of, bare}
+use Rattle.sftp_audit.specs.Exchanges.{answered_by, with_reply, bare}
 
 -- ---- tests
 
@@ -234,16 +234,12 @@ first_unsettled (y ∷ xs) x others is = elim (cases_Bool (is_answered y)) [
 
 -- ---- who waits
 
-or_assoc : (a b c : Bool) → (a || (b || c)) ≡ ((a || b) || c)
-or_assoc true b c = refl
-or_assoc false b c = refl
-
 pub is_open-append : (id : ℕ) (xs ys : List Exchange) → is_open id (xs ++ ys) ≡ (is_open id xs || is_open id ys)
 unfolding is_open
 is_open-append id [] ys = refl
 is_open-append id (x ∷ xs) ys =
     rw (is_open-append id xs ys)
-    (or_assoc (not (is_answered x) && (x.request.id == id)) (is_open id xs) (is_open id ys))
+    (sym (or_assoc (not (is_answered x) && (x.request.id == id)) (is_open id xs) (is_open id ys)))
 
 is_open-one : (id : ℕ) (request : Request) (reply : Option RecordedReply) (others : List ledgers.Exchange) (rest : Bool)
     → rest ≡ ledgers.is_open id others

@@ -3,8 +3,8 @@ use Rattle.sftp_audit.proofs.Imports.{◌≡◌, ◌≢◌, ◌==◌, ℕ, Bool,
 use Rattle.sftp_audit.proofs.Imports.{if◌then◌else◌, refl, sym, ap, ◌∙◌, subst, eq-eqb, Request, Reply, State}
 use Rattle.sftp_audit.proofs.Imports.{Permitted, Event, Asked, Replied, closed, waiting, turn_after, next_reply}
 use Rattle.sftp_audit.proofs.Imports.{exchanges_of, leading_pairs, Run, Explained, Sound, sound_by, Refusal, Exchange}
-use Rattle.sftp_audit.proofs.Imports.{Refuses, LacksReply, IsFirstWrong, permitted-one_end}
-use Rattle.sftp_audit.specs.Exchanges.{recorded_exchanges, is_answered, is_open, ledger_of}
+use Rattle.sftp_audit.proofs.Imports.{Refuses, LacksReply, IsFirstWrong, permitted-one_end, recorded_exchanges}
+use Rattle.sftp_audit.proofs.Imports.{is_answered, is_open, ledger_of}
 use Rattle.sftp_transcript.specs.Ledger as ledgers
 use Rattle.sftp_audit.specs.declared.errors.Refusal.TheVariants as refusals
 use Rattle.sftp_audit.proofs.steps.StepLaws.{run-one_end}

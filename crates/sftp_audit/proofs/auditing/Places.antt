@@ -2,14 +2,15 @@
 use Rattle.sftp_audit.proofs.Imports.{◌≡◌, ◌==◌, ◌&&◌, ◌||◌, not, nat_eq, ℕ, zero, suc, ◌+◌, ◌%◌, ◌^◌, ◌<◌, ◌≤◌, ◌⊎◌}
 use Rattle.sftp_audit.proofs.Imports.{Bool, true, false, cond, List, [], ◌∷◌, ◌++◌, Option, Some, None, is_some, length}
 use Rattle.sftp_audit.proofs.Imports.{set, drop, slice_get, refl, sym, ap, ◌∙◌, subst, arith, inl, inr, option_map}
-use Rattle.sftp_audit.proofs.Imports.{or_parts, or_right, eqb-true, eqb-false, eq-eqb, ne_eqb, cases_Bool, cases_lt}
-use Rattle.sftp_audit.proofs.Imports.{true≢false, length-append, length-map, map-append, none-some, same_Some}
-use Rattle.sftp_audit.proofs.Imports.{slice_get-map, slice_get_within, Request, window, RecordedReply, Exchange}
-use Rattle.sftp_audit.proofs.Imports.{starts_answered, IsOrdinal, WaitsAt, IsIndexed}
+use Rattle.sftp_audit.proofs.Imports.{eqb-true, eqb-false, eq-eqb, ne_eqb, cases_Bool, true≢false, length-append}
+use Rattle.sftp_audit.proofs.Imports.{length-map, map-append, none-some, same_Some, slice_get-map, slice_get_within}
+use Rattle.sftp_audit.proofs.Imports.{Request, window, RecordedReply, Exchange, starts_answered, IsOrdinal, WaitsAt}
+use Rattle.sftp_audit.proofs.Imports.{IsIndexed, is_answered, is_open, ledger_of, and-false}
+use Rattle.std.proofs.lemmas.Bool.{or_parts, or_right, cases_lt}
 use Rattle.std.specs.Map.{lookup}
 use Rattle.sftp_transcript.specs.Ledger.{AreApart}
 use Rattle.sftp_transcript.proofs.pairing.Standing.{AreApart-asked}
-use Rattle.sftp_audit.specs.Exchanges.{is_answered, is_open, answered_by, with_reply, ledger_of, bare}
+use Rattle.sftp_audit.specs.Exchanges.{answered_by, with_reply, bare}
 use Rattle.sftp_audit.proofs.auditing.Lists.{flipped, is_open-append, is_open-ledger}
 
 -- ---- ordinals
@@ -87,13 +88,9 @@ still r x waits = by (not (is_answered x) && x.request.id == r.reply.id) refl
     by true is = absurd (true≢false (let f : is_some (Some r) ≡ false = rw is at waits in f))
     by false is = rw is refl
 
-and_false : (b : Bool) → (b && false) ≡ false
-and_false true = refl
-and_false false = refl
-
 -- so is one of another id
 other_id : (r : RecordedReply) (x : Exchange) → (x.request.id == r.reply.id) ≡ false → answered_by r x ≡ x
-other_id r x other = rw (other, and_false (not (is_answered x))) refl
+other_id r x other = rw (other, and-false (not (is_answered x))) refl
 
 open_replied : (id : ℕ) (r : RecordedReply) (x : Exchange)
     → (not (is_answered (answered_by r x)) && (answered_by r x).request.id == id)
@@ -346,7 +343,7 @@ module _ (xs : List Exchange) (index after : List (ℕ × ℕ)) (first : ℕ) (r
       now = sym (changed id) ∙ none
 
       by : (b : Bool) → nat_eq r.reply.id id ≡ b → is_open id (with_reply r xs) ≡ false
-      by true hit = rw (is_open-replied id r xs, hit) (and_false (is_open id xs))
+      by true hit = rw (is_open-replied id r xs, hit) (and-false (is_open id xs))
       by false miss =
           let shut = indexed.absent id (let f : lookup (nat_eq id) index ≡ None = rw miss at now in f) in
           rw (is_open-replied id r xs, shut) refl

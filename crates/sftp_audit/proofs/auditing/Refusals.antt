@@ -4,8 +4,8 @@ use Rattle.sftp_audit.proofs.Imports.{same_Some, ◌≡◌, ◌≢◌, ◌⊎◌
 use Rattle.sftp_audit.proofs.Imports.{is_some, IsTrue, refl, sym, ap, subst, ◌∙◌, inl, inr, option_map, Request, Reply}
 use Rattle.sftp_audit.proofs.Imports.{State, Permitted, Event, Asked, Replied, number_after_events, Turn, closed}
 use Rattle.sftp_audit.proofs.Imports.{waiting, turn_after, leading_pairs, Run, IsWaiting, Refusal, RecordedReply}
-use Rattle.sftp_audit.proofs.Imports.{Exchange, IsFirstWrong, Refuses, permitted-one_end}
-use Rattle.sftp_audit.specs.Exchanges.{recorded_exchanges, is_answered, AreAnswered, reply_of, ledger_of}
+use Rattle.sftp_audit.proofs.Imports.{Exchange, IsFirstWrong, Refuses, permitted-one_end, recorded_exchanges}
+use Rattle.sftp_audit.proofs.Imports.{is_answered, AreAnswered, reply_of, ledger_of}
 use Rattle.sftp_audit.proofs.auditing.Lists.{same_head, same_tail}
 use Rattle.sftp_audit.specs.declared.errors.Refusal.TheVariants as refusals
 

@@ -2,8 +2,7 @@
 use Rattle.sftp_audit.proofs.Imports.{◌≡◌, Bool, true, List, [], ◌∷◌, ◌++◌, Option, Some, None, is_some, drop}
 use Rattle.sftp_audit.proofs.Imports.{slice_get, refl, sym, ap, ◌∙◌, append_assoc, append-nil, none-some, same_Some}
 use Rattle.sftp_audit.proofs.Imports.{State, Permitted, follows_in, Run, leading_pairs, RecordedReply, Exchange}
-use Rattle.sftp_audit.proofs.Imports.{IsFirstWrong, IsTold}
-use Rattle.sftp_audit.specs.Exchanges.{is_answered, AreAnswered, unsettled, ledger_of}
+use Rattle.sftp_audit.proofs.Imports.{IsFirstWrong, IsTold, is_answered, AreAnswered, unsettled, ledger_of}
 use Rattle.sftp_audit.specs.declared.errors.Refusal.TheVariants as refusals
 use Rattle.sftp_audit.proofs.auditing.Lists.{answered-append, unsettled-answered, leading_pairs-settled}
 use Rattle.sftp_audit.proofs.auditing.Lists.{leading_pairs-unsettled}

@@ -4,11 +4,11 @@ use Rattle.sftp_audit.proofs.Imports.{None, Ok, Err, Result, OnOk, refl, sym, ap
 use Rattle.sftp_audit.proofs.Imports.{Request, Reply, State, Permitted, Event, Asked, Replied, first_number}
 use Rattle.sftp_audit.proofs.Imports.{number_after_events, Run, Explained, exchanges_of, leading_pairs, window}
 use Rattle.sftp_audit.proofs.Imports.{turn_after, closed, broken, in_window, IsWaiting, Refusal, Exchange}
-use Rattle.sftp_audit.proofs.Imports.{RecordedReply, RefusesRequest, RefusesReply, Audited, StandsFor, RefusesToSettle}
-use Rattle.sftp_audit.proofs.Imports.{LacksReply, IsWrongIn, IsTold, HasNoted, HasReason, StopsIn, Reports}
-use Rattle.sftp_audit.proofs.Imports.{IsFirstWrong}
-use Rattle.sftp_audit.specs.Exchanges.{recorded_exchanges, exchanges_from, unsettled, AreAnswered, is_open, with_reply}
-use Rattle.sftp_audit.specs.Exchanges.{ledger_of}
+use Rattle.sftp_audit.proofs.Imports.{RecordedReply, Audited, StandsFor, LacksReply, IsTold, IsFirstWrong}
+use Rattle.sftp_audit.proofs.Imports.{recorded_exchanges, exchanges_from, unsettled, AreAnswered, is_open, ledger_of}
+use Rattle.sftp_audit.proofs.Imports.{RefusesRequest, RefusesReply}
+use Rattle.sftp_audit.specs.Auditor.{RefusesToSettle, IsWrongIn, HasNoted, HasReason, StopsIn, Reports}
+use Rattle.sftp_audit.specs.Exchanges.{with_reply}
 use Rattle.sftp_audit.specs.declared.errors.Refusal.TheVariants as refusals
 use Rattle.sftp_audit.proofs.auditing.Lists.{answered-append, ledger_of-recorded, recorded-asked, recorded-replied}
 use Rattle.sftp_audit.proofs.auditing.Lists.{settled_parts, unsettled-answered, unsettled-asked, with_reply-answered}

@@ -1,15 +1,16 @@
 -- Events that are in turn and in time, and what their exchanges say of them.
-use Rattle.sftp_audit.proofs.Imports.{if◌then◌else◌, ◌≡◌, ◌==◌, ◌&&◌, ◌||◌, ℕ, ◌<◌, ◌≤◌, Bool, true, false, cond, List}
-use Rattle.sftp_audit.proofs.Imports.{[], ◌∷◌, ◌++◌, Option, Some, None, is_some, IsTrue, length, refl, sym, ap, subst}
-use Rattle.sftp_audit.proofs.Imports.{◌∙◌, ◌⊎◌, append_assoc, arith, inl, inr, AllByRecursion, option_map, eqb-true}
-use Rattle.sftp_audit.proofs.Imports.{eq-eqb, cases_Bool, length-append, append-nil, Request, Reply, Event, Asked}
-use Rattle.sftp_audit.proofs.Imports.{Replied, Turn, closed, waiting, broken, after_event, turn_after, next_reply}
-use Rattle.sftp_audit.proofs.Imports.{exchanges_of, in_window, window, StepOf, Run, InTurn, IsWaiting, RecordedReply}
-use Rattle.sftp_audit.proofs.Imports.{Exchange}
-use Rattle.sftp_audit.specs.Exchanges.{recorded_exchanges, unsettled, AreAnswered, is_open, reply_of, ledger_of}
+use Rattle.sftp_audit.proofs.Imports.{if◌then◌else◌, ◌≡◌, ◌==◌, ◌&&◌, ◌||◌, ℕ, ◌<◌, ◌≤◌, Bool, true, false, List, []}
+use Rattle.sftp_audit.proofs.Imports.{◌∷◌, ◌++◌, Option, Some, None, is_some, IsTrue, length, refl, sym, ap, subst, ◌∙◌}
+use Rattle.sftp_audit.proofs.Imports.{◌⊎◌, append_assoc, arith, inl, inr, AllByRecursion, option_map, eqb-true, eq-eqb}
+use Rattle.sftp_audit.proofs.Imports.{cases_Bool, length-append, append-nil, Request, Reply, Event, Asked, Replied}
+use Rattle.sftp_audit.proofs.Imports.{Turn, closed, waiting, broken, turn_after, next_reply, exchanges_of, in_window}
+use Rattle.sftp_audit.proofs.Imports.{window, StepOf, Run, InTurn, IsWaiting, RecordedReply, Exchange}
+use Rattle.sftp_audit.proofs.Imports.{recorded_exchanges, unsettled, AreAnswered, is_open, reply_of, ledger_of}
+use Rattle.sftp_transcript.specs.Explained.{after_event}
 use Rattle.sftp_transcript.specs.Ledger as ledgers
 use Rattle.sftp_transcript.proofs.pairing.Standing.{stands_from_start, stands_asked, stands_replied, no_late_request}
 use Rattle.sftp_transcript.proofs.pairing.Standing.{keeps_window-answered, keeps_window-few, keeps_window-many}
+use Rattle.sftp_transcript.proofs.pairing.Standing.{cond_alike, turn_of-open, turn_of-closed}
 use Rattle.sftp_audit.proofs.auditing.Lists.{ledger_of-recorded, ledger_of-append, ledger_of-length, settled_parts}
 use Rattle.sftp_audit.proofs.auditing.Lists.{unsettled-twice, first_unsettled, none_bare, is_open-ledger}
 
@@ -20,10 +21,6 @@ pub turn_after-append : (id : ℕ) (turn : Turn) (xs ys : List Event)
 unfolding turn_after
 turn_after-append id turn [] ys = refl
 turn_after-append id turn (event ∷ xs) ys = turn_after-append id (after_event id event turn) xs ys
-
-cond_alike : (b : Bool) → cond b broken broken ≡ broken
-cond_alike true = refl
-cond_alike false = refl
 
 -- what came out of turn once is never put right
 pub broken_stays : (id : ℕ) (events : List Event) → turn_after id broken events ≡ broken
@@ -121,14 +118,6 @@ turn_by : (ledger : List ledgers.Exchange) (seen : List Event) (id : ℕ) → le
     → turn_after id closed seen ≡ ledgers.turn_of ledger id
 unfolding turn_after
 turn_by ledger seen id stands = ap (turn_after id closed) (sym (append-nil seen)) ∙ stands.turns_are id []
-
-turn_of-open : (ledger : List ledgers.Exchange) (id : ℕ) → ledgers.is_open id ledger ≡ true
-    → ledgers.turn_of ledger id ≡ waiting
-turn_of-open ledger id opened = ap (λ (b : Bool). cond b waiting closed) opened
-
-turn_of-closed : (ledger : List ledgers.Exchange) (id : ℕ) → ledgers.is_open id ledger ≡ false
-    → ledgers.turn_of ledger id ≡ closed
-turn_of-closed ledger id none = ap (λ (b : Bool). cond b waiting closed) none
 
 -- in turn, a request is asked where none of its id waits
 free_if_in_turn : (ledger : List ledgers.Exchange) (seen : List Event) (request : Request) (more : List Event)

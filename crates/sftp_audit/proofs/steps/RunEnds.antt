@@ -1,8 +1,7 @@
 -- The end of a run is computed: the state and the pairs decide it.
 use Rattle.sftp_audit.proofs.Imports.{◌≡◌, ◌==◌, Bool, true, false, List, [], ◌∷◌, Option, Some, None, if◌then◌else◌}
-use Rattle.sftp_audit.proofs.Imports.{refl, sym, ap, Request, Reply, Allowed, step, and_then, step-is_allowed}
-use Rattle.sftp_audit.proofs.Imports.{allowed-step, Run}
-use Rattle.std.proofs.Common.{eqb-true, eq-eqb}
+use Rattle.sftp_audit.proofs.Imports.{refl, sym, ap, Request, Reply, Allowed, step, and_then, Run, eqb-true, eq-eqb}
+use Rattle.sftp_handles.proofs.Judged.Steps.{step-is_allowed, allowed-step}
 use Rattle.sftp_handles.specs.State.{State}
 
 -- where a request and a reply lead, if the reply is allowed

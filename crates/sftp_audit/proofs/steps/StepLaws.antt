@@ -1,7 +1,6 @@
 -- Laws of runs: a start and the events fix the end, whatever the machine, if each step fixes the state after it.
-use Rattle.sftp_audit.proofs.Imports.{◌≡◌, List, [], ◌∷◌, Option, Some, sym, subst, ◌∙◌, Request, Reply, Allowed, step}
-use Rattle.sftp_audit.proofs.Imports.{allowed-step, Event, exchanges_of, leading_pairs, StepOf, Run, Explained}
-use Rattle.sftp_handles.specs.State.{State}
+use Rattle.sftp_audit.proofs.Imports.{◌≡◌, List, [], ◌∷◌, sym, subst, ◌∙◌, Request, Reply, Event, exchanges_of}
+use Rattle.sftp_audit.proofs.Imports.{leading_pairs, StepOf, Run, Explained}
 
 -- a state, a request and its reply fix the state after them
 abbrev pub HasOneEnd : {S : Type 0} → StepOf S → Type 0
@@ -19,13 +18,3 @@ pub explained-one_end : {S : Type 0} (step : StepOf S) → HasOneEnd step → (s
     → Explained step s events a → Explained step s events b → a ≡ b
 explained-one_end step one s events a b to_a to_b =
     run-one_end step one (leading_pairs (exchanges_of events)) s a b to_a.run to_b.run
-
--- ---- strictly
-
-same_end : (o : Option State) (a b : State) → o ≡ Some a → o ≡ Some b → a ≡ b
-same_end o a b is_a is_b = cc
-
-pub allowed-one_end : HasOneEnd Allowed
-allowed-one_end s request reply a b to_a to_b =
-    same_end (step s request.ask reply.answer) a b (allowed-step s request reply a to_a)
-    (allowed-step s request reply b to_b)

@@ -1,10 +1,10 @@
 -- An audit meets one fault first.
 use Rattle.sftp_audit.proofs.Imports.{◌≡◌, ◌≢◌, ◌⊎◌, inl, inr, ℕ, List, [], ◌∷◌, ◌++◌, length, refl, sym, ap, ◌∙◌}
-use Rattle.sftp_audit.proofs.Imports.{subst, append_assoc, arith, length-append, spellings-apart, Tree, IsStart}
-use Rattle.sftp_audit.proofs.Imports.{one_start, Profile, State, begun, Permitted, TranscriptError, Event, Sound}
-use Rattle.sftp_audit.proofs.Imports.{records_are_one_lem, AuditError, Refusal, Exchange, Refuses, LacksReply}
-use Rattle.sftp_audit.proofs.Imports.{IsOldestOpen, RefusedAt, RefusedAtEnd, FaultAt, IsFirstFaultBy, IsTreeError}
-use Rattle.sftp_audit.proofs.Imports.{IsPlain, begins_each, faulty_records_none}
+use Rattle.sftp_audit.proofs.Imports.{subst, append_assoc, arith, length-append, Tree, IsStart, one_start, Profile}
+use Rattle.sftp_audit.proofs.Imports.{State, begun, Permitted, TranscriptError, Event, Sound, records_are_one_lem}
+use Rattle.sftp_audit.proofs.Imports.{AuditError, Refusal, Exchange, Refuses, LacksReply, RefusedAt, RefusedAtEnd}
+use Rattle.sftp_audit.proofs.Imports.{FaultAt, IsFirstFaultBy, IsTreeError, IsPlain, begins_each, faulty_records_none}
+use Rattle.sftp_audit.specs.Auditor.{IsOldestOpen}
 use Rattle.sftp_transcript.specs.declared.errors.TranscriptError.TheVariants as transcript_errors
 use Rattle.sftp_transcript.proofs.transcripts.FirstFaults.{Extends, beginnings_compared, one_fault, first_before_fault}
 use Rattle.sftp_audit.specs.declared.errors.AuditError.TheVariants as audit_errors
@@ -97,7 +97,7 @@ two_ends : (start : State) (transcript : List ℕ) (a b : Refusal) → RefusedAt
     → RefusedAtEnd Permitted start transcript b → a ≡ b
 two_ends start transcript a b one other =
     let same : other.events ≡ one.events =
-    records_are_one_lem spellings-apart other.events one.events transcript other.recorded one.recorded in
+    records_are_one_lem other.events one.events transcript other.recorded one.recorded in
     one_lack one.events a b one.lacks (subst (λ (l : List Event). LacksReply l b) same other.lacks)
 
 refused_before_end : (start : State) (transcript : List ℕ) (a b : Refusal) → a ≢ refusals.NoMemory

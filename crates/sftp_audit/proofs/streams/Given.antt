@@ -1,12 +1,12 @@
 -- What an auditor is fed from a reader, event by event.
 use Rattle.sftp_audit.proofs.Imports.{◌≡◌, inl, inr, ℕ, ◌+◌, ◌-◌, ◌^◌, min, List, [], ◌∷◌, ◌++◌, length, Bool, Option}
 use Rattle.sftp_audit.proofs.Imports.{Some, None, if◌then◌else◌, refl, subst, arith, TranscriptError, Event, Asked}
-use Rattle.sftp_audit.proofs.Imports.{Replied, BeginsRecord, ReadUpTo, HasGiven, GaveFrom, FaultOf, exchanges_of}
-use Rattle.sftp_audit.proofs.Imports.{Reading, IsRecord, State, Permitted, Refusal, Audited, StandsFor, Refuses, IsTold}
-use Rattle.sftp_audit.proofs.Imports.{IsNew, IsNoJudgement, WasFed, StopsFeed, IsToldOf, request_count, is_request}
-use Rattle.sftp_audit.proofs.Imports.{HasRefused, error_of_transcript, error_of_session, record_from_beginning}
+use Rattle.sftp_audit.proofs.Imports.{Replied, exchanges_of, Reading, State, Permitted, Refusal, Audited, StandsFor}
+use Rattle.sftp_audit.proofs.Imports.{Refuses, IsTold, IsNew, IsNoJudgement, WasFed, StopsFeed, IsToldOf, request_count}
+use Rattle.sftp_audit.proofs.Imports.{is_request, HasRefused, error_of_transcript, error_of_session, recorded_exchanges}
+use Rattle.sftp_transcript.specs.Transcript.{BeginsRecord, IsRecord}
+use Rattle.sftp_transcript.specs.Begun.{ReadUpTo, HasGiven, GaveFrom, FaultOf}
 use Rattle.sftp_transcript.specs.declared.stage.Stage.{Stage}
-use Rattle.sftp_audit.specs.Exchanges.{recorded_exchanges}
 use Rattle.sftp_transcript.specs.declared.errors.TranscriptError.TheVariants as transcript_errors
 use Rattle.sftp_transcript.specs.declared.stage.Stage.TheVariants as stages
 use Rattle.sftp_audit.specs.declared.errors.Refusal.TheVariants as refusals
@@ -83,8 +83,7 @@ none_given : (transcript : List ℕ) (events : List Event) (given : Option Event
     → ((event : Event) → given ≡ Some event → ⊥) → GaveFrom transcript events given new → IsRecord events transcript
 none_given transcript events (Some event) new other gave = absurd (other event refl)
 none_given transcript events None new other gave =
-    record_from_beginning events transcript
-    (subst (λ (stage : Stage). ReadUpTo stage transcript events []) gave.1 gave.0.read)
+    subst (λ (stage : Stage). ReadUpTo stage transcript events []) gave.1 gave.0.read
 
 pub all-fed : (start : State) (transcript : List ℕ) (requests : ℕ) (auditor : Audited)
     (records records_now : Reading) (given : Option Event)

@@ -1,11 +1,11 @@
 -- What the parts of an audit say of the whole.
 use Rattle.sftp_audit.proofs.Imports.{closed_tree, ◌≡◌, ◌≢◌, inl, inr, ℕ, List, [], ◌∷◌, ◌++◌, refl, sym, ap, ◌∙◌}
-use Rattle.sftp_audit.proofs.Imports.{subst, append_assoc, Bool, true, false, Some, None, Result, Ok, Err}
-use Rattle.sftp_audit.proofs.Imports.{spellings-apart, Tree, IsStart, Profile, State, begun, Permitted, TranscriptError}
-use Rattle.sftp_audit.proofs.Imports.{Event, Explained, Reading, records_are_one_lem, AuditError, Refusal, Audited}
-use Rattle.sftp_audit.proofs.Imports.{LacksReply, AccountsBy, FaultAt, RefusedAt, IsFirstFaultBy, IsNoJudgement}
-use Rattle.sftp_audit.proofs.Imports.{IsTreeError, JudgesTree, IsToldOf, IsToldBy, ToldAt, IsExcusedBy, IsNew, IsPlain}
-use Rattle.sftp_audit.proofs.Imports.{WasFed, StopsFeed, error_of_session, begins_each, faulty_records_none}
+use Rattle.sftp_audit.proofs.Imports.{subst, append_assoc, Bool, true, false, Some, None, Result, Ok, Err, Tree}
+use Rattle.sftp_audit.proofs.Imports.{IsStart, Profile, State, begun, Permitted, TranscriptError, Event, Explained}
+use Rattle.sftp_audit.proofs.Imports.{Reading, records_are_one_lem, AuditError, Refusal, Audited, LacksReply}
+use Rattle.sftp_audit.proofs.Imports.{AccountsBy, FaultAt, RefusedAt, IsFirstFaultBy, IsNoJudgement, IsTreeError}
+use Rattle.sftp_audit.proofs.Imports.{JudgesTree, IsToldOf, IsToldBy, ToldAt, IsExcusedBy, IsNew, IsPlain, WasFed}
+use Rattle.sftp_audit.proofs.Imports.{StopsFeed, error_of_session, begins_each, faulty_records_none}
 use Rattle.std.specs.Result.{IfErr}
 use Rattle.sftp_transcript.specs.declared.errors.TranscriptError.TheVariants as transcript_errors
 use Rattle.sftp_transcript.specs.declared.stage.Stage.TheVariants as stages
@@ -89,7 +89,7 @@ pub end-lost : (profile : Profile) (start : Tree) (tree transcript : List ℕ) (
     → LacksReply was.events refusal → HasNoRun profile tree transcript
 end-lost profile start tree transcript requests auditor refusal only was lacks = λ other events end told.
     let same : events ≡ was.events =
-    records_are_one_lem spellings-apart events was.events transcript told.events_are was.recorded in
+    records_are_one_lem events was.events transcript told.events_are was.recorded in
     let explained = explained_from profile start tree transcript other events end (only.1 other told.start_is) told in
     lacks_lost (begun profile start) was.events refusal auditor.state was.stands.sound lacks told.last
     (subst (λ (l : List Event). Explained Permitted (begun profile start) l told.last) same explained)

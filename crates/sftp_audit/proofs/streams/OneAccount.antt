@@ -1,7 +1,7 @@
 -- Bytes account for one run at most.
-use Rattle.sftp_audit.proofs.Imports.{closed_tree, ◌≡◌, List, ℕ, sym, ap, ◌∙◌, subst, spellings-apart, Tree, one_start}
-use Rattle.sftp_audit.proofs.Imports.{Profile, strict, State, begun, Permitted, permitted-one_end, Event, Explained}
-use Rattle.sftp_audit.proofs.Imports.{records_are_one_lem, Accounts, AccountsBy}
+use Rattle.sftp_audit.proofs.Imports.{closed_tree, ◌≡◌, List, ℕ, sym, ap, ◌∙◌, subst, Tree, one_start, Profile, strict}
+use Rattle.sftp_audit.proofs.Imports.{State, begun, Permitted, permitted-one_end, Event, Explained, records_are_one_lem}
+use Rattle.sftp_audit.proofs.Imports.{Accounts, AccountsBy}
 use Rattle.sftp_audit.proofs.steps.StepLaws.{explained-one_end}
 use Rattle.sftp_audit.proofs.steps.StrictRuns.{strict-permits}
 use Rattle.sftp_audit.proofs.streams.StrictAccounts.{accounts-permitted}
@@ -14,7 +14,7 @@ module _ (profile : Profile) (tree transcript : List ℕ) (s u : Tree) (events o
   pub same_events_by : AccountsBy profile tree transcript s events a → AccountsBy profile tree transcript u others b
       → events ≡ others
   same_events_by one other =
-      records_are_one_lem spellings-apart events others transcript one.events_are other.events_are
+      records_are_one_lem events others transcript one.events_are other.events_are
 
   -- the second run, with the first one's start and events
   moved : (one : AccountsBy profile tree transcript s events a) (other : AccountsBy profile tree transcript u others b)

@@ -2,8 +2,7 @@
 use Rattle.sftp_audit.proofs.Imports.{◌≡◌, ℕ, List, ◌⊎◌, inl, inr, sym, subst, Tree, Allowed, Profile, strict, State}
 use Rattle.sftp_audit.proofs.Imports.{begun, bare, Permitted, strict-both, Event, Replied, StepOf, leading_pairs, Sound}
 use Rattle.sftp_audit.proofs.Imports.{AuditError, Refusal, Exchange, IsFirstWrong, Refuses, started, RefusedAt}
-use Rattle.sftp_audit.proofs.Imports.{RefusedAtEnd, IsFirstFaultOf, IsFirstFault, IsFirstFaultBy}
-use Rattle.sftp_audit.specs.Exchanges.{ledger_of}
+use Rattle.sftp_audit.proofs.Imports.{RefusedAtEnd, IsFirstFaultOf, IsFirstFault, IsFirstFaultBy, ledger_of}
 use Rattle.sftp_handles.specs.State as sessions
 use Rattle.sftp_audit.specs.declared.errors.AuditError.TheVariants as audit_errors
 use Rattle.sftp_audit.specs.declared.errors.Refusal.TheVariants as refusals

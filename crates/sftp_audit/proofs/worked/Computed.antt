@@ -1,7 +1,8 @@
 -- What unfolds where a session is computed: its turns, its window, what is kept of it, and its run from a tree.
 use Rattle.sftp_audit.proofs.Imports.{turn_after, in_window, requests_before_reply, leading_pairs, exchanges_of}
-use Rattle.sftp_audit.proofs.Imports.{next_reply, step, get, put, retain, without, fits, has_entries, hex}
-use Rattle.sftp_audit.specs.Exchanges.{exchanges_from, next_recorded, unsettled}
+use Rattle.sftp_audit.proofs.Imports.{next_reply, step, hex, exchanges_from, next_recorded, unsettled}
+use Rattle.sftp_path.specs.Table.{get, put, retain, without}
+use Rattle.sftp_tree.specs.Tree.{fits, has_entries}
 use Rattle.sftp_handles.specs.Requests.{causes, answers, after, told_to, limits_data}
 use Rattle.sftp_handles.specs.Handles.{pins_of}
 use Rattle.sftp_tree.specs.Requests.{causes as path_causes, plain_causes, led, outcome}

@@ -1,7 +1,7 @@
 -- Worked examples with links: sessions on the blank tree that are explained, and sessions that are not.
-use Rattle.sftp_audit.proofs.Imports.{[], ◌∷◌, codes, refl, blank, Allowed, Explained, started, of_link}
-use Rattle.sftp_audit.proofs.Imports.{with_no_permissions}
-use Rattle.sftp_audit.specs.Examples.{with_link, link_session, above_the_root, Unexplained}
+use Rattle.sftp_audit.proofs.Imports.{[], ◌∷◌, codes, refl, blank, Allowed, Explained, started, Unexplained}
+use Rattle.sftp_transcript.specs.Examples.{of_link, with_no_permissions}
+use Rattle.sftp_audit.specs.Examples.{with_link, link_session, above_the_root}
 use Rattle.sftp_audit.proofs.worked.Computed.{computed}
 use Rattle.sftp_audit.proofs.worked.Runs.{explained_by, unexplained_by}
 

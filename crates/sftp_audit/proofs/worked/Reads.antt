@@ -1,6 +1,6 @@
 -- Worked examples through handles: a session that reads a file in parts.
-use Rattle.sftp_audit.proofs.Imports.{codes, refl, Allowed, Explained, started}
-use Rattle.sftp_audit.specs.Examples.{with_five_letters, read_in_parts, Unexplained}
+use Rattle.sftp_audit.proofs.Imports.{codes, refl, Allowed, Explained, started, Unexplained}
+use Rattle.sftp_audit.specs.Examples.{with_five_letters, read_in_parts}
 use Rattle.sftp_audit.proofs.worked.Computed.{computed}
 use Rattle.sftp_audit.proofs.worked.Runs.{explained_by, unexplained_by}
 

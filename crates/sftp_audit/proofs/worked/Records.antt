@@ -1,8 +1,9 @@
 -- A worked example: the bytes of a transcript file record its events.
 use Rattle.sftp_audit.proofs.Imports.{◌≡◌, nat_lt, ℕ, ◌^◌, ◌<◌, ◌≤◌, ◌++◌, length, codes, List, [], ◌∷◌, IsTrue, refl}
-use Rattle.sftp_audit.proofs.Imports.{sym, ◌∙◌, lit<, lit≤, list_all, flat_map, AllByRecursion, and_parts, append-nil}
-use Rattle.sftp_audit.proofs.Imports.{hex, no_attributes, Event, IsEvent, IsRecord, event_record, transcript_opening}
-use Rattle.sftp_audit.proofs.Imports.{packet_of, BeginsRecord, mkdir, rmdir, status, handshake_bytes, ltb-true}
+use Rattle.sftp_audit.proofs.Imports.{sym, lit<, lit≤, list_all, flat_map, AllByRecursion, and_parts, append-nil, hex}
+use Rattle.sftp_audit.proofs.Imports.{no_attributes, Event, ltb-true}
+use Rattle.sftp_transcript.specs.Examples.{mkdir, rmdir, status, handshake_bytes}
+use Rattle.sftp_transcript.specs.Transcript.{IsEvent, IsRecord, event_record, transcript_opening, packet_of}
 use Rattle.sftp_packets.specs.declared.packets.Packet.TheVariants.{Init, Version}
 use Rattle.sftp_packets.specs.Spelling.{spelling, packet_limit, server_extensions, AreBytes, FitsString, FitsPair}
 use Rattle.sftp_packets.specs.Spelling.{FitsAttrs, HasSpelling}
@@ -111,7 +112,8 @@ recorded_by events bytes spelled are = record {
     answer = version_spelled;
     bytes_are = refl;
   };
-  recorded = record { spelled = spelled; bytes_are = refl };
+  spelled = spelled;
+  records_are = sym (append-nil (flat_map event_record events));
 }
 
 handshake_is : handshake_bytes ≡ transcript_opening ++ opened_with []
@@ -133,7 +135,7 @@ removal_done_is : removal_done_bytes ≡ transcript_opening ++ opened_with (flat
 unfolding spelling hex
 removal_done_is = refl
 
-removal_done_recorded : IsRecord (backward_replies 0) removal_done_bytes
+pub removal_done_recorded : IsRecord (backward_replies 0) removal_done_bytes
 removal_done_recorded =
     recorded_by (backward_replies 0) removal_done_bytes (backward_spelled 0 success_spelled) removal_done_is
 
@@ -150,17 +152,3 @@ limits_are = refl
 
 pub limits_recorded : IsRecord (limits_session usual_limits_told) limits_bytes
 limits_recorded = recorded_by (limits_session usual_limits_told) limits_bytes limits_spelled limits_are
-
--- a file that records events begins with them, and nothing follows
-begins_all : (events : List Event) (bytes : List ℕ) → IsRecord events bytes → BeginsRecord events bytes []
-begins_all events bytes recorded = record {
-  opened = recorded.opened;
-  records = recorded.records;
-  opening = recorded.opening;
-  handshake = recorded.handshake;
-  spelled = recorded.recorded.spelled;
-  records_are = recorded.recorded.bytes_are ∙ sym (append-nil (flat_map event_record events));
-}
-
-pub removal_done_begins : BeginsRecord (backward_replies 0) removal_done_bytes []
-removal_done_begins = begins_all (backward_replies 0) removal_done_bytes removal_done_recorded

@@ -1,22 +1,22 @@
 -- Worked examples: what an auditor keeps, and what it refuses.
 use Rattle.sftp_audit.proofs.Imports.{◌≡◌, ℕ, List, [], ◌∷◌, codes, Some, None, refl, sym, ◌∙◌, inl, inr, arith}
 use Rattle.sftp_audit.proofs.Imports.{Request, Reply, no_attributes, blank, Allowed, strict, begun, closed, waiting}
-use Rattle.sftp_audit.proofs.Imports.{turn_after, leading_pairs, Run, Sound, mkdir, status, Exchange, started}
-use Rattle.sftp_audit.proofs.Imports.{RefusedAt, StandsFor, IsFirstWrong, Refuses, LacksReply}
+use Rattle.sftp_audit.proofs.Imports.{turn_after, leading_pairs, Run, Sound, Exchange, started, RefusedAt, StandsFor}
+use Rattle.sftp_audit.proofs.Imports.{IsFirstWrong, Refuses, LacksReply, recorded_exchanges, unsettled, ledger_of}
+use Rattle.sftp_transcript.specs.Examples.{mkdir, status}
+use Rattle.sftp_audit.specs.Examples.{auditor_with, with_a, with_a_and_b, three_requests, backward_replies}
+use Rattle.sftp_audit.specs.Examples.{two_backward_replies, removal_done_bytes, last_answered, id_used_again}
+use Rattle.sftp_audit.specs.Examples.{first_answered, second_waits}
 use Rattle.sftp_packets.specs.declared.packets.Ask.TheVariants.{Mkdir, Rmdir}
 use Rattle.sftp_packets.specs.declared.packets.Answer.TheVariants.{Status}
-use Rattle.sftp_audit.specs.Exchanges.{recorded_exchanges, unsettled, ledger_of}
 use Rattle.sftp_handles.specs.State.{State}
 use Rattle.sftp_audit.specs.declared.errors.Refusal.TheVariants as refusals
-use Rattle.sftp_audit.specs.Examples.{with_a, with_a_and_b, three_requests, backward_replies, two_backward_replies}
-use Rattle.sftp_audit.specs.Examples.{removal_done_bytes, last_answered, id_used_again, first_answered, second_waits}
-use Rattle.sftp_audit.specs.Examples.{auditor_with}
 use Rattle.sftp_audit.proofs.auditing.Refusals.{one_refusal}
 use Rattle.sftp_audit.proofs.steps.RunEnds.{run-of_run_end, no_run-of_run_end}
 use Rattle.sftp_audit.proofs.steps.StrictRuns.{sound-permitted, strict-permits}
 use Rattle.sftp_audit.proofs.streams.StrictFaults.{refuses-permitted}
 use Rattle.sftp_audit.proofs.worked.Computed.{computed}
-use Rattle.sftp_audit.proofs.worked.Records.{removal_done_begins}
+use Rattle.sftp_audit.proofs.worked.Records.{removal_done_recorded}
 use Rattle.sftp_audit.proofs.worked.Runs.{sound_by}
 
 -- ---- the replies come backwards
@@ -109,7 +109,7 @@ in_bytes = record {
   events = two_backward_replies 0;
   event = status 1 0;
   rest = [];
-  begins = removal_done_begins;
+  begins = removal_done_recorded;
   end = started blank;
   sound = two_replies_sound;
   refuses = refused;

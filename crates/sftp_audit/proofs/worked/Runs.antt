@@ -2,9 +2,7 @@
 use Rattle.sftp_audit.proofs.Imports.{◌≡◌, ◌≢◌, ◌==◌, ◌||◌, ◌⊎◌, ℕ, Bool, true, false, List, [], ◌∷◌, Some, None}
 use Rattle.sftp_audit.proofs.Imports.{IsTrue, refl, subst, inl, inr, list_any, AllByRecursion, Tree, Allowed, Event}
 use Rattle.sftp_audit.proofs.Imports.{closed, turn_after, exchanges_of, leading_pairs, in_window, Explained, Turn}
-use Rattle.sftp_audit.proofs.Imports.{waiting, broken, InTurn, Sound, started}
-use Rattle.std.proofs.Common.{eqb-true}
-use Rattle.sftp_audit.specs.Examples.{Unexplained}
+use Rattle.sftp_audit.proofs.Imports.{waiting, broken, InTurn, Sound, started, eqb-true, Unexplained}
 use Rattle.sftp_transcript.proofs.pairing.Turns.{ids_of, turn_after-others, Matching-from_ids}
 use Rattle.sftp_audit.proofs.steps.RunEnds.{run_end, run-of_run_end, no_run-of_run_end}
 

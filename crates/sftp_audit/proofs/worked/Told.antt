@@ -1,6 +1,6 @@
 -- Worked examples: a session that asks for the limits of the tree.
-use Rattle.sftp_audit.proofs.Imports.{refl, raised, blank, Allowed, Explained, started}
-use Rattle.sftp_audit.specs.Examples.{limits_session, usual_limits_told, highest_limits_told, Unexplained}
+use Rattle.sftp_audit.proofs.Imports.{refl, raised, blank, Allowed, Explained, started, Unexplained}
+use Rattle.sftp_audit.specs.Examples.{limits_session, usual_limits_told, highest_limits_told}
 use Rattle.sftp_audit.proofs.worked.Computed.{computed}
 use Rattle.sftp_audit.proofs.worked.Runs.{explained_by, unexplained_by}
 

@@ -13,7 +13,7 @@ use Rattle.std.specs.Option.{option_map}
 use Rattle.sftp_tree.proofs.KeptTrees.Values.{kept-content-within}
 use Rattle.sftp_handles.proofs.Good.GoodStates.{good-settled, content-room}
 use Rattle.sftp_handles.proofs.Good.GoodSteps.{next-content, room-left}
-use Rattle.sftp_handles.proofs.OpenFiles.OpenChanges.{settled-already}
+use Rattle.sftp_handles.proofs.Good.NewStates.{settled-already}
 use Rattle.sftp_handles.proofs.Good.Pins.{pins-listing_again}
 use Rattle.sftp_handles.proofs.Judged.Steps.{allowed-step, step-is_allowed}
 use Rattle.sftp_handles.proofs.ClashLaws.Touches.{applied, IsChangeTo, change-touches, share-mutual, seen-stays}

@@ -5,9 +5,9 @@ use Rattle.sftp_handles.proofs.Imports.{nat_cmp, is_eq, AllByRecursion, nat_cmp_
 use Rattle.sftp_handles.proofs.Imports.{nat_cmp-IsAntisymmetric, lt-ltb, Name, bytes_cmp, name_cmp, InOrder, get, size}
 use Rattle.sftp_handles.proofs.Imports.{bytes_cmp-same, InOrder-put, InOrder-retain, InOrder-without, size-put_present}
 use Rattle.sftp_handles.proofs.Imports.{size-without, get-without, get-put_here, count-without, Content, Tree, Files}
-use Rattle.sftp_handles.proofs.Imports.{Pins, WellFormed, IsPin, HasFile, IsContent, content_at, with_content}
-use Rattle.sftp_handles.proofs.Imports.{times_pinned, is_pinned, limits, fits, trim, content_fits, each-get, get-each}
-use Rattle.sftp_handles.proofs.Imports.{each-put, each-retain, each-all, trimmed-already, fits-parts, fits-from, Open}
+use Rattle.sftp_handles.proofs.Imports.{WellFormed, IsPin, HasFile, IsContent, content_at, with_content}
+use Rattle.sftp_handles.proofs.Imports.{times_pinned, is_pinned, limits, fits, content_fits, each-get, get-each}
+use Rattle.sftp_handles.proofs.Imports.{each-put, each-retain, each-all, fits-parts, fits-from, Open}
 use Rattle.sftp_handles.proofs.Imports.{Listing, Left, Handles, open_at, with_open, without_open, opens_file, pins_of}
 use Rattle.sftp_handles.proofs.Imports.{State, settled, Good, IsHandle, IsLeft, IsItem, struck, is_among}
 use Rattle.std.proofs.lemmas.Bool.Decides.{nat_tests}
@@ -16,20 +16,12 @@ use Rattle.sftp_tree.proofs.KeptTrees.Values.{well-formed-content, node-content}
 use Rattle.sftp_tree.proofs.Limits.Changes.{files-again}
 use Rattle.sftp_tree.specs.declared.nodes.Node.TheVariants as nodes
 use Rattle.sftp_handles.proofs.Good.Pins.{pins-times, pins-order, pins-positive, pins-listing_again}
+use Rattle.sftp_handles.proofs.Good.NewStates.{settled-already}
 
 -- ---- a good state is settled
 
-abbrev state_of : Tree → Handles → State
-state_of t handles = record { tree = t; handles = handles }
-
-with_pins_of : Tree → Pins → Tree
-with_pins_of t pins = record t { pins = pins }
-
 pub good-settled : (s : State) → Good s → settled s.tree s.handles ≡ s
-unfolding with_pins_of
-good-settled s good =
-    ap (λ pins. state_of (trim (with_pins_of s.tree pins)) s.handles) (sym good.pinned)
-    ∙ ap (λ t. state_of t s.handles) (trimmed-already s.tree good.tree.trimmed)
+good-settled s good = settled-already s.tree s.handles good.tree good.pinned
 
 -- ---- the files that are open exist
 

@@ -1,8 +1,8 @@
 -- READDIR: the names that its reply gives, and its end.
 use Rattle.sftp_handles.proofs.Imports.{◌≡◌, ◌&&◌, nat_lt, ℕ, Bool, true, false, List, [], ◌∷◌, length, Option, Some}
 use Rattle.sftp_handles.proofs.Imports.{None, ◌↔◌, refl, sym, subst, ap, ◌∙◌, and_parts, NameItem, Readdir, Answer}
-use Rattle.sftp_handles.proofs.Imports.{Status, bytes_cmp, get, bytes_cmp-same, no_causes, when, is_none, Tree, Pins}
-use Rattle.sftp_handles.proofs.Imports.{limits, trim, each-get, trimmed-already, Open, File, Listing, Left, Handles}
+use Rattle.sftp_handles.proofs.Imports.{Status, bytes_cmp, get, bytes_cmp-same, no_causes, when, is_none}
+use Rattle.sftp_handles.proofs.Imports.{limits, each-get, Open, File, Listing, Left, Handles}
 use Rattle.sftp_handles.proofs.Imports.{open_at, with_open, State, Good, IsHandle, IsLeft, settled, a_listing, seen}
 use Rattle.sftp_handles.proofs.Imports.{seen_among, names_in, names_given, are_some_left, gives_some, has_code, says}
 use Rattle.sftp_handles.proofs.Imports.{struck, row_of, causes_of, said_of, change_of, causes, answers, after, changed}
@@ -12,7 +12,7 @@ use Rattle.sftp_path.specs.Place as places
 use Rattle.sftp_handles.specs.Giving.{listing_in}
 use Rattle.sftp_handles.proofs.Good.Pins.{pins-listing_again}
 use Rattle.sftp_handles.proofs.Good.GoodStates.{left-struck, good-listing}
-use Rattle.sftp_handles.proofs.Good.NewStates.{state_of}
+use Rattle.sftp_handles.proofs.Good.NewStates.{state_of, settled-already}
 use Rattle.sftp_handles.proofs.Listings.Strikes.{struck-none}
 use Rattle.sftp_handles.proofs.HandleTables.Swaps.{opened-back}
 use Rattle.sftp_handles.proofs.Judged.Judgements.{allow-one, unlike, not-allowed, judged-none, judged-done}
@@ -64,19 +64,14 @@ readdir-after s handle left answer there =
 
 -- ---- the state after
 
-with_pins_of : Tree → Pins → Tree
-with_pins_of t pins = record t { pins = pins }
-
 -- a listing pins no file
 settled-listing : (s : State) (handle : List ℕ) (before left : Left) → Good s
     → open_at s.handles handle ≡ Some (Listing before)
     → settled s.tree (with_open s.handles handle (Listing left))
     ≡ state_of s.tree (with_open s.handles handle (Listing left))
-unfolding with_pins_of
 settled-listing s handle before left good there =
-    ap (λ pins. state_of (trim (with_pins_of s.tree pins)) (with_open s.handles handle (Listing left)))
-    (pins-listing_again s.handles handle before left good.ordered there ∙ sym good.pinned)
-    ∙ ap (λ t. state_of t (with_open s.handles handle (Listing left))) (trimmed-already s.tree good.tree.trimmed)
+    settled-already s.tree (with_open s.handles handle (Listing left)) good.tree
+    (good.pinned ∙ sym (pins-listing_again s.handles handle before left good.ordered there))
 
 -- the state in which the names are struck
 abbrev pub struck_state : State → List ℕ → List NameItem → State

@@ -2,9 +2,9 @@
 use Rattle.sftp_handles.proofs.Imports.{◌≡◌, nat_le, ℕ, true, false, Option, Some, None, Result, Ok, Err, IsTrue, refl}
 use Rattle.sftp_handles.proofs.Imports.{sym, ap, subst, ◌∙◌, IfOk, IfErr, OnOk, OnErr, OpenFlags, Ask, Answer, Status}
 use Rattle.sftp_handles.proofs.Imports.{asked_handle, Place, size, TreeLimits, Cause, Refused, Content, Tree, Files}
-use Rattle.sftp_handles.proofs.Imports.{Pins, IsKept, content_at, limits, trim, is_none, Told, done, led, led_to}
+use Rattle.sftp_handles.proofs.Imports.{IsKept, content_at, limits, is_none, Told, done, led, led_to}
 use Rattle.sftp_handles.proofs.Imports.{told_at, has_step, outcome, IsFree, pins-stay, limits-stay, Open, File, Listing}
-use Rattle.sftp_handles.proofs.Imports.{Handles, open_at, pins_of, State, Good, settled, anything, a_file, seen}
+use Rattle.sftp_handles.proofs.Imports.{open_at, State, Good, settled, anything, a_file, seen}
 use Rattle.sftp_handles.proofs.Imports.{seen_among, seen_file, ok, has_code, Row, row_of, said_of, causes, path_causes}
 use Rattle.sftp_handles.proofs.Imports.{path_said, causes_by, after, after_by, told_to, said_to, said_by, with_new}
 use Rattle.sftp_handles.proofs.Imports.{flags_of, opened_by, IsJudged, IsDone, IsRefusal, refusal_code, kind_of}
@@ -14,7 +14,7 @@ use Rattle.sftp_tree.specs.Requests as paths
 use Rattle.sftp_tree.specs.Refusals as of_tree
 use Rattle.sftp_handles.specs.declared.kinds.Kind.TheVariants.{Change}
 use Rattle.sftp_handles.specs.Judged.{is_done, changes_tree}
-use Rattle.sftp_handles.proofs.Good.NewStates.{state_of}
+use Rattle.sftp_handles.proofs.Good.NewStates.{state_of, settled-pinned}
 use Rattle.sftp_handles.proofs.Judged.Judgements.{not-answered, answers-said, unlike, judged-none, judged-ok}
 use Rattle.sftp_handles.proofs.Judged.Judgements.{judged-not_ok, judged-coded}
 
@@ -94,15 +94,6 @@ change-after s ask answer is =
     ap (after_by s ask answer) (is-change s ask is).no_handle
     ∙ ap (λ told. settled (outcome s.tree ask) (with_new s.handles (opened_by (flags_of ask) told) answer))
     (told-done s ask is)
-
-with_pins_of : Tree → Pins → Tree
-with_pins_of t pins = record t { pins = pins }
-
--- a tree with the pins of the open files is settled where it is trimmed
-settled-pinned : (t : Tree) (handles : Handles) → t.pins ≡ pins_of handles
-    → settled t handles ≡ state_of (trim t) handles
-unfolding with_pins_of
-settled-pinned t handles same = ap (λ pins. state_of (trim (with_pins_of t pins)) handles) (sym same)
 
 module _ (s : State) (ask : Ask) (t : Tree) (good : Good s) (changes : IsTrue (changes_tree ask))
     (is : t ≡ paths.after s.tree ask) where

@@ -67,7 +67,7 @@ items-counted n names left is =
 
 -- ---- each is left
 
-same-itself : (n : ℕ) → (n == n) ≡ true
+pub same-itself : (n : ℕ) → (n == n) ≡ true
 same-itself n = eq-eqb n n refl
 
 abbrev pub Extended : Type 0

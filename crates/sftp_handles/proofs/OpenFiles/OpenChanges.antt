@@ -2,11 +2,11 @@
 use Rattle.sftp_handles.proofs.Imports.{◌≡◌, ℕ, Bool, true, List, Option, Some, None, Ok, Err, Result, is_some}
 use Rattle.sftp_handles.proofs.Imports.{option_map, refl, sym, ap, subst, ◌∙◌, IsTrue, IfErr, OnOk, both_ways}
 use Rattle.sftp_handles.proofs.Imports.{same_Some, Attrs, OpenFlags, Ask, Close, Write, Fsetstat, Fsync, Answer, Status}
-use Rattle.sftp_handles.proofs.Imports.{asked_handle, bytes_cmp, without-absent, Cause, BadHandle, Refused, Content}
+use Rattle.sftp_handles.proofs.Imports.{asked_handle, bytes_cmp, without-absent, BadHandle, Refused, Content}
 use Rattle.sftp_handles.proofs.Imports.{Tree, Pins, IsKept, HasFile, content_at, with_content, limits, trim}
 use Rattle.sftp_handles.proofs.Imports.{without_pin, changed_content, is_none, no_causes, written_content, after_write}
-use Rattle.sftp_handles.proofs.Imports.{after_set, IsRoomRefusal, trimmed-already, Open, File, Listing, Left, Handles}
-use Rattle.sftp_handles.proofs.Imports.{open_at, without_open, pins_of, State, settled, Good, anything, a_file, file}
+use Rattle.sftp_handles.proofs.Imports.{after_set, IsRoomRefusal, Open, File, Listing, Left, Handles}
+use Rattle.sftp_handles.proofs.Imports.{open_at, without_open, State, settled, Good, anything, a_file, file}
 use Rattle.sftp_handles.proofs.Imports.{seen, seen_among, seen_file, ok, says, row_of, causes_of, said_of, change_of}
 use Rattle.sftp_handles.proofs.Imports.{change_file, start_of, causes, said_to, answers, changed, after, after_by}
 use Rattle.sftp_handles.proofs.Imports.{found_file, IsWritable, IsDone, IsRefusal}
@@ -14,23 +14,13 @@ use Rattle.sftp_tree.specs.declared.causes.Refused.TheVariants as refusals
 use Rattle.sftp_tree.specs.Changes.{with_changed_file}
 use Rattle.sftp_tree.specs.FileChanges.{with_written_file, after_unpin}
 use Rattle.sftp_handles.proofs.Good.Pins.{pins-close_file, pins-close_listing}
-use Rattle.sftp_handles.proofs.Good.NewStates.{state_of}
+use Rattle.sftp_handles.proofs.Good.NewStates.{state_of, settled-already}
 use Rattle.sftp_handles.proofs.Good.GoodStates.{good-settled, good-closed}
 use Rattle.sftp_handles.proofs.OpenFiles.SeenCauses.{seen-found}
 use Rattle.sftp_handles.proofs.OpenFiles.SeenAnswers.{none-free, none-holds, cause-holds}
 
 with_pins_of : Tree → Pins → Tree
 with_pins_of t pins = record t { pins = pins }
-
--- ---- trees with the pins of what is open
-
--- a tree that is kept, with the pins of the handles, is settled with them
-pub settled-already : (t : Tree) (handles : Handles) → IsKept t → t.pins ≡ pins_of handles
-    → settled t handles ≡ state_of t handles
-unfolding with_pins_of
-settled-already t handles kept same =
-    ap (λ pins. state_of (trim (with_pins_of t pins)) handles) (sym same)
-    ∙ ap (λ t. state_of t handles) (trimmed-already t kept.trimmed)
 
 -- ---- calls of the tree
 

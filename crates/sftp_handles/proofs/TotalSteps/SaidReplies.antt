@@ -1,6 +1,6 @@
 -- What a reply has to say can be said in one that can be encoded.
-use Rattle.sftp_handles.proofs.Imports.{◌≡◌, ◌==◌, not, nat_le, ℕ, ◌+◌, ◌^◌, ◌<◌, ◌≤◌, true, List, [], ◌∷◌, ◌++◌}
-use Rattle.sftp_handles.proofs.Imports.{length, Option, Some, None, is_some, refl, sym, ap, subst, ◌∙◌, IsTrue, eq-eqb}
+use Rattle.sftp_handles.proofs.Imports.{◌≡◌, not, nat_le, ℕ, ◌+◌, ◌^◌, ◌<◌, ◌≤◌, true, List, [], ◌∷◌, ◌++◌}
+use Rattle.sftp_handles.proofs.Imports.{length, Option, Some, None, is_some, refl, sym, ap, subst, ◌∙◌, IsTrue}
 use Rattle.sftp_handles.proofs.Imports.{arith, lit<, lit≤, nat_list_eq_equiv, and_from, le-leb, length-append, Attrs}
 use Rattle.sftp_handles.proofs.Imports.{NameItem, Answer, reply_packet, Reply, spelling, string, uint32, uint64}
 use Rattle.sftp_handles.proofs.Imports.{attributes, AreBytes, FitsString, FitsAttrs, HasSpelling, packet_limit}
@@ -10,7 +10,7 @@ use Rattle.sftp_handles.proofs.Imports.{gives, ended, lists, opens, extends, say
 use Rattle.sftp_handles.proofs.Imports.{has_attributes, limits_data, FitsSaid, FitsData}
 use Rattle.sftp_packets.specs.declared.packets.Answer.TheVariants as replies
 use Rattle.sftp_treefile.specs.Limits.{highest_limits}
-use Rattle.sftp_handles.proofs.Listings.FirstNames.{Extended, attributes_of, found-first}
+use Rattle.sftp_handles.proofs.Listings.FirstNames.{Extended, attributes_of, found-first, same-itself}
 use Rattle.sftp_handles.proofs.TotalSteps.PlaceTexts.{name-parts, bytes-joined, number-bytes}
 use Rattle.sftp_handles.proofs.TotalSteps.NewHandles.{name-left}
 
@@ -64,9 +64,6 @@ plain-said (Some size) None permissions times extended is = absurd cc
 plain-said (Some size) (Some owner) None times extended is = absurd cc
 plain-said (Some size) (Some owner) (Some permissions) (Some times) extended is = absurd cc
 plain-said (Some size) (Some owner) (Some permissions) None (Some extended) is = absurd cc
-
-same-itself : (n : ℕ) → (n == n) ≡ true
-same-itself n = eq-eqb n n refl
 
 pub same-said : (size uid gid permissions : ℕ)
     → same_attributes (said size uid gid permissions) (said size uid gid permissions) ≡ true

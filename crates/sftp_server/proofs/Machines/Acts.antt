@@ -3,10 +3,11 @@ use Rattle.sftp_server.proofs.Imports.{◌≡◌, not, nat_lt, ℕ, zero, suc, �
 use Rattle.sftp_server.proofs.Imports.{length, get_or, take, drop, slice_get, Option, Some, None, refl, sym, ap, ap₂}
 use Rattle.sftp_server.proofs.Imports.{subst, subst₂, ◌∙◌, append_assoc, append-nil, arith, AllByRecursion, and_parts}
 use Rattle.sftp_server.proofs.Imports.{ltb-true, not-true, map-append, take_at, Request, Reply, Event, Asked, Replied}
-use Rattle.sftp_server.proofs.Imports.{StepOf, Run, window, Exchange, StandsFor, stands_from_start, Entry, Progress}
-use Rattle.sftp_server.proofs.Imports.{Pending, Done, Sent, Act, Deliver, Work, Send, Machine, ClashOf, at_start, taken}
-use Rattle.sftp_server.proofs.Imports.{can_take, is_unsent, is_free_of, ready_in, is_ready, reply_at, from_unsent}
-use Rattle.sftp_server.proofs.Imports.{IsWorked, IsSent, IsIdle, IsDelivery, IsWork, IsSend, IsAct, AreActs, Delivers}
+use Rattle.sftp_server.proofs.Imports.{StepOf, Run, window, Exchange, StandsFor, Entry, Progress, Pending, Done, Sent}
+use Rattle.sftp_server.proofs.Imports.{Act, Deliver, Work, Send, Machine, ClashOf, at_start, taken, can_take, is_unsent}
+use Rattle.sftp_server.proofs.Imports.{is_free_of, ready_in, is_ready, reply_at, from_unsent, IsWorked, IsSent, IsIdle}
+use Rattle.sftp_server.proofs.Imports.{IsDelivery, IsWork, IsSend, IsAct, AreActs, Delivers, all_both}
+use Rattle.sftp_transcript.proofs.pairing.Standing.{stands_from_start}
 use Rattle.sftp_server.proofs.Machines.Premises.{Premises}
 use Rattle.sftp_server.proofs.Machines.Histories.{Fate, Item, Pair, pending, done, sent, progress_of, entry_of}
 use Rattle.sftp_server.proofs.Machines.Histories.{entries_of, ledger_of, answered, sent_first, unsent_on, IsItem}
@@ -16,11 +17,6 @@ use Rattle.sftp_server.proofs.Machines.Ledgers.{stands-taken, ledger-worked, sta
 use Rattle.sftp_server.proofs.Machines.Ledgers.{all-left}
 
 -- ---- lists
-
-pub all-append : {X : Type 0} (P : X → Type 0) (xs ys : List X) → AllByRecursion P xs → AllByRecursion P ys
-    → AllByRecursion P (xs ++ ys)
-all-append P [] ys all_xs all_ys = all_ys
-all-append P (x ∷ xs) ys all_xs all_ys = (all_xs.0, all-append P xs ys all_xs.1 all_ys)
 
 pub record AllParts {X : Type 0} (P : X → Type 0) (xs : List X) (x : X) (ys : List X) : Type 0 where
   pub before : AllByRecursion P xs
@@ -162,7 +158,7 @@ module _ {S : Type 0} (step : StepOf S) (clash : ClashOf S) (good : S → Type 0
             ∙ sym (map-append entry_of f.items ((request, pending) ∷ []));
         bounded = f.bounded;
         good_state = f.good_state;
-        all = all-append (IsItem value) f.items ((request, pending) ∷ []) f.all ((is, tt), tt);
+        all = all_both (IsItem value) f.items ((request, pending) ∷ []) f.all ((is, tt), tt);
         runs = runs-asked step start before.state f.past f.items request f.runs;
         stands = stands-taken f.past f.items seen request f.stands free few;
       }
@@ -189,7 +185,7 @@ module _ {S : Type 0} (step : StepOf S) (clash : ClashOf S) (good : S → Type 0
             ∙ sym (entries-split place.front_items item place.back_items w.front w.back place.front_is place.back_is);
         bounded = subst (λ (n : ℕ). n ≤ window) (sym w.same_window) f.bounded;
         good_state = laws.stays_good before.state after.state w.request w.reply f.good_state parts.here.0 w.allowed;
-        all = all-append (IsItem value) place.front_items (item ∷ place.back_items) parts.before
+        all = all_both (IsItem value) place.front_items (item ∷ place.back_items) parts.before
             ((parts.here.0, (same, w.spelled)), parts.after);
         runs = runs-worked step clash good value laws start before.state after.state f.past place.front_items w.request
             w.reply place.back_items f.good_state parts.here.0 parts.before free w.allowed
@@ -207,7 +203,7 @@ module _ {S : Type 0} (step : StepOf S) (clash : ClashOf S) (good : S → Type 0
       let item : Item = (w.request, sent reply) in
       let items : List Item = place.front_items ++ item ∷ place.back_items in
       let all : AllByRecursion (IsItem value) items =
-      all-append (IsItem value) place.front_items (item ∷ place.back_items) parts.before
+      all_both (IsItem value) place.front_items (item ∷ place.back_items) parts.before
       ((parts.here.0, tt), parts.after) in
       let runs : RunsOn step start f.past before.state items =
       runs-sent step start before.state f.past place.front_items w.request reply place.back_items

@@ -3,8 +3,8 @@ use Rattle.sftp_server.proofs.Imports.{◌≡◌, ℕ, Bool, true, List, [], ◌
 use Rattle.sftp_server.proofs.Imports.{append-nil, Request, Reply, State, Allowed, Event, Asked, Replied, Act, Deliver}
 use Rattle.sftp_server.proofs.Imports.{Work, Send, Machine, at_start, taken, can_take, is_ready, reply_at, IsWorked}
 use Rattle.sftp_server.proofs.Imports.{IsSent, IsAct, IsDelivery, IsWork, IsSend, Delivers, server_clash, IsValue}
-use Rattle.sftp_server.proofs.Imports.{IsReached}
-use Rattle.sftp_server.proofs.Machines.Acts.{all-append, acts-more}
+use Rattle.sftp_server.proofs.Imports.{IsReached, all_both}
+use Rattle.sftp_server.proofs.Machines.Acts.{acts-more}
 
 pub reached-start : (start : State) (window : ℕ) → IsReached start window [] (at_start start window)
 reached-start start window = record {
@@ -20,7 +20,7 @@ reached-act start window events before after act more reached is acted =
     let first = at_start start window in
     record {
       acts = reached.acts ++ act ∷ [];
-      deliverable = all-append (Delivers IsValue) reached.acts (act ∷ []) reached.deliverable (is, tt);
+      deliverable = all_both (Delivers IsValue) reached.acts (act ∷ []) reached.deliverable (is, tt);
       steps = acts-more Allowed server_clash first before after reached.acts events act more reached.steps acted;
     }
 

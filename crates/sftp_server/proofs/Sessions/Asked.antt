@@ -9,7 +9,7 @@ use Rattle.sftp_server.proofs.Imports.{FailsToRecord, record_text, IsEvent, wind
 use Rattle.sftp_server.proofs.Imports.{Front, Refuse, Machine, taken, can_take, is_unsent, started, IsValue, IsReached}
 use Rattle.sftp_server.proofs.Imports.{fault_of, found_refused, TakesOn, session_packets, sent_by, recorded, IsListed}
 use Rattle.sftp_server.proofs.Imports.{IsBeginning, IsCutInLast, StreamBytes, stream_bytes, Passed, Stops, tree_left}
-use Rattle.sftp_server.proofs.Imports.{IsLogging, Ahead, ahead_without, IsRunning, IsFaultAhead}
+use Rattle.sftp_server.proofs.Imports.{IsLogging, Ahead, IsRunning, IsFaultAhead, all_more, ahead_without}
 use Rattle.sftp_tree.proofs.Requests.AskValues.{encoded-ask}
 use Rattle.sftp_handles.proofs.TotalSteps.SpelledRequests.{spelled-askable}
 use Rattle.sftp_server.specs.declared.ends.SessionFault.TheVariants as faults
@@ -18,7 +18,7 @@ use Rattle.sftp_server.specs.declared.ends.Stream.TheVariants as streams
 use Rattle.sftp_server.specs.declared.taking.Front.TheVariants.{Taken, Fault}
 use Rattle.sftp_server.specs.declared.refusals.Refuse.TheVariants as refusals
 use Rattle.sftp_server.proofs.Machines.Reached.{reached-taken}
-use Rattle.sftp_server.proofs.Sessions.Lists.{asked-session, session-more, events-more}
+use Rattle.sftp_server.proofs.Sessions.Lists.{asked-session, session-more}
 use Rattle.sftp_server.proofs.Sessions.Stops.{no-opening, reached-begins, reached-leaves, is-beginning}
 use Rattle.sftp_server.proofs.Sessions.Stops.{stopped-no-memory}
 
@@ -68,7 +68,7 @@ module _ (start : Tree) (past : StreamBytes) (left written : Option (List ℕ)) 
   after = session_packets running.init events
 
   spelled-more : AllByRecursion IsEvent events
-  spelled-more = events-more running.events (Asked request) running.spelled front.has_spelling
+  spelled-more = all_more running.events (Asked request) running.spelled front.has_spelling
 
   reached-more : IsReached (started start) window events (taken core request)
   reached-more =

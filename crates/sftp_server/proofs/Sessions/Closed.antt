@@ -2,12 +2,14 @@
 use Rattle.sftp_server.proofs.Imports.{◌≡◌, ◌≢◌, ◌==◌, ◌+◌, ◌*◌, ℕ, Bool, true, false, List, [], ◌∷◌, ◌++◌, length}
 use Rattle.sftp_server.proofs.Imports.{Option, Some, None, Ok, refl, sym, ap, ◌∙◌, subst, subst₂, append_assoc}
 use Rattle.sftp_server.proofs.Imports.{append-nil, inl, inr, true≢false, arith, eqb-true, Consumes, IsAtEnd, Keeps}
-use Rattle.sftp_server.proofs.Imports.{Consumes-nil, Consumes-trans, Appends-nil, Keeps-refl, Unreadable}
-use Rattle.sftp_server.proofs.Imports.{Client, Server, front_of, Event, window, Tree, State, SessionFault, Stop, Entry}
-use Rattle.sftp_server.proofs.Imports.{Machine, is_unsent, started, session_packets, sent_by, recorded, EndsSession}
-use Rattle.sftp_server.proofs.Imports.{IsUnopenedBy, IsOpened, IsServed, closed_tree, StreamBytes, stream_bytes, Passed}
-use Rattle.sftp_server.proofs.Imports.{Serves, Leaves, LeavesAt, Ahead, IsRunning, IsEnding, input_limit, IsFaultAhead}
-use Rattle.sftp_server.proofs.Imports.{IsUnopenedYet, ended_by, Stops, tree_left, IsSessionEnd, closed_end}
+use Rattle.sftp_server.proofs.Imports.{Consumes-trans, Unreadable, Client, Server, front_of, Event, window, Tree, State}
+use Rattle.sftp_server.proofs.Imports.{SessionFault, Stop, Entry, Machine, is_unsent, started, session_packets, sent_by}
+use Rattle.sftp_server.proofs.Imports.{recorded, EndsSession, IsUnopenedBy, IsOpened, IsServed, closed_tree}
+use Rattle.sftp_server.proofs.Imports.{StreamBytes, stream_bytes, Passed, Serves, Leaves, LeavesAt, Ahead, IsRunning}
+use Rattle.sftp_server.proofs.Imports.{IsFaultAhead, IsUnopenedYet, Stops, tree_left, Keeps-refl, input_limit}
+use Rattle.sftp_server.specs.Ending.{closed_end}
+use Rattle.std.proofs.KnownBytes.{Consumes-nil, Appends-nil}
+use Rattle.sftp_server.specs.Sessions.{IsEnding, ended_by, IsSessionEnd}
 use Rattle.sftp_server.specs.declared.ends.Ended.TheVariants as ends
 use Rattle.sftp_server.specs.declared.ends.Ended.{Ended}
 use Rattle.sftp_server.specs.declared.ends.SessionEnd.{SessionEnd}

@@ -1,11 +1,9 @@
 -- What the packets of a session and their records are with one event more, and what streams passed in two steps.
 use Rattle.sftp_server.proofs.Imports.{◌≡◌, ℕ, List, [], ◌∷◌, ◌++◌, map, refl, sym, ap, ◌∙◌, append_assoc, append-nil}
-use Rattle.sftp_server.proofs.Imports.{AllByRecursion, Appends-trans, Consumes-trans, map-append, flat_map_more, Packet}
-use Rattle.sftp_server.proofs.Imports.{request_packet, reply_packet, Request, Reply, Side, Client, Server, spelling}
-use Rattle.sftp_server.proofs.Imports.{side_of, Event, Asked, Replied, packet_of, record_text, transcript_opening}
-use Rattle.sftp_server.proofs.Imports.{IsEvent, session_packets, spelled_if, sent_by, recorded, our_version}
-use Rattle.sftp_server.proofs.Imports.{StreamBytes, Passed}
-use Rattle.sftp_server.proofs.Machines.Acts.{all-append}
+use Rattle.sftp_server.proofs.Imports.{Appends-trans, Consumes-trans, map-append, flat_map_more, Packet, request_packet}
+use Rattle.sftp_server.proofs.Imports.{reply_packet, Request, Reply, Side, Client, Server, spelling, side_of, Event}
+use Rattle.sftp_server.proofs.Imports.{Asked, Replied, packet_of, record_text, transcript_opening, session_packets}
+use Rattle.sftp_server.proofs.Imports.{spelled_if, sent_by, recorded, our_version, StreamBytes, Passed}
 
 -- ---- packets
 
@@ -86,10 +84,6 @@ replied-session init events reply = record {
   server = sent-session Server init events (Replied reply);
   log = recorded-session init events (Replied reply);
 }
-
-pub events-more : (events : List Event) (event : Event) → AllByRecursion IsEvent events → IsEvent event
-    → AllByRecursion IsEvent (events ++ event ∷ [])
-events-more events event are is = all-append IsEvent events (event ∷ []) are (is, tt)
 
 -- ---- streams
 

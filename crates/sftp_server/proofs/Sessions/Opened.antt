@@ -1,20 +1,21 @@
 -- A session is opened.
 use Rattle.sftp_server.proofs.Imports.{◌≡◌, ◌⊎◌, ℕ, ◌<◌, ◌≤◌, List, [], ◌∷◌, ◌++◌, length, take, drop, codes, Option}
-use Rattle.sftp_server.proofs.Imports.{Some, None, Result, Ok, Err, OnOk, IfErr, IfSome, MatchResult, refl, sym, ap}
-use Rattle.sftp_server.proofs.Imports.{subst, ◌∙◌, inl, inr, append-nil, arith, lit<, lit≤, take_at, drop_at}
-use Rattle.sftp_server.proofs.Imports.{length-append, Appends, Consumes, Keeps, Appends-trans, Consumes-kept, Packet}
-use Rattle.sftp_server.proofs.Imports.{Init, Version, Side, Client, Server, spelling, side_of, HasSpelling, FitsString}
-use Rattle.sftp_server.proofs.Imports.{posix_rename_name, hardlink_name, fsync_name, limits_name, front_of}
-use Rattle.sftp_server.proofs.Imports.{StandsInFront, place_after, none-leaves_room, AppendsPart, Log, opened_text}
-use Rattle.sftp_server.proofs.Imports.{record_text, transcript_opening, BeginsFrom, turn_after, in_window, exchanges_of}
-use Rattle.sftp_server.proofs.Imports.{leading_pairs, window, Tree, State, Good, settled, Allowed, bytes-by, Stop}
-use Rattle.sftp_server.proofs.Imports.{First, at_start, started, our_version, sent_by, spelled_if, recorded, IsGreeting}
-use Rattle.sftp_server.proofs.Imports.{IsNoGreeting, IsListed, closed_tree, IsCutInLast, StreamBytes, stream_bytes}
-use Rattle.sftp_server.proofs.Imports.{Passed, AreDone, IsAfterDone, Leaves, Stops, tree_left, IsLogging, Ahead}
-use Rattle.sftp_server.proofs.Imports.{input_limit, ahead_without, IsRunning, IsUnopenedYet, BeginsWithGreeting}
-use Rattle.sftp_server.proofs.Imports.{FailsToSend, IsFirst, IsInFront, IsGreetingOf}
+use Rattle.sftp_server.proofs.Imports.{Some, None, Result, Ok, Err, OnOk, IfErr, IfSome, refl, sym, ap, subst, ◌∙◌, inl}
+use Rattle.sftp_server.proofs.Imports.{inr, append-nil, arith, lit<, lit≤, take_at, length-append, Appends, Consumes}
+use Rattle.sftp_server.proofs.Imports.{Keeps, Appends-trans, Packet, Init, Side, Client, Server, spelling, side_of}
+use Rattle.sftp_server.proofs.Imports.{HasSpelling, FitsString, posix_rename_name, hardlink_name, fsync_name}
+use Rattle.sftp_server.proofs.Imports.{limits_name, front_of, StandsInFront, place_after, none-leaves_room, AppendsPart}
+use Rattle.sftp_server.proofs.Imports.{Log, opened_text, record_text, transcript_opening, BeginsFrom, turn_after}
+use Rattle.sftp_server.proofs.Imports.{in_window, exchanges_of, leading_pairs, window, Tree, State, Good, settled}
+use Rattle.sftp_server.proofs.Imports.{Allowed, bytes-by, Stop, at_start, started, our_version, sent_by, spelled_if}
+use Rattle.sftp_server.proofs.Imports.{recorded, IsGreeting, IsNoGreeting, IsListed, closed_tree, IsCutInLast}
+use Rattle.sftp_server.proofs.Imports.{StreamBytes, stream_bytes, Passed, AreDone, IsAfterDone, Leaves, Stops}
+use Rattle.sftp_server.proofs.Imports.{tree_left, IsLogging, Ahead, IsRunning, IsUnopenedYet, FailsToSend, MatchResult}
+use Rattle.sftp_server.proofs.Imports.{drop_at, Consumes-kept, input_limit, ahead_without, BeginsWithGreeting}
+use Rattle.sftp_server.specs.declared.opening.First.{First}
+use Rattle.sftp_packets.specs.declared.packets.Packet.TheVariants.{Version, Request, Reply}
+use Rattle.sftp_server.specs.Opening.{IsFirst, IsInFront, IsGreetingOf}
 use Rattle.std.specs.Result.{IsErrAnd}
-use Rattle.sftp_packets.specs.declared.packets.Packet.TheVariants.{Request, Reply}
 use Rattle.sftp_transcript.specs.Records.{IsInit}
 use Rattle.sftp_server.specs.declared.ends.SessionFault.TheVariants as faults
 use Rattle.sftp_server.specs.declared.ends.Stop.TheVariants as stops

@@ -9,13 +9,13 @@ use Rattle.sftp_server.proofs.Imports.{SessionFault, Stop, Entry, Pending, Done,
 use Rattle.sftp_server.proofs.Imports.{is_ready, reply_at, IsWorked, IsSent, server_clash, started, IsReached}
 use Rattle.sftp_server.proofs.Imports.{session_packets, our_version, answered_last, IsListed, StreamBytes, stream_bytes}
 use Rattle.sftp_server.proofs.Imports.{IsLeftAfter, IsLogging, Ahead, IsRunning, IsFaultAhead, FailsToSend, SendsOn}
-use Rattle.sftp_server.proofs.Imports.{tree_left}
+use Rattle.sftp_server.proofs.Imports.{tree_left, all_more}
 use Rattle.sftp_server.specs.declared.ends.SessionFault.TheVariants as faults
 use Rattle.sftp_server.specs.declared.ends.Stop.TheVariants as stops
 use Rattle.sftp_server.proofs.Queues.{is_unsent-front}
 use Rattle.sftp_server.proofs.Machines.Laws.{reply-for}
 use Rattle.sftp_server.proofs.Machines.Reached.{reached-worked, reached-sent}
-use Rattle.sftp_server.proofs.Sessions.Lists.{session-more, replied-session, events-more}
+use Rattle.sftp_server.proofs.Sessions.Lists.{session-more, replied-session}
 use Rattle.sftp_server.proofs.Sessions.Stops.{stays-good, each-answered, reached-begins, running-listed, reached-leaves}
 use Rattle.sftp_server.proofs.Sessions.Stops.{stopped-no-memory, stopped-sending}
 
@@ -145,7 +145,7 @@ module _ {start : Tree} {past now : StreamBytes} {ahead : Ahead} {core0 core1 : 
   reached = reached-sent (started start) window running.events core0 core1 k reply running.reached at sent
 
   spelled : AllByRecursion IsEvent events
-  spelled = events-more running.events (Replied reply) running.spelled for-request.1
+  spelled = all_more running.events (Replied reply) running.spelled for-request.1
 
   -- the tree that the core leaves is that after the packets so far, and after the reply
   leaves : IsLeftAfter start (session_packets running.init running.events) (tree_left core1)

@@ -1,15 +1,14 @@
 -- A session that stops where a stream fails or memory runs out.
 use Rattle.sftp_server.proofs.Imports.{◌≡◌, ◌≢◌, ℕ, Bool, if◌then◌else◌, List, [], ◌∷◌, ◌++◌, Option, refl, sym, ap}
 use Rattle.sftp_server.proofs.Imports.{◌∙◌, inl, inr, arith, append-nil, append_assoc, ne_eqb, Keeps, Appends-trans}
-use Rattle.sftp_server.proofs.Imports.{Appends-kept, Consumes-kept, Keeps-refl, Packet, Side, Client, Server, spelling}
-use Rattle.sftp_server.proofs.Imports.{side_of, Event, BeginsFrom, window, Log, opened_text, record_text}
-use Rattle.sftp_server.proofs.Imports.{transcript_opening, Tree, State, Good, settled, Allowed, SessionFault, Stop}
-use Rattle.sftp_server.proofs.Imports.{Machine, started, IsReached, session_packets, sent_by, spelled_if, recorded}
-use Rattle.sftp_server.proofs.Imports.{opened_record, IsListed, IsBeginning, IsCutInLast, closed_tree, StreamBytes}
-use Rattle.sftp_server.proofs.Imports.{stream_bytes, Passed, IsAfterDone, IsLeftAfter, Leaves, IsLogging, Ahead}
-use Rattle.sftp_server.proofs.Imports.{IsRunning, FailsToSend, Stops, tree_left}
+use Rattle.sftp_server.proofs.Imports.{Packet, Side, Client, Server, spelling, side_of, Event, BeginsFrom, window, Log}
+use Rattle.sftp_server.proofs.Imports.{opened_text, record_text, transcript_opening, Tree, State, Good, settled}
+use Rattle.sftp_server.proofs.Imports.{Allowed, SessionFault, Stop, Machine, started, IsReached, session_packets}
+use Rattle.sftp_server.proofs.Imports.{sent_by, spelled_if, recorded, opened_record, IsListed, IsBeginning, IsCutInLast}
+use Rattle.sftp_server.proofs.Imports.{closed_tree, StreamBytes, stream_bytes, Passed, IsAfterDone, IsLeftAfter, Leaves}
+use Rattle.sftp_server.proofs.Imports.{IsLogging, Ahead, IsRunning, FailsToSend, Stops, tree_left, PathsLeadWell}
+use Rattle.sftp_server.proofs.Imports.{Appends-kept, Consumes-kept, Keeps-refl}
 use Rattle.sftp_tree.proofs.Walks.Places.{path-found}
-use Rattle.sftp_tree.proofs.Requests.Trees.{PathsLeadWell}
 use Rattle.sftp_handles.proofs.Good.GoodLaws.{allowed-good}
 use Rattle.sftp_handles.proofs.Listings.FirstListings.{listing-fits}
 use Rattle.sftp_handles.proofs.TotalSteps.SomeReplies.{some-allowed}

@@ -2,10 +2,11 @@
 use Rattle.sftp_server.proofs.Imports.{◌≡◌, ℕ, List, [], ◌∷◌, ◌++◌, length, map, Some, Ok, refl, sym, ap, ◌∙◌, arith}
 use Rattle.sftp_server.proofs.Imports.{append_assoc, append-nil, lit<, lit≤, AllByRecursion, length-append, Packet}
 use Rattle.sftp_server.proofs.Imports.{Init, request_packet, reply_packet, Client, Server, spelling, front_of}
-use Rattle.sftp_server.proofs.Imports.{place_after, hex, version_bytes, front_again, spellings-apart, length-spelling}
-use Rattle.sftp_server.proofs.Imports.{Event, Asked, Replied, packet_of, IsEvent, turn_after, in_window, exchanges_of}
-use Rattle.sftp_server.proofs.Imports.{leading_pairs, handshake_bytes, get, retain, settled, pins_of, our_version}
-use Rattle.sftp_server.proofs.Imports.{session_packets, sent_by, IsGreeting, IsOpened, IsServed, init_bytes}
+use Rattle.sftp_server.proofs.Imports.{place_after, hex, front_again, spellings-apart, length-spelling, Event, Asked}
+use Rattle.sftp_server.proofs.Imports.{Replied, packet_of, IsEvent, turn_after, in_window, exchanges_of, leading_pairs}
+use Rattle.sftp_server.proofs.Imports.{handshake_bytes, get, retain, settled, pins_of, our_version, session_packets}
+use Rattle.sftp_server.proofs.Imports.{sent_by, IsGreeting, IsOpened, IsServed, version_bytes}
+use Rattle.sftp_server.specs.Examples.{init_bytes}
 use Rattle.sftp_tree.specs.Picture.{blank}
 
 -- ---- what opens a session

@@ -1,18 +1,20 @@
 -- Worked examples: what requests are allowed on the blank tree, and a script of acts.
 use Rattle.sftp_server.proofs.Imports.{ℕ, ◌<◌, ◌≤◌, ◌^◌, List, [], ◌∷◌, codes, length, refl, inr, lit<, lit≤}
 use Rattle.sftp_server.proofs.Imports.{request_packet, reply_packet, Request, Reply, spelling, packet_limit}
-use Rattle.sftp_server.proofs.Imports.{HasSpelling, FitsString, no_attributes, retain, get, put, Tree, has_entries}
-use Rattle.sftp_server.proofs.Imports.{fits, led, plain_causes, path_causes, outcome, State, pins_of, causes, told_to}
-use Rattle.sftp_server.proofs.Imports.{answers, after, Allowed, clash, touched, range, range_clash, bytes-by, Explained}
-use Rattle.sftp_server.proofs.Imports.{turn_after, in_window, requests_before_reply, exchanges_of, leading_pairs}
-use Rattle.sftp_server.proofs.Imports.{next_reply, window, mkdir, rmdir, status, Entry, Progress, Pending, Done, Sent}
-use Rattle.sftp_server.proofs.Imports.{Machine, at_start, AreActs, IsWorked, IsSent, is_unsent, is_free_of, from_unsent}
-use Rattle.sftp_server.proofs.Imports.{server_clash, started, made_and_removed, answered_backwards, root_attributes}
-use Rattle.sftp_server.proofs.Imports.{stat_answered}
+use Rattle.sftp_server.proofs.Imports.{HasSpelling, FitsString, retain, get, Tree, State, pins_of, Allowed, clash}
+use Rattle.sftp_server.proofs.Imports.{touched, range, range_clash, bytes-by, Explained, turn_after, in_window}
+use Rattle.sftp_server.proofs.Imports.{requests_before_reply, exchanges_of, leading_pairs, next_reply, window, Entry}
+use Rattle.sftp_server.proofs.Imports.{Progress, Pending, Done, Sent, Machine, at_start, AreActs, IsWorked, IsSent}
+use Rattle.sftp_server.proofs.Imports.{is_unsent, is_free_of, from_unsent, server_clash, started, no_attributes}
+use Rattle.sftp_tree.specs.Tree.{has_entries, fits}
+use Rattle.sftp_path.specs.Table.{put, without}
+use Rattle.sftp_tree.specs.Requests.{led, plain_causes, causes as path_causes, outcome}
+use Rattle.sftp_handles.specs.Requests.{causes, told_to, answers, after}
+use Rattle.sftp_transcript.specs.Examples.{mkdir, rmdir, status}
+use Rattle.sftp_server.specs.Examples.{made_and_removed, answered_backwards, root_attributes, stat_answered}
 use Rattle.sftp_packets.specs.declared.packets.Ask.TheVariants.{Mkdir, Rmdir, Stat}
 use Rattle.sftp_packets.specs.declared.packets.Answer.TheVariants.{Status, Attrs as attributes}
 use Rattle.sftp_path.specs.Place.{parts, components, is_good_path}
-use Rattle.sftp_path.specs.Table.{without}
 use Rattle.sftp_tree.specs.declared.nodes.Node.TheVariants.{Dir}
 use Rattle.sftp_tree.specs.Walk.{meets, walk, walk_parts, reached}
 use Rattle.sftp_tree.specs.Causes.{no_causes, when, joined}

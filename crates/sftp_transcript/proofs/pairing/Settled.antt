@@ -1,6 +1,7 @@
 -- A session whose turns close has a reply to each of its requests.
 use Rattle.sftp_transcript.proofs.Imports.{◌≡◌, ◌==◌, ℕ, suc, Bool, true, false, List, [], ◌∷◌, length, Some, refl, ap}
-use Rattle.sftp_transcript.proofs.Imports.{eq-eqb, Reply, Event, Asked, Replied}
+use Rattle.sftp_transcript.proofs.Imports.{eq-eqb, Event, Asked, Replied}
+use Rattle.sftp_packets.specs.declared.packets.Reply.{Reply}
 use Rattle.sftp_transcript.specs.Explained.{Turn, closed, waiting, broken, after_request, after_event, turn_after}
 use Rattle.sftp_transcript.specs.Explained.{next_reply, exchanges_of, leading_pairs, Matching}
 

@@ -1,5 +1,6 @@
 -- A session is explained where its events are sound and no request waits.
-use Rattle.sftp_transcript.proofs.Imports.{◌≡◌, ℕ, List, refl, Event, InTurn, IsWaiting, Sound}
+use Rattle.sftp_transcript.proofs.Imports.{◌≡◌, ℕ, List, refl, Event}
+use Rattle.sftp_transcript.specs.Sound.{InTurn, IsWaiting, Sound}
 use Rattle.sftp_transcript.specs.Explained.{Turn, closed, waiting, broken, turn_after, Matching, StepOf, Explained}
 
 -- no request waits for its reply

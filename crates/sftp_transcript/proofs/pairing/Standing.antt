@@ -1,23 +1,23 @@
 -- The ledger goes on with each event, and an event out of turn or out of time ends every explanation.
 use Rattle.sftp_transcript.proofs.Imports.{◌≡◌, ◌==◌, ◌&&◌, ◌||◌, nat_lt, ℕ, suc, ◌+◌, ◌<◌, ◌≤◌, Bool, true, false}
 use Rattle.sftp_transcript.proofs.Imports.{cond, List, [], ◌∷◌, ◌++◌, Some, None, length, refl, sym, ap, ◌∙◌}
-use Rattle.sftp_transcript.proofs.Imports.{append_assoc, arith, inl, inr, zero-add, AllByRecursion, and_parts, and_from}
-use Rattle.sftp_transcript.proofs.Imports.{or_parts, or_from, eqb-false, ne_eqb, lt-ltb, le-ltb, ltb-true, cases_Bool}
-use Rattle.sftp_transcript.proofs.Imports.{both_ways, length-append, Reply, Event, Asked, Replied}
-use Rattle.std.proofs.lemmas.Bool.{eqb-true, eq-eqb}
-use Rattle.std.proofs.lemmas.List.{append-nil}
+use Rattle.sftp_transcript.proofs.Imports.{append_assoc, arith, inl, inr, zero-add, AllByRecursion, or_parts, le-ltb}
+use Rattle.sftp_transcript.proofs.Imports.{ltb-true, length-append, Event, Asked, Replied, eqb-true, eq-eqb, append-nil}
+use Rattle.std.proofs.lemmas.Bool.{and_parts, and_from, or_from, eqb-false, ne_eqb, lt-ltb, cases_Bool, both_ways}
+use Rattle.sftp_packets.specs.declared.packets.Reply.{Reply}
 use Rattle.sftp_packets.specs.declared.packets.Request.{Request}
 use Rattle.sftp_transcript.specs.Explained.{closed, waiting, broken, after_event, turn_after, next_reply, exchanges_of}
 use Rattle.sftp_transcript.specs.Explained.{requests_before_reply, in_window, window}
 use Rattle.sftp_transcript.specs.Ledger.{Exchange, with_replies, is_open, turn_of, AreApart, keeps_window, StandsFor}
 use Rattle.sftp_transcript.specs.Ledger.{IsAnswered, IsComplete}
+use mathlib.Core.Bool.{or_assoc, and_assoc, or-false, and-true}
 
 -- ---- tests
 
 flipped : (a b : ℕ) → (a == b) ≡ false → (b == a) ≡ false
 flipped a b other = ne_eqb b a (λ e. eqb-false a b other (sym e))
 
-cond_alike : (b : Bool) → cond b broken broken ≡ broken
+pub cond_alike : (b : Bool) → cond b broken broken ≡ broken
 cond_alike true = refl
 cond_alike false = refl
 
@@ -30,32 +30,16 @@ with_replies-append [] ys more = refl
 with_replies-append ((request, None) ∷ xs) ys more = simp (with_replies-append xs ys more)
 with_replies-append ((request, Some reply) ∷ xs) ys more = simp (with_replies-append xs ys more)
 
-or_assoc : (a b c : Bool) → (a || (b || c)) ≡ ((a || b) || c)
-or_assoc true b c = refl
-or_assoc false b c = refl
-
-and_assoc : (a b c : Bool) → (a && (b && c)) ≡ ((a && b) && c)
-and_assoc true b c = refl
-and_assoc false b c = refl
-
-pub or_none : (a : Bool) → (a || false) ≡ a
-or_none true = refl
-or_none false = refl
-
-and_all : (a : Bool) → (a && true) ≡ a
-and_all true = refl
-and_all false = refl
-
 pub is_open-append : (id : ℕ) (xs ys : List Exchange) → is_open id (xs ++ ys) ≡ (is_open id xs || is_open id ys)
 unfolding is_open
 is_open-append id [] ys = refl
 is_open-append id ((request, None) ∷ xs) ys = simp (or_assoc, is_open-append id xs ys)
 is_open-append id ((request, Some reply) ∷ xs) ys = is_open-append id xs ys
 
-turn_of-open : (ledger : List Exchange) (id : ℕ) → is_open id ledger ≡ true → turn_of ledger id ≡ waiting
+pub turn_of-open : (ledger : List Exchange) (id : ℕ) → is_open id ledger ≡ true → turn_of ledger id ≡ waiting
 turn_of-open ledger id e = ap (λ (b : Bool). cond b waiting closed) e
 
-turn_of-closed : (ledger : List Exchange) (id : ℕ) → is_open id ledger ≡ false → turn_of ledger id ≡ closed
+pub turn_of-closed : (ledger : List Exchange) (id : ℕ) → is_open id ledger ≡ false → turn_of ledger id ≡ closed
 turn_of-closed ledger id e = ap (λ (b : Bool). cond b waiting closed) e
 
 -- ---- nothing yet
@@ -77,17 +61,17 @@ asked_turn : (ledger : List Exchange) (request : Request) (id : ℕ) → is_open
     → after_event id (Asked request) (turn_of ledger id) ≡ turn_of (ledger ++ (request, None) ∷ []) id
 unfolding is_open
 asked_turn ledger request id none =
-    grind (arith, cases_Bool, eqb-true, is_open-append, turn_of-closed, turn_of-open, or_none)
+    grind (arith, cases_Bool, eqb-true, is_open-append, turn_of-closed, turn_of-open, or-false)
 
 keeps_window-asked : (ledger : List Exchange) (request : Request) (more : List Event)
     → keeps_window (ledger ++ (request, None) ∷ []) more ≡
     (keeps_window ledger (Asked request ∷ more) && nat_lt (requests_before_reply request.id more) window)
 unfolding keeps_window requests_before_reply
-keeps_window-asked [] request more = rw zero-add (and_all (nat_lt (requests_before_reply request.id more) window))
+keeps_window-asked [] request more = rw zero-add (and-true (nat_lt (requests_before_reply request.id more) window))
 keeps_window-asked ((first, None) ∷ ledger) request more =
     let later : length (ledger ++ (request, None) ∷ []) + requests_before_reply first.id more ≡ length ledger + suc (requests_before_reply first.id more) = omega (arith, length-append ledger ((request, None) ∷ [])) in
     rw (later, keeps_window-asked ledger request more)
-    (and_assoc (nat_lt (length ledger + suc (requests_before_reply first.id more)) window) (keeps_window ledger (Asked request ∷ more)) (nat_lt (requests_before_reply request.id more) window))
+    (sym (and_assoc (nat_lt (length ledger + suc (requests_before_reply first.id more)) window) (keeps_window ledger (Asked request ∷ more)) (nat_lt (requests_before_reply request.id more) window)))
 keeps_window-asked ((first, Some reply) ∷ ledger) request more = keeps_window-asked ledger request more
 
 pub AreApart-asked : (ledger : List Exchange) (request : Request) → AreApart ledger
@@ -113,7 +97,7 @@ stands_asked ledger seen request stands none kept = record {
       rw (append_assoc seen (Asked request ∷ []) more, stands.turns_are id (Asked request ∷ more), asked_turn ledger request id none) refl;
   window_is = λ more.
       rw (append_assoc seen (Asked request ∷ []) more, stands.window_is (Asked request ∷ more), keeps_window-asked ledger request more)
-      (and_assoc (keeps_window ledger (Asked request ∷ more)) (nat_lt (requests_before_reply request.id more) window) (in_window more));
+      (sym (and_assoc (keeps_window ledger (Asked request ∷ more)) (nat_lt (requests_before_reply request.id more) window) (in_window more)));
   apart = AreApart-asked ledger request stands.apart none;
   in_time = kept;
 }

@@ -1,44 +1,20 @@
 -- What begins the bytes begins each list of events that they record, and bytes with a fault record none.
 use Rattle.sftp_transcript.proofs.Imports.{◌≡◌, ◌≢◌, inl, inr, ℕ, List, [], ◌∷◌, ◌++◌, length, Option, Some, None}
-use Rattle.sftp_transcript.proofs.Imports.{Result, Ok, Err, refl, sym, ap, ◌∙◌, subst, append_assoc, append-nil, arith}
-use Rattle.sftp_transcript.proofs.Imports.{flat_map, AllByRecursion, append_cancel_left, flat_map-cons, Fault, Packet}
-use Rattle.sftp_transcript.proofs.Imports.{Init, Version, Side, Client, Server, spelling, HasSpelling, side_of}
-use Rattle.sftp_transcript.proofs.Imports.{TranscriptError, Wire, Truncated, NoMemory, Event, Stage, BeginsRecord}
-use Rattle.sftp_transcript.proofs.Imports.{ReadUpTo, FaultAhead, FaultAfter, number_after_events, side_of_direction}
-use Rattle.sftp_transcript.proofs.Imports.{Begins, IsInit, IsVersion, transcript_opening, direction_of, record_text}
-use Rattle.sftp_transcript.proofs.Imports.{packet_of, event_record, IsEvent, AreRecords, IsHandshake, IsRecord}
-use Rattle.sftp_wire.specs.Fronts.{front_of}
-use Rattle.sftp_wire.proofs.StreamLaws.Front.{front_again, spellings-apart}
+use Rattle.sftp_transcript.proofs.Imports.{Result, Ok, Err, refl, sym, ap, ◌∙◌, subst, append_assoc, arith, flat_map}
+use Rattle.sftp_transcript.proofs.Imports.{AllByRecursion, append_cancel_left, flat_map-cons, Fault, Packet, Init}
+use Rattle.sftp_transcript.proofs.Imports.{Version, Side, Client, Server, TranscriptError, Wire, Truncated, NoMemory}
+use Rattle.sftp_transcript.proofs.Imports.{Event, Stage, BeginsRecord, ReadUpTo, FaultAhead, FaultAfter}
+use Rattle.sftp_transcript.proofs.Imports.{number_after_events, side_of_direction, Begins, IsInit, IsVersion}
+use Rattle.sftp_transcript.proofs.Imports.{transcript_opening, direction_of, record_text, packet_of, event_record}
+use Rattle.sftp_transcript.proofs.Imports.{IsEvent, AreRecords, IsHandshake, IsRecord, front_of}
+use Rattle.sftp_packets.specs.Spelling.{spelling, HasSpelling, side_of}
+use Rattle.sftp_wire.proofs.StreamLaws.Front.{front_again}
 use Rattle.sftp_transcript.specs.declared.stage.Stage.TheVariants as stages
 use Rattle.sftp_transcript.specs.Refused.{KindFault, PacketFault, DirectedFault, RecordFault, IsEventPacket, EventFault}
-use Rattle.sftp_transcript.proofs.transcripts.OneRecord.{Begins-one, event_from_packet}
-use Rattle.sftp_transcript.proofs.transcripts.Reading.{record_parts}
-
--- ---- a whole file begins itself
-
-pub record_from_beginning : (events : List Event) (bytes : List ℕ) → BeginsRecord events bytes [] → IsRecord events bytes
-record_from_beginning events bytes begins = record {
-  opened = begins.opened;
-  records = begins.records;
-  opening = begins.opening;
-  handshake = begins.handshake;
-  recorded = record { spelled = begins.spelled; bytes_are = begins.records_are ∙ append-nil (flat_map event_record events) };
-}
-
-pub beginning_from_record : (events : List Event) (bytes : List ℕ) → IsRecord events bytes → BeginsRecord events bytes []
-beginning_from_record events bytes is = record {
-  opened = is.opened;
-  records = is.records;
-  opening = is.opening;
-  handshake = is.handshake;
-  spelled = is.recorded.spelled;
-  records_are = is.recorded.bytes_are ∙ sym (append-nil (flat_map event_record events));
-}
+use Rattle.sftp_transcript.proofs.transcripts.OneRecord.{begins_one, event_from_packet}
+use Rattle.sftp_transcript.proofs.transcripts.Reading.{records_of, record_parts}
 
 -- ---- what begins the records begins each list of events
-
-pub begins_one : (bytes : List ℕ) (p q : Packet) (x y : List ℕ) → Begins bytes p x → Begins bytes q y → (p ≡ q) × (x ≡ y)
-begins_one bytes p q x y one other = Begins-one spellings-apart bytes p q x y one other
 
 -- the list goes on with events that the rest records
 pub record GoesOn (events others : List Event) (rest : List ℕ) : Type 0 where
@@ -85,7 +61,8 @@ pub begins_each : (events others : List Event) (bytes rest : List ℕ) → Begin
 begins_each events others bytes rest begins is =
     let opened : is.opened ≡ begins.opened = append_cancel_left transcript_opening is.opened begins.opened (sym is.opening ∙ begins.opening) in
     let records : is.records ≡ begins.records = same_records begins.opened is.records begins.records (subst (λ (l : List ℕ). IsHandshake l is.records) opened is.handshake) begins.handshake in
-    goes_on events others begins.records rest begins.spelled begins.records_are (subst (AreRecords others) records is.recorded)
+    goes_on events others begins.records rest begins.spelled begins.records_are
+    (subst (AreRecords others) records (records_of others bytes is))
 
 -- ---- bytes with a fault record no events
 

@@ -5,13 +5,11 @@ use Rattle.sftp_transcript.proofs.Imports.{flat_map, AllByRecursion, append_canc
 use Rattle.sftp_transcript.proofs.Imports.{Side, TranscriptError, Wire, Truncated, NoMemory, Event, Stage, BeginsRecord}
 use Rattle.sftp_transcript.proofs.Imports.{BeginsWithInit, ReadUpTo, FaultAhead, FaultAfter, number_after_events}
 use Rattle.sftp_transcript.proofs.Imports.{side_of_direction, Begins, IsInit, IsVersion, BeginsVersion, rank}
-use Rattle.sftp_transcript.proofs.Imports.{transcript_opening, record_text, packet_of, event_record, IsEvent}
-use Rattle.sftp_wire.specs.Fronts.{front_of}
+use Rattle.sftp_transcript.proofs.Imports.{transcript_opening, record_text, packet_of, event_record, IsEvent, front_of}
 use Rattle.sftp_transcript.specs.declared.stage.Stage.TheVariants as stages
 use Rattle.sftp_transcript.specs.Refused.{KindFault, PacketFault, DirectedFault, RecordFault, IsEventPacket, EventFault}
-use Rattle.sftp_transcript.proofs.transcripts.Beginnings.{begins_one, first_record, same_records, whole_record}
-use Rattle.sftp_transcript.proofs.transcripts.Beginnings.{not_both}
-use Rattle.sftp_transcript.proofs.transcripts.OneRecord.{event_from_packet}
+use Rattle.sftp_transcript.proofs.transcripts.Beginnings.{first_record, same_records, whole_record, not_both}
+use Rattle.sftp_transcript.proofs.transcripts.OneRecord.{begins_one, event_from_packet}
 
 -- ---- a record has one fault
 

@@ -1,8 +1,8 @@
 -- Bytes record one list of events.
-use Rattle.sftp_transcript.proofs.Imports.{◌≡◌, ℕ, List, [], ◌∷◌, ◌++◌, length, refl, sym, ap, ◌∙◌, arith, flat_map}
-use Rattle.sftp_transcript.proofs.Imports.{flat_map-cons, Packet, Side, Client, Server, spelling, HasSpelling, side_of}
-use Rattle.sftp_transcript.proofs.Imports.{Event, Asked, Replied, direction_of, packet_of, event_record, AreRecords}
-use Rattle.sftp_transcript.proofs.Imports.{IsRecord, Begins}
+use Rattle.sftp_transcript.proofs.Imports.{◌≡◌, ℕ, List, [], ◌∷◌, length, refl, sym, ap, ◌∙◌, arith, flat_map}
+use Rattle.sftp_transcript.proofs.Imports.{flat_map-cons, Packet, Side, Client, Server, Event, Asked, Replied}
+use Rattle.sftp_transcript.proofs.Imports.{direction_of, packet_of, event_record, AreRecords, IsRecord, Begins}
+use Rattle.sftp_wire.proofs.StreamLaws.Front.{spellings-apart}
 use Rattle.sftp_transcript.proofs.Inputs.{same_cons}
 use Rattle.sftp_transcript.proofs.transcripts.Reading.{record_parts, no_events}
 
@@ -18,35 +18,34 @@ event_from_packet (Asked x) (Replied y) e = cc
 event_from_packet (Replied x) (Asked y) e = cc
 event_from_packet (Replied x) (Replied y) e = cc
 
-module _ (apart : (p q : Packet) (x y : List ℕ) → HasSpelling p → HasSpelling q → side_of p ≡ side_of q → spelling p ++ x ≡ spelling q ++ y → (p ≡ q) × (x ≡ y)) where
-  -- one record begins the bytes at most
-  pub Begins-one : (bytes : List ℕ) (p q : Packet) (x y : List ℕ) → Begins bytes p x → Begins bytes q y
-      → (p ≡ q) × (x ≡ y)
-  Begins-one bytes p q x y one other = grind (arith, same_cons, side_from_direction)
+-- one record begins the bytes at most
+pub begins_one : (bytes : List ℕ) (p q : Packet) (x y : List ℕ) → Begins bytes p x → Begins bytes q y
+    → (p ≡ q) × (x ≡ y)
+begins_one bytes p q x y one other = grind (arith, same_cons, side_from_direction, spellings-apart)
 
-  -- one list of events stands in the bytes at most
-  pub AreRecords-one : (events others : List Event) (bytes : List ℕ) → AreRecords events bytes
-      → AreRecords others bytes → events ≡ others
-  AreRecords-one [] others bytes are same = sym (no_events others bytes (ap length are.bytes_are) same)
-  AreRecords-one (e ∷ es) [] bytes are same = no_events (e ∷ es) bytes (ap length same.bytes_are) are
-  AreRecords-one (e ∷ es) (o ∷ os) bytes are same =
-      let first : Begins bytes (packet_of e) (flat_map event_record es) =
-      record { spelled = are.spelled.0; bytes_are = are.bytes_are ∙ flat_map-cons event_record e es } in
-      let second : Begins bytes (packet_of o) (flat_map event_record os) =
-      record { spelled = same.spelled.0; bytes_are = same.bytes_are ∙ flat_map-cons event_record o os } in
-      let one = Begins-one bytes (packet_of e) (packet_of o) (flat_map event_record es)
-      (flat_map event_record os) first second in
-      let rest = AreRecords-one es os (flat_map event_record es)
-      (record { spelled = are.spelled.1; bytes_are = refl }) (record { spelled = same.spelled.1; bytes_are = one.1 }) in
-      let head = event_from_packet e o one.0 in
-      cc
+-- one list of events stands in the bytes at most
+pub AreRecords-one : (events others : List Event) (bytes : List ℕ) → AreRecords events bytes
+    → AreRecords others bytes → events ≡ others
+AreRecords-one [] others bytes are same = sym (no_events others bytes (ap length are.bytes_are) same)
+AreRecords-one (e ∷ es) [] bytes are same = no_events (e ∷ es) bytes (ap length same.bytes_are) are
+AreRecords-one (e ∷ es) (o ∷ os) bytes are same =
+    let first : Begins bytes (packet_of e) (flat_map event_record es) =
+    record { spelled = are.spelled.0; bytes_are = are.bytes_are ∙ flat_map-cons event_record e es } in
+    let second : Begins bytes (packet_of o) (flat_map event_record os) =
+    record { spelled = same.spelled.0; bytes_are = same.bytes_are ∙ flat_map-cons event_record o os } in
+    let one = begins_one bytes (packet_of e) (packet_of o) (flat_map event_record es)
+    (flat_map event_record os) first second in
+    let rest = AreRecords-one es os (flat_map event_record es)
+    (record { spelled = are.spelled.1; bytes_are = refl }) (record { spelled = same.spelled.1; bytes_are = one.1 }) in
+    let head = event_from_packet e o one.0 in
+    cc
 
-  pub records_are_one_lem : (events others : List Event) (bytes : List ℕ) → IsRecord events bytes
-      → IsRecord others bytes → events ≡ others
-  records_are_one_lem events others bytes is same =
-      let p = record_parts events bytes is.opened is.opening is in
-      let q = record_parts others bytes is.opened is.opening same in
-      let middle = Begins-one is.opened p.init.packet q.init.packet p.middle q.middle p.init.begins q.init.begins in
-      let records = Begins-one p.middle p.version.packet q.version.packet p.records q.records p.version.begins
-      (rw middle.1 q.version.begins) in
-      AreRecords-one events others p.records p.recorded (rw records.1 q.recorded)
+pub records_are_one_lem : (events others : List Event) (bytes : List ℕ) → IsRecord events bytes
+    → IsRecord others bytes → events ≡ others
+records_are_one_lem events others bytes is same =
+    let p = record_parts events bytes is.opened is.opening is in
+    let q = record_parts others bytes is.opened is.opening same in
+    let middle = begins_one is.opened p.init.packet q.init.packet p.middle q.middle p.init.begins q.init.begins in
+    let records = begins_one p.middle p.version.packet q.version.packet p.records q.records p.version.begins
+    (rw middle.1 q.version.begins) in
+    AreRecords-one events others p.records p.recorded (rw records.1 q.recorded)

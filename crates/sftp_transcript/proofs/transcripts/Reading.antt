@@ -1,12 +1,18 @@
 -- What a transcript file begins with.
-use Rattle.sftp_transcript.proofs.Imports.{eqb-true, ◌≡◌, ℕ, List, [], ◌∷◌, ◌++◌, length, refl, arith}
-use Rattle.sftp_transcript.proofs.Imports.{append_cancel_left, Event, Packet, Init, Version, transcript_opening}
-use Rattle.sftp_transcript.proofs.Imports.{AreRecords, IsHandshake, IsRecord, Begins, IsInit, BeginsInit, IsVersion}
-use Rattle.sftp_transcript.proofs.Imports.{BeginsVersion}
+use Rattle.sftp_transcript.proofs.Imports.{eqb-true, ◌≡◌, ℕ, List, [], ◌∷◌, ◌++◌, length, refl, sym, ◌∙◌, subst, arith}
+use Rattle.sftp_transcript.proofs.Imports.{flat_map, append-nil, event_record, append_cancel_left, Event, Packet, Init}
+use Rattle.sftp_transcript.proofs.Imports.{Version, transcript_opening, AreRecords, IsHandshake, IsRecord, Begins}
+use Rattle.sftp_transcript.proofs.Imports.{IsInit, IsVersion, BeginsVersion}
+use Rattle.sftp_transcript.specs.Records.{BeginsInit}
 
 pub no_events : (events : List Event) (bytes : List ℕ) → length bytes ≡ 0 → AreRecords events bytes → events ≡ []
 no_events [] bytes none are = refl
 no_events (e ∷ es) bytes none are = cc
+
+-- the records of a whole file
+pub records_of : (events : List Event) (bytes : List ℕ) → (is : IsRecord events bytes) → AreRecords events is.records
+records_of events bytes is =
+    record { spelled = is.spelled; bytes_are = is.records_are ∙ append-nil (flat_map event_record events) }
 
 -- ---- the records before the events
 
@@ -24,7 +30,10 @@ handshake_parts events opened records shake are = grind arith
 
 pub record_parts : (events : List Event) (bytes opened : List ℕ) → bytes ≡ transcript_opening ++ opened
     → IsRecord events bytes → RecordParts events opened
-record_parts events bytes opened e is = grind (arith, append_cancel_left, handshake_parts)
+record_parts events bytes opened e is =
+    let same : is.opened ≡ opened = append_cancel_left transcript_opening is.opened opened (sym is.opening ∙ e) in
+    handshake_parts events opened is.records (subst (λ (l : List ℕ). IsHandshake l is.records) same is.handshake)
+    (records_of events bytes is)
 
 -- an INIT and a VERSION in front are a handshake
 pub handshake_by : (p q : Packet) (opened middle records : List ℕ) → IsInit p → Begins opened p middle → IsVersion q
@@ -37,4 +46,4 @@ handshake_by other q opened middle records high first is second = absurd high
 -- the parts of what the bytes record
 pub record_by : (events : List Event) (bytes opened middle records : List ℕ) → bytes ≡ transcript_opening ++ opened
     → BeginsInit opened middle → BeginsVersion middle records → AreRecords events records → IsRecord events bytes
-record_by events bytes opened middle records opening init version are = grind (arith, handshake_by)
+record_by events bytes opened middle records opening init version are = grind (arith, handshake_by, append-nil)

@@ -1,16 +1,10 @@
 -- Sets of causes as bits.
-use Rattle.std.proofs.Common.{rules, ◌≡◌, ◌≢◌, ◌==◌, ◌<◌, ℕ, ◌*◌, ◌%◌, ◌^◌, Bool, true, false, ◌&&◌, ◌||◌, refl, sym, ap, ◌∙◌, lit<, arith}
-use Rattle.std.specs.Int.{bit_at, w32}
+use Rattle.sftp_tree.proofs.Imports.{rules, ◌≡◌, ◌≢◌, ◌==◌, ◌<◌, ℕ, ◌*◌, ◌%◌, ◌^◌, Bool, true, false, ◌&&◌, ◌||◌, refl}
+use Rattle.sftp_tree.proofs.Imports.{sym, ap, ◌∙◌, lit<, arith, bit_at, w32, max, eqb-true, eqb-false, nat_tests, Cause}
+use Rattle.sftp_tree.proofs.Imports.{BadFlags, row, no_causes, when, joined, in_set}
 use Rattle.std.specs.Int.Bits.{bit_or}
-use Rattle.std.specs.Prelude.{max}
-use Rattle.std.proofs.lemmas.Bool.{eqb-true, eqb-false}
-use Rattle.std.proofs.lemmas.Bool.Decides.{nat_tests}
 use Rattle.std.proofs.lemmas.Nat.Bits.{bit_at-zero, bit_at_or, bit_at_set_same, bit_at_set_other, bit_at-lt}
-use Rattle.sftp_tree.specs.declared.causes.Cause.{Cause}
-use Rattle.sftp_tree.specs.declared.causes.Cause.TheVariants.{BadFlags}
 use Rattle.sftp_tree.specs.declared.causes.Causes.{Causes}
-use Rattle.sftp_tree.specs.Causes.{row, no_causes, when, joined}
-use Rattle.sftp_tree.specs.Refusals.{in_set}
 
 -- each cause has a bit
 pub row-few : (c : Cause) → row c < 32

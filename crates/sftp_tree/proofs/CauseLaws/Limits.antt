@@ -1,29 +1,23 @@
 -- The numbers say whether what a request asks for keeps to the limits.
-use Rattle.std.proofs.Common.{◌≡◌, ℕ, ◌-◌, Bool, true, false, ◌&&◌, ◌||◌, not, List, length, take, replicate, refl, sym, ◌∙◌, ap, arith, Option, Some, None, IsTrue, nat_le, unwrap_or, if◌then◌else◌, Result, Ok, Err}
+use Rattle.sftp_tree.proofs.Imports.{◌≡◌, ℕ, ◌-◌, Bool, true, false, ◌&&◌, ◌||◌, not, List, length, take, replicate}
+use Rattle.sftp_tree.proofs.Imports.{refl, sym, ◌∙◌, ap, arith, Option, Some, None, IsTrue, nat_le, unwrap_or}
+use Rattle.sftp_tree.proofs.Imports.{if◌then◌else◌, Result, Ok, Err, list_any, not-false, or_parts, length-append}
+use Rattle.sftp_tree.proofs.Imports.{length-take, length-replicate, and-true, Attrs, Ask, Setstat, Remove, Mkdir, Rmdir}
+use Rattle.sftp_tree.proofs.Imports.{Rename, Symlink, PosixRename, Hardlink, Open, Place, TreeLimits, is_root}
+use Rattle.sftp_tree.proofs.Imports.{same_place, is_target, Content, Node, Dir, File, Link, Cause, BadPath, NoEntry}
+use Rattle.sftp_tree.proofs.Imports.{Exists, IsDir, NotLink, NotFile, NotEmpty, Root, Inside, NoRoom, NotDir, Tree}
+use Rattle.sftp_tree.proofs.Imports.{WellFormed, IsKept, limits, fits, node_at, content_at, is_taken, is_directory}
+use Rattle.sftp_tree.proofs.Imports.{is_link, has_entries, directory_owner, changed_owner, changed_content, resized}
+use Rattle.sftp_tree.proofs.Imports.{CauseSet, every_cause, is_none, no_causes, when, making_causes, needing_causes}
+use Rattle.sftp_tree.proofs.Imports.{link_causes, file_causes, unlinking_causes, leaving_causes, giving_causes}
+use Rattle.sftp_tree.proofs.Imports.{moving_causes, clashing_causes, replacing_causes, exchanging_causes, goes_inside}
+use Rattle.sftp_tree.proofs.Imports.{are_one, are_one_file, directory_causes, with_changed_file, with_attributes}
+use Rattle.sftp_tree.proofs.Imports.{with_further_name, put_in_its_stead, new_content, with_emptied_file, with_opened}
+use Rattle.sftp_tree.proofs.Imports.{truncates, has_room, size_fits, size_fits_at, move_fits, has_room_at}
+use Rattle.sftp_tree.proofs.Imports.{has_room_between, has_room_for, has_room_to_open, nat_tests}
 use Rattle.std.specs.Option.{is_some, option_map}
-use Rattle.std.specs.List.{list_any}
-use Rattle.std.proofs.lemmas.Bool.{not-false, or_parts}
-use Rattle.std.proofs.lemmas.List.{length-append, length-take, length-replicate}
-use Rattle.std.proofs.Math.Bool.{and-true}
-use Rattle.sftp_packets.specs.declared.attributes.Attrs.{Attrs}
-use Rattle.sftp_packets.specs.declared.packets.Ask.{Ask}
-use Rattle.sftp_packets.specs.declared.packets.Ask.TheVariants.{Setstat, Remove, Mkdir, Rmdir, Rename, Symlink, PosixRename, Hardlink, Open}
-use Rattle.sftp_path.specs.Place.{Place}
-use Rattle.sftp_treefile.specs.declared.limits.TreeLimits.{TreeLimits}
-use Rattle.sftp_treefile.specs.TreeFile.{is_root, same_place, is_target}
-use Rattle.sftp_tree.specs.declared.file_contents.Content.{Content}
-use Rattle.sftp_tree.specs.declared.nodes.Node.{Node}
-use Rattle.sftp_tree.specs.declared.nodes.Node.TheVariants.{Dir, File, Link}
-use Rattle.sftp_tree.specs.declared.causes.Cause.{Cause}
-use Rattle.sftp_tree.specs.declared.causes.Cause.TheVariants.{BadPath, NoEntry, Exists, IsDir, NotLink, NotFile, NotEmpty, Root, Inside, NoRoom, NotDir}
-use Rattle.sftp_tree.specs.Tree.{Tree, WellFormed, IsKept, limits, fits, node_at, content_at, is_taken, is_directory, is_link, has_entries}
-use Rattle.sftp_tree.specs.Attributes.{directory_owner, changed_owner, changed_content, resized}
-use Rattle.sftp_tree.specs.Causes.{CauseSet, every_cause, is_none, no_causes, when}
-use Rattle.sftp_tree.specs.PlaceCauses.{making_causes, needing_causes, link_causes, file_causes, unlinking_causes, leaving_causes, giving_causes, moving_causes, clashing_causes, replacing_causes, exchanging_causes, goes_inside, are_one, are_one_file, directory_causes}
-use Rattle.sftp_tree.specs.Changes.{with_changed_file, with_attributes, with_further_name, put_in_its_stead, new_content, with_emptied_file, with_opened}
-use Rattle.sftp_tree.specs.OpenFlags.{truncates}
-use Rattle.sftp_tree.specs.Requests.{led, new_led, causes, causes_at, new_causes_at, causes_between, own_causes, outcome_at, outcome_between, outcome_led, plain_of}
-use Rattle.sftp_tree.specs.Room.{has_room, size_fits, size_fits_at, move_fits, has_room_at, has_room_between, has_room_for, has_room_to_open}
+use Rattle.sftp_tree.specs.Requests.{led, new_led, causes, causes_at, new_causes_at, causes_between, own_causes}
+use Rattle.sftp_tree.specs.Requests.{outcome_at, outcome_between, outcome_led, plain_of}
 use Rattle.sftp_tree.proofs.CauseLaws.Places.{plain-parts, lost-first, causes-are}
 use Rattle.sftp_tree.proofs.CauseLaws.Sets.{none-each}
 use Rattle.sftp_tree.proofs.Limits.Entries.{fits-put, fits-without, fits-again, fits-content, content-fits}
@@ -31,7 +25,6 @@ use Rattle.sftp_tree.proofs.Limits.Moves.{fits-moved, fits-put_in_stead, nothing
 use Rattle.sftp_tree.proofs.FileCounts.Moves as left
 use Rattle.sftp_tree.proofs.KeptTrees.NewFiles.{fits-new, no_bytes, emptied-is}
 use Rattle.sftp_tree.proofs.KeptTrees.Files.{not-given}
-use Rattle.std.proofs.lemmas.Bool.Decides.{nat_tests}
 use Rattle.sftp_tree.proofs.WellFormedTrees.Places.{apart-from, nothing-below, alone-there}
 use Rattle.sftp_tree.proofs.WellFormedTrees.Found.{absent-of, node-kept}
 

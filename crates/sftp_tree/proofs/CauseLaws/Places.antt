@@ -1,19 +1,13 @@
 -- The causes of a request by where its paths lead.
-use Rattle.std.proofs.Common.{◌≡◌, ◌⊎◌, inl, inr, ℕ, List, Bool, true, false, ◌&&◌, ◌||◌, not, refl, sym, subst, ◌∙◌, ap, Option, Some, None, IsTrue, Result, Ok, Err}
+use Rattle.sftp_tree.proofs.Imports.{◌≡◌, ◌⊎◌, inl, inr, ℕ, List, Bool, true, false, ◌&&◌, ◌||◌, not, refl, sym, subst}
+use Rattle.sftp_tree.proofs.Imports.{◌∙◌, ap, Option, Some, None, IsTrue, Result, Ok, Err, IfErr, IsErrAnd}
+use Rattle.sftp_tree.proofs.Imports.{err_from_is_err_and, or_parts, Ask, Place, Cause, NoRoom, Tree, fits, reached}
+use Rattle.sftp_tree.proofs.Imports.{CauseSet, only, is_none, no_causes, when, joined, IsFree}
 use Rattle.std.specs.Option.{option_map}
-use Rattle.std.specs.Result.{IfErr, IsErrAnd}
-use Rattle.std.proofs.lemmas.Result.{err_from_is_err_and}
-use Rattle.std.proofs.lemmas.Bool.{or_parts}
 use Rattle.std.proofs.Math.Bool.{and-false, or-true, or-false}
-use Rattle.sftp_packets.specs.declared.packets.Ask.{Ask}
-use Rattle.sftp_path.specs.Place.{Place}
-use Rattle.sftp_tree.specs.declared.causes.Cause.{Cause}
-use Rattle.sftp_tree.specs.declared.causes.Cause.TheVariants.{NoRoom}
-use Rattle.sftp_tree.specs.Tree.{Tree, fits}
-use Rattle.sftp_tree.specs.Walk.{reached}
-use Rattle.sftp_tree.specs.Causes.{CauseSet, only, is_none, no_causes, when, joined}
-use Rattle.sftp_tree.specs.Requests.{Row, row_of, no_step, path_of, follows, led, new_led, with_room, causes_at, new_causes_at, causes_between, own_causes, led_causes, both_causes, plain_of, plain_causes, outcome_at, outcome_between, outcome_led, outcome, causes}
-use Rattle.sftp_tree.specs.Refusals.{IsFree}
+use Rattle.sftp_tree.specs.Requests.{Row, row_of, no_step, path_of, follows, led, new_led, with_room, causes_at}
+use Rattle.sftp_tree.specs.Requests.{new_causes_at, causes_between, own_causes, led_causes, both_causes, plain_of}
+use Rattle.sftp_tree.specs.Requests.{plain_causes, outcome_at, outcome_between, outcome_led, outcome, causes}
 use Rattle.sftp_tree.proofs.CauseLaws.Sets.{IsFreeOf, free-of, in-plain, only-itself}
 
 -- ---- by both ends

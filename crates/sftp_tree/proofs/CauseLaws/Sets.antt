@@ -1,11 +1,7 @@
 -- Sets of causes: what is in none, and `NoRoom`.
-use Rattle.std.proofs.Common.{rules, ◌≡◌, ℕ, zero, suc, Bool, true, false, ◌&&◌, List, [], ◌∷◌, refl, IsTrue}
-use Rattle.std.specs.List.{list_any}
-use Rattle.std.proofs.lemmas.Bool.{or_parts, eq-eqb}
-use Rattle.sftp_tree.specs.declared.causes.Cause.{Cause}
-use Rattle.sftp_tree.specs.declared.causes.Cause.TheVariants.{BadFlags}
-use Rattle.sftp_tree.specs.Tree.{Tree, fits}
-use Rattle.sftp_tree.specs.Causes.{CauseSet, every_cause, row, only, is_none, when}
+use Rattle.sftp_tree.proofs.Imports.{rules, ◌≡◌, ℕ, zero, suc, Bool, true, false, ◌&&◌, List, [], ◌∷◌, refl, IsTrue}
+use Rattle.sftp_tree.proofs.Imports.{list_any, or_parts, eq-eqb, Cause, BadFlags, Tree, fits, CauseSet, every_cause}
+use Rattle.sftp_tree.proofs.Imports.{row, only, is_none, when}
 use Rattle.sftp_tree.specs.Requests.{with_room}
 
 -- ---- the list of causes

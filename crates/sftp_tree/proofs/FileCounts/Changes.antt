@@ -1,12 +1,8 @@
 -- Files that are changed one at a time: what a call on the map makes of them.
-use Rattle.std.proofs.Common.{rules, ◌≡◌, ◌≢◌, ℕ, true, false, refl, sym, ap, ◌∙◌, Option, Some, None, is_some, option_and_then, if◌then◌else◌}
-use Rattle.std.specs.Ordering.{nat_cmp, is_eq, ordering_reverse}
-use Rattle.std.specs.declared.cmp.Ordering.{Ordering}
-use Rattle.std.specs.declared.cmp.Ordering.TheVariants.{Less, Equal, Greater}
-use Rattle.std.specs.BTreeMap.{BTreeMap, IsOrdered, UpdatesBy, WritesThrough, get_by}
-use Rattle.sftp_path.specs.Table.{get}
-use Rattle.sftp_tree.specs.declared.file_contents.Stored.{Stored}
-use Rattle.sftp_tree.specs.StoredFiles.{IsChanged, is_held_still, where_held}
+use Rattle.sftp_tree.proofs.Imports.{rules, ◌≡◌, ◌≢◌, ℕ, true, false, refl, sym, ap, ◌∙◌, Option, Some, None, is_some}
+use Rattle.sftp_tree.proofs.Imports.{option_and_then, if◌then◌else◌, nat_cmp, is_eq, ordering_reverse, Ordering, Less}
+use Rattle.sftp_tree.proofs.Imports.{Equal, Greater, BTreeMap, IsOrdered, UpdatesBy, WritesThrough, get_by, get, Stored}
+use Rattle.sftp_tree.proofs.Imports.{IsChanged, is_held_still, where_held}
 
 -- numbers that differ do not tie
 pub numbers-apart : (number other : ℕ) → other ≢ number → is_eq (nat_cmp number other) ≡ false

@@ -1,25 +1,14 @@
 -- Which nodes are where, after the node at one place moved to another and replaced the node there.
-use Rattle.std.proofs.Common.{◌≡◌, ◌≢◌, ℕ, ◌+◌, Bool, true, false, cond, [], ◌∷◌, ◌++◌, refl, sym, ap, subst, ◌∙◌, Option, Some, None, if◌then◌else◌}
-use Rattle.std.specs.Ordering.{is_eq}
-use Rattle.std.specs.declared.cmp.Ordering.TheVariants.{Equal}
+use Rattle.sftp_tree.proofs.Imports.{◌≡◌, ◌≢◌, ℕ, ◌+◌, Bool, true, false, cond, [], ◌∷◌, ◌++◌, refl, sym, ap, subst}
+use Rattle.sftp_tree.proofs.Imports.{◌∙◌, Option, Some, None, if◌then◌else◌, is_eq, Equal, Equal-is, tied_itself}
+use Rattle.sftp_tree.proofs.Imports.{bytes_decides, lookup, remove_entry, is_at, append-nil, Name, Place, place_cmp}
+use Rattle.sftp_tree.proofs.Imports.{begins, InOrder, get, put, without, from_entries, rekeyed, renamed, NothingFrom}
+use Rattle.sftp_tree.proofs.Imports.{place_cmp-total, place_cmp-same, begins-append, get-put, get-without}
+use Rattle.sftp_tree.proofs.Imports.{get-without_here, InOrder-put, InOrder-without, same_table, get-front, same_place}
+use Rattle.sftp_tree.proofs.Imports.{Node, Names, node_at, with_node, without_node, names_file, times_named}
 use Rattle.std.specs.Bool.{Decides}
-use Rattle.std.specs.Cmp.{Equal-is}
-use Rattle.std.proofs.lemmas.Cmp.{tied_itself}
-use Rattle.std.specs.Cmp.Lexicographic.{bytes_decides}
 use Rattle.std.proofs.lemmas.Slice.Eq.{slice_eq-Decides}
-use Rattle.std.specs.Map.{lookup, remove_entry}
-use Rattle.std.specs.BTreeMap.{is_at}
-use Rattle.std.proofs.lemmas.List.{append-nil}
-use Rattle.sftp_path.specs.Place.{Name, Place, place_cmp, begins}
-use Rattle.sftp_path.specs.Table.{InOrder, get, put, without, from_entries}
-use Rattle.sftp_path.specs.Rekeying.{rekeyed, renamed, NothingFrom}
-use Rattle.sftp_path.proofs.Order.{place_cmp-total, place_cmp-same, begins-append}
-use Rattle.sftp_path.proofs.Table.Laws.{get-put, get-without, get-without_here, InOrder-put, InOrder-without, same_table}
 use Rattle.sftp_path.proofs.Move.Entries.{count-rekeyed, rekeyed-last_of}
-use Rattle.sftp_path.proofs.Table.Entries.{get-front}
-use Rattle.sftp_treefile.specs.TreeFile.{same_place}
-use Rattle.sftp_tree.specs.declared.nodes.Node.{Node}
-use Rattle.sftp_tree.specs.Tree.{Names, node_at, with_node, without_node, names_file, times_named}
 use Rattle.sftp_tree.proofs.FileCounts.Names.{one_name, named-without}
 use Rattle.sftp_tree.proofs.FileCounts.Changes.{reversed}
 

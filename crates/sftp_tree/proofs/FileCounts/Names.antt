@@ -1,24 +1,15 @@
 -- Counts of names: that they stay right when a name of a file comes or goes, and that a file is removed with its last
 -- name.
-use Rattle.std.proofs.Common.{◌≡◌, ◌≢◌, ℕ, ◌+◌, ◌-◌, ◌<◌, Bool, true, false, cond, ◌||◌, nat_lt, refl, sym, ap, subst, ◌∙◌, arith, Option, Some, None, IsTrue, if◌then◌else◌, option_map, option_and_then}
-use Rattle.std.specs.Ordering.{nat_cmp}
-use Rattle.std.specs.Cmp.{nat_cmp_total}
-use Rattle.std.specs.FinMap.{nat_cmp-IsAntisymmetric}
-use Rattle.std.specs.List.{AllByRecursion}
-use Rattle.std.proofs.lemmas.Bool.Decides.{nat_tests}
-use Rattle.std.proofs.lemmas.Option.{same_Some}
-use Rattle.sftp_path.specs.Place.{Place, place_cmp}
-use Rattle.sftp_path.specs.Table.{Table, InOrder, get, retain, kept}
-use Rattle.sftp_path.proofs.Table.Laws.{get-put_here, get-put_elsewhere, get-retain, InOrder-put, InOrder-retain, same_table}
-use Rattle.sftp_path.proofs.Table.Counts.{count-put_new, count-without}
-use Rattle.sftp_path.proofs.Table.Entries.{without-absent}
-use Rattle.sftp_path.proofs.Table.Values.{get-with_values, InOrder-with_values}
-use Rattle.sftp_tree.specs.declared.file_contents.Content.{Content}
-use Rattle.sftp_tree.specs.declared.file_contents.Stored.{Stored}
-use Rattle.sftp_tree.specs.declared.nodes.Node.{Node}
-use Rattle.sftp_tree.specs.declared.nodes.Node.TheVariants.{File}
-use Rattle.sftp_tree.specs.Tree.{Names, node_at, with_node, without_node, with_content, names_file, times_named, times_pinned, is_pinned}
-use Rattle.sftp_tree.specs.StoredFiles.{contents, pin_count_at, pins_of, AreCounted, file_named, is_held_still, where_held, IsChanged, IsChangedWhereNamed, with_a_name, without_a_name, with_content_made}
+use Rattle.sftp_tree.proofs.Imports.{◌≡◌, ◌≢◌, ℕ, ◌+◌, ◌-◌, ◌<◌, Bool, true, false, cond, ◌||◌, nat_lt, refl, sym, ap}
+use Rattle.sftp_tree.proofs.Imports.{subst, ◌∙◌, arith, Option, Some, None, IsTrue, if◌then◌else◌, option_map}
+use Rattle.sftp_tree.proofs.Imports.{option_and_then, nat_cmp, nat_cmp_total, nat_cmp-IsAntisymmetric, AllByRecursion}
+use Rattle.sftp_tree.proofs.Imports.{nat_tests, same_Some, Place, place_cmp, Table, InOrder, get, retain, kept}
+use Rattle.sftp_tree.proofs.Imports.{get-put_here, get-put_elsewhere, get-retain, InOrder-put, InOrder-retain}
+use Rattle.sftp_tree.proofs.Imports.{same_table, count-put_new, count-without, without-absent, get-with_values}
+use Rattle.sftp_tree.proofs.Imports.{InOrder-with_values, Content, Stored, Node, File, Names, node_at, with_node}
+use Rattle.sftp_tree.proofs.Imports.{without_node, with_content, names_file, times_named, times_pinned, is_pinned}
+use Rattle.sftp_tree.proofs.Imports.{contents, pin_count_at, pins_of, AreCounted, file_named, is_held_still, where_held}
+use Rattle.sftp_tree.proofs.Imports.{IsChanged, IsChangedWhereNamed, with_a_name, without_a_name, with_content_made}
 use Rattle.sftp_tree.proofs.PlaceTables.Each.{each-get, get-each}
 use Rattle.sftp_tree.proofs.FileCounts.Pins.{by-number, stays, times_pinned-stored}
 

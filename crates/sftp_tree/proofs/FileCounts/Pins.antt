@@ -1,17 +1,13 @@
 -- Pins of files: what the counts that are stored say of them, and how they change.
-use Rattle.std.proofs.Common.{◌≡◌, ◌≢◌, ℕ, Bool, true, false, cond, [], ◌∷◌, ◌||◌, nat_lt, refl, sym, ap, ◌∙◌, arith, Option, Some, None, if◌then◌else◌, option_map, option_and_then, unwrap_or, inl, inr}
-use Rattle.std.specs.Ordering.{nat_cmp}
-use Rattle.std.specs.Cmp.{nat_cmp_total}
-use Rattle.std.specs.FinMap.{nat_cmp-IsAntisymmetric}
-use Rattle.std.specs.List.{AllByRecursion}
-use Rattle.std.proofs.lemmas.Bool.{cases_eq, ltb-false, or_parts}
-use Rattle.sftp_path.specs.Table.{Table, InOrder, get, put, without, retain, kept}
-use Rattle.sftp_path.proofs.Table.Laws.{get-put_here, get-put_elsewhere, get-without_here, get-without_elsewhere, get-retain, InOrder-put, InOrder-without, InOrder-retain, same_table}
-use Rattle.sftp_path.proofs.Table.Values.{get-with_values, InOrder-with_values}
-use Rattle.sftp_tree.specs.declared.file_contents.Content.{Content}
-use Rattle.sftp_tree.specs.declared.file_contents.Stored.{Stored}
-use Rattle.sftp_tree.specs.Tree.{Names, Pins, is_named, times_pinned, with_pins}
-use Rattle.sftp_tree.specs.StoredFiles.{pin_count_at, pins_of, is_held_still, where_held, IsChanged}
+use Rattle.sftp_tree.proofs.Imports.{◌≡◌, ◌≢◌, ℕ, Bool, true, false, cond, [], ◌∷◌, ◌||◌, nat_lt, refl, sym, ap, ◌∙◌}
+use Rattle.sftp_tree.proofs.Imports.{arith, Option, Some, None, if◌then◌else◌, option_map, option_and_then, unwrap_or}
+use Rattle.sftp_tree.proofs.Imports.{inl, inr, nat_cmp, nat_cmp_total, nat_cmp-IsAntisymmetric, AllByRecursion}
+use Rattle.sftp_tree.proofs.Imports.{cases_eq, ltb-false, or_parts, Table, InOrder, get, put, without, retain, kept}
+use Rattle.sftp_tree.proofs.Imports.{get-put_here, get-put_elsewhere, get-without_here, get-retain, InOrder-put}
+use Rattle.sftp_tree.proofs.Imports.{InOrder-without, InOrder-retain, same_table, get-with_values, InOrder-with_values}
+use Rattle.sftp_tree.proofs.Imports.{Content, Stored, Names, Pins, is_named, times_pinned, with_pins, pin_count_at}
+use Rattle.sftp_tree.proofs.Imports.{pins_of, is_held_still, where_held, IsChanged}
+use Rattle.sftp_path.proofs.Table.Laws.{get-without_elsewhere}
 
 -- a choice by whether two numbers are one
 pub by-number : {A : Type 0} (number other : ℕ) → (other ≡ number → A) → (other ≢ number → A) → A

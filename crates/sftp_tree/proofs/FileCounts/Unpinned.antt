@@ -1,11 +1,8 @@
 -- Files without pins: what is left of the files, of their counts and of the tree.
-use Rattle.std.proofs.Common.{◌≡◌, ℕ, Bool, true, false, cond, [], ◌∷◌, ◌||◌, nat_lt, refl, ap, ◌∙◌}
+use Rattle.sftp_tree.proofs.Imports.{◌≡◌, ℕ, Bool, true, false, cond, [], ◌∷◌, ◌||◌, nat_lt, refl, ap, ◌∙◌, Table, get}
+use Rattle.sftp_tree.proofs.Imports.{retain, Content, Stored, Names, times_named, is_named, is_pinned, contents}
+use Rattle.sftp_tree.proofs.Imports.{pins_of, AreCounted, without_pins, unpinned}
 use Rattle.std.specs.Map.Calls.{RetainsPairs}
-use Rattle.sftp_path.specs.Table.{Table, get, retain}
-use Rattle.sftp_tree.specs.declared.file_contents.Content.{Content}
-use Rattle.sftp_tree.specs.declared.file_contents.Stored.{Stored}
-use Rattle.sftp_tree.specs.Tree.{Names, times_named, is_named, is_pinned}
-use Rattle.sftp_tree.specs.StoredFiles.{contents, pins_of, AreCounted, without_pins, unpinned}
 
 -- a call on each file, which takes its pins away and keeps it if it has a name
 pub retained : {F : Type 0} (T : F → ℕ → Stored → Bool → Stored → F → Type 0)

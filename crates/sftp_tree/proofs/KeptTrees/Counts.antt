@@ -1,32 +1,19 @@
 -- Trees as the code has them: what a change of the names and of the counts makes of them.
-use Rattle.std.proofs.Common.{◌≡◌, ℕ, ◌+◌, ◌<◌, ◌≤◌, ◌^◌, true, not, option_map, length, refl, sym, ap, subst, ◌∙◌, arith, Option, Some, None, IfSome, IsTrue, ◌-◌}
-use Rattle.std.specs.Ordering.{nat_cmp}
-use Rattle.std.specs.List.Sorted.{IsStrictlySortedBy}
-use Rattle.std.proofs.lemmas.Bool.{eq-eqb, leb-true}
-use Rattle.std.proofs.lemmas.Option.{same_Some}
-use Rattle.std.proofs.lemmas.List.Filters.{length-filter_both}
-use Rattle.std.proofs.lemmas.Map.Made.{keys_of-map_values}
-use Rattle.sftp_path.specs.Place.{Place, place_cmp}
-use Rattle.sftp_path.specs.Table.{Table, InOrder, get, retain}
-use Rattle.sftp_path.proofs.Table.Counts.{count-found}
-use Rattle.sftp_path.proofs.Table.Values.{get-with_values}
-use Rattle.sftp_tree.specs.declared.file_contents.Content.{Content}
-use Rattle.sftp_tree.specs.declared.file_contents.Stored.{Stored}
-use Rattle.sftp_tree.specs.declared.nodes.Node.{Node}
-use Rattle.sftp_tree.specs.Tree.{Names, Tree, IsKept, IsContent, is_directory, content_at, node_at, with_node, names_file, times_named, trim, with_content}
-use Rattle.sftp_tree.specs.declared.nodes.Node.TheVariants.{Dir, File}
-use Rattle.sftp_packets.specs.declared.attributes.Attrs.{Attrs}
-use Rattle.sftp_treefile.specs.declared.files.Owner.{Owner}
-use Rattle.sftp_treefile.specs.declared.limits.TreeLimits.{TreeLimits}
-use Rattle.sftp_treefile.specs.Limits.{highest_limits}
-use Rattle.sftp_treefile.specs.TreeFile.{IsOwner}
-use Rattle.sftp_tree.specs.Attributes.{changed_owner, changed_content}
-use Rattle.sftp_tree.specs.Changes.{with_changed_file}
+use Rattle.sftp_tree.proofs.Imports.{◌≡◌, ℕ, ◌+◌, ◌<◌, ◌≤◌, ◌^◌, true, not, option_map, length, refl, sym, ap, subst}
+use Rattle.sftp_tree.proofs.Imports.{◌∙◌, arith, Option, Some, None, IfSome, IsTrue, ◌-◌, nat_cmp, IsStrictlySortedBy}
+use Rattle.sftp_tree.proofs.Imports.{eq-eqb, leb-true, same_Some, length-filter_both, keys_of-map_values, Place}
+use Rattle.sftp_tree.proofs.Imports.{place_cmp, Table, InOrder, get, retain, count-found, get-with_values, Content}
+use Rattle.sftp_tree.proofs.Imports.{Stored, Node, Names, Tree, IsKept, IsContent, is_directory, content_at, node_at}
+use Rattle.sftp_tree.proofs.Imports.{with_node, names_file, times_named, trim, with_content, Dir, File, Attrs, Owner}
+use Rattle.sftp_tree.proofs.Imports.{TreeLimits, highest_limits, IsOwner, changed_owner, changed_content}
+use Rattle.sftp_tree.proofs.Imports.{with_changed_file, contents, pin_count_at, pins_of, seen, AreCounted, file_named}
+use Rattle.sftp_tree.proofs.Imports.{IsChanged, IsChangedWhereNamed, with_a_name, without_a_name, with_content_made}
+use Rattle.sftp_tree.proofs.Imports.{with_attributes_set}
 use Rattle.sftp_tree.proofs.Limits.Tests.{fits-parts}
-use Rattle.sftp_tree.specs.StoredFiles.{contents, pin_count_at, pins_of, seen, AreCounted, file_named, IsChanged, IsChangedWhereNamed, with_a_name, without_a_name, with_content_made, with_attributes_set}
 use Rattle.sftp_tree.proofs.KeptTrees.Values.{times_named-owner}
 use Rattle.sftp_tree.proofs.FileCounts.Pins.{changed-pins, pins-where_held}
-use Rattle.sftp_tree.proofs.FileCounts.Names.{at-number, count-at, one_name, named-put, raised, lowered, counted-again, counted-changed, contents-changed, contents-unchanged}
+use Rattle.sftp_tree.proofs.FileCounts.Names.{at-number, count-at, one_name, named-put, raised, lowered, counted-again}
+use Rattle.sftp_tree.proofs.FileCounts.Names.{counted-changed, contents-changed, contents-unchanged}
 
 -- the files are in order where their contents are
 pub files-in_order : (files : Table ℕ Stored) → InOrder nat_cmp (contents files) → InOrder nat_cmp files

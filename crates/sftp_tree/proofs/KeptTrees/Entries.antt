@@ -1,11 +1,9 @@
 -- A tree with an entry more or less: that it fits the limits, and that it stays a tree.
-use Rattle.std.proofs.Common.{◌≡◌, ◌<◌, ℕ, ◌+◌, Bool, true, false, ◌||◌, refl, if◌then◌else◌, arith, None, IsTrue}
-use Rattle.std.proofs.lemmas.Bool.{lt-ltb, ltb-true, or_left, or_right}
-use Rattle.sftp_path.specs.Place.{Place, place_cmp, parent, are_names}
-use Rattle.sftp_path.proofs.Table.Counts.{count-put_new}
-use Rattle.sftp_treefile.specs.TreeFile.{is_root}
-use Rattle.sftp_tree.specs.declared.nodes.Node.{Node}
-use Rattle.sftp_tree.specs.Tree.{Names, Tree, IsKept, IsNode, fits, node_at, with_node, without_node, is_directory, has_entries, names_file, times_named, is_named, is_pinned, is_held, trim}
+use Rattle.sftp_tree.proofs.Imports.{◌≡◌, ◌<◌, ℕ, ◌+◌, Bool, true, false, ◌||◌, refl, if◌then◌else◌, arith, None}
+use Rattle.sftp_tree.proofs.Imports.{IsTrue, lt-ltb, ltb-true, or_left, or_right, Place, place_cmp, parent, are_names}
+use Rattle.sftp_tree.proofs.Imports.{count-put_new, is_root, Node, Names, Tree, IsKept, IsNode, fits, node_at}
+use Rattle.sftp_tree.proofs.Imports.{with_node, without_node, is_directory, has_entries, names_file, times_named}
+use Rattle.sftp_tree.proofs.Imports.{is_named, is_pinned, is_held, trim}
 use Rattle.sftp_tree.proofs.PlaceTables.Each.{each-weaker}
 use Rattle.sftp_tree.proofs.KeptTrees.Trims.{kept-trim}
 use Rattle.sftp_tree.proofs.WellFormedTrees.Names.{names-of, names-put, names-without, well-formed-names}

@@ -1,27 +1,16 @@
 -- Files and their numbers, in the trees that requests ask for: each is removed with its last name.
-use Rattle.std.proofs.Common.{rules, ◌≡◌, ◌≢◌, ◌<◌, ◌≤◌, ℕ, ◌||◌, Bool, true, false, cond, refl, sym, ap, subst, ◌∙◌, arith, Option, Some, None, is_some, nat_lt, Result, Ok, IsTrue, if◌then◌else◌, inl, inr, []}
-use Rattle.std.specs.Prelude.{◌⊎◌, ◌↔◌}
-use Rattle.std.specs.Ordering.{nat_cmp}
-use Rattle.std.specs.FinMap.{nat_cmp-IsAntisymmetric}
+use Rattle.sftp_tree.proofs.Imports.{rules, ◌≡◌, ◌≢◌, ◌<◌, ◌≤◌, ℕ, ◌||◌, Bool, true, false, cond, refl, sym, ap, subst}
+use Rattle.sftp_tree.proofs.Imports.{◌∙◌, arith, Option, Some, None, is_some, nat_lt, Result, Ok, IsTrue, if◌then◌else◌}
+use Rattle.sftp_tree.proofs.Imports.{inl, inr, [], ◌⊎◌, ◌↔◌, nat_cmp, nat_cmp-IsAntisymmetric, cases_lt, both_ways}
+use Rattle.sftp_tree.proofs.Imports.{or_parts, Attrs, Ask, Open, Mkdir, Rmdir, Remove, Setstat, Symlink, Rename}
+use Rattle.sftp_tree.proofs.Imports.{PosixRename, Hardlink, Place, place_cmp, InOrder, kept, rekeyed, place_cmp-same}
+use Rattle.sftp_tree.proofs.Imports.{InOrder-put, get-retain, Content, Node, Dir, File, Link, Cause, Names, Tree}
+use Rattle.sftp_tree.proofs.Imports.{WellFormed, IsNode, node_at, with_node, without_node, content_at, with_content}
+use Rattle.sftp_tree.proofs.Imports.{times_named, times_pinned, is_named, is_pinned, is_held, trimmed, directory_owner}
+use Rattle.sftp_tree.proofs.Imports.{changed_owner, changed_content, are_one, with_changed_file, with_attributes}
+use Rattle.sftp_tree.proofs.Imports.{put_in_its_stead, with_further_name, with_new_file, new_content, with_emptied_file}
+use Rattle.sftp_tree.proofs.Imports.{with_opened, truncates}
 use Rattle.std.proofs.lemmas.Cmp.{nat_cmp_total}
-use Rattle.std.proofs.lemmas.Bool.{cases_lt, both_ways, or_parts}
-use Rattle.sftp_packets.specs.declared.attributes.Attrs.{Attrs}
-use Rattle.sftp_packets.specs.declared.packets.Ask.{Ask}
-use Rattle.sftp_packets.specs.declared.packets.Ask.TheVariants.{Open, Mkdir, Rmdir, Remove, Setstat, Symlink, Rename, PosixRename, Hardlink}
-use Rattle.sftp_path.specs.Place.{Place, place_cmp}
-use Rattle.sftp_path.specs.Table.{InOrder, kept}
-use Rattle.sftp_path.specs.Rekeying.{rekeyed}
-use Rattle.sftp_path.proofs.Order.{place_cmp-same}
-use Rattle.sftp_path.proofs.Table.Laws.{InOrder-put, get-retain}
-use Rattle.sftp_tree.specs.declared.file_contents.Content.{Content}
-use Rattle.sftp_tree.specs.declared.nodes.Node.{Node}
-use Rattle.sftp_tree.specs.declared.nodes.Node.TheVariants.{Dir, File, Link}
-use Rattle.sftp_tree.specs.declared.causes.Cause.{Cause}
-use Rattle.sftp_tree.specs.Tree.{Names, Tree, WellFormed, IsNode, node_at, with_node, without_node, content_at, with_content, times_named, times_pinned, is_named, is_pinned, is_held, trimmed}
-use Rattle.sftp_tree.specs.Attributes.{directory_owner, changed_owner, changed_content}
-use Rattle.sftp_tree.specs.PlaceCauses.{are_one}
-use Rattle.sftp_tree.specs.Changes.{with_changed_file, with_attributes, put_in_its_stead, with_further_name, with_new_file, new_content, with_emptied_file, with_opened}
-use Rattle.sftp_tree.specs.OpenFlags.{truncates}
 use Rattle.sftp_tree.specs.Requests.{led, new_led, outcome_at, outcome_between, outcome_on, led_to, outcome, after}
 use Rattle.sftp_tree.proofs.PlaceTables.Each.{each-get}
 use Rattle.sftp_tree.proofs.FileCounts.Pins.{stays}

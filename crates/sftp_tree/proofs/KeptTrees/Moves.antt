@@ -1,20 +1,13 @@
 -- A tree in which something goes to another place, with all below it: it stays a tree.
-use Rattle.std.proofs.Common.{◌≡◌, ◌≢◌, ◌+◌, ◌-◌, true, false, [], ◌∷◌, ◌++◌, length, take, drop, refl, sym, ap, subst, ◌∙◌, arith, Option, Some, None, IsTrue, inl, inr}
-use Rattle.std.specs.List.{AllByRecursion}
-use Rattle.std.specs.declared.cmp.Ordering.TheVariants.{Equal}
-use Rattle.std.proofs.lemmas.Bool.{and_parts, and_from, cases_Bool, false_from_ne_true}
-use Rattle.std.proofs.lemmas.List.{length-append, length-take-le, append-nil}
-use Rattle.std.proofs.Math.Seq.{take-append-add}
-use Rattle.std.proofs.lemmas.List.Folds.{list_all-append}
-use Rattle.sftp_path.specs.Place.{Name, Place, place_cmp, parent, begins, is_name, are_names}
-use Rattle.sftp_path.specs.Table.{InOrder}
-use Rattle.sftp_path.specs.Rekeying.{rekeyed, NothingFrom}
-use Rattle.sftp_path.proofs.Order.{begins-front, place_cmp-total, place_cmp-same}
-use Rattle.sftp_path.proofs.Move.Laws.{nothing-at, get-rekeyed_moved, get-rekeyed_elsewhere, get-rekeyed_behind, InOrder-rekeyed}
-use Rattle.sftp_treefile.specs.TreeFile.{is_root}
-use Rattle.sftp_tree.specs.declared.nodes.Node.{Node}
-use Rattle.sftp_tree.specs.Tree.{Names, Files, Tree, WellFormed, IsKept, IsNode, fits, node_at, without_node, is_taken, is_directory, has_entries, trim}
-use Rattle.sftp_tree.specs.Changes.{moved, put_in_its_stead}
+use Rattle.sftp_tree.proofs.Imports.{◌≡◌, ◌≢◌, ◌+◌, ◌-◌, true, false, [], ◌∷◌, ◌++◌, length, take, drop, sym, ap, subst}
+use Rattle.sftp_tree.proofs.Imports.{◌∙◌, arith, Some, None, IsTrue, inl, inr, AllByRecursion, Equal, and_parts}
+use Rattle.sftp_tree.proofs.Imports.{and_from, cases_Bool, false_from_ne_true, length-append, length-take-le}
+use Rattle.sftp_tree.proofs.Imports.{append-nil, take-append-add, list_all-append, Name, Place, place_cmp, parent}
+use Rattle.sftp_tree.proofs.Imports.{begins, is_name, are_names, InOrder, rekeyed, NothingFrom, begins-front}
+use Rattle.sftp_tree.proofs.Imports.{place_cmp-total, place_cmp-same, nothing-at, is_root, Node, Names, Files, Tree}
+use Rattle.sftp_tree.proofs.Imports.{WellFormed, IsKept, IsNode, fits, node_at, without_node, is_taken, is_directory}
+use Rattle.sftp_tree.proofs.Imports.{has_entries, trim, moved, put_in_its_stead}
+use Rattle.sftp_path.proofs.Move.Laws.{get-rekeyed_moved, get-rekeyed_elsewhere, get-rekeyed_behind, InOrder-rekeyed}
 use Rattle.sftp_tree.proofs.Nesting.Changes.{not-taken}
 use Rattle.sftp_tree.proofs.Nesting.Entries.{below-root}
 use Rattle.sftp_tree.proofs.PlaceTables.Each.{each-get, get-each}

@@ -1,30 +1,19 @@
 -- A tree with a new file: that it fits the limits, and that it stays a tree. A file that loses its bytes.
-use Rattle.std.proofs.Common.{◌≡◌, ◌==◌, ◌<◌, ◌^◌, ℕ, ◌+◌, ◌-◌, Bool, true, false, ◌&&◌, ◌||◌, List, [], ◌∷◌, length, replicate, refl, sym, ap, subst, ◌∙◌, arith, lit<, Option, Some, None, is_some, nat_lt, nat_le, IsTrue, IfSome, cond, option_map, option_and_then}
-use Rattle.std.specs.Ordering.{nat_cmp}
-use Rattle.std.specs.FinMap.{nat_cmp-IsAntisymmetric}
-use Rattle.std.specs.List.{AllByRecursion}
-use Rattle.std.proofs.lemmas.Bool.{or_left, eqb-true}
-use Rattle.std.proofs.lemmas.Option.{same_Some}
+use Rattle.sftp_tree.proofs.Imports.{◌≡◌, ◌==◌, ◌<◌, ◌^◌, ℕ, ◌+◌, ◌-◌, Bool, true, false, ◌&&◌, ◌||◌, List, [], ◌∷◌}
+use Rattle.sftp_tree.proofs.Imports.{length, replicate, refl, sym, ap, subst, ◌∙◌, arith, lit<, Option, Some, None}
+use Rattle.sftp_tree.proofs.Imports.{is_some, nat_lt, nat_le, IsTrue, IfSome, cond, option_map, option_and_then}
+use Rattle.sftp_tree.proofs.Imports.{nat_cmp, nat_cmp-IsAntisymmetric, AllByRecursion, or_left, eqb-true, same_Some}
+use Rattle.sftp_tree.proofs.Imports.{Attrs, IsAttrs, Place, place_cmp, parent, are_names, place_cmp-total, Table}
+use Rattle.sftp_tree.proofs.Imports.{InOrder, get, put, retain, get-put_here, get-put_elsewhere, InOrder-put}
+use Rattle.sftp_tree.proofs.Imports.{same_table, get-with_values, with_values-put, TreeLimits, Content, Stored, Node}
+use Rattle.sftp_tree.proofs.Imports.{Dir, File, Link, Names, Files, Tree, WellFormed, IsKept, IsNode, IsPin, IsContent}
+use Rattle.sftp_tree.proofs.Imports.{limits, fits, depth_fits, content_fits, is_directory, node_at, with_node}
+use Rattle.sftp_tree.proofs.Imports.{content_at, with_content, names_file, times_named, is_named, is_pinned, is_held}
+use Rattle.sftp_tree.proofs.Imports.{contents, pins_of, pin_count_at, seen, AreCounted, IsChanged, without_a_name}
+use Rattle.sftp_tree.proofs.Imports.{resized, changed_content, with_changed_file, with_new_file, with_emptied_file}
+use Rattle.sftp_tree.proofs.Imports.{CanMake, has_room_for_file}
 use Rattle.std.proofs.lemmas.Cmp.{nat_cmp_total}
-use Rattle.sftp_packets.specs.declared.attributes.Attrs.{Attrs}
-use Rattle.sftp_packets.specs.AskValues.{IsAttrs}
 use Rattle.sftp_wire.specs.Examples.{no_attributes}
-use Rattle.sftp_path.specs.Place.{Place, place_cmp, parent, are_names}
-use Rattle.sftp_path.proofs.Order.{place_cmp-total}
-use Rattle.sftp_path.specs.Table.{Table, InOrder, get, put, retain}
-use Rattle.sftp_path.proofs.Table.Laws.{get-put_here, get-put_elsewhere, InOrder-put, same_table}
-use Rattle.sftp_path.proofs.Table.Values.{get-with_values, with_values-put}
-use Rattle.sftp_treefile.specs.declared.limits.TreeLimits.{TreeLimits}
-use Rattle.sftp_tree.specs.declared.file_contents.Content.{Content}
-use Rattle.sftp_tree.specs.declared.file_contents.Stored.{Stored}
-use Rattle.sftp_tree.specs.declared.nodes.Node.{Node}
-use Rattle.sftp_tree.specs.declared.nodes.Node.TheVariants.{Dir, File, Link}
-use Rattle.sftp_tree.specs.Tree.{Names, Files, Tree, WellFormed, IsKept, IsNode, IsPin, IsContent, limits, fits, depth_fits, content_fits, is_directory, node_at, with_node, content_at, with_content, names_file, times_named, is_named, is_pinned, is_held}
-use Rattle.sftp_tree.specs.StoredFiles.{contents, pins_of, pin_count_at, seen, AreCounted, IsChanged, without_a_name}
-use Rattle.sftp_tree.specs.Attributes.{resized, changed_content}
-use Rattle.sftp_tree.specs.Changes.{with_changed_file, with_new_file, with_emptied_file}
-use Rattle.sftp_tree.specs.Plans.{CanMake}
-use Rattle.sftp_tree.specs.Room.{has_room_for_file}
 use Rattle.sftp_tree.proofs.PlaceTables.Each.{each-weaker, each-put}
 use Rattle.sftp_tree.proofs.WellFormedTrees.Names.{names-of, names-put, well-formed-names}
 use Rattle.sftp_tree.proofs.Limits.Tests.{fits-parts}

@@ -1,13 +1,7 @@
 -- A tree with higher limits.
-use Rattle.std.proofs.Common.{◌≡◌, ℕ, ◌-◌, ◌≤◌, true, List, [], ◌∷◌, length, refl, arith}
-use Rattle.std.specs.List.{list_all}
-use Rattle.std.proofs.lemmas.Bool.{and_parts, and_from, leb-true, le-leb}
-use Rattle.sftp_treefile.specs.declared.limits.TreeLimits.{TreeLimits}
-use Rattle.sftp_treefile.specs.Limits.{highest_limits}
-use Rattle.sftp_treefile.proofs.Texts.Limits.{highest_are}
-use Rattle.sftp_tree.specs.declared.file_contents.Content.{Content}
-use Rattle.sftp_tree.specs.Tree.{Tree, Files, IsKept, content_fits, raised}
-use Rattle.sftp_tree.specs.Picture.{IsStart, picture}
+use Rattle.sftp_tree.proofs.Imports.{◌≡◌, ℕ, ◌-◌, ◌≤◌, true, List, [], ◌∷◌, length, refl, arith, list_all, and_parts}
+use Rattle.sftp_tree.proofs.Imports.{and_from, leb-true, le-leb, TreeLimits, highest_limits, highest_are, Content, Tree}
+use Rattle.sftp_tree.proofs.Imports.{Files, IsKept, content_fits, raised, IsStart, picture}
 use Rattle.sftp_tree.proofs.Limits.Tests.{fits-parts, fits-from}
 
 all-wider : (low high : TreeLimits) → low.file_bytes ≤ high.file_bytes → (files : Files)

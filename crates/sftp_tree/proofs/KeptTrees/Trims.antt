@@ -1,20 +1,12 @@
 -- A tree without the files that have no name and that nothing else holds: it is a tree again, within the limits.
-use Rattle.std.proofs.Common.{◌≡◌, ℕ, ◌<◌, Bool, true, cond, refl, ap, ◌∙◌, Option, Some, None, is_some, nat_lt, unwrap_or, IsTrue}
-use Rattle.std.specs.Ordering.{nat_cmp}
-use Rattle.std.specs.List.{AllByRecursion}
-use Rattle.std.specs.FinMap.{nat_cmp-IsAntisymmetric}
-use Rattle.std.proofs.lemmas.Bool.{lt-ltb, eq-eqb, or_left, or_right}
+use Rattle.sftp_tree.proofs.Imports.{◌≡◌, ℕ, ◌<◌, Bool, true, cond, refl, ap, ◌∙◌, Option, Some, None, is_some, nat_lt}
+use Rattle.sftp_tree.proofs.Imports.{unwrap_or, IsTrue, nat_cmp, AllByRecursion, nat_cmp-IsAntisymmetric, lt-ltb}
+use Rattle.sftp_tree.proofs.Imports.{eq-eqb, or_left, or_right, Place, place_cmp, retain, kept, place_cmp-total}
+use Rattle.sftp_tree.proofs.Imports.{place_cmp-same, filter_all, InOrder-retain, get-retain, count-found, Content, Node}
+use Rattle.sftp_tree.proofs.Imports.{File, Names, Files, Tree, WellFormed, IsKept, IsTrimmed, IsNode, IsPin, IsContent}
+use Rattle.sftp_tree.proofs.Imports.{limits, fits, files_fit, content_fits, node_at, content_at, names_file}
+use Rattle.sftp_tree.proofs.Imports.{times_named, is_named, is_pinned, trimmed, trim}
 use Rattle.std.proofs.lemmas.Cmp.{nat_cmp_total}
-use Rattle.sftp_path.specs.Place.{Place, place_cmp}
-use Rattle.sftp_path.specs.Table.{retain, kept}
-use Rattle.sftp_path.proofs.Order.{place_cmp-total, place_cmp-same}
-use Rattle.sftp_path.proofs.PathTexts.GoodPaths.{filter_all}
-use Rattle.sftp_path.proofs.Table.Laws.{InOrder-retain, get-retain}
-use Rattle.sftp_path.proofs.Table.Counts.{count-found}
-use Rattle.sftp_tree.specs.declared.file_contents.Content.{Content}
-use Rattle.sftp_tree.specs.declared.nodes.Node.{Node}
-use Rattle.sftp_tree.specs.declared.nodes.Node.TheVariants.{File}
-use Rattle.sftp_tree.specs.Tree.{Names, Files, Tree, WellFormed, IsKept, IsTrimmed, IsNode, IsPin, IsContent, limits, fits, files_fit, content_fits, node_at, content_at, names_file, times_named, is_named, is_pinned, trimmed, trim}
 use Rattle.sftp_tree.proofs.PlaceTables.Each.{each-retain, each-get, get-each, each-all, all-each}
 use Rattle.sftp_tree.proofs.FileCounts.Pins.{stays}
 use Rattle.sftp_tree.proofs.Limits.Tests.{fits-parts, fits-from}

@@ -1,22 +1,12 @@
 -- A tree with another owner of a directory, or another content of a file: it stays a tree within the limits.
-use Rattle.std.proofs.Common.{◌≡◌, ◌+◌, ◌<◌, ℕ, Bool, true, false, cond, ◌||◌, refl, ap, ◌∙◌, arith, Option, Some, None, is_some, nat_lt, IsTrue}
-use Rattle.std.specs.Ordering.{nat_cmp, is_eq}
-use Rattle.std.specs.FinMap.{nat_cmp-IsAntisymmetric}
+use Rattle.sftp_tree.proofs.Imports.{◌≡◌, ◌+◌, ◌<◌, ℕ, Bool, true, false, cond, ◌||◌, refl, ap, ◌∙◌, arith, Option}
+use Rattle.sftp_tree.proofs.Imports.{Some, None, is_some, nat_lt, IsTrue, nat_cmp, is_eq, nat_cmp-IsAntisymmetric}
+use Rattle.sftp_tree.proofs.Imports.{Attrs, Place, place_cmp, InOrder, place_cmp-total, get-put, InOrder-put}
+use Rattle.sftp_tree.proofs.Imports.{count-put_again, Owner, IsOwner, Content, Node, Dir, File, Names, Files, Tree}
+use Rattle.sftp_tree.proofs.Imports.{WellFormed, IsKept, IsNode, IsContent, fits, is_directory, node_at, with_node}
+use Rattle.sftp_tree.proofs.Imports.{content_at, with_content, names_file, times_named, is_named, is_pinned, is_held}
+use Rattle.sftp_tree.proofs.Imports.{IsPin, changed_owner, changed_content, with_changed_file}
 use Rattle.std.proofs.lemmas.Cmp.{nat_cmp_total}
-use Rattle.sftp_packets.specs.declared.attributes.Attrs.{Attrs}
-use Rattle.sftp_path.specs.Place.{Place, place_cmp}
-use Rattle.sftp_path.specs.Table.{InOrder}
-use Rattle.sftp_path.proofs.Order.{place_cmp-total}
-use Rattle.sftp_path.proofs.Table.Laws.{get-put, InOrder-put}
-use Rattle.sftp_path.proofs.Table.Counts.{count-put_again}
-use Rattle.sftp_treefile.specs.declared.files.Owner.{Owner}
-use Rattle.sftp_treefile.specs.TreeFile.{IsOwner}
-use Rattle.sftp_tree.specs.declared.file_contents.Content.{Content}
-use Rattle.sftp_tree.specs.declared.nodes.Node.{Node}
-use Rattle.sftp_tree.specs.declared.nodes.Node.TheVariants.{Dir, File}
-use Rattle.sftp_tree.specs.Tree.{Names, Files, Tree, WellFormed, IsKept, IsNode, IsContent, fits, is_directory, node_at, with_node, content_at, with_content, names_file, times_named, is_named, is_pinned, is_held, IsPin}
-use Rattle.sftp_tree.specs.Attributes.{changed_owner, changed_content}
-use Rattle.sftp_tree.specs.Changes.{with_changed_file}
 use Rattle.sftp_tree.proofs.WellFormedTrees.Fields.{sized-bytes}
 use Rattle.sftp_tree.proofs.PlaceTables.Each.{each-weaker, each-get, each-put}
 use Rattle.sftp_tree.proofs.Limits.Tests.{fits-parts, fits-from}

@@ -1,20 +1,11 @@
 -- How each change of a tree bears on each of its limits.
-use Rattle.std.proofs.Common.{rules, ◌≡◌, ℕ, ◌+◌, ◌-◌, ◌≤◌, true, ◌&&◌, length, ap, arith, Some, None, nat_le, IsTrue}
-use Rattle.std.specs.Ordering.{nat_cmp}
-use Rattle.std.specs.List.{list_all}
-use Rattle.std.proofs.lemmas.Bool.Decides.{nat_tests}
-use Rattle.sftp_path.specs.Place.{Place, place_cmp}
-use Rattle.sftp_path.specs.Table.{InOrder}
-use Rattle.sftp_path.specs.Rekeying.{renamed, NothingFrom}
-use Rattle.sftp_path.proofs.Order.{place_cmp-total, place_cmp-same}
-use Rattle.sftp_path.proofs.Table.Laws.{size-put, size-put_present}
-use Rattle.sftp_path.proofs.Table.Tests.{all-put_new, all-without, keys-put_again, values-put}
+use Rattle.sftp_tree.proofs.Imports.{rules, ◌≡◌, ℕ, ◌+◌, ◌-◌, ◌≤◌, true, ◌&&◌, length, ap, arith, Some, None, nat_le}
+use Rattle.sftp_tree.proofs.Imports.{IsTrue, nat_cmp, list_all, nat_tests, Place, place_cmp, InOrder, renamed}
+use Rattle.sftp_tree.proofs.Imports.{NothingFrom, place_cmp-total, place_cmp-same, size-put, size-put_present}
+use Rattle.sftp_tree.proofs.Imports.{all-put_new, all-without, keys-put_again, values-put, size-rekeyed, Content, Node}
+use Rattle.sftp_tree.proofs.Imports.{Tree, limits, entries_fit, depths_fit, links_fit, files_fit, depth_fits, link_fits}
+use Rattle.sftp_tree.proofs.Imports.{content_fits, node_at, with_node, without_node, content_at, with_content, moved}
 use Rattle.sftp_path.proofs.Move.Tests.{all-rekeyed}
-use Rattle.sftp_path.proofs.Move.Laws.{size-rekeyed}
-use Rattle.sftp_tree.specs.declared.file_contents.Content.{Content}
-use Rattle.sftp_tree.specs.declared.nodes.Node.{Node}
-use Rattle.sftp_tree.specs.Tree.{Tree, limits, entries_fit, depths_fit, links_fit, files_fit, depth_fits, link_fits, content_fits, node_at, with_node, without_node, content_at, with_content}
-use Rattle.sftp_tree.specs.Changes.{moved}
 use Rattle.sftp_tree.proofs.PlaceTables.Removals.{length-without}
 
 -- ---- an entry at a new place

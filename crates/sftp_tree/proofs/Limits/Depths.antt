@@ -1,13 +1,8 @@
 -- Which moves keep to the most names of a place.
-use Rattle.std.proofs.Common.{◌≡◌, ℕ, ◌-◌, Bool, true, ◌&&◌, ◌||◌, not, [], ◌∷◌, length, refl, sym, ◌∙◌, ap, nat_le}
-use Rattle.std.specs.Cmp.Lexicographic.{bytes_decides, texts_ties, nat_list_cmp_total}
-use Rattle.std.specs.Ordering.{ordering_then, is_eq, is_le}
-use Rattle.std.specs.declared.cmp.Ordering.{Ordering}
-use Rattle.std.specs.declared.cmp.Ordering.TheVariants.{Less, Equal}
-use Rattle.std.proofs.lemmas.Bool.{and_parts}
-use Rattle.std.specs.Cmp.{Equal-is}
-use Rattle.sftp_path.specs.Place.{Place, name_cmp, place_cmp, same_bytes, begins}
-use Rattle.sftp_tree.specs.declared.nodes.Node.{Node}
+use Rattle.sftp_tree.proofs.Imports.{◌≡◌, ℕ, ◌-◌, Bool, true, ◌&&◌, ◌||◌, not, [], ◌∷◌, length, refl, sym, ◌∙◌, ap}
+use Rattle.sftp_tree.proofs.Imports.{nat_le, bytes_decides, texts_ties, nat_list_cmp_total, ordering_then, is_eq, is_le}
+use Rattle.sftp_tree.proofs.Imports.{Ordering, Less, Equal, and_parts, Equal-is, Place, name_cmp, place_cmp, same_bytes}
+use Rattle.sftp_tree.proofs.Imports.{begins, Node}
 use Rattle.sftp_tree.proofs.PlaceTables.Below.{between-names}
 
 -- ---- the places that a place begins are in a row, from it on

@@ -1,17 +1,11 @@
 -- Which changes of a tree keep to its limits: an entry more or less, another owner, another content.
-use Rattle.std.proofs.Common.{rules, ◌≡◌, ℕ, ◌-◌, Bool, true, false, ◌&&◌, length, refl, sym, ◌∙◌, ap, Some, None, nat_le, IsTrue}
-use Rattle.std.specs.Ordering.{nat_cmp}
+use Rattle.sftp_tree.proofs.Imports.{rules, ◌≡◌, ℕ, ◌-◌, Bool, true, false, ◌&&◌, length, refl, sym, ◌∙◌, ap, Some}
+use Rattle.sftp_tree.proofs.Imports.{None, nat_le, IsTrue, nat_cmp, and-true, and_assoc, Place, place_cmp, InOrder}
+use Rattle.sftp_tree.proofs.Imports.{place_cmp-total, get-put_here, size-put, size-put_present, all-put_new}
+use Rattle.sftp_tree.proofs.Imports.{all-without, values-put, keys-put_in_order, Content, Node, Names, Tree, limits}
+use Rattle.sftp_tree.proofs.Imports.{fits, entries_fit, depths_fit, links_fit, files_fit, depth_fits, link_fits}
+use Rattle.sftp_tree.proofs.Imports.{content_fits, node_at, with_node, without_node, content_at, with_content, has_room}
 use Rattle.std.proofs.lemmas.Cmp.{nat_cmp_total}
-use Rattle.std.proofs.Math.Bool.{and-true, and_assoc}
-use Rattle.sftp_path.specs.Place.{Place, place_cmp}
-use Rattle.sftp_path.specs.Table.{InOrder}
-use Rattle.sftp_path.proofs.Order.{place_cmp-total}
-use Rattle.sftp_path.proofs.Table.Laws.{get-put_here, size-put, size-put_present}
-use Rattle.sftp_path.proofs.Table.Tests.{all-put_new, all-without, values-put, keys-put_in_order}
-use Rattle.sftp_tree.specs.declared.file_contents.Content.{Content}
-use Rattle.sftp_tree.specs.declared.nodes.Node.{Node}
-use Rattle.sftp_tree.specs.Tree.{Names, Tree, limits, fits, entries_fit, depths_fit, links_fit, files_fit, depth_fits, link_fits, content_fits, node_at, with_node, without_node, content_at, with_content}
-use Rattle.sftp_tree.specs.Room.{has_room}
 use Rattle.sftp_tree.proofs.PlaceTables.Removals.{length-without}
 use Rattle.sftp_tree.proofs.Limits.Tests.{Fits, fits-parts}
 use Rattle.sftp_tree.proofs.Limits.Changes.{more-entries, fewer}

@@ -1,29 +1,14 @@
 -- Which trees keep to the limits after something went to another place.
-use Rattle.std.proofs.Common.{◌≡◌, ℕ, ◌+◌, ◌-◌, ◌≤◌, Bool, true, false, ◌&&◌, ◌||◌, not, cond, [], ◌∷◌, ◌++◌, length}
-use Rattle.std.proofs.Common.{drop, refl, sym, ◌∙◌, ap, arith, Option, Some, None, nat_le}
-use Rattle.std.specs.Ordering.{is_eq}
-use Rattle.std.specs.Cmp.{Equal-is}
-use Rattle.std.specs.List.{list_all}
-use Rattle.std.specs.Map.{lookup, remove_entry}
-use Rattle.std.specs.BTreeMap.{is_at}
-use Rattle.std.proofs.lemmas.Bool.{and_parts, and_from, or_right, leb-true, le-leb}
-use Rattle.std.proofs.lemmas.Bool.Decides.{nat_tests}
-use Rattle.std.proofs.lemmas.List.{append-nil, length-append}
-use Rattle.std.proofs.Math.Bool.{and-true}
-use Rattle.sftp_path.specs.Place.{Name, Place, place_cmp, begins, depth_limit}
-use Rattle.sftp_path.specs.Table.{get, without}
-use Rattle.sftp_path.specs.Rekeying.{renamed, rekeyed, NothingFrom}
-use Rattle.sftp_path.proofs.Order.{place_cmp-same, begins-front, begins-append, begins-itself}
-use Rattle.sftp_path.proofs.Table.Laws.{InOrder-without}
-use Rattle.sftp_path.proofs.Table.Tests.{all-without}
+use Rattle.sftp_tree.proofs.Imports.{◌≡◌, ℕ, ◌+◌, ◌-◌, ◌≤◌, Bool, true, false, ◌&&◌, ◌||◌, not, cond, [], ◌∷◌, ◌++◌}
+use Rattle.sftp_tree.proofs.Imports.{length, drop, refl, sym, ◌∙◌, ap, arith, Option, Some, None, nat_le, is_eq}
+use Rattle.sftp_tree.proofs.Imports.{Equal-is, list_all, lookup, remove_entry, is_at, and_parts, and_from, or_right}
+use Rattle.sftp_tree.proofs.Imports.{leb-true, le-leb, nat_tests, append-nil, length-append, and-true, Name, Place}
+use Rattle.sftp_tree.proofs.Imports.{place_cmp, begins, depth_limit, get, without, renamed, rekeyed, NothingFrom}
+use Rattle.sftp_tree.proofs.Imports.{place_cmp-same, begins-front, begins-itself, InOrder-without, all-without}
+use Rattle.sftp_tree.proofs.Imports.{renamed-outside, length-renamed, size-rekeyed, without-absent, Node, Names, Tree}
+use Rattle.sftp_tree.proofs.Imports.{IsKept, limits, fits, depth_fits, link_fits, node_at, without_node, is_taken}
+use Rattle.sftp_tree.proofs.Imports.{reaches_at_most, move_fits, moved, put_in_its_stead}
 use Rattle.sftp_path.proofs.Move.Tests as tests
-use Rattle.sftp_path.proofs.Move.Laws.{renamed-outside, length-renamed, size-rekeyed}
-use Rattle.sftp_path.proofs.Table.Entries.{without-absent}
-use Rattle.sftp_tree.specs.declared.nodes.Node.{Node}
-use Rattle.sftp_tree.specs.Tree.{Names, Tree, IsKept, limits, fits, depth_fits, link_fits, node_at, without_node}
-use Rattle.sftp_tree.specs.Tree.{is_taken}
-use Rattle.sftp_tree.specs.Room.{reaches_at_most, move_fits}
-use Rattle.sftp_tree.specs.Changes.{moved, put_in_its_stead}
 use Rattle.sftp_tree.proofs.Limits.Entries.{fits-names}
 use Rattle.sftp_tree.proofs.PlaceTables.Removals.{length-without}
 use Rattle.sftp_tree.proofs.Limits.Tests.{Fits, fits-parts}

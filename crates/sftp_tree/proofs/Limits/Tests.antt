@@ -1,6 +1,6 @@
 -- Trees within the limits, and the parts of the test whether a tree is.
-use Rattle.std.proofs.Common.{rules, ◌≡◌, true, IsTrue}
-use Rattle.sftp_tree.specs.Tree.{Tree, WellFormed, IsKept, fits, entries_fit, depths_fit, home_fits, links_fit, files_fit, numbers_fit}
+use Rattle.sftp_tree.proofs.Imports.{rules, ◌≡◌, true, IsTrue, Tree, WellFormed, IsKept, fits, entries_fit, depths_fit}
+use Rattle.sftp_tree.proofs.Imports.{home_fits, links_fit, files_fit, numbers_fit}
 
 -- a tree within the limits, which may have files that have no name and are not pinned
 pub record Stands (t : Tree) : Type 0 where

@@ -1,26 +1,14 @@
 -- What a change of one child, or below one child, makes of the table of its directory.
-use Rattle.std.proofs.Common.{◌≡◌, ◌&&◌, Bool, true, false, cond, [], ◌∷◌, ◌++◌, length, Option, Some, None, is_some, IsTrue}
-use Rattle.std.proofs.Common.{IfSome, refl, sym, ap, subst, ◌∙◌, arith}
-use Rattle.std.specs.Ordering.{is_eq}
-use Rattle.std.specs.Prelude.{Result, Ok, Err, OnErr}
-use Rattle.std.specs.BTreeMap.{BTreeMap, IsOrdered, UpdatesBy, WritesThrough, get_by, is_at}
-use Rattle.std.specs.Cmp.Lexicographic.{bytes_decides, texts_ties, nat_list_cmp_total, nat_list_eq_equiv}
-use Rattle.std.specs.Map.{lookup, set_value}
-use Rattle.std.proofs.lemmas.Cmp.{tied_itself}
-use Rattle.std.proofs.lemmas.List.{append_assoc}
-use Rattle.std.proofs.lemmas.Map.Steps.{set_value_same}
-use Rattle.sftp_path.specs.Place.{Name, Place, name_cmp, place_cmp, same_bytes, begins}
-use Rattle.sftp_path.specs.Table.{InOrder, get}
-use Rattle.sftp_path.proofs.Order.{bytes_cmp-same}
-use Rattle.sftp_treefile.specs.declared.files.Owner.{Owner}
-use Rattle.sftp_treefile.specs.TreeFile.{same_place}
-use Rattle.sftp_tree.specs.declared.nodes.Node.{Node}
+use Rattle.sftp_tree.proofs.Imports.{◌≡◌, ◌&&◌, Bool, true, false, cond, [], ◌∷◌, ◌++◌, length, Option, Some, None}
+use Rattle.sftp_tree.proofs.Imports.{is_some, IsTrue, IfSome, refl, sym, ap, subst, ◌∙◌, arith, is_eq, Result, Ok, Err}
+use Rattle.sftp_tree.proofs.Imports.{OnErr, BTreeMap, IsOrdered, UpdatesBy, WritesThrough, get_by, is_at, bytes_decides}
+use Rattle.sftp_tree.proofs.Imports.{texts_ties, nat_list_cmp_total, nat_list_eq_equiv, lookup, set_value, tied_itself}
+use Rattle.sftp_tree.proofs.Imports.{append_assoc, set_value_same, Name, Place, name_cmp, place_cmp, same_bytes, begins}
+use Rattle.sftp_tree.proofs.Imports.{InOrder, get, bytes_cmp-same, Owner, same_place, Node, Child, Names, node_at}
+use Rattle.sftp_tree.proofs.Imports.{is_directory, is_taken, Children, branch, branch_of, flat_of, IsBranch}
+use Rattle.sftp_tree.proofs.Imports.{AreBranches, AreChildren, IsGrafted, IsSet}
 use Rattle.sftp_tree.specs.declared.nodes.Node.TheVariants as nodes
-use Rattle.sftp_tree.specs.declared.entries.directories.Child.{Child}
 use Rattle.sftp_tree.specs.declared.entries.directories.Child.TheVariants.{Dir}
-use Rattle.sftp_tree.specs.Tree.{Names, node_at, is_directory, is_taken}
-use Rattle.sftp_tree.specs.Nesting.{Children, branch, branch_of, flat_of, IsBranch, AreBranches, AreChildren}
-use Rattle.sftp_tree.specs.Nesting.{IsGrafted, IsSet}
 use Rattle.sftp_tree.proofs.PlaceTables.Each.{each-get, get-each, lookup_holds}
 use Rattle.sftp_tree.proofs.Nesting.Tables.{get-flat, get-root, sorted-flat_of}
 

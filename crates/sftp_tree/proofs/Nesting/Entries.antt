@@ -1,28 +1,15 @@
 -- The changes of nested directories as changes of the table of places.
-use Rattle.std.proofs.Common.{◌≡◌, ◌+◌, ◌||◌, Bool, true, false, cond, [], ◌∷◌, ◌++◌, length, drop, Option, Some, None}
-use Rattle.std.proofs.Common.{IsTrue, IfSome, inl, inr, refl, sym, ap, subst, ◌∙◌}
-use Rattle.std.specs.Ordering.{is_eq}
-use Rattle.std.specs.List.{list_any}
-use Rattle.std.proofs.lemmas.Cmp.{tied_itself}
-use Rattle.std.specs.Cmp.{Equal-is}
-use Rattle.std.specs.Cmp.Lexicographic.{bytes_decides, nat_list_eq_equiv, lists_equiv}
-use Rattle.std.proofs.lemmas.Bool.{cases_Bool, and_parts}
-use Rattle.std.proofs.lemmas.List.{append-nil, append_assoc}
-use Rattle.sftp_path.specs.Place.{Name, Place, place_cmp, same_bytes, begins, is_below}
-use Rattle.sftp_path.specs.Rekeying.{rekeyed}
-use Rattle.sftp_path.specs.Table.{InOrder, get}
-use Rattle.sftp_path.proofs.Move.Laws.{rekeyed-unique, size-rekeyed}
-use Rattle.sftp_path.proofs.Order.{place_cmp-total, place_cmp-same, begins-front, begins-itself}
-use Rattle.sftp_path.proofs.Table.Entries.{without-absent}
-use Rattle.sftp_path.proofs.Table.Laws.{get-cons, same_table, get-put, get-without, InOrder-put, InOrder-without}
-use Rattle.sftp_path.proofs.Table.Laws.{size-put, size-put_present, size-without}
-use Rattle.sftp_treefile.specs.TreeFile.{same_place, is_root}
-use Rattle.sftp_tree.specs.declared.nodes.Node.{Node}
-use Rattle.sftp_tree.specs.declared.entries.directories.Child.{Child}
+use Rattle.sftp_tree.proofs.Imports.{◌≡◌, ◌+◌, ◌||◌, Bool, true, false, cond, [], ◌∷◌, ◌++◌, length, drop, Option, Some}
+use Rattle.sftp_tree.proofs.Imports.{None, IsTrue, IfSome, inl, inr, refl, sym, ap, subst, ◌∙◌, is_eq, list_any}
+use Rattle.sftp_tree.proofs.Imports.{tied_itself, Equal-is, bytes_decides, nat_list_eq_equiv, lists_equiv, cases_Bool}
+use Rattle.sftp_tree.proofs.Imports.{and_parts, append-nil, append_assoc, Name, Place, place_cmp, same_bytes, begins}
+use Rattle.sftp_tree.proofs.Imports.{is_below, rekeyed, InOrder, get, rekeyed-unique, size-rekeyed, place_cmp-total}
+use Rattle.sftp_tree.proofs.Imports.{place_cmp-same, begins-front, begins-itself, without-absent, get-cons, same_table}
+use Rattle.sftp_tree.proofs.Imports.{get-put, get-without, InOrder-put, InOrder-without, size-put, size-put_present}
+use Rattle.sftp_tree.proofs.Imports.{size-without, same_place, is_root, Node, Child, Names, node_at, with_node}
+use Rattle.sftp_tree.proofs.Imports.{without_node, is_taken, is_directory, has_entries, IsAt, branch, branch_of}
+use Rattle.sftp_tree.proofs.Imports.{IsBranch, IsGrafted, IsSet, IsMoved}
 use Rattle.sftp_tree.specs.declared.entries.directories.Child.TheVariants.{Dir}
-use Rattle.sftp_tree.specs.Tree.{Names, node_at, with_node, without_node, is_taken, is_directory, has_entries}
-use Rattle.sftp_tree.specs.Trail.{IsAt}
-use Rattle.sftp_tree.specs.Nesting.{branch, branch_of, IsBranch, IsGrafted, IsSet, IsMoved}
 use Rattle.sftp_tree.proofs.FileCounts.Moves.{nothing-from}
 use Rattle.sftp_tree.proofs.Nesting.Moves.{nothing, beside, branch-taken}
 use Rattle.sftp_tree.proofs.PlaceTables.Below.{has_entries-below}

@@ -1,31 +1,15 @@
 -- Directories that grow at their end.
-use Rattle.std.proofs.Common.{◌≡◌, ◌≤◌, true, List, [], ◌∷◌, ◌++◌, length, take, drop, refl, sym, ap, subst, ◌∙◌, append_assoc, append-nil, arith}
-use Rattle.std.specs.Prelude.{IsTrue}
-use Rattle.std.specs.BTreeMap.{insert_entry}
-use Rattle.std.specs.Cmp.Lexicographic.{nat_list_cmp_total}
-use Rattle.std.specs.List.{AllByRecursion}
-use Rattle.std.specs.List.Sorted.{IsStrictlySortedBy}
-use Rattle.std.specs.Map.{keys_of}
-use Rattle.std.specs.Ordering.{ordering_then}
-use Rattle.std.specs.declared.cmp.Ordering.{Ordering}
-use Rattle.std.specs.declared.cmp.Ordering.TheVariants.{Less, Equal, Greater}
-use Rattle.std.proofs.Math.Seq.{take-append_seam}
-use Rattle.std.proofs.lemmas.Cmp.{tied_itself}
-use Rattle.std.proofs.lemmas.List.{length-append, map-append}
-use Rattle.sftp_path.specs.Place.{Name, Place, name_cmp, place_cmp, parent, begins}
-use Rattle.sftp_path.specs.Table.{InOrder, get}
-use Rattle.sftp_path.proofs.Order.{begins-front, parent-entered}
-use Rattle.sftp_treefile.specs.declared.files.Owner.{Owner}
-use Rattle.sftp_tree.specs.declared.entries.directories.Child.{Child}
+use Rattle.sftp_tree.proofs.Imports.{◌≡◌, ◌≤◌, true, List, [], ◌∷◌, ◌++◌, length, take, drop, refl, sym, ap, subst, ◌∙◌}
+use Rattle.sftp_tree.proofs.Imports.{append_assoc, append-nil, arith, IsTrue, insert_entry, nat_list_cmp_total}
+use Rattle.sftp_tree.proofs.Imports.{AllByRecursion, IsStrictlySortedBy, keys_of, ordering_then, Ordering, Less, Equal}
+use Rattle.sftp_tree.proofs.Imports.{take-append_seam, tied_itself, length-append, map-append, Name, Place, name_cmp}
+use Rattle.sftp_tree.proofs.Imports.{place_cmp, parent, begins, InOrder, get, begins-front, parent-entered, Owner}
+use Rattle.sftp_tree.proofs.Imports.{Child, Opened, Node, Names, Children, branch, placed, flat, flat_of, IsBranch}
+use Rattle.sftp_tree.proofs.Imports.{AreBranches, AreChildren, names_from, place_from, only_root}
 use Rattle.sftp_tree.specs.declared.entries.directories.Child.TheVariants as children
-use Rattle.sftp_tree.specs.declared.entries.growing.Opened.{Opened}
-use Rattle.sftp_tree.specs.declared.nodes.Node.{Node}
-use Rattle.sftp_tree.specs.Tree.{Names}
-use Rattle.sftp_tree.specs.Nesting.{Children, branch, placed, flat, flat_of, IsBranch, AreBranches, AreChildren}
-use Rattle.sftp_tree.specs.Growth.{names_from, place_from}
-use Rattle.sftp_tree.specs.PictureParts.{only_root}
 use Rattle.sftp_tree.proofs.Nesting.Tables.{sorted-flat_of}
-use Rattle.sftp_tree.proofs.PlaceTables.Rising.{all_both, insert_last, keys_append, sorted_push, sorted_right, sorted_before}
+use Rattle.sftp_tree.proofs.PlaceTables.Rising.{all_both, insert_last, keys_append, sorted_push, sorted_right}
+use Rattle.sftp_tree.proofs.PlaceTables.Rising.{sorted_before}
 use Rattle.sftp_tree.proofs.TreeFiles.Tables.{root_first}
 
 -- ---- a child after all others

@@ -1,19 +1,11 @@
 -- What a directory has once a child moved to another place.
-use Rattle.std.proofs.Common.{◌≡◌, ◌==◌, ◌&&◌, Bool, true, false, [], ◌∷◌, ◌++◌, length, Option, Some, None, IsTrue}
-use Rattle.std.proofs.Common.{is_some, option_copied, Bor, refl, sym, ap, subst, ◌∙◌, arith, IfSome}
-use Rattle.std.specs.List.Sorted.{IsStrictlySortedBy}
-use Rattle.std.specs.Cmp.Lexicographic.{nat_list_eq_equiv}
-use Rattle.std.proofs.lemmas.List.{append-nil}
-use Rattle.std.proofs.lemmas.Bool.Decides.{nat_tests}
-use Rattle.sftp_path.specs.Place.{Name, Place, same_bytes, begins}
-use Rattle.sftp_path.specs.Table.{get}
-use Rattle.sftp_treefile.specs.declared.files.Owner.{Owner}
-use Rattle.sftp_tree.specs.declared.nodes.Node.{Node}
+use Rattle.sftp_tree.proofs.Imports.{◌≡◌, ◌==◌, ◌&&◌, Bool, true, false, [], ◌∷◌, ◌++◌, length, Option, Some, None}
+use Rattle.sftp_tree.proofs.Imports.{IsTrue, is_some, option_copied, Bor, refl, sym, ap, subst, ◌∙◌, arith, IfSome}
+use Rattle.sftp_tree.proofs.Imports.{IsStrictlySortedBy, nat_list_eq_equiv, append-nil, nat_tests, Name, Place}
+use Rattle.sftp_tree.proofs.Imports.{same_bytes, begins, get, Owner, Node, Child, Names, node_at, is_directory}
+use Rattle.sftp_tree.proofs.Imports.{is_taken, branch, branch_of, IsBranch, IsGrafted, IsFilled, IsMoved}
 use Rattle.sftp_tree.specs.declared.nodes.Node.TheVariants as nodes
-use Rattle.sftp_tree.specs.declared.entries.directories.Child.{Child}
 use Rattle.sftp_tree.specs.declared.entries.directories.Child.TheVariants.{Dir, File, Link}
-use Rattle.sftp_tree.specs.Tree.{Names, node_at, is_directory, is_taken}
-use Rattle.sftp_tree.specs.Nesting.{branch, branch_of, IsBranch, IsGrafted, IsFilled, IsMoved}
 
 -- ---- an empty directory
 

@@ -1,30 +1,12 @@
 -- The children of a directory are the nodes right below it.
-use Rattle.std.proofs.Common.{◌≡◌, Bool, true, false, cond, [], ◌∷◌, ◌++◌, filter_map, option_map, Option, Some, None}
-use Rattle.std.proofs.Common.{is_some, refl, sym, ap, ◌∙◌, List, map, IfSome}
-use Rattle.std.proofs.lemmas.List.{append-nil}
-use Rattle.sftp_packets.specs.declared.attributes.Attrs.{Attrs}
-use Rattle.sftp_tree.specs.declared.listings.Item.{Item}
-use Rattle.sftp_tree.specs.Items.{entry_of}
-use Rattle.std.specs.Ordering.{is_eq}
-use Rattle.std.specs.declared.cmp.Ordering.TheVariants.{Less}
-use Rattle.std.specs.Cmp.Lexicographic.{nat_list_cmp_total}
-use Rattle.std.specs.List.{cons_option, AllByRecursion}
-use Rattle.std.specs.List.Sorted.{IsStrictlySortedBy}
-use Rattle.std.specs.Map.{keys_of, lookup}
-use Rattle.std.specs.BTreeMap.{is_at}
-use Rattle.sftp_path.specs.Place.{Name, Place, name_cmp, place_cmp}
-use Rattle.sftp_path.specs.Table.{Table, InOrder, get}
-use Rattle.sftp_path.proofs.Order.{bytes_cmp-same}
-use Rattle.sftp_path.proofs.Table.Laws.{same_table}
-use Rattle.sftp_treefile.specs.declared.files.Owner.{Owner}
-use Rattle.sftp_tree.specs.declared.nodes.Node.{Node}
-use Rattle.sftp_tree.specs.declared.entries.directories.Child.{Child}
+use Rattle.sftp_tree.proofs.Imports.{◌≡◌, Bool, true, false, cond, [], ◌∷◌, ◌++◌, filter_map, option_map, Option, Some}
+use Rattle.sftp_tree.proofs.Imports.{None, is_some, refl, sym, ap, ◌∙◌, List, map, IfSome, append-nil, Attrs, Item}
+use Rattle.sftp_tree.proofs.Imports.{entry_of, is_eq, Less, nat_list_cmp_total, cons_option, AllByRecursion}
+use Rattle.sftp_tree.proofs.Imports.{IsStrictlySortedBy, keys_of, lookup, is_at, Name, Place, name_cmp, place_cmp}
+use Rattle.sftp_tree.proofs.Imports.{Table, InOrder, get, bytes_cmp-same, same_table, Owner, Node, Child, Names, Files}
+use Rattle.sftp_tree.proofs.Imports.{Tree, IsNode, node_at, is_directory, children, shown_child, IsAt, Children, branch}
+use Rattle.sftp_tree.proofs.Imports.{branch_of, flat_of, IsBranch, AreBranches, AreChildren, nodes_of}
 use Rattle.sftp_tree.specs.declared.entries.directories.Child.TheVariants.{Dir, File, Link}
-use Rattle.sftp_tree.specs.Tree.{Names, Files, Tree, IsNode, node_at, is_directory}
-use Rattle.sftp_tree.specs.Listings.{children, shown_child}
-use Rattle.sftp_tree.specs.Trail.{IsAt}
-use Rattle.sftp_tree.specs.Nesting.{Children, branch, branch_of, flat_of, IsBranch, AreBranches, AreChildren}
-use Rattle.sftp_tree.specs.NodesBelow.{nodes_of}
 use Rattle.sftp_tree.proofs.Nesting.Tables.{get-flat, sorted-flat_of}
 use Rattle.sftp_tree.proofs.Requests.Listings.{listed-on}
 use Rattle.sftp_tree.proofs.Requests.ListedNames.{children-rise, child-at}

@@ -1,22 +1,10 @@
 -- How many names the places of a directory have, from those of its children.
-use Rattle.std.proofs.Common.{◌≡◌, ◌+◌, ◌&&◌, ℕ, suc, nat_le, ◌||◌, Bool, true, false, cond, not, [], ◌∷◌, ◌++◌, length, drop}
-use Rattle.std.proofs.Common.{◌-◌, Some, refl, sym, ap, ◌∙◌, arith, length-append}
-use Rattle.std.specs.Ordering.{is_eq}
-use Rattle.std.specs.List.{list_all, list_any}
-use Rattle.std.proofs.lemmas.Bool.{and_from}
-use Rattle.std.proofs.lemmas.Bool.Decides.{nat_tests}
-use Rattle.std.proofs.Math.Bool.{and_assoc}
-use Rattle.std.proofs.lemmas.Cmp.{tied_itself}
-use Rattle.sftp_path.specs.Place.{Name, Place, place_cmp, is_below, begins}
-use Rattle.sftp_path.proofs.Order.{begins-front, begins-append, place_cmp-total}
-use Rattle.sftp_path.proofs.Table.Laws.{get-cons}
-use Rattle.sftp_treefile.specs.declared.files.Owner.{Owner}
-use Rattle.sftp_tree.specs.declared.nodes.Node.{Node}
-use Rattle.sftp_tree.specs.declared.entries.directories.Child.{Child}
-use Rattle.sftp_tree.specs.Tree.{Names, node_at, is_taken, has_entries}
-use Rattle.sftp_tree.specs.Room.{reaches_at_most}
-use Rattle.sftp_tree.specs.Trail.{IsAt}
-use Rattle.sftp_tree.specs.Nesting.{Children, branch, placed, flat, flat_of, have_at_most}
+use Rattle.sftp_tree.proofs.Imports.{◌≡◌, ◌+◌, ◌&&◌, ℕ, suc, nat_le, ◌||◌, Bool, true, false, cond, not, [], ◌∷◌, ◌++◌}
+use Rattle.sftp_tree.proofs.Imports.{length, drop, ◌-◌, Some, refl, sym, ap, ◌∙◌, arith, length-append, is_eq, list_all}
+use Rattle.sftp_tree.proofs.Imports.{list_any, and_from, nat_tests, and_assoc, tied_itself, Name, Place, place_cmp}
+use Rattle.sftp_tree.proofs.Imports.{is_below, begins, begins-front, begins-append, place_cmp-total, get-cons, Owner}
+use Rattle.sftp_tree.proofs.Imports.{Node, Child, Names, node_at, is_taken, has_entries, reaches_at_most, IsAt}
+use Rattle.sftp_tree.proofs.Imports.{Children, branch, placed, flat, flat_of, have_at_most}
 use Rattle.sftp_tree.proofs.Limits.Entries.{both-ways}
 use Rattle.sftp_tree.proofs.Limits.Moves.{place-passes}
 use Rattle.sftp_tree.proofs.WellFormedTrees.Places.{alone-there}

@@ -1,30 +1,15 @@
 -- The table of a directory: what it has at a place, that its places rise, and when anything is below it.
-use Rattle.std.proofs.Common.{◌≡◌, ◌==◌, Bool, true, false, not, cond, [], ◌∷◌, ◌++◌, length, Option, Some, None}
-use Rattle.std.proofs.Common.{IsTrue, IfSome, option_copied, Bor, refl, sym, ap, ◌∙◌, arith}
-use Rattle.std.specs.Ordering.{is_eq, ordering_then}
-use Rattle.std.specs.declared.cmp.Ordering.{Ordering}
-use Rattle.std.specs.declared.cmp.Ordering.TheVariants.{Less, Equal, Greater}
-use Rattle.std.specs.Cmp.{Equal-is}
-use Rattle.std.specs.Cmp.Lexicographic.{nat_list_cmp_total}
-use Rattle.std.specs.List.{AllByRecursion, list_any}
-use Rattle.std.specs.List.Sorted.{IsStrictlySortedBy}
-use Rattle.std.specs.Map.{keys_of, lookup}
-use Rattle.std.specs.BTreeMap.{is_at}
-use Rattle.std.proofs.lemmas.Cmp.{tied_itself}
-use Rattle.std.proofs.lemmas.Map.Keys.{sorted_head, sorted_tail}
-use Rattle.sftp_path.specs.Place.{Name, Place, name_cmp, place_cmp, is_below}
-use Rattle.sftp_path.specs.Table.{InOrder, get}
-use Rattle.sftp_path.proofs.Order.{bytes_cmp-same}
-use Rattle.sftp_path.proofs.Table.Laws.{get-below}
-use Rattle.sftp_treefile.specs.declared.files.Owner.{Owner}
-use Rattle.sftp_tree.specs.declared.nodes.Node.{Node}
+use Rattle.sftp_tree.proofs.Imports.{◌≡◌, ◌==◌, Bool, true, false, not, cond, [], ◌∷◌, ◌++◌, length, Option, Some, None}
+use Rattle.sftp_tree.proofs.Imports.{IsTrue, IfSome, option_copied, Bor, refl, sym, ap, ◌∙◌, arith, is_eq}
+use Rattle.sftp_tree.proofs.Imports.{ordering_then, Ordering, Less, Equal, Greater, Equal-is, nat_list_cmp_total}
+use Rattle.sftp_tree.proofs.Imports.{AllByRecursion, list_any, IsStrictlySortedBy, keys_of, lookup, is_at, tied_itself}
+use Rattle.sftp_tree.proofs.Imports.{sorted_head, sorted_tail, Name, Place, name_cmp, place_cmp, is_below, InOrder, get}
+use Rattle.sftp_tree.proofs.Imports.{bytes_cmp-same, get-below, Owner, Node, Child, Names, node_at, has_entries}
+use Rattle.sftp_tree.proofs.Imports.{is_directory, Children, branch, branch_of, placed, flat, flat_of, IsBranch}
+use Rattle.sftp_tree.proofs.Imports.{AreBranches, AreChildren}
 use Rattle.sftp_tree.specs.declared.nodes.Node.TheVariants as nodes
-use Rattle.sftp_tree.specs.declared.entries.directories.Child.{Child}
 use Rattle.sftp_tree.specs.declared.entries.directories.Child.TheVariants.{Dir, File, Link}
 use Rattle.sftp_tree.proofs.PlaceTables.Each.{lookup_holds}
-use Rattle.sftp_tree.specs.Tree.{Names, node_at, has_entries, is_directory}
-use Rattle.sftp_tree.specs.Nesting.{Children, branch, branch_of, placed, flat, flat_of}
-use Rattle.sftp_tree.specs.Nesting.{IsBranch, AreBranches, AreChildren}
 
 -- ---- look-ups
 

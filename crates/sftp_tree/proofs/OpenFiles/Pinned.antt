@@ -1,25 +1,20 @@
 -- A file with a pin more or less: the counts stay right, and the tree stays one within the limits.
-use Rattle.std.proofs.Common.{◌≡◌, ◌≢◌, ℕ, ◌+◌, ◌-◌, ◌<◌, ◌^◌, ◌||◌, Bool, true, false, refl, sym, ap, subst, ◌∙◌, arith, Option, Some, None, is_some, IfSome, IsTrue, nat_lt, option_map, option_and_then, unwrap_or, if◌then◌else◌}
-use Rattle.std.specs.Ordering.{nat_cmp}
-use Rattle.std.specs.Cmp.{nat_cmp_total}
-use Rattle.std.specs.FinMap.{nat_cmp-IsAntisymmetric}
-use Rattle.std.specs.List.{AllByRecursion}
-use Rattle.std.proofs.lemmas.Bool.{lt-ltb, ltb-true, or_right}
-use Rattle.std.proofs.lemmas.Option.{same_Some}
-use Rattle.sftp_path.specs.Place.{Place}
-use Rattle.sftp_path.specs.Table.{Table, InOrder, get, retain, kept}
-use Rattle.sftp_path.proofs.Table.Laws.{same_table}
-use Rattle.sftp_path.proofs.Table.Values.{get-with_values}
-use Rattle.sftp_treefile.specs.declared.limits.TreeLimits.{TreeLimits}
-use Rattle.sftp_tree.specs.declared.file_contents.Content.{Content}
-use Rattle.sftp_tree.specs.declared.file_contents.Stored.{Stored}
-use Rattle.sftp_tree.specs.Tree.{Names, Pins, Tree, WellFormed, IsKept, IsPin, HasFile, fits, content_at, times_named, is_named, times_pinned, is_pinned, is_held, with_pins, with_pin, without_pin}
-use Rattle.sftp_tree.specs.StoredFiles.{contents, pin_count_at, pins_of, seen, AreCounted, is_held_still, IsChanged, with_a_pin, without_a_pin}
-use Rattle.sftp_tree.specs.FileChanges.{after_pin, after_unpin}
+use Rattle.sftp_tree.proofs.Imports.{◌≡◌, ◌≢◌, ℕ, ◌+◌, ◌-◌, ◌<◌, ◌^◌, ◌||◌, Bool, true, false, refl, sym, ap, subst}
+use Rattle.sftp_tree.proofs.Imports.{◌∙◌, arith, Option, Some, None, is_some, IfSome, IsTrue, nat_lt, option_map}
+use Rattle.sftp_tree.proofs.Imports.{option_and_then, unwrap_or, if◌then◌else◌, nat_cmp, nat_cmp_total}
+use Rattle.sftp_tree.proofs.Imports.{nat_cmp-IsAntisymmetric, AllByRecursion, lt-ltb, ltb-true, or_right, same_Some}
+use Rattle.sftp_tree.proofs.Imports.{Place, Table, InOrder, get, retain, kept, same_table, get-with_values, TreeLimits}
+use Rattle.sftp_tree.proofs.Imports.{Content, Stored, Names, Pins, Tree, WellFormed, IsKept, IsPin, HasFile, fits}
+use Rattle.sftp_tree.proofs.Imports.{content_at, times_named, is_named, times_pinned, is_pinned, is_held, with_pins}
+use Rattle.sftp_tree.proofs.Imports.{with_pin, without_pin, contents, pin_count_at, pins_of, seen, AreCounted}
+use Rattle.sftp_tree.proofs.Imports.{is_held_still, IsChanged, with_a_pin, without_a_pin, after_pin, after_unpin}
 use Rattle.sftp_tree.proofs.PlaceTables.Each.{each-weaker, each-get, get-each}
 use Rattle.sftp_tree.proofs.Limits.Tests.{fits-parts, fits-from}
-use Rattle.sftp_tree.proofs.FileCounts.Pins.{by-number, stays, pin_entry, get-with_pins_here, get-with_pins_elsewhere, InOrder-with_pins, InOrder-pins, times_pinned-stored, times_pinned-here, times_pinned-elsewhere, changed-pins_to, pins-where_held}
-use Rattle.sftp_tree.proofs.FileCounts.Names.{at-number, at-entries, count-at, same-contents, gone-content, stayed-content, left-contents, left-where_held}
+use Rattle.sftp_tree.proofs.FileCounts.Pins.{by-number, stays, pin_entry, get-with_pins_here, get-with_pins_elsewhere}
+use Rattle.sftp_tree.proofs.FileCounts.Pins.{InOrder-with_pins, InOrder-pins, times_pinned-stored, times_pinned-here}
+use Rattle.sftp_tree.proofs.FileCounts.Pins.{times_pinned-elsewhere, changed-pins_to, pins-where_held}
+use Rattle.sftp_tree.proofs.FileCounts.Names.{at-number, at-entries, count-at, same-contents, gone-content}
+use Rattle.sftp_tree.proofs.FileCounts.Names.{stayed-content, left-contents, left-where_held}
 use Rattle.sftp_tree.proofs.KeptTrees.Trims.{kept-trim}
 use Rattle.sftp_tree.proofs.KeptTrees.Counts.{files-in_order, each-some}
 

@@ -1,13 +1,7 @@
 -- The tree without any pins: it stays one within the limits.
-use Rattle.std.proofs.Common.{◌≡◌, ℕ, [], ◌∙◌, ap, subst, sym}
-use Rattle.std.specs.Ordering.{nat_cmp}
-use Rattle.sftp_path.specs.Place.{Place}
-use Rattle.sftp_path.specs.Table.{Table}
+use Rattle.sftp_tree.proofs.Imports.{◌≡◌, ℕ, [], ◌∙◌, ap, subst, sym, nat_cmp, Place, Table, TreeLimits, Stored, Names}
+use Rattle.sftp_tree.proofs.Imports.{Tree, WellFormed, IsKept, trim, contents, pins_of, seen, AreCounted, unpinned}
 use Rattle.sftp_path.proofs.Table.Laws.{InOrder-empty}
-use Rattle.sftp_treefile.specs.declared.limits.TreeLimits.{TreeLimits}
-use Rattle.sftp_tree.specs.declared.file_contents.Stored.{Stored}
-use Rattle.sftp_tree.specs.Tree.{Names, Tree, WellFormed, IsKept, trim}
-use Rattle.sftp_tree.specs.StoredFiles.{contents, pins_of, seen, AreCounted, unpinned}
 use Rattle.sftp_tree.proofs.FileCounts.Unpinned.{unpinned-pins, unpinned-counted, unpinned-contents}
 use Rattle.sftp_tree.proofs.KeptTrees.Trims.{kept-trim}
 use Rattle.sftp_tree.proofs.OpenFiles.Pinned.{fits-pins}

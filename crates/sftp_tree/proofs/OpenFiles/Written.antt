@@ -1,20 +1,11 @@
 -- A file to which bytes are written: its size, and that the tree stays one within the limits.
-use Rattle.std.proofs.Common.{◌≡◌, ℕ, ◌+◌, ◌-◌, ◌<◌, ◌==◌, ◌||◌, Bool, true, false, List, ◌++◌, length, take, drop, append_assoc, refl, ap, ◌∙◌, arith, Option, Some, None, is_some, IsTrue, nat_le, nat_lt, if◌then◌else◌}
-use Rattle.std.specs.Ordering.{nat_cmp}
-use Rattle.std.specs.FinMap.{nat_cmp-IsAntisymmetric}
-use Rattle.std.proofs.lemmas.Bool.{and_from}
-use Rattle.std.proofs.lemmas.Bool.Decides.{nat_tests}
-use Rattle.std.proofs.lemmas.List.{length-append, length-drop, take_at, drop_at}
-use Rattle.std.proofs.lemmas.List.Folds.{list_all-append}
-use Rattle.sftp_packets.specs.declared.attributes.Attrs.{Attrs}
-use Rattle.sftp_packets.specs.AskValues.{IsAttrs}
-use Rattle.sftp_treefile.specs.declared.limits.TreeLimits.{TreeLimits}
-use Rattle.sftp_treefile.specs.TreeFile.{are_bytes}
-use Rattle.sftp_tree.specs.declared.file_contents.Content.{Content}
-use Rattle.sftp_tree.specs.Tree.{Tree, IsKept, IsContent, HasFile, limits, fits, content_at}
-use Rattle.sftp_tree.specs.Attributes.{resized}
-use Rattle.sftp_tree.specs.Room.{size_fits}
-use Rattle.sftp_tree.specs.FileChanges.{overwritten, written, write_fits, written_content, with_written_file, after_write, after_set}
+use Rattle.sftp_tree.proofs.Imports.{◌≡◌, ℕ, ◌+◌, ◌-◌, ◌<◌, ◌==◌, ◌||◌, Bool, true, false, List, ◌++◌, length, take}
+use Rattle.sftp_tree.proofs.Imports.{drop, append_assoc, refl, ap, ◌∙◌, arith, Option, Some, None, is_some, IsTrue}
+use Rattle.sftp_tree.proofs.Imports.{nat_le, nat_lt, if◌then◌else◌, nat_cmp, nat_cmp-IsAntisymmetric, and_from}
+use Rattle.sftp_tree.proofs.Imports.{nat_tests, length-append, length-drop, take_at, drop_at, list_all-append, Attrs}
+use Rattle.sftp_tree.proofs.Imports.{IsAttrs, TreeLimits, are_bytes, Content, Tree, IsKept, IsContent, HasFile, limits}
+use Rattle.sftp_tree.proofs.Imports.{fits, content_at, resized, size_fits, overwritten, written, write_fits}
+use Rattle.sftp_tree.proofs.Imports.{written_content, with_written_file, after_write, after_set}
 use Rattle.sftp_tree.proofs.PlaceTables.Each.{each-get}
 use Rattle.sftp_tree.proofs.WellFormedTrees.Fields.{resized-bytes, bytes-dropped, changed-owner-fits}
 use Rattle.sftp_tree.proofs.Limits.Entries.{fits-content, content-fits}

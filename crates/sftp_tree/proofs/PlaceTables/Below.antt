@@ -1,19 +1,10 @@
 -- What is below a place: it comes right after the place, and all of it in a row.
-use Rattle.std.proofs.Common.{◌≡◌, ◌-◌, ◌<◌, ◌&&◌, ◌||◌, ℕ, zero, suc, Bool, true, false, cond, Some, [], ◌∷◌, length, take, refl, sym, ◌∙◌, ap, arith}
-use Rattle.std.specs.Cmp.Lexicographic.{texts_ties, nat_list_eq_equiv}
-use Rattle.std.specs.Cmp.{Equal-is}
-use Rattle.std.specs.Ordering.{ordering_then, ordering_reverse, is_eq}
-use Rattle.std.specs.declared.cmp.Ordering.{Ordering}
-use Rattle.std.specs.declared.cmp.Ordering.TheVariants.{Less, Equal}
-use Rattle.std.specs.List.{list_any, AllByRecursion}
-use Rattle.std.specs.Map.{lookup}
-use Rattle.std.specs.BTreeMap.{is_at}
+use Rattle.sftp_tree.proofs.Imports.{◌≡◌, ◌-◌, ◌<◌, ◌&&◌, ◌||◌, ℕ, zero, suc, Bool, true, false, cond, Some, [], ◌∷◌}
+use Rattle.sftp_tree.proofs.Imports.{length, take, refl, sym, ◌∙◌, ap, arith, texts_ties, nat_list_eq_equiv, Equal-is}
+use Rattle.sftp_tree.proofs.Imports.{ordering_then, ordering_reverse, is_eq, Ordering, Less, Equal, list_any}
+use Rattle.sftp_tree.proofs.Imports.{AllByRecursion, lookup, is_at, Node, Name, Place, name_cmp, place_cmp, same_bytes}
+use Rattle.sftp_tree.proofs.Imports.{is_below, parent, get, place_cmp-same, Names, node_at, is_taken, has_entries}
 use Rattle.std.proofs.Math.Bool.{or-true}
-use Rattle.sftp_tree.specs.declared.nodes.Node.{Node}
-use Rattle.sftp_path.specs.Place.{Name, Place, name_cmp, place_cmp, same_bytes, is_below, parent}
-use Rattle.sftp_path.specs.Table.{get}
-use Rattle.sftp_path.proofs.Order.{place_cmp-same}
-use Rattle.sftp_tree.specs.Tree.{Names, node_at, is_taken, has_entries}
 
 -- ---- the order
 

@@ -1,16 +1,9 @@
 -- What holds of each entry of a table, by the values at its keys; for any keys and values.
-use Rattle.std.proofs.Common.{◌≡◌, Bool, true, false, cond, List, [], ◌∷◌, refl, sym, ap, subst, ◌∙◌, Option, Some, None, IsTrue}
-use Rattle.std.specs.Ordering.{is_eq}
-use Rattle.std.specs.declared.cmp.Ordering.{Ordering}
-use Rattle.std.specs.Map.{keys_of, lookup}
-use Rattle.std.specs.List.{AllByRecursion, list_all, filter}
-use Rattle.std.specs.Cmp.{IsTotalOrder, Equal-is}
-use Rattle.std.specs.FinMap.{IsAntisymmetric}
-use Rattle.std.proofs.lemmas.Bool.{and_parts, and_from}
-use Rattle.std.proofs.lemmas.Cmp.{tied_itself}
-use Rattle.std.proofs.lemmas.Map.Keys.{sorted_head, sorted_tail}
-use Rattle.sftp_path.specs.Table.{Table, InOrder, get, put, retain}
-use Rattle.sftp_path.proofs.Table.Laws.{get-empty, get-cons, get-below, get-put, InOrder-put}
+use Rattle.sftp_tree.proofs.Imports.{◌≡◌, Bool, true, false, cond, List, [], ◌∷◌, refl, sym, ap, subst, ◌∙◌, Option}
+use Rattle.sftp_tree.proofs.Imports.{Some, None, IsTrue, is_eq, Ordering, keys_of, lookup, AllByRecursion, list_all}
+use Rattle.sftp_tree.proofs.Imports.{filter, IsTotalOrder, Equal-is, IsAntisymmetric, and_parts, and_from, tied_itself}
+use Rattle.sftp_tree.proofs.Imports.{sorted_head, sorted_tail, Table, InOrder, get, put, retain, get-empty, get-cons}
+use Rattle.sftp_tree.proofs.Imports.{get-below, get-put, InOrder-put}
 
 -- ---- each entry of a list
 

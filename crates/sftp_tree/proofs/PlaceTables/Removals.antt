@@ -1,12 +1,6 @@
 -- Tables of places with an entry less: what is left of them.
-use Rattle.std.proofs.Common.{◌≤◌, Bool, true, false, cond, [], ◌∷◌, length, arith}
-use Rattle.std.specs.List.{AllByRecursion}
-use Rattle.std.specs.Map.{remove_entry}
-use Rattle.std.specs.BTreeMap.{is_at}
-use Rattle.sftp_path.specs.Place.{Place, place_cmp}
-use Rattle.sftp_path.specs.Table.{without}
-use Rattle.sftp_tree.specs.declared.nodes.Node.{Node}
-use Rattle.sftp_tree.specs.Tree.{Names}
+use Rattle.sftp_tree.proofs.Imports.{◌≤◌, Bool, true, false, cond, [], ◌∷◌, length, arith, AllByRecursion, remove_entry}
+use Rattle.sftp_tree.proofs.Imports.{is_at, Place, place_cmp, without, Node, Names}
 
 length-remove : (test : Place → Bool) (es : Names) → length (remove_entry test es) ≤ length es
 length-remove test [] = omega arith

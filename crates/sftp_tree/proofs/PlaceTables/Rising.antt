@@ -1,18 +1,10 @@
 -- Lists whose keys rise, and tables that grow at their end.
-use Rattle.std.proofs.Common.{◌≡◌, ◌-◌, ◌<◌, Bool, true, false, cond, List, [], ◌∷◌, ◌++◌, length, take, drop, map, Option, Some, None, refl, sym, ap, subst, ◌∙◌, arith}
-use Rattle.std.specs.BTreeMap.{insert_entry}
-use Rattle.std.specs.Map.{keys_of, lookup}
-use Rattle.std.specs.List.{AllByRecursion}
-use Rattle.std.specs.List.Sorted.{IsStrictlySortedBy}
-use Rattle.std.specs.Cmp.{IsTotalOrder}
-use Rattle.std.specs.Cmp.Lexicographic.{slice_cmp, nat_list_cmp_total, nat_list_eq_equiv, lists_equiv, lists_ties, texts_ties}
-use Rattle.std.specs.Ordering.{nat_cmp, is_eq, ordering_reverse}
-use Rattle.std.specs.declared.cmp.Ordering.{Ordering}
-use Rattle.std.specs.declared.cmp.Ordering.TheVariants.{Less, Greater}
-use Rattle.std.proofs.lemmas.Cmp.{tied_itself}
-use Rattle.std.proofs.lemmas.List.{take-append-drop, map-append, length-drop}
-use Rattle.sftp_path.specs.Place.{Place, place_cmp, parent}
-use Rattle.sftp_treefile.specs.TreeFile.{same_place}
+use Rattle.sftp_tree.proofs.Imports.{◌≡◌, ◌-◌, ◌<◌, Bool, true, false, cond, List, [], ◌∷◌, ◌++◌, length, take, drop}
+use Rattle.sftp_tree.proofs.Imports.{map, Option, Some, None, refl, sym, ap, subst, ◌∙◌, arith, insert_entry, keys_of}
+use Rattle.sftp_tree.proofs.Imports.{lookup, AllByRecursion, IsStrictlySortedBy, IsTotalOrder, slice_cmp}
+use Rattle.sftp_tree.proofs.Imports.{nat_list_cmp_total, nat_list_eq_equiv, lists_equiv, lists_ties, texts_ties}
+use Rattle.sftp_tree.proofs.Imports.{nat_cmp, is_eq, ordering_reverse, Ordering, Less, Greater, tied_itself}
+use Rattle.sftp_tree.proofs.Imports.{take-append-drop, map-append, length-drop, Place, place_cmp, parent, same_place}
 
 -- ---- lists
 

@@ -1,8 +1,6 @@
 -- The values of requests that can be encoded.
-use Rattle.sftp_packets.specs.declared.packets.Ask.{Ask}
+use Rattle.sftp_tree.proofs.Imports.{Ask, FitsAsk, IsAsk}
 use Rattle.sftp_packets.specs.declared.packets.Ask.TheVariants as asks
-use Rattle.sftp_packets.specs.Spelling.{FitsAsk}
-use Rattle.sftp_packets.specs.AskValues.{IsAsk}
 
 pub encoded-ask : (ask : Ask) → FitsAsk ask → IsAsk ask
 encoded-ask (asks.Open path pflags attrs) fit = (fit.0.bytes_fit, fit.2.owner)

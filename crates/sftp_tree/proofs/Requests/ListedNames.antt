@@ -1,26 +1,13 @@
 -- Listings are tables: their names rise, and a name has what is shown of the node at its place.
-use Rattle.std.proofs.Common.{◌≡◌, Bool, true, false, cond, if◌then◌else◌, [], ◌∷◌, ◌++◌, filter_map, option_map, refl}
-use Rattle.std.proofs.Common.{sym, ◌∙◌, ap, Option, Some, None, is_some}
-use Rattle.std.specs.Ordering.{ordering_then, is_eq}
-use Rattle.std.specs.declared.cmp.Ordering.{Ordering}
-use Rattle.std.specs.declared.cmp.Ordering.TheVariants.{Less, Equal, Greater}
-use Rattle.std.specs.Cmp.{Equal-is}
-use Rattle.std.specs.Cmp.Lexicographic.{bytes_decides, texts_ties}
-use Rattle.std.specs.BTreeMap.{is_at}
-use Rattle.std.specs.List.{cons_option, AllByRecursion}
-use Rattle.std.specs.List.Sorted.{IsStrictlySortedBy}
-use Rattle.std.specs.Map.{keys_of, lookup}
-use Rattle.std.proofs.lemmas.Option.{same_Some}
-use Rattle.sftp_packets.specs.declared.attributes.Attrs.{Attrs}
-use Rattle.sftp_path.specs.Place.{Name, Place, name_cmp, place_cmp, same_bytes}
-use Rattle.sftp_path.specs.Table.{Table, InOrder, get}
-use Rattle.sftp_tree.specs.declared.file_contents.Content.{Content}
-use Rattle.sftp_tree.specs.declared.nodes.Node.{Node}
-use Rattle.sftp_tree.specs.declared.nodes.Node.TheVariants.{Dir, File, Link}
-use Rattle.sftp_tree.specs.Tree.{Names, Tree, WellFormed, IsNode, node_at, content_at}
+use Rattle.sftp_tree.proofs.Imports.{◌≡◌, Bool, true, false, cond, if◌then◌else◌, [], ◌∷◌, ◌++◌, filter_map, option_map}
+use Rattle.sftp_tree.proofs.Imports.{refl, sym, ◌∙◌, ap, Option, Some, None, is_some, ordering_then, is_eq, Ordering}
+use Rattle.sftp_tree.proofs.Imports.{Less, Equal, Greater, Equal-is, bytes_decides, texts_ties, is_at, cons_option}
+use Rattle.sftp_tree.proofs.Imports.{AllByRecursion, IsStrictlySortedBy, keys_of, lookup, same_Some, Attrs, Name, Place}
+use Rattle.sftp_tree.proofs.Imports.{name_cmp, place_cmp, same_bytes, Table, InOrder, get, Content, Node, Dir, File}
+use Rattle.sftp_tree.proofs.Imports.{Link, Names, Tree, WellFormed, IsNode, node_at, content_at, name_below}
+use Rattle.sftp_tree.proofs.Imports.{child_below, children, shown_child, listing}
 use Rattle.sftp_tree.specs.Attributes.{shown, shown_content}
 use Rattle.sftp_tree.specs.Requests.{shown_at}
-use Rattle.sftp_tree.specs.Listings.{name_below, child_below, children, shown_child, listing}
 use Rattle.sftp_tree.proofs.Nesting.Growth.{first_less}
 use Rattle.sftp_tree.proofs.Requests.Listings.{children-kept}
 

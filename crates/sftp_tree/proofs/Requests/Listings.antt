@@ -1,19 +1,9 @@
 -- Listings: that what is right below a place is shown, and what a reply to OPENDIR says.
-use Rattle.std.proofs.Common.{◌≡◌, ℕ, List, [], ◌∷◌, ◌++◌, map, filter_map}
-use Rattle.std.proofs.Common.{option_map, sym, ◌∙◌, ap, Option, Some, None, Ok}
-use Rattle.std.specs.List.{cons_option, AllByRecursion}
-use Rattle.std.proofs.lemmas.List.{append_assoc, map-append}
-use Rattle.sftp_packets.specs.declared.attributes.Attrs.{Attrs}
-use Rattle.sftp_packets.specs.declared.packets.Ask.TheVariants.{Opendir}
-use Rattle.sftp_path.specs.Place.{Name, Place}
-use Rattle.sftp_path.specs.Table.{Table}
-use Rattle.sftp_tree.specs.declared.nodes.Node.{Node}
-use Rattle.sftp_tree.specs.Tree.{Names, Files, Tree, IsNode}
+use Rattle.sftp_tree.proofs.Imports.{◌≡◌, ℕ, List, [], ◌∷◌, ◌++◌, map, filter_map, option_map, sym, ◌∙◌, ap, Option}
+use Rattle.sftp_tree.proofs.Imports.{Some, None, Ok, cons_option, AllByRecursion, append_assoc, map-append, Attrs}
+use Rattle.sftp_tree.proofs.Imports.{Opendir, Name, Place, Table, Node, Names, Files, Tree, IsNode, listing_to, Item}
+use Rattle.sftp_tree.proofs.Imports.{entry_of, name_below, child_below, children, listing, shown_child}
 use Rattle.sftp_tree.specs.Requests.{led, led_to}
-use Rattle.sftp_tree.specs.Told.{listing_to}
-use Rattle.sftp_tree.specs.declared.listings.Item.{Item}
-use Rattle.sftp_tree.specs.Items.{entry_of}
-use Rattle.sftp_tree.specs.Listings.{name_below, child_below, children, listing, shown_child}
 
 -- ---- each node right below a place is a node of the tree
 

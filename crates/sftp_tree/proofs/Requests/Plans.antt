@@ -1,32 +1,24 @@
 -- What is to be done for a request can be done, and leaves what it asks for.
-use Rattle.std.proofs.Common.{rules, ◌≡◌, Bool, true, false, ◌&&◌, not, List, [], ◌∷◌, ℕ, suc, ◌<◌, get_or, refl, sym, subst, ◌∙◌, ap, Option, Some, None, IsTrue, if◌then◌else◌, Result, Ok, Err, IfOk, is_some}
-use Rattle.std.proofs.lemmas.Bool.{not-false, or_parts, lt-ltb}
-use Rattle.std.proofs.Math.Bool.{and-true}
-use Rattle.sftp_packets.specs.declared.attributes.Attrs.{Attrs}
-use Rattle.sftp_packets.specs.declared.packets.Ask.{Ask}
-use Rattle.sftp_packets.specs.declared.packets.Ask.TheVariants.{Setstat, Remove, Mkdir, Rmdir, Rename, Symlink, PosixRename, Hardlink, Stat, Lstat, Readlink, Realpath, Open, Opendir}
-use Rattle.sftp_path.specs.Place.{Place, absolute}
-use Rattle.sftp_treefile.specs.TreeFile.{IsOwner, is_root, are_bytes}
-use Rattle.sftp_tree.specs.declared.nodes.Node.{Node}
+use Rattle.sftp_tree.proofs.Imports.{rules, ◌≡◌, Bool, true, false, ◌&&◌, not, List, [], ◌∷◌, ℕ, suc, ◌<◌, get_or, refl}
+use Rattle.sftp_tree.proofs.Imports.{sym, subst, ◌∙◌, ap, Option, Some, None, IsTrue, if◌then◌else◌, Result, Ok, Err}
+use Rattle.sftp_tree.proofs.Imports.{IfOk, is_some, not-false, or_parts, lt-ltb, and-true, Attrs, Ask, Setstat, Remove}
+use Rattle.sftp_tree.proofs.Imports.{Mkdir, Rmdir, Rename, Symlink, PosixRename, Hardlink, Stat, Lstat, Readlink}
+use Rattle.sftp_tree.proofs.Imports.{Realpath, Open, Opendir, Place, absolute, IsOwner, is_root, are_bytes, Node, Cause}
+use Rattle.sftp_tree.proofs.Imports.{NoEntry, NotDir, NotEmpty, Root, Exists, IsDir, Nothing, Put, Move, SetFile}
+use Rattle.sftp_tree.proofs.Imports.{Truncate, Tree, IsKept, IsNode, fits, node_at, content_at, is_taken, is_directory}
+use Rattle.sftp_tree.proofs.Imports.{is_file, is_link, has_entries, trim, directory_owner, file_owner, truncates}
+use Rattle.sftp_tree.proofs.Imports.{excludes, IsPlaceOf, no_causes, when, removing_causes, unlinking_causes, are_one}
+use Rattle.sftp_tree.proofs.Imports.{leaving_causes, giving_causes, exchanging_causes, opening_causes, reached}
+use Rattle.sftp_tree.proofs.Imports.{with_further_name, put_in_its_stead, with_attributes, with_new_file, new_content}
+use Rattle.sftp_tree.proofs.Imports.{with_emptied_file, with_opened, with_changed_file, shown_to, text_to, file_to}
+use Rattle.sftp_tree.proofs.Imports.{IsFree, stat_ask, changed, IsReady, CanTake, HasNode, IsPlanned, IsPlanAt}
+use Rattle.sftp_tree.proofs.Imports.{IsNaming, IsPlanBetween, IsFileAt, plan_to_open, IsSettingOf, IsSetting}
 use Rattle.sftp_tree.specs.declared.nodes.Node.TheVariants as nodes
-use Rattle.sftp_tree.specs.declared.causes.Cause.{Cause}
-use Rattle.sftp_tree.specs.declared.causes.Cause.TheVariants.{NoEntry, NotDir, NotEmpty, Root, Exists, IsDir}
 use Rattle.sftp_tree.specs.declared.plans.Plan.{Plan}
-use Rattle.sftp_tree.specs.declared.plans.Plan.TheVariants.{Nothing, Put, Move, SetFile, Truncate}
-use Rattle.sftp_tree.specs.Tree.{Tree, IsKept, IsNode, fits, node_at, content_at, is_taken, is_directory, is_file, is_link, has_entries, trim}
-use Rattle.sftp_tree.specs.Attributes.{directory_owner, file_owner}
-use Rattle.sftp_tree.specs.OpenFlags.{truncates, excludes}
-use Rattle.sftp_tree.specs.Walking.{IsPlaceOf}
-use Rattle.sftp_tree.specs.Causes.{no_causes, when}
-use Rattle.sftp_tree.specs.PlaceCauses.{removing_causes, unlinking_causes, are_one, leaving_causes, giving_causes, exchanging_causes, opening_causes}
-use Rattle.sftp_tree.specs.Walk.{reached}
-use Rattle.sftp_tree.specs.Changes.{with_further_name, put_in_its_stead, with_attributes, with_new_file, new_content, with_emptied_file, with_opened, with_changed_file}
 use Rattle.sftp_tree.specs.Requests.{outcome_at, outcome_between, led, new_led, led_to, shown_at, target_of, number_at}
-use Rattle.sftp_tree.specs.Told.{shown_to, text_to, file_to}
-use Rattle.sftp_tree.specs.Refusals.{IsFree, stat_ask}
-use Rattle.sftp_tree.specs.Plans.{changed, IsReady, CanTake, HasNode, IsPlanned, IsPlanAt, IsNaming, IsPlanBetween, IsFileAt, plan_to_open, IsSettingOf, IsSetting}
 use Rattle.sftp_tree.proofs.CauseLaws.Places.{FreeAt, FreeBetween, free-at, free-between, outcome-is}
-use Rattle.sftp_tree.proofs.CauseLaws.Limits.{free-place, file-place, name-place, link-place, directory-place, taken-place, may-leave, may-replace, outside-of, given-below, free-alone}
+use Rattle.sftp_tree.proofs.CauseLaws.Limits.{free-place, file-place, name-place, link-place, directory-place}
+use Rattle.sftp_tree.proofs.CauseLaws.Limits.{taken-place, may-leave, may-replace, outside-of, given-below, free-alone}
 use Rattle.sftp_tree.proofs.WellFormedTrees.Places.{nothing-below}
 use Rattle.sftp_tree.proofs.Walks.Links.{reached-unlinked}
 use Rattle.sftp_tree.proofs.WellFormedTrees.Found.{absent-of, below-root, apart-of, node-kept, moved-is}

@@ -1,34 +1,22 @@
 -- The tree after a request that no cause refuses is within the limits.
-use Rattle.std.proofs.Common.{◌≡◌, ℕ, not, List, [], ◌∷◌, refl, sym, subst, ap, ◌∙◌, Option, Some, None, IsTrue, Result, Ok, Err, Bool, true, false, if◌then◌else◌}
+use Rattle.sftp_tree.proofs.Imports.{◌≡◌, ℕ, not, List, [], ◌∷◌, refl, sym, subst, ap, ◌∙◌, Option, Some, None, IsTrue}
+use Rattle.sftp_tree.proofs.Imports.{Result, Ok, Err, Bool, true, false, if◌then◌else◌, both_ways, false_from_ne_true}
+use Rattle.sftp_tree.proofs.Imports.{not-false, pointwise_decides, bytes_decides, nat_cmp, nat_cmp-IsAntisymmetric}
+use Rattle.sftp_tree.proofs.Imports.{Attrs, Ask, Lstat, Setstat, Remove, Mkdir, Rmdir, Realpath, Stat, Rename, Readlink}
+use Rattle.sftp_tree.proofs.Imports.{Symlink, PosixRename, Hardlink, Open, Opendir, IsAttrs, IsAsk, Place, place_cmp}
+use Rattle.sftp_tree.proofs.Imports.{parent, are_names, NothingFrom, place_cmp-same, are_bytes, is_root, same_place}
+use Rattle.sftp_tree.proofs.Imports.{Content, Node, Dir, File, Link, Cause, Names, Tree, WellFormed, IsKept, IsNode}
+use Rattle.sftp_tree.proofs.Imports.{IsContent, fits, node_at, with_node, without_node, content_at, is_taken}
+use Rattle.sftp_tree.proofs.Imports.{is_directory, has_entries, trim, reached, directory_owner, changed_owner}
+use Rattle.sftp_tree.proofs.Imports.{changed_content, goes_inside, are_one, exchanging_causes, with_changed_file}
+use Rattle.sftp_tree.proofs.Imports.{with_attributes, moved, put_in_its_stead, with_further_name, new_content}
+use Rattle.sftp_tree.proofs.Imports.{with_emptied_file, with_opened, truncates, IsFree}
 use Rattle.std.specs.Option.{option_map, IfSome}
-use Rattle.std.proofs.lemmas.Bool.{both_ways, false_from_ne_true, not-false}
-use Rattle.std.specs.Cmp.Lexicographic.{pointwise_decides, bytes_decides}
-use Rattle.std.specs.Ordering.{nat_cmp}
-use Rattle.std.specs.FinMap.{nat_cmp-IsAntisymmetric}
-use Rattle.sftp_packets.specs.declared.attributes.Attrs.{Attrs}
-use Rattle.sftp_packets.specs.declared.packets.Ask.{Ask}
-use Rattle.sftp_packets.specs.declared.packets.Ask.TheVariants.{Lstat, Setstat, Remove, Mkdir, Rmdir, Realpath, Stat, Rename, Readlink, Symlink, PosixRename, Hardlink}
-use Rattle.sftp_packets.specs.declared.packets.Ask.TheVariants.{Open, Opendir}
-use Rattle.sftp_packets.specs.AskValues.{IsAttrs, IsAsk}
-use Rattle.sftp_path.specs.Place.{Place, place_cmp, parent, are_names}
-use Rattle.sftp_path.specs.Rekeying.{NothingFrom}
-use Rattle.sftp_path.proofs.Order.{place_cmp-same}
-use Rattle.sftp_treefile.specs.TreeFile.{are_bytes, is_root, same_place}
-use Rattle.sftp_tree.specs.declared.file_contents.Content.{Content}
-use Rattle.sftp_tree.specs.declared.nodes.Node.{Node}
-use Rattle.sftp_tree.specs.declared.nodes.Node.TheVariants.{Dir, File, Link}
-use Rattle.sftp_tree.specs.declared.causes.Cause.{Cause}
-use Rattle.sftp_tree.specs.Tree.{Names, Tree, WellFormed, IsKept, IsNode, IsContent, fits, node_at, with_node, without_node, content_at, is_taken, is_directory, has_entries, trim}
-use Rattle.sftp_tree.specs.Walk.{reached}
-use Rattle.sftp_tree.specs.Attributes.{directory_owner, changed_owner, changed_content}
-use Rattle.sftp_tree.specs.PlaceCauses.{goes_inside, are_one, exchanging_causes}
-use Rattle.sftp_tree.specs.Changes.{with_changed_file, with_attributes, moved, put_in_its_stead, with_further_name}
-use Rattle.sftp_tree.specs.Changes.{new_content, with_emptied_file, with_opened}
-use Rattle.sftp_tree.specs.OpenFlags.{truncates}
-use Rattle.sftp_tree.specs.Requests.{path_of, new_path_of, follows, led, new_led, causes_at, new_causes_at, causes_between, outcome_at, outcome_between, outcome, after}
-use Rattle.sftp_tree.specs.Refusals.{IsFree}
+use Rattle.sftp_tree.specs.Requests.{path_of, new_path_of, follows, led, new_led, causes_at, new_causes_at}
+use Rattle.sftp_tree.specs.Requests.{causes_between, outcome_at, outcome_between, outcome, after}
 use Rattle.sftp_tree.proofs.PlaceTables.Each.{each-get}
-use Rattle.sftp_tree.proofs.WellFormedTrees.Fields.{bytes-fit, owner-fits, file-owner-fits, changed-owner-fits, changed-content-fits}
+use Rattle.sftp_tree.proofs.WellFormedTrees.Fields.{bytes-fit, owner-fits, file-owner-fits, changed-owner-fits}
+use Rattle.sftp_tree.proofs.WellFormedTrees.Fields.{changed-content-fits}
 use Rattle.sftp_tree.proofs.CauseLaws.Places.{free-at, free-between, outcome-is}
 use Rattle.sftp_tree.proofs.WellFormedTrees.Places.{apart-from, nothing-below, alone-there}
 use Rattle.sftp_tree.proofs.WellFormedTrees.Names.{names-of, names-put, names-owner, names-without, well-formed-names}
@@ -39,7 +27,8 @@ use Rattle.sftp_tree.proofs.Limits.Tests.{Stands}
 use Rattle.sftp_tree.proofs.KeptTrees.Trims.{kept-trim}
 use Rattle.sftp_tree.proofs.WellFormedTrees.Found.{absent-of}
 use Rattle.sftp_tree.proofs.Limits.Moves.{nothing-from}
-use Rattle.sftp_tree.proofs.CauseLaws.Limits.{MayLeave, free-place, name-place, may-leave, may-replace, outside-of, given-below}
+use Rattle.sftp_tree.proofs.CauseLaws.Limits.{MayLeave, free-place, name-place, may-leave, may-replace, outside-of}
+use Rattle.sftp_tree.proofs.CauseLaws.Limits.{given-below}
 use Rattle.sftp_tree.proofs.Requests.Plans.{can-remove-directory}
 
 -- ---- where the paths of a request lead

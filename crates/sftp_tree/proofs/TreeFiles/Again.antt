@@ -1,24 +1,15 @@
 -- Rows come back from their entries, and entries whose files are numbered in the order of their first names from their rows.
-use Rattle.std.proofs.Common.{◌≡◌, ℕ, suc, ◌+◌, ◌-◌, ◌<◌, ◌≤◌, ◌==◌, List, [], ◌∷◌, ◌++◌, length, take, Option, Some, None, refl, sym, ap, subst, ◌∙◌, append_assoc, arith, ◌⊎◌, inl, inr}
-use Rattle.std.specs.Prelude.{IsTrue, is_some}
-use Rattle.std.specs.List.{AllByRecursion}
-use Rattle.std.proofs.lemmas.Bool.{eqb-true, leb-true, le-leb, eq-eqb, ne_eqb, cases_lt, cond-true, cond-false, and_parts, and_from}
-use Rattle.std.proofs.lemmas.List.{append-nil}
-use Rattle.sftp_path.specs.Place.{Place}
-use Rattle.sftp_path.proofs.PathTexts.AbsoluteTexts.{components-absolute}
-use Rattle.sftp_treefile.specs.declared.files.Owner.{Owner}
-use Rattle.sftp_treefile.specs.declared.files.Kind.{Kind}
+use Rattle.sftp_tree.proofs.Imports.{◌≡◌, ℕ, suc, ◌+◌, ◌-◌, ◌<◌, ◌≤◌, ◌==◌, List, [], ◌∷◌, ◌++◌, length, take, Option}
+use Rattle.sftp_tree.proofs.Imports.{Some, None, refl, sym, ap, subst, ◌∙◌, append_assoc, arith, ◌⊎◌, inl, inr, IsTrue}
+use Rattle.sftp_tree.proofs.Imports.{is_some, AllByRecursion, eqb-true, leb-true, le-leb, eq-eqb, ne_eqb, cases_lt}
+use Rattle.sftp_tree.proofs.Imports.{cond-true, cond-false, and_parts, and_from, append-nil, Place, components-absolute}
+use Rattle.sftp_tree.proofs.Imports.{Owner, Kind, Row, TreeLimits, IsKind, AreRows, Content, Node, File, Names, Files}
+use Rattle.sftp_tree.proofs.Imports.{IsNode, content_at, entry_naming, naming, kind_of, rows_after, is_given_or_next}
+use Rattle.sftp_tree.proofs.Imports.{given_with, is_numbered, content_of, contents_of, node_of, names_of}
 use Rattle.sftp_treefile.specs.declared.files.Kind.TheVariants as kinds
-use Rattle.sftp_treefile.specs.declared.files.Row.{Row}
-use Rattle.sftp_treefile.specs.declared.limits.TreeLimits.{TreeLimits}
-use Rattle.sftp_treefile.specs.TreeFile.{IsKind, AreRows}
-use Rattle.sftp_tree.specs.declared.file_contents.Content.{Content}
-use Rattle.sftp_tree.specs.declared.nodes.Node.{Node}
-use Rattle.sftp_tree.specs.declared.nodes.Node.TheVariants.{File}
-use Rattle.sftp_tree.specs.Tree.{Names, Files, IsNode, content_at}
-use Rattle.sftp_tree.specs.Picture.{entry_naming, naming, kind_of, rows_after, is_given_or_next, given_with, is_numbered}
-use Rattle.sftp_tree.specs.PictureParts.{content_of, contents_of, node_of, entry_of, entries_after, names_of}
-use Rattle.sftp_tree.proofs.TreeFiles.Numbers.{made_by, made_push, first_at, made_front, front_taken, first_of_number, rows_join, names_push, all_below, none_named, first_is_named}
+use Rattle.sftp_tree.specs.PictureParts.{entry_of, entries_after}
+use Rattle.sftp_tree.proofs.TreeFiles.Numbers.{made_by, made_push, first_at, made_front, front_taken, first_of_number}
+use Rattle.sftp_tree.proofs.TreeFiles.Numbers.{rows_join, names_push, all_below, none_named, first_is_named}
 use Rattle.sftp_tree.proofs.TreeFiles.Contents.{AreContents, contents_behind}
 use Rattle.sftp_tree.proofs.TreeFiles.Named.{row_of, rows_cons, IsBelowRoot}
 

@@ -1,27 +1,14 @@
 -- The entries of directories are written branch by branch.
-use Rattle.std.proofs.Common.{◌≡◌, ℕ, suc, ◌+◌, ◌<◌, ◌≤◌, ◌^◌, List, [], ◌∷◌, ◌++◌, length, take, drop, Some, refl, sym, ap, subst, ◌∙◌, append_assoc, append-nil, arith}
-use Rattle.std.proofs.lemmas.Grind.{flat_map-append}
-use Rattle.std.proofs.lemmas.List.{length-append}
-use Rattle.std.proofs.Math.Seq.{take-append_seam}
-use Rattle.std.specs.List.{flat_map, AllByRecursion}
-use Rattle.std.specs.Ordering.{nat_cmp}
-use Rattle.std.specs.Prelude.{IsTrue}
-use Rattle.sftp_path.specs.Place.{Name, Place, place_cmp, absolute}
-use Rattle.sftp_path.specs.Table.{InOrder, get}
-use Rattle.sftp_path.proofs.Table.Laws.{get-empty}
+use Rattle.sftp_tree.proofs.Imports.{◌≡◌, ℕ, suc, ◌+◌, ◌<◌, ◌≤◌, ◌^◌, List, [], ◌∷◌, ◌++◌, length, take, drop, Some}
+use Rattle.sftp_tree.proofs.Imports.{refl, sym, ap, subst, ◌∙◌, append_assoc, append-nil, arith, flat_map-append}
+use Rattle.sftp_tree.proofs.Imports.{length-append, take-append_seam, flat_map, AllByRecursion, nat_cmp, IsTrue, Name}
+use Rattle.sftp_tree.proofs.Imports.{Place, place_cmp, absolute, InOrder, get, get-empty, Owner, Row, row_text, Child}
+use Rattle.sftp_tree.proofs.Imports.{Dir, Names, Files, Tree, IsKept, node_at, is_directory, Children, branch, placed}
+use Rattle.sftp_tree.proofs.Imports.{flat, IsBranch, AreBranches, rows_after, only_root, Firsts, firsts_with}
+use Rattle.sftp_tree.proofs.Imports.{known_kind, text_of, rows_from, firsts_from, AreWritable}
 use Rattle.sftp_treefile.specs.declared.files.Kind.TheVariants as kinds
-use Rattle.sftp_treefile.specs.declared.files.Owner.{Owner}
-use Rattle.sftp_treefile.specs.declared.files.Row.{Row}
-use Rattle.sftp_treefile.specs.TreeFile.{row_text}
-use Rattle.sftp_tree.specs.declared.entries.directories.Child.{Child}
 use Rattle.sftp_tree.specs.declared.entries.directories.Child.TheVariants as children
-use Rattle.sftp_tree.specs.declared.nodes.Node.TheVariants.{Dir}
 use Rattle.sftp_tree.specs.declared.pictures.branches.Progress.{Progress}
-use Rattle.sftp_tree.specs.Tree.{Names, Files, Tree, IsKept, node_at, is_directory}
-use Rattle.sftp_tree.specs.Nesting.{Children, branch, placed, flat, IsBranch, AreBranches}
-use Rattle.sftp_tree.specs.Picture.{rows_after}
-use Rattle.sftp_tree.specs.PictureParts.{only_root, Firsts, firsts_with, known_kind}
-use Rattle.sftp_tree.specs.Written.{text_of, rows_from, firsts_from, AreWritable}
 use Rattle.sftp_tree.proofs.Limits.Tests.{stands-of}
 use Rattle.sftp_tree.proofs.PlaceTables.Rising.{all_left, all_right}
 use Rattle.sftp_tree.proofs.TreeFiles.Files.{split_tree}

@@ -1,21 +1,10 @@
 -- Files that are numbered in a row.
-use Rattle.std.proofs.Common.{◌≡◌, ◌≢◌, ℕ, suc, ◌+◌, ◌<◌, ◌≤◌, ◌==◌, List, [], ◌∷◌, ◌++◌, length, Some, None, refl, sym, ap, subst, ◌∙◌, append_assoc, arith, ◌⊎◌, inl, inr}
-use Rattle.std.specs.Prelude.{IsTrue, is_some}
-use Rattle.std.specs.List.{AllByRecursion}
-use Rattle.std.specs.List.Sorted.{IsStrictlySortedBy}
-use Rattle.std.specs.Map.{keys_of}
-use Rattle.std.specs.Ordering.{nat_cmp, is_eq}
-use Rattle.std.specs.declared.cmp.Ordering.TheVariants.{Less}
-use Rattle.std.specs.Cmp.{nat_cmp_total, nat_cmp_is}
-use Rattle.std.specs.FinMap.{nat_cmp-IsAntisymmetric}
-use Rattle.std.proofs.lemmas.Bool.{cases_eq, cond-true, cond-false, eq-eqb, ne_eqb}
-use Rattle.std.proofs.lemmas.Bool.Decides.{nat_tests}
-use Rattle.std.proofs.lemmas.List.{length-append}
-use Rattle.sftp_path.specs.Table.{InOrder}
-use Rattle.sftp_path.proofs.Table.Laws.{get-empty, get-cons, same_table}
-use Rattle.sftp_tree.specs.declared.file_contents.Content.{Content}
-use Rattle.sftp_tree.specs.Tree.{Files, content_at}
-use Rattle.sftp_tree.specs.PictureParts.{numbered_from}
+use Rattle.sftp_tree.proofs.Imports.{◌≡◌, ◌≢◌, ℕ, suc, ◌+◌, ◌<◌, ◌≤◌, ◌==◌, List, [], ◌∷◌, ◌++◌, length, Some, None}
+use Rattle.sftp_tree.proofs.Imports.{refl, sym, ap, subst, ◌∙◌, append_assoc, arith, ◌⊎◌, inl, inr, IsTrue, is_some}
+use Rattle.sftp_tree.proofs.Imports.{AllByRecursion, IsStrictlySortedBy, keys_of, nat_cmp, is_eq, Less, nat_cmp_total}
+use Rattle.sftp_tree.proofs.Imports.{nat_cmp_is, nat_cmp-IsAntisymmetric, cases_eq, cond-true, cond-false, eq-eqb}
+use Rattle.sftp_tree.proofs.Imports.{ne_eqb, nat_tests, length-append, InOrder, get-empty, get-cons, same_table}
+use Rattle.sftp_tree.proofs.Imports.{Content, Files, content_at, numbered_from}
 
 -- ---- look-ups
 

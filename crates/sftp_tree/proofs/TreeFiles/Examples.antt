@@ -1,18 +1,10 @@
 -- Worked trees are such that the program may have.
-use Rattle.std.proofs.Common.{◌≡◌, [], ◌∷◌, length, refl, sym, subst, arith}
-use Rattle.std.specs.Prelude.{codes}
-use Rattle.sftp_wire.specs.Examples.{hex}
-use Rattle.sftp_path.specs.Place.{components, parts, is_good_path}
-use Rattle.sftp_path.specs.Table.{get}
+use Rattle.sftp_tree.proofs.Imports.{◌≡◌, [], ◌∷◌, length, refl, sym, subst, arith, codes, hex, components, parts}
+use Rattle.sftp_tree.proofs.Imports.{is_good_path, get, TreeFile, usual_limits, blank_bytes, raised_bytes, has_dir}
+use Rattle.sftp_tree.proofs.Imports.{spelled, IsPlaceText, IsTreeFile, IsSpelled, usual_are, IsKept, raised, IsStart}
+use Rattle.sftp_tree.proofs.Imports.{picture, blank, user_owner, linked, two_names, two_names_bytes}
 use Rattle.sftp_treefile.specs.declared.files.Kind.TheVariants as kinds
-use Rattle.sftp_treefile.specs.declared.files.TreeFile.{TreeFile}
-use Rattle.sftp_treefile.specs.Limits.{usual_limits, are_own}
-use Rattle.sftp_treefile.specs.Examples.{blank_bytes, raised_bytes}
-use Rattle.sftp_treefile.specs.TreeFile.{has_dir, spelled, IsPlaceText, IsTreeFile, IsSpelled}
-use Rattle.sftp_treefile.proofs.Texts.Limits.{usual_are}
-use Rattle.sftp_tree.specs.Tree.{IsKept, raised}
-use Rattle.sftp_tree.specs.Picture.{IsStart, picture, blank}
-use Rattle.sftp_tree.specs.PictureExamples.{user_owner, linked, two_names, two_names_bytes}
+use Rattle.sftp_treefile.specs.Limits.{are_own}
 use Rattle.sftp_tree.proofs.KeptTrees.Raised.{raised-start}
 use Rattle.sftp_tree.proofs.TreeFiles.Files.{blank_kept, kept_of_file, start_of_spelled}
 

@@ -1,36 +1,28 @@
 -- What a tree's file says is a tree file, whose tree is that tree with its files numbered anew; and what a tree file says is what
 -- its tree's says.
-use Rattle.std.proofs.Common.{◌≡◌, ℕ, ◌+◌, ◌-◌, ◌<◌, ◌≤◌, ◌^◌, ◌||◌, cond, List, [], ◌∷◌, ◌++◌, length, Some, refl, sym, ap, subst, ◌∙◌, arith}
-use Rattle.std.specs.Prelude.{IsTrue, is_some}
-use Rattle.std.specs.List.{AllByRecursion, filter}
-use Rattle.std.proofs.lemmas.Bool.{leb-true, ltb-true, le-leb, lt-ltb, or_left}
-use Rattle.std.proofs.lemmas.List.{length-append}
-use Rattle.std.proofs.lemmas.List.Elements.{filter-append}
-use Rattle.sftp_path.specs.Place.{Place, are_names, components}
-use Rattle.sftp_path.specs.Table.{retain}
-use Rattle.sftp_path.proofs.PathTexts.AbsoluteTexts.{components-absolute}
-use Rattle.sftp_treefile.specs.declared.files.Owner.{Owner}
-use Rattle.sftp_treefile.specs.declared.files.Kind.{Kind}
+use Rattle.sftp_tree.proofs.Imports.{◌≡◌, ℕ, ◌+◌, ◌-◌, ◌<◌, ◌≤◌, ◌^◌, ◌||◌, cond, List, [], ◌∷◌, ◌++◌, length, Some}
+use Rattle.sftp_tree.proofs.Imports.{refl, sym, ap, subst, ◌∙◌, arith, IsTrue, is_some, AllByRecursion, filter}
+use Rattle.sftp_tree.proofs.Imports.{leb-true, ltb-true, le-leb, lt-ltb, or_left, length-append, filter-append, Place}
+use Rattle.sftp_tree.proofs.Imports.{are_names, retain, components-absolute, Owner, Kind, Row, TreeFile, TreeLimits}
+use Rattle.sftp_tree.proofs.Imports.{highest_limits, IsOwner, IsKind, AreRows, IsTreeFile, spelled, IsSpelled}
+use Rattle.sftp_tree.proofs.Imports.{usual_are, one_file, Content, Node, Dir, File, Link, Names, Files, Tree}
+use Rattle.sftp_tree.proofs.Imports.{WellFormed, IsKept, IsNode, IsContent, limits, node_at, content_at, names_file}
+use Rattle.sftp_tree.proofs.Imports.{times_named, is_named, is_pinned, fits, depths_fit, depth_fits, home_fits}
+use Rattle.sftp_tree.proofs.Imports.{links_fit, link_fits, files_fit, content_fits, rows_after, root_owner, is_numbered}
+use Rattle.sftp_tree.proofs.Imports.{file_of, picture, IsStart, blank, content_of, contents_of, node_of, only_root}
+use Rattle.sftp_tree.proofs.Imports.{names_of, numbered_from, tree_of}
 use Rattle.sftp_treefile.specs.declared.files.Kind.TheVariants as kinds
-use Rattle.sftp_treefile.specs.declared.files.Row.{Row}
-use Rattle.sftp_treefile.specs.declared.files.TreeFile.{TreeFile}
-use Rattle.sftp_treefile.specs.declared.limits.TreeLimits.{TreeLimits}
-use Rattle.sftp_treefile.specs.Limits.{highest_limits}
-use Rattle.sftp_treefile.specs.TreeFile.{place_of, IsOwner, IsKind, AreRows, IsTreeFile, spelled, IsSpelled}
-use Rattle.sftp_treefile.proofs.Texts.Limits.{usual_are}
-use Rattle.sftp_treefile.proofs.Texts.Files.{one_file}
-use Rattle.sftp_tree.specs.declared.file_contents.Content.{Content}
-use Rattle.sftp_tree.specs.declared.nodes.Node.{Node}
-use Rattle.sftp_tree.specs.declared.nodes.Node.TheVariants.{Dir, File, Link}
-use Rattle.sftp_tree.specs.Tree.{Names, Files, Tree, WellFormed, IsKept, IsNode, IsContent, limits, node_at, content_at, names_file, times_named, is_named, is_pinned, fits, depths_fit, depth_fits, home_fits, links_fit, link_fits, files_fit, content_fits}
-use Rattle.sftp_tree.specs.Picture.{rows_after, root_owner, is_numbered, file_of, picture, IsStart, blank}
-use Rattle.sftp_tree.specs.PictureParts.{content_of, contents_of, node_of, entry_of, entries_after, only_root, names_of, numbered_from, tree_of}
+use Rattle.sftp_tree.specs.PictureParts.{entry_of, entries_after}
 use Rattle.sftp_tree.proofs.PlaceTables.Rising.{all_both, all_together, all_right}
-use Rattle.sftp_tree.proofs.TreeFiles.Tables.{IsPlace, IsFitNode, IsTable, bare_names, text_place, root_table, table_of_rows, rows_of_table, root_first, root_at, entries_below}
+use Rattle.sftp_tree.proofs.TreeFiles.Tables.{IsPlace, IsFitNode, IsTable, bare_names, text_place, root_table}
+use Rattle.sftp_tree.proofs.TreeFiles.Tables.{table_of_rows, rows_of_table, root_first, root_at, entries_below}
 use Rattle.sftp_tree.proofs.TreeFiles.Shapes.{table_bare, table_from_bare, names_bare}
-use Rattle.sftp_tree.proofs.TreeFiles.Numbers.{made_by, made_few, first_of_number, names_split, length-entries, IsBelow, AreBelow, all_below, first_names}
-use Rattle.sftp_tree.proofs.TreeFiles.Contents.{numbered_contents, numbered_there, each_number, each_content, numbered_order, numbered_again}
-use Rattle.sftp_tree.proofs.TreeFiles.Named.{IsBelowRoot, IsFitContent, length-rows, place_text, entry_texts, rows_bare, kinds_fit}
+use Rattle.sftp_tree.proofs.TreeFiles.Numbers.{made_by, made_few, first_of_number, names_split, length-entries, IsBelow}
+use Rattle.sftp_tree.proofs.TreeFiles.Numbers.{AreBelow, all_below, first_names}
+use Rattle.sftp_tree.proofs.TreeFiles.Contents.{numbered_contents, numbered_there, each_number, each_content}
+use Rattle.sftp_tree.proofs.TreeFiles.Contents.{numbered_order, numbered_again}
+use Rattle.sftp_tree.proofs.TreeFiles.Named.{IsBelowRoot, IsFitContent, length-rows, place_text, entry_texts, rows_bare}
+use Rattle.sftp_tree.proofs.TreeFiles.Named.{kinds_fit}
 use Rattle.sftp_tree.proofs.TreeFiles.Again.{rows_again, rows_numbered, entries_again}
 use Rattle.sftp_tree.proofs.PlaceTables.Each.{each-all, all-each, each-weaker}
 use Rattle.sftp_tree.proofs.Limits.Tests.{Stands, fits-parts, fits-from}

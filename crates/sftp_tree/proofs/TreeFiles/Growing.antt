@@ -1,27 +1,14 @@
 -- The entries of a tree file come in order, so that each has its place in a directory that is open.
-use Rattle.std.proofs.Common.{◌≡◌, ℕ, ◌+◌, ◌-◌, ◌<◌, Bool, true, false, if◌then◌else◌, List, [], ◌∷◌, ◌++◌, length, take, drop, refl, sym, ap, subst, ◌∙◌, append_assoc, arith, inl, inr, ◌≤◌, length-take-le}
-use Rattle.std.specs.Prelude.{IsTrue}
-use Rattle.std.specs.List.{AllByRecursion}
-use Rattle.std.specs.Map.{keys_of}
-use Rattle.std.specs.declared.cmp.Ordering.TheVariants.{Less}
-use Rattle.std.proofs.lemmas.Bool.{and_parts, cases_lt, false≢true}
-use Rattle.std.proofs.Math.Seq.{take-append-add}
-use Rattle.sftp_path.specs.Place.{Name, Place, place_cmp, parent, begins, is_name, are_names}
-use Rattle.sftp_path.specs.Table.{InOrder, put}
-use Rattle.sftp_path.proofs.Order.{place_cmp-total, begins-front, begins-append}
-use Rattle.sftp_treefile.specs.declared.files.Kind.{Kind}
+use Rattle.sftp_tree.proofs.Imports.{◌≡◌, ℕ, ◌+◌, ◌-◌, ◌<◌, Bool, true, false, if◌then◌else◌, List, [], ◌∷◌, ◌++◌}
+use Rattle.sftp_tree.proofs.Imports.{length, take, drop, refl, sym, ap, subst, ◌∙◌, append_assoc, arith, inl, inr, ◌≤◌}
+use Rattle.sftp_tree.proofs.Imports.{length-take-le, IsTrue, AllByRecursion, keys_of, Less, and_parts, cases_lt}
+use Rattle.sftp_tree.proofs.Imports.{false≢true, take-append-add, Name, Place, place_cmp, parent, begins, is_name}
+use Rattle.sftp_tree.proofs.Imports.{are_names, InOrder, put, place_cmp-total, begins-front, begins-append, Kind, Owner}
+use Rattle.sftp_tree.proofs.Imports.{Row, TreeLimits, place_of, is_dir, IsOwner, IsNext, AreRows, IsLast, Node, Names}
+use Rattle.sftp_tree.proofs.Imports.{with_node, open_after, names_of, known_node}
 use Rattle.sftp_treefile.specs.declared.files.Kind.TheVariants as kinds
-use Rattle.sftp_treefile.specs.declared.files.Owner.{Owner}
-use Rattle.sftp_treefile.specs.declared.files.Row.{Row}
-use Rattle.sftp_treefile.specs.declared.limits.TreeLimits.{TreeLimits}
-use Rattle.sftp_treefile.specs.TreeFile.{place_of, is_dir, IsOwner, IsNext, AreRows}
-use Rattle.sftp_treefile.specs.TreeFileParts.{IsLast, Follows}
 use Rattle.sftp_treefile.proofs.Order.LastEntry.{no_last, last_more, begins_last, begun_whole}
 use Rattle.sftp_treefile.proofs.Texts.Entries.{follows_next}
-use Rattle.sftp_tree.specs.declared.nodes.Node.{Node}
-use Rattle.sftp_tree.specs.Tree.{Names, with_node}
-use Rattle.sftp_tree.specs.Growth.{open_after}
-use Rattle.sftp_tree.specs.PictureParts.{names_of, known_node}
 use Rattle.sftp_tree.proofs.Nesting.Growth.{front_open}
 use Rattle.sftp_tree.proofs.PlaceTables.Rising.{insert_last}
 use Rattle.sftp_tree.proofs.TreeFiles.Files.{table_of_file}

@@ -1,25 +1,14 @@
 -- What the tree file of a tree says of its entries, one by one.
-use Rattle.std.proofs.Common.{◌≡◌, ℕ, zero, suc, ◌+◌, ◌^◌, ◌<◌, ◌≤◌, Bool, true, false, if◌then◌else◌, List, [], ◌∷◌, ◌++◌, length, map, Option, Some, None, refl, sym, ap, subst, ◌∙◌, append_assoc, arith}
-use Rattle.std.specs.Prelude.{IsTrue, is_some}
-use Rattle.std.specs.List.{slice_get, AllByRecursion}
+use Rattle.sftp_tree.proofs.Imports.{◌≡◌, ℕ, zero, suc, ◌+◌, ◌^◌, ◌<◌, ◌≤◌, Bool, true, false, if◌then◌else◌, List, []}
+use Rattle.sftp_tree.proofs.Imports.{◌∷◌, ◌++◌, length, map, Option, Some, None, refl, sym, ap, subst, ◌∙◌}
+use Rattle.sftp_tree.proofs.Imports.{append_assoc, arith, IsTrue, is_some, slice_get, AllByRecursion}
+use Rattle.sftp_tree.proofs.Imports.{nat_cmp-IsAntisymmetric, nat_cmp, eqb-true, leb-true, append-nil, length-append}
+use Rattle.sftp_tree.proofs.Imports.{Place, are_names, absolute, components, components-absolute, Owner, Row}
+use Rattle.sftp_tree.proofs.Imports.{TreeLimits, is_first, is_first_row, are_bytes, IsOwner, IsKind, IsPlaceText}
+use Rattle.sftp_tree.proofs.Imports.{Content, Node, Dir, File, Link, Names, Files, IsNode, content_at, names_file}
+use Rattle.sftp_tree.proofs.Imports.{entry_naming, naming, kind_of, rows_of, rows_after, only_root}
 use Rattle.std.specs.Option.{option_map}
-use Rattle.std.specs.FinMap.{nat_cmp-IsAntisymmetric}
-use Rattle.std.specs.Ordering.{nat_cmp}
-use Rattle.std.proofs.lemmas.Bool.{eqb-true, leb-true}
-use Rattle.std.proofs.lemmas.List.{append-nil, length-append}
-use Rattle.sftp_path.specs.Place.{Place, are_names, absolute, components}
-use Rattle.sftp_path.proofs.PathTexts.AbsoluteTexts.{components-absolute}
 use Rattle.sftp_tree.proofs.PlaceTables.Each.{each-get}
-use Rattle.sftp_treefile.specs.declared.files.Owner.{Owner}
-use Rattle.sftp_treefile.specs.declared.files.Row.{Row}
-use Rattle.sftp_treefile.specs.declared.limits.TreeLimits.{TreeLimits}
-use Rattle.sftp_treefile.specs.TreeFile.{is_first, is_first_row, are_bytes, IsOwner, IsKind, IsPlaceText}
-use Rattle.sftp_tree.specs.declared.file_contents.Content.{Content}
-use Rattle.sftp_tree.specs.declared.nodes.Node.{Node}
-use Rattle.sftp_tree.specs.declared.nodes.Node.TheVariants.{Dir, File, Link}
-use Rattle.sftp_tree.specs.Tree.{Names, Files, IsNode, content_at, names_file}
-use Rattle.sftp_tree.specs.Picture.{entry_naming, naming, kind_of, rows_of, rows_after}
-use Rattle.sftp_tree.specs.PictureParts.{only_root}
 use Rattle.sftp_tree.proofs.PlaceTables.Rising.{all_both}
 use Rattle.sftp_tree.proofs.TreeFiles.Tables.{IsPlace, IsFitNode, AreKinds, bare_kind, bare_entry}
 use Rattle.sftp_tree.proofs.TreeFiles.Shapes.{bare, bared}

@@ -1,24 +1,13 @@
 -- How rows number the files that they come with, and which entry is the first name of each.
-use Rattle.std.proofs.Common.{◌≡◌, ℕ, zero, suc, ◌+◌, ◌-◌, ◌<◌, ◌≤◌, Bool, true, false, if◌then◌else◌, List, [], ◌∷◌, ◌++◌, length, take, Option, Some, None, refl, sym, ap, subst, ◌∙◌, append_assoc, arith}
-use Rattle.std.specs.Prelude.{IsTrue}
-use Rattle.std.specs.List.{AllByRecursion}
+use Rattle.sftp_tree.proofs.Imports.{◌≡◌, ℕ, zero, suc, ◌+◌, ◌-◌, ◌<◌, ◌≤◌, Bool, true, false, if◌then◌else◌, List, []}
+use Rattle.sftp_tree.proofs.Imports.{◌∷◌, ◌++◌, length, take, Option, Some, None, refl, sym, ap, subst, ◌∙◌}
+use Rattle.sftp_tree.proofs.Imports.{append_assoc, arith, IsTrue, AllByRecursion, eq-eqb, ne_eqb, flat_map-append}
+use Rattle.sftp_tree.proofs.Imports.{append-nil, length-append, take-append_seam, Place, Owner, Kind, Row, TreeLimits}
+use Rattle.sftp_tree.proofs.Imports.{is_first, is_first_row, entry_at, IsKind, AreRows, Node, Dir, File, Link, Names}
+use Rattle.sftp_tree.proofs.Imports.{names_file, entry_naming, content_of, contents_of, node_of, names_of}
 use Rattle.std.specs.Option.{option_map}
-use Rattle.std.proofs.lemmas.Bool.{eq-eqb, ne_eqb}
-use Rattle.std.proofs.lemmas.Grind.{flat_map-append}
-use Rattle.std.proofs.lemmas.List.{append-nil, length-append}
-use Rattle.std.proofs.Math.Seq.{take-append_seam}
-use Rattle.sftp_path.specs.Place.{Place}
-use Rattle.sftp_treefile.specs.declared.files.Owner.{Owner}
-use Rattle.sftp_treefile.specs.declared.files.Kind.{Kind}
 use Rattle.sftp_treefile.specs.declared.files.Kind.TheVariants as kinds
-use Rattle.sftp_treefile.specs.declared.files.Row.{Row}
-use Rattle.sftp_treefile.specs.declared.limits.TreeLimits.{TreeLimits}
-use Rattle.sftp_treefile.specs.TreeFile.{is_first, is_first_row, entry_at, IsKind, AreRows}
-use Rattle.sftp_tree.specs.declared.nodes.Node.{Node}
-use Rattle.sftp_tree.specs.declared.nodes.Node.TheVariants.{Dir, File, Link}
-use Rattle.sftp_tree.specs.Tree.{Names, names_file}
-use Rattle.sftp_tree.specs.Picture.{entry_naming}
-use Rattle.sftp_tree.specs.PictureParts.{content_of, contents_of, node_of, entry_of, entries_after, names_of}
+use Rattle.sftp_tree.specs.PictureParts.{entry_of, entries_after}
 use Rattle.sftp_tree.proofs.PlaceTables.Rising.{all_both}
 use Rattle.sftp_tree.proofs.PlaceTables.Each.{each-weaker}
 

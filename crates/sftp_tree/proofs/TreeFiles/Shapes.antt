@@ -1,20 +1,11 @@
 -- What the table of a tree keeps does not hang on the numbers of its files.
-use Rattle.std.proofs.Common.{◌≡◌, ◌++◌, List, [], ◌∷◌, map, Option, Some, None, refl, sym, ap, subst, ◌∙◌}
-use Rattle.std.specs.List.{AllByRecursion}
-use Rattle.std.specs.List.Sorted.{IsStrictlySortedBy}
+use Rattle.sftp_tree.proofs.Imports.{◌≡◌, ◌++◌, List, [], ◌∷◌, map, Option, Some, None, refl, sym, ap, subst, ◌∙◌}
+use Rattle.sftp_tree.proofs.Imports.{AllByRecursion, IsStrictlySortedBy, keys_of-map_values, Place, place_cmp, parent}
+use Rattle.sftp_tree.proofs.Imports.{with_values, get-with_values, Owner, Kind, Row, Node, Dir, File, Link, Names}
+use Rattle.sftp_tree.proofs.Imports.{node_at, is_directory, is_taken, node_of, only_root, names_of}
 use Rattle.std.specs.Option.{option_map}
-use Rattle.std.proofs.lemmas.Map.Made.{keys_of-map_values}
-use Rattle.sftp_path.specs.Place.{Place, place_cmp, parent}
-use Rattle.sftp_path.specs.Table.{with_values}
-use Rattle.sftp_path.proofs.Table.Values.{get-with_values}
-use Rattle.sftp_treefile.specs.declared.files.Owner.{Owner}
-use Rattle.sftp_treefile.specs.declared.files.Kind.{Kind}
 use Rattle.sftp_treefile.specs.declared.files.Kind.TheVariants as kinds
-use Rattle.sftp_treefile.specs.declared.files.Row.{Row}
-use Rattle.sftp_tree.specs.declared.nodes.Node.{Node}
-use Rattle.sftp_tree.specs.declared.nodes.Node.TheVariants.{Dir, File, Link}
-use Rattle.sftp_tree.specs.Tree.{Names, node_at, is_directory, is_taken}
-use Rattle.sftp_tree.specs.PictureParts.{node_of, entry_of, entries_after, only_root, names_of}
+use Rattle.sftp_tree.specs.PictureParts.{entry_of, entries_after}
 use Rattle.sftp_tree.proofs.TreeFiles.Tables.{IsPlace, IsFitNode, IsTable, bare_kind, bare_entry, bare_names}
 
 -- ---- without numbers

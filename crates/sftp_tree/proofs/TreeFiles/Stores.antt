@@ -1,46 +1,27 @@
 -- The files of the rows so far, as the code keeps them: each with the count of its names.
-use Rattle.std.proofs.Common.{◌≡◌, ◌≢◌, ℕ, zero, suc, ◌+◌, ◌-◌, ◌^◌, ◌<◌, ◌≤◌, Bool, true, false, cond, if◌then◌else◌, List, [], ◌∷◌, ◌++◌, length, take, Option, Some, None, option_and_then, refl, sym, ap, subst, ◌∙◌, arith}
-use Rattle.std.specs.Prelude.{not, slice_index}
-use Rattle.std.specs.List.{filter, AllByRecursion}
-use Rattle.std.specs.List.Sorted.{IsStrictlySortedBy}
-use Rattle.std.specs.Map.{keys_of}
+use Rattle.sftp_tree.proofs.Imports.{◌≡◌, ◌≢◌, ℕ, zero, suc, ◌+◌, ◌-◌, ◌^◌, ◌<◌, ◌≤◌, Bool, true, false, cond}
+use Rattle.sftp_tree.proofs.Imports.{if◌then◌else◌, List, [], ◌∷◌, ◌++◌, length, take, Option, Some, None}
+use Rattle.sftp_tree.proofs.Imports.{option_and_then, refl, sym, ap, subst, ◌∙◌, arith, not, slice_index, filter}
+use Rattle.sftp_tree.proofs.Imports.{AllByRecursion, IsStrictlySortedBy, keys_of, nat_cmp, Less, nat_cmp_total}
+use Rattle.sftp_tree.proofs.Imports.{nat_cmp_is, nat_cmp-IsAntisymmetric, eq-eqb, ne_eqb, same_Some, length-append}
+use Rattle.sftp_tree.proofs.Imports.{append-nil, length-map, filter-append, length-filter_both, keys_of-map_values}
+use Rattle.sftp_tree.proofs.Imports.{Place, place_cmp, InOrder, get, put, retain, place_cmp-total, with_values-put}
+use Rattle.sftp_tree.proofs.Imports.{Owner, Kind, Row, TreeFile, TreeLimits, highest_limits, place_of, IsKind, IsNext}
+use Rattle.sftp_tree.proofs.Imports.{AreRows, Content, Stored, Node, Dir, File, Link, Names, Files, with_node}
+use Rattle.sftp_tree.proofs.Imports.{names_file, times_named, contents, seen, AreCounted, file_named, IsChanged}
+use Rattle.sftp_tree.proofs.Imports.{IsChangedWhereNamed, with_a_name, content_of, contents_of, node_of, only_root}
+use Rattle.sftp_tree.proofs.Imports.{names_of, numbered_from, numbers_from, known_number, known_node, IsKnown, Stores}
+use Rattle.sftp_tree.proofs.Imports.{HaveRoom, AreWithEntry, IsGrown, tree_of}
 use Rattle.std.specs.Option.{IfSome}
-use Rattle.std.specs.Ordering.{nat_cmp}
-use Rattle.std.specs.declared.cmp.Ordering.TheVariants.{Less}
-use Rattle.std.specs.Cmp.{nat_cmp_total, nat_cmp_is}
-use Rattle.std.specs.FinMap.{nat_cmp-IsAntisymmetric}
-use Rattle.std.proofs.lemmas.Bool.{eq-eqb, ne_eqb}
-use Rattle.std.proofs.lemmas.Option.{same_Some}
-use Rattle.std.proofs.lemmas.List.{length-append, append-nil, length-map}
-use Rattle.std.proofs.lemmas.List.Elements.{filter-append}
-use Rattle.std.proofs.lemmas.List.Filters.{length-filter_both}
-use Rattle.std.proofs.lemmas.Map.Made.{keys_of-map_values}
-use Rattle.sftp_path.specs.Place.{Place, place_cmp}
-use Rattle.sftp_path.specs.Table.{InOrder, get, put, retain}
-use Rattle.sftp_path.proofs.Order.{place_cmp-total}
-use Rattle.sftp_path.proofs.Table.Values.{with_values-put}
-use Rattle.sftp_treefile.specs.declared.files.Owner.{Owner}
-use Rattle.sftp_treefile.specs.declared.files.Kind.{Kind}
 use Rattle.sftp_treefile.specs.declared.files.Kind.TheVariants as kinds
-use Rattle.sftp_treefile.specs.declared.files.Row.{Row}
-use Rattle.sftp_treefile.specs.declared.files.TreeFile.{TreeFile}
-use Rattle.sftp_treefile.specs.declared.limits.TreeLimits.{TreeLimits}
-use Rattle.sftp_treefile.specs.Limits.{highest_limits}
-use Rattle.sftp_treefile.specs.TreeFile.{place_of, IsKind, IsNext, AreRows}
-use Rattle.sftp_tree.specs.declared.file_contents.Content.{Content}
-use Rattle.sftp_tree.specs.declared.file_contents.Stored.{Stored}
-use Rattle.sftp_tree.specs.declared.nodes.Node.{Node}
-use Rattle.sftp_tree.specs.declared.nodes.Node.TheVariants.{Dir, File, Link}
-use Rattle.sftp_tree.specs.Tree.{Names, Files, with_node, names_file, times_named}
-use Rattle.sftp_tree.specs.StoredFiles.{contents, seen, AreCounted, file_named, IsChanged, IsChangedWhereNamed, with_a_name}
-use Rattle.sftp_tree.specs.PictureParts.{content_of, contents_of, node_of, only_root, names_of, numbered_from, numbers_from, known_number, known_node, IsKnown, Stores, HaveRoom, AreWithEntry, IsGrown, tree_of}
 use Rattle.sftp_tree.proofs.PlaceTables.Each.{each-get, each-put}
 use Rattle.sftp_tree.proofs.FileCounts.Pins.{by-number, none_pinned}
 use Rattle.sftp_tree.proofs.FileCounts.Names.{at-number, at-entries, raised}
 use Rattle.sftp_tree.proofs.PlaceTables.Rising.{all_both, all_from_map, insert_last}
 use Rattle.sftp_tree.proofs.TreeFiles.Tables.{later_than_all, bare_names}
 use Rattle.sftp_tree.proofs.TreeFiles.Shapes.{bare, names_bare}
-use Rattle.sftp_tree.proofs.TreeFiles.Numbers.{made_by, made_few, contents_split, FirstAt, first_at, names_push, length-entries, IsBelow, AreBelow, all_below}
+use Rattle.sftp_tree.proofs.TreeFiles.Numbers.{made_by, made_few, contents_split, FirstAt, first_at, names_push}
+use Rattle.sftp_tree.proofs.TreeFiles.Numbers.{length-entries, IsBelow, AreBelow, all_below}
 use Rattle.sftp_tree.proofs.TreeFiles.Contents.{each_number, numbered_order}
 
 -- ---- room for a name more

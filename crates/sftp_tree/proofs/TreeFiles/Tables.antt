@@ -1,37 +1,21 @@
 -- The table of a root and of rows, each of which may come after those before it, is the table of a tree, and the rows
 -- of each tree's table are such. Here all names of files are of the file 0: which places have entries of which kind
 -- does not depend on the file.
-use Rattle.std.proofs.Common.{◌≡◌, ℕ, ◌<◌, Bool, true, false, ◌&&◌, ◌||◌, cond, List, [], ◌∷◌, ◌++◌, length, map, Option, Some, None, refl, sym, ap, subst, ◌∙◌, append_assoc, arith}
-use Rattle.std.specs.Prelude.{IsTrue}
-use Rattle.std.specs.BTreeMap.{is_at}
-use Rattle.std.specs.Map.{keys_of}
-use Rattle.std.specs.List.{AllByRecursion, list_any}
-use Rattle.std.specs.List.Sorted.{IsStrictlySortedBy}
-use Rattle.std.specs.Ordering.{is_eq}
-use Rattle.std.specs.declared.cmp.Ordering.{Ordering}
-use Rattle.std.specs.declared.cmp.Ordering.TheVariants.{Less, Equal}
-use Rattle.std.proofs.lemmas.Bool.{le-leb}
-use Rattle.std.proofs.lemmas.Cmp.{tied_itself}
-use Rattle.std.proofs.lemmas.List.{append-nil, map-append}
+use Rattle.sftp_tree.proofs.Imports.{◌≡◌, ℕ, ◌<◌, Bool, true, false, ◌&&◌, ◌||◌, cond, List, [], ◌∷◌, ◌++◌, length, map}
+use Rattle.sftp_tree.proofs.Imports.{Option, Some, None, refl, sym, ap, subst, ◌∙◌, append_assoc, arith, IsTrue, is_at}
+use Rattle.sftp_tree.proofs.Imports.{keys_of, AllByRecursion, list_any, IsStrictlySortedBy, is_eq, Ordering, Less}
+use Rattle.sftp_tree.proofs.Imports.{Equal, le-leb, tied_itself, append-nil, map-append, sorted_head, sorted_tail}
+use Rattle.sftp_tree.proofs.Imports.{Equal-is, Place, place_cmp, parent, are_names, InOrder, get, place_cmp-total}
+use Rattle.sftp_tree.proofs.Imports.{place_cmp-same, get-below, Owner, Kind, Row, TreeLimits, place_of, same_place}
+use Rattle.sftp_tree.proofs.Imports.{is_dir, is_dir_at, has_dir, is_target, are_bytes, IsOwner, IsKind, IsPlaceText}
+use Rattle.sftp_tree.proofs.Imports.{IsNext, AreRows, Node, Dir, File, Link, Names, node_at, is_directory, is_taken}
+use Rattle.sftp_tree.proofs.Imports.{depth_fits, only_root}
 use Rattle.std.proofs.lemmas.Map.{lookup-none}
 use Rattle.std.proofs.lemmas.Map.Entries.{none_below_head}
-use Rattle.std.proofs.lemmas.Map.Keys.{sorted_head, sorted_tail}
-use Rattle.std.specs.Cmp.{Equal-is}
-use Rattle.sftp_path.specs.Place.{Place, place_cmp, parent, are_names}
-use Rattle.sftp_path.specs.Table.{InOrder, get}
-use Rattle.sftp_path.proofs.Order.{place_cmp-total, place_cmp-same}
-use Rattle.sftp_path.proofs.Table.Laws.{get-below}
-use Rattle.sftp_treefile.specs.declared.files.Owner.{Owner}
-use Rattle.sftp_treefile.specs.declared.files.Kind.{Kind}
 use Rattle.sftp_treefile.specs.declared.files.Kind.TheVariants as kinds
-use Rattle.sftp_treefile.specs.declared.files.Row.{Row}
-use Rattle.sftp_treefile.specs.declared.limits.TreeLimits.{TreeLimits}
-use Rattle.sftp_treefile.specs.TreeFile.{place_of, same_place, is_dir, is_dir_at, has_dir, is_target, are_bytes, IsOwner, IsKind, IsPlaceText, IsNext, AreRows}
-use Rattle.sftp_tree.specs.declared.nodes.Node.{Node}
-use Rattle.sftp_tree.specs.declared.nodes.Node.TheVariants.{Dir, File, Link}
-use Rattle.sftp_tree.specs.Tree.{Names, node_at, is_directory, is_taken, depth_fits}
-use Rattle.sftp_tree.specs.PictureParts.{only_root}
-use Rattle.sftp_tree.proofs.PlaceTables.Rising.{all_both, all_from_map, all_to_map, sorted_push, sorted_before, sorted_right, sorted_left, keys_append, lookup_left, lookup_right, lookup_found, places_tie, parent_less, root_before}
+use Rattle.sftp_tree.proofs.PlaceTables.Rising.{all_both, all_from_map, all_to_map, sorted_push, sorted_before}
+use Rattle.sftp_tree.proofs.PlaceTables.Rising.{sorted_right, sorted_left, keys_append, lookup_left, lookup_right}
+use Rattle.sftp_tree.proofs.PlaceTables.Rising.{lookup_found, places_tie, parent_less, root_before}
 use Rattle.sftp_tree.proofs.PlaceTables.Each.{each-weaker}
 
 -- ---- tables

@@ -1,27 +1,14 @@
 -- A tree file is written entry by entry.
-use Rattle.std.proofs.Common.{◌≡◌, ℕ, suc, ◌+◌, ◌-◌, ◌<◌, ◌≤◌, ◌^◌, ◌==◌, Bool, true, false, cond, if◌then◌else◌, List, [], ◌∷◌, ◌++◌, length, take, Option, Some, None, refl, sym, ap, ◌∙◌, arith}
-use Rattle.std.specs.Prelude.{IfSome}
-use Rattle.std.specs.List.{flat_map, AllByRecursion}
+use Rattle.sftp_tree.proofs.Imports.{◌≡◌, ℕ, suc, ◌+◌, ◌-◌, ◌<◌, ◌≤◌, ◌^◌, ◌==◌, Bool, true, false, cond, if◌then◌else◌}
+use Rattle.sftp_tree.proofs.Imports.{List, [], ◌∷◌, ◌++◌, length, take, Option, Some, None, refl, sym, ap, ◌∙◌, arith}
+use Rattle.sftp_tree.proofs.Imports.{IfSome, flat_map, AllByRecursion, nat_cmp, is_eq, nat_cmp_total, eqb-true, eq-eqb}
+use Rattle.sftp_tree.proofs.Imports.{Place, absolute, get, get-put, TreeLimits, highest_limits, row_text, head_bytes}
+use Rattle.sftp_tree.proofs.Imports.{path_length, target_length, spelled_head, file_bytes_bound, Content, Node, Dir}
+use Rattle.sftp_tree.proofs.Imports.{File, Link, Names, Files, Tree, IsKept, node_at, content_at, names_file}
+use Rattle.sftp_tree.proofs.Imports.{entry_naming, naming, kind_of, rows_after, root_owner, file_of, picture, only_root}
+use Rattle.sftp_tree.proofs.Imports.{Firsts, firsts_with, known_kind}
 use Rattle.std.specs.Option.{option_map}
-use Rattle.std.specs.Ordering.{nat_cmp, is_eq}
-use Rattle.std.specs.Cmp.{nat_cmp_total}
-use Rattle.std.proofs.lemmas.Bool.{eqb-true, eq-eqb}
-use Rattle.sftp_path.specs.Place.{Place, absolute}
-use Rattle.sftp_path.specs.Table.{get}
-use Rattle.sftp_path.proofs.Table.Laws.{get-put}
-use Rattle.sftp_treefile.specs.declared.limits.TreeLimits.{TreeLimits}
-use Rattle.sftp_treefile.specs.Limits.{highest_limits}
-use Rattle.sftp_treefile.specs.TreeFile.{row_text}
-use Rattle.sftp_treefile.specs.TreeFileParts.{head_bytes}
-use Rattle.sftp_treefile.proofs.Texts.Fields.{path_length, target_length}
-use Rattle.sftp_treefile.proofs.Texts.Files.{spelled_head}
-use Rattle.sftp_treefile.proofs.Texts.Limits.{file_bytes_bound}
-use Rattle.sftp_tree.specs.declared.file_contents.Content.{Content}
-use Rattle.sftp_tree.specs.declared.nodes.Node.{Node}
-use Rattle.sftp_tree.specs.declared.nodes.Node.TheVariants.{Dir, File, Link}
-use Rattle.sftp_tree.specs.Tree.{Names, Files, Tree, IsKept, node_at, content_at, names_file}
-use Rattle.sftp_tree.specs.Picture.{entry_naming, naming, kind_of, rows_after, root_owner, file_of, picture}
-use Rattle.sftp_tree.specs.PictureParts.{only_root, head_of, Firsts, with_first, firsts_with, known_kind, IsShort}
+use Rattle.sftp_tree.specs.PictureParts.{head_of, with_first, IsShort}
 use Rattle.sftp_tree.proofs.TreeFiles.Tables.{IsPlace, IsFitNode}
 use Rattle.sftp_tree.proofs.TreeFiles.Contents.{number_is}
 use Rattle.sftp_tree.proofs.TreeFiles.Named.{place_text, IsBelowRoot, IsFitContent, all_at, length-rows}

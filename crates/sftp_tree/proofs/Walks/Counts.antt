@@ -1,15 +1,15 @@
 -- How many components a walk looks at.
-use Rattle.std.proofs.Common.{◌≡◌, ℕ, zero, suc, ◌+◌, ◌*◌, ◌≤◌, ◌==◌, ◌&&◌, not, nat_le, Bool, true, false, if◌then◌else◌, List, [], ◌∷◌, ◌++◌, length, filter, ◌∙◌, ap, Some, inl, inr, arith}
-use Rattle.std.specs.List.{list_all}
-use Rattle.std.proofs.lemmas.Bool.{and_parts, leb-true, cases_Bool}
-use Rattle.std.proofs.lemmas.List.{length-append}
-use Rattle.sftp_path.specs.Place.{Name, Place, parent, path_limit, name_limit, with_first, parts, components, is_nonempty, is_absolute, is_good_path}
+use Rattle.sftp_tree.proofs.Imports.{◌≡◌, ℕ, zero, suc, ◌+◌, ◌*◌, ◌≤◌, ◌==◌, ◌&&◌, not, nat_le, Bool, true, false}
+use Rattle.sftp_tree.proofs.Imports.{if◌then◌else◌, List, [], ◌∷◌, ◌++◌, length, ◌∙◌, ap, Some, inl, inr, arith}
+use Rattle.sftp_tree.proofs.Imports.{list_all, and_parts, leb-true, cases_Bool, length-append, Name, Place, parent}
+use Rattle.sftp_tree.proofs.Imports.{parts, components, is_absolute, is_good_path, Link, node_at, Tree, IsKept, Meeting}
+use Rattle.sftp_tree.proofs.Imports.{is_last, start_of, meets, looked, steps_of, looked_limit}
+use Rattle.std.proofs.Common.{filter}
+use Rattle.sftp_path.specs.Place.{path_limit, name_limit, with_first, is_nonempty}
 use Rattle.sftp_path.proofs.PathTexts.Splitting.{parts-nil, parts-slash, parts-inner, components-are, filter-nonempty}
-use Rattle.sftp_tree.specs.declared.nodes.Node.TheVariants.{Link}
-use Rattle.sftp_tree.specs.Tree.{node_at, Tree, IsKept}
-use Rattle.sftp_tree.specs.Walk.{Meeting, is_last, start_of, meets, looked, steps_of, looked_limit}
 use Rattle.sftp_tree.proofs.Walks.Steps.{looked_behind, looked_on, looked-nil, looked-cons}
-use Rattle.sftp_tree.proofs.Walks.Meetings.{MetBy, by_dot, by_dot_dot, by_directory, by_link, met_by, target-good, home-fits}
+use Rattle.sftp_tree.proofs.Walks.Meetings.{MetBy, by_dot, by_dot_dot, by_directory, by_link, met_by, target-good}
+use Rattle.sftp_tree.proofs.Walks.Meetings.{home-fits}
 
 -- ---- components of a good path
 

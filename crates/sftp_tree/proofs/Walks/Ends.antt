@@ -1,10 +1,7 @@
 -- What is known of the ends of a request's paths.
-use Rattle.std.proofs.Common.{◌≡◌, ◌⊎◌, ◌∙◌, ℕ, true, false, inl, inr, sym, ap, Option, Some, Result, Ok, Err, IfOk}
-use Rattle.sftp_path.specs.Place.{Place}
-use Rattle.sftp_tree.specs.declared.causes.Cause.{Cause}
+use Rattle.sftp_tree.proofs.Imports.{◌≡◌, ◌⊎◌, ◌∙◌, ℕ, true, false, inl, inr, sym, ap, Option, Some, Result, Ok, Err}
+use Rattle.sftp_tree.proofs.Imports.{IfOk, Place, Cause, Tree, IsKept, is_directory, reaches_at_most}
 use Rattle.sftp_tree.specs.declared.found.Found.{Found}
-use Rattle.sftp_tree.specs.Tree.{Tree, IsKept, is_directory}
-use Rattle.sftp_tree.specs.Room.{reaches_at_most}
 use Rattle.sftp_tree.specs.Found.{IsFoundIn, node_of, placed, new_placed}
 use Rattle.sftp_tree.proofs.Nesting.Reach.{reach-leaf}
 use Rattle.sftp_tree.proofs.WellFormedTrees.Places.{nothing-below}

@@ -1,13 +1,9 @@
 -- A walk that follows a last link does not end at a link.
-use Rattle.std.proofs.Common.{◌≡◌, ℕ, zero, suc, Bool, true, false, if◌then◌else◌, List, [], ◌∷◌, ◌++◌, refl, sym, ◌∙◌}
-use Rattle.std.proofs.Common.{ap, subst, Option, Some, None, Result, Ok, Err, IsTrue}
-use Rattle.sftp_path.specs.Place.{Name, Place, parent, components, is_absolute, is_good_path}
-use Rattle.sftp_tree.specs.declared.nodes.Node.{Node}
-use Rattle.sftp_tree.specs.declared.nodes.Node.TheVariants.{Dir, File, Link}
-use Rattle.sftp_tree.specs.declared.causes.Cause.{Cause}
-use Rattle.sftp_tree.specs.declared.causes.Cause.TheVariants.{BadPath}
-use Rattle.sftp_tree.specs.Tree.{Tree, IsKept, node_at, is_directory, is_link}
-use Rattle.sftp_tree.specs.Walk.{Meeting, is_last, start_of, meets, walk, steps_of, reached, link_limit}
+use Rattle.sftp_tree.proofs.Imports.{◌≡◌, ℕ, zero, suc, Bool, true, false, if◌then◌else◌, List, [], ◌∷◌, ◌++◌, refl}
+use Rattle.sftp_tree.proofs.Imports.{sym, ◌∙◌, ap, subst, Option, Some, None, Result, Ok, Err, IsTrue, Name, Place}
+use Rattle.sftp_tree.proofs.Imports.{parent, components, is_absolute, is_good_path, Node, Dir, File, Link, Cause}
+use Rattle.sftp_tree.proofs.Imports.{BadPath, Tree, IsKept, node_at, is_directory, is_link, Meeting, is_last, start_of}
+use Rattle.sftp_tree.proofs.Imports.{meets, walk, steps_of, reached, link_limit}
 use Rattle.sftp_tree.proofs.Walks.Steps.{behind_link, walk_on, walk-nil, walk-cons, reached-good, reached-bad}
 use Rattle.sftp_tree.proofs.Walks.Meetings.{MetBy, by_dot, by_dot_dot, by_directory, by_last_file, by_file, by_link}
 use Rattle.sftp_tree.proofs.Walks.Meetings.{by_last_link, by_last_absent, by_absent, met_by}

@@ -1,19 +1,11 @@
 -- What a walk meets, by the node there.
-use Rattle.std.proofs.Common.{◌≡◌, Bool, true, false, nat_eq, if◌then◌else◌, List, [], ◌∷◌, ◌++◌, ℕ, refl, ◌∙◌, ap, Option, Some, None, IsTrue}
-use Rattle.std.specs.List.{list_all}
-use Rattle.std.specs.BTreeMap.{is_at}
-use Rattle.std.proofs.lemmas.Bool.{and_parts, and_from, and_right, false≢true}
-use Rattle.std.proofs.lemmas.List.Folds.{list_all-append}
-use Rattle.sftp_path.specs.Place.{Name, Place, place_cmp, parent, is_dot, is_dot_dot, is_name, is_step, is_good_path, components}
-use Rattle.sftp_path.specs.Table.{get}
-use Rattle.sftp_path.proofs.PathTexts.GoodPaths.{components-steps}
-use Rattle.sftp_treefile.specs.declared.files.Owner.{Owner}
-use Rattle.sftp_treefile.specs.TreeFile.{are_bytes}
-use Rattle.sftp_tree.specs.declared.nodes.Node.{Node}
-use Rattle.sftp_tree.specs.declared.nodes.Node.TheVariants.{Dir, File, Link}
-use Rattle.sftp_tree.specs.declared.causes.Cause.TheVariants.{NoEntry, NotDir}
-use Rattle.sftp_tree.specs.Tree.{Names, node_at, Tree, IsNode, link_fits, home_fits, IsKept}
-use Rattle.sftp_tree.specs.Walk.{Meeting, enters, ends, fails, through, is_last, met_link, met, meets}
+use Rattle.sftp_tree.proofs.Imports.{◌≡◌, Bool, true, false, nat_eq, if◌then◌else◌, List, [], ◌∷◌, ◌++◌, ℕ, refl, ◌∙◌}
+use Rattle.sftp_tree.proofs.Imports.{ap, Option, Some, None, IsTrue, list_all, is_at, and_parts, and_from, and_right}
+use Rattle.sftp_tree.proofs.Imports.{false≢true, list_all-append, Name, Place, place_cmp, parent, is_dot, is_dot_dot}
+use Rattle.sftp_tree.proofs.Imports.{is_name, is_step, is_good_path, components, get, components-steps, Owner}
+use Rattle.sftp_tree.proofs.Imports.{are_bytes, Node, Dir, File, Link, NoEntry, NotDir, Names, node_at, Tree, IsNode}
+use Rattle.sftp_tree.proofs.Imports.{link_fits, home_fits, IsKept, Meeting, enters, ends, fails, through, is_last}
+use Rattle.sftp_tree.proofs.Imports.{met_link, met, meets}
 use Rattle.sftp_tree.specs.WalkRules.{IsPlain, GoesThrough, not_last, followed}
 use Rattle.sftp_tree.proofs.PlaceTables.Each.{each-all, lookup_holds}
 use Rattle.sftp_tree.proofs.Limits.Tests.{fits-parts}

@@ -1,20 +1,14 @@
 -- Where walks lead: to lists of names whose parents are directories.
-use Rattle.std.proofs.Common.{◌≡◌, ℕ, zero, suc, ◌-◌, ◌||◌, Bool, true, false, if◌then◌else◌, List, [], ◌∷◌, ◌++◌, length, take, refl, sym, ◌∙◌, ap, subst, Some, Result, Ok, Err, IsTrue}
-use Rattle.std.specs.List.{list_all}
-use Rattle.std.proofs.lemmas.Bool.{and_parts, and_from, or_right}
-use Rattle.std.proofs.lemmas.List.Folds.{list_all-append}
-use Rattle.sftp_path.specs.Place.{Name, Place, parent, is_name, is_step, is_dot, is_dot_dot, are_names, components, is_absolute, is_good_path}
-use Rattle.sftp_path.proofs.PathTexts.GoodPaths.{components-steps, list_all-weaker}
-use Rattle.sftp_path.proofs.Order.{parent-entered}
-use Rattle.sftp_treefile.specs.TreeFile.{are_bytes}
-use Rattle.sftp_tree.specs.declared.nodes.Node.TheVariants.{Link}
-use Rattle.sftp_tree.specs.declared.causes.Cause.{Cause}
-use Rattle.sftp_tree.specs.declared.causes.Cause.TheVariants.{BadPath}
-use Rattle.sftp_tree.specs.Tree.{node_at, is_directory, Tree, IsKept}
-use Rattle.sftp_tree.specs.Walk.{Meeting, is_last, start_of, meets, walk, steps_of, reached, link_limit}
-use Rattle.sftp_tree.specs.Walking.{IsPlaceOf}
+use Rattle.sftp_tree.proofs.Imports.{◌≡◌, ℕ, zero, suc, ◌-◌, ◌||◌, Bool, true, false, if◌then◌else◌, List, [], ◌∷◌}
+use Rattle.sftp_tree.proofs.Imports.{◌++◌, length, take, refl, sym, ◌∙◌, ap, subst, Some, Result, Ok, Err, IsTrue}
+use Rattle.sftp_tree.proofs.Imports.{list_all, and_parts, and_from, or_right, list_all-append, Name, Place, parent}
+use Rattle.sftp_tree.proofs.Imports.{is_name, is_step, is_dot, is_dot_dot, are_names, components, is_absolute}
+use Rattle.sftp_tree.proofs.Imports.{is_good_path, components-steps, list_all-weaker, parent-entered, are_bytes, Link}
+use Rattle.sftp_tree.proofs.Imports.{Cause, BadPath, node_at, is_directory, Tree, IsKept, Meeting, is_last, start_of}
+use Rattle.sftp_tree.proofs.Imports.{meets, walk, steps_of, reached, link_limit, IsPlaceOf}
 use Rattle.sftp_tree.proofs.Walks.Steps.{behind_link, walk_on, walk-nil, walk-cons, reached-good, reached-bad}
-use Rattle.sftp_tree.proofs.Walks.Meetings.{MetBy, by_dot, by_dot_dot, by_directory, by_last_file, by_link, by_last_link, by_last_absent, met_by, plain-is_name, steps-behind}
+use Rattle.sftp_tree.proofs.Walks.Meetings.{MetBy, by_dot, by_dot_dot, by_directory, by_last_file, by_link}
+use Rattle.sftp_tree.proofs.Walks.Meetings.{by_last_link, by_last_absent, met_by, plain-is_name, steps-behind}
 use Rattle.sftp_tree.proofs.WellFormedTrees.Places.{directory-taken}
 
 -- a walk is at a directory

@@ -1,13 +1,6 @@
 -- What is left of a route.
-use Rattle.std.proofs.Common.{◌≡◌, ◌==◌, ◌&&◌, Bool, true, false, List, [], ◌∷◌, ◌++◌, length, refl, sym, ap, ◌∙◌, arith}
-use Rattle.std.specs.List.{list_all}
-use Rattle.std.proofs.lemmas.Bool.{ne_eqb}
-use Rattle.std.proofs.Math.Bool.{and_comm}
-use Rattle.std.proofs.lemmas.List.{append-nil, append_assoc}
-use Rattle.sftp_path.specs.Place.{Name}
-use Rattle.sftp_path.specs.Split.{Split}
-use Rattle.sftp_tree.specs.Walk.{is_last}
-use Rattle.sftp_tree.specs.Route.{left_of, is_done}
+use Rattle.sftp_tree.proofs.Imports.{◌≡◌, ◌==◌, ◌&&◌, List, [], ◌∷◌, ◌++◌, length, refl, sym, ap, ◌∙◌, arith, list_all}
+use Rattle.sftp_tree.proofs.Imports.{ne_eqb, and_comm, append-nil, append_assoc, Name, Split, is_last, left_of, is_done}
 
 -- one target more comes in front
 pub left_of-push : (targets : List Split) (target : Split) → left_of (targets ++ target ∷ []) ≡ target.left ++ left_of targets

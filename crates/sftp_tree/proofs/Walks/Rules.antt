@@ -1,13 +1,13 @@
 -- Walks are by the rules, and no rule leads elsewhere.
-use Rattle.std.proofs.Common.{◌≡◌, ◌↔◌, ℕ, zero, suc, Bool, true, false, List, [], ◌∷◌, ◌++◌, sym, ◌∙◌, ap, subst, Some, None, Result}
-use Rattle.sftp_path.specs.Place.{Name, Place, parent, components}
-use Rattle.sftp_tree.specs.declared.nodes.Node.TheVariants.{Dir, File, Link}
-use Rattle.sftp_tree.specs.declared.causes.Cause.{Cause}
-use Rattle.sftp_tree.specs.Tree.{Names, node_at}
-use Rattle.sftp_tree.specs.Walk.{Meeting, is_last, met_link, start_of, meets, walk}
-use Rattle.sftp_tree.specs.WalkRules.{IsPlain, GoesThrough, Leads, done, stays, goes_up, is_absent, is_lost, enters, finds_file, stops_at_file, finds_link, goes_through, loops}
+use Rattle.sftp_tree.proofs.Imports.{◌≡◌, ◌↔◌, ℕ, zero, suc, Bool, true, false, List, [], ◌∷◌, ◌++◌, sym, ◌∙◌, ap}
+use Rattle.sftp_tree.proofs.Imports.{subst, Some, None, Result, Name, Place, parent, components, Dir, File, Link, Cause}
+use Rattle.sftp_tree.proofs.Imports.{Names, node_at, Meeting, is_last, met_link, start_of, meets, walk}
+use Rattle.sftp_tree.specs.WalkRules.{IsPlain, GoesThrough, Leads, done, stays, goes_up, is_absent, is_lost, enters}
+use Rattle.sftp_tree.specs.WalkRules.{finds_file, stops_at_file, finds_link, goes_through, loops}
 use Rattle.sftp_tree.proofs.Walks.Steps.{behind_link, walk_on, walk-nil, walk-cons}
-use Rattle.sftp_tree.proofs.Walks.Meetings.{MetBy, by_dot, by_dot_dot, by_directory, by_last_file, by_file, by_link, by_last_link, by_last_absent, by_absent, met_by, meets-dot, meets-dot_dot, meets-plain, met-through}
+use Rattle.sftp_tree.proofs.Walks.Meetings.{MetBy, by_dot, by_dot_dot, by_directory, by_last_file, by_file, by_link}
+use Rattle.sftp_tree.proofs.Walks.Meetings.{by_last_link, by_last_absent, by_absent, met_by, meets-dot, meets-dot_dot}
+use Rattle.sftp_tree.proofs.Walks.Meetings.{meets-plain, met-through}
 
 -- ---- a walk is by the rules
 

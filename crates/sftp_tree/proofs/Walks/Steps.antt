@@ -1,17 +1,12 @@
 -- Walks, component by component.
-use Rattle.std.proofs.Common.{◌≡◌, ℕ, zero, suc, ◌+◌, ◌<◌, ◌≤◌, Bool, true, false, if◌then◌else◌, List, [], ◌∷◌, ◌++◌, refl, sym, ◌∙◌, ap, subst, Option, Result, Ok, Err, MatchResult, Bor, arith}
-use Rattle.std.specs.Result.{IsErrAnd}
-use Rattle.std.proofs.lemmas.Result.{err_from_is_err_and}
-use Rattle.sftp_path.specs.Place.{Name, Place, components, is_good_path}
-use Rattle.sftp_tree.specs.declared.causes.Cause.{Cause}
-use Rattle.sftp_tree.specs.declared.causes.Cause.TheVariants.{BadPath, Loop}
+use Rattle.sftp_tree.proofs.Imports.{◌≡◌, ℕ, zero, suc, ◌+◌, ◌<◌, ◌≤◌, Bool, true, false, if◌then◌else◌, List, [], ◌∷◌}
+use Rattle.sftp_tree.proofs.Imports.{◌++◌, refl, sym, ◌∙◌, ap, subst, Option, Result, Ok, Err, MatchResult, Bor, arith}
+use Rattle.sftp_tree.proofs.Imports.{IsErrAnd, err_from_is_err_and, Name, Place, components, is_good_path, Cause}
+use Rattle.sftp_tree.proofs.Imports.{BadPath, Loop, Ends, Through, Names, Tree, IsLentAt, Meeting, is_last, start_of}
+use Rattle.sftp_tree.proofs.Imports.{going_on, meets, walk_parts, walk, looked_parts, looked, link_limit, steps_of}
+use Rattle.sftp_tree.proofs.Imports.{reached, meeting, StaysAtLink, LendsEnd}
 use Rattle.sftp_tree.specs.declared.stepping.Met.{Met}
-use Rattle.sftp_tree.specs.declared.stepping.Met.TheVariants.{Ends, Through}
 use Rattle.sftp_tree.specs.declared.entries.seen.Seen.{Seen}
-use Rattle.sftp_tree.specs.Tree.{Names, Tree}
-use Rattle.sftp_tree.specs.Trail.{IsLentAt}
-use Rattle.sftp_tree.specs.Walk.{Meeting, is_last, start_of, going_on, meets, walk_parts, walk, looked_parts, looked, link_limit, steps_of, reached}
-use Rattle.sftp_tree.specs.Stepping.{meeting, StaysAtLink, LendsEnd}
 use Rattle.sftp_tree.specs.Ticks.{looked_of}
 
 -- ---- the place

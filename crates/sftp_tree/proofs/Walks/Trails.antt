@@ -1,16 +1,11 @@
 -- The directories from the root to where a walk stands.
-use Rattle.std.proofs.Common.{◌≡◌, ℕ, ◌-◌, suc, List, [], ◌∷◌, ◌++◌, length, take, append-nil, append_assoc, arith}
-use Rattle.std.proofs.Common.{refl, sym, ap, subst, ◌∙◌, Option, Some, None, option_copied, Bor}
-use Rattle.sftp_path.specs.Place.{Name, Place, parent}
-use Rattle.sftp_path.specs.Table.{get}
-use Rattle.sftp_treefile.specs.declared.files.Owner.{Owner}
+use Rattle.sftp_tree.proofs.Imports.{◌≡◌, ℕ, ◌-◌, suc, List, [], ◌∷◌, ◌++◌, length, take, append-nil, append_assoc}
+use Rattle.sftp_tree.proofs.Imports.{arith, refl, sym, ap, subst, ◌∙◌, Option, Some, None, option_copied, Bor, Name}
+use Rattle.sftp_tree.proofs.Imports.{Place, parent, get, Owner, Child, Names, node_at, branch, branch_of, Standing}
+use Rattle.sftp_tree.proofs.Imports.{IsAt, root_of, AreAlong, IsLentAt}
 use Rattle.sftp_tree.specs.declared.nodes.Node.TheVariants as nodes
-use Rattle.sftp_tree.specs.declared.entries.directories.Child.{Child}
 use Rattle.sftp_tree.specs.declared.entries.directories.Child.TheVariants as children
 use Rattle.sftp_tree.specs.declared.entries.seen.Seen.TheVariants.{Dir, File, Link}
-use Rattle.sftp_tree.specs.Tree.{Names, node_at}
-use Rattle.sftp_tree.specs.Nesting.{branch, branch_of}
-use Rattle.sftp_tree.specs.Trail.{Standing, IsAt, root_of, AreAlong, IsLentAt}
 
 -- a directory more at the end
 root_of-push : (above : List (Bor Names)) (last here : Bor Names)

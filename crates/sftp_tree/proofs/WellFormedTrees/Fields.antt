@@ -1,16 +1,10 @@
 -- Fields that fit their places on the wire, as parts of a tree: paths, owners and contents.
-use Rattle.std.proofs.Common.{rules, ℕ, zero, suc, ◌-◌, ◌&&◌, List, [], ◌∷◌, length, take, replicate, refl, ◌∙◌, Option, Some, None, unwrap_or, IsTrue, nat_lt, drop}
+use Rattle.sftp_tree.proofs.Imports.{rules, ℕ, zero, suc, ◌-◌, ◌&&◌, List, [], ◌∷◌, length, take, replicate, refl, ◌∙◌}
+use Rattle.sftp_tree.proofs.Imports.{Option, Some, None, unwrap_or, IsTrue, nat_lt, drop, lt-ltb, and_parts, and_from}
+use Rattle.sftp_tree.proofs.Imports.{list_all-append, Attrs, AreBytes, Owner, IsOwner, are_bytes, Content, IsAttrs}
+use Rattle.sftp_tree.proofs.Imports.{Tree, WellFormed, IsContent, directory_owner, file_owner, changed_owner, resized}
+use Rattle.sftp_tree.proofs.Imports.{changed_content}
 use Rattle.std.specs.Option.{option_map}
-use Rattle.std.proofs.lemmas.Bool.{lt-ltb, and_parts, and_from}
-use Rattle.std.proofs.lemmas.List.Folds.{list_all-append}
-use Rattle.sftp_packets.specs.declared.attributes.Attrs.{Attrs}
-use Rattle.sftp_packets.specs.Spelling.{AreBytes}
-use Rattle.sftp_treefile.specs.declared.files.Owner.{Owner}
-use Rattle.sftp_treefile.specs.TreeFile.{IsOwner, are_bytes}
-use Rattle.sftp_tree.specs.declared.file_contents.Content.{Content}
-use Rattle.sftp_packets.specs.AskValues.{IsAttrs}
-use Rattle.sftp_tree.specs.Tree.{Tree, WellFormed, IsContent}
-use Rattle.sftp_tree.specs.Attributes.{directory_owner, file_owner, changed_owner, resized, changed_content}
 
 pub bytes-fit : (bytes : List ℕ) → AreBytes bytes → IsTrue (are_bytes bytes)
 bytes-fit [] fits = refl

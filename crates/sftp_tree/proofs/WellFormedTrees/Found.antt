@@ -1,18 +1,9 @@
 -- The nodes at the places that paths lead to, as the calls for requests find them.
-use Rattle.std.proofs.Common.{◌≡◌, Bool, true, false, [], ◌∷◌, nat_eq, refl, sym, ap, Option, Some, None, IsTrue}
-use Rattle.std.specs.declared.cmp.Ordering.{Ordering}
-use Rattle.std.specs.BTreeMap.{is_at}
-use Rattle.std.specs.List.{AllByRecursion, list_all}
+use Rattle.sftp_tree.proofs.Imports.{◌≡◌, Bool, true, false, [], ◌∷◌, nat_eq, refl, sym, ap, Option, Some, None, IsTrue}
+use Rattle.sftp_tree.proofs.Imports.{Ordering, is_at, AllByRecursion, list_all, pointwise, same_text, Place, place_cmp}
+use Rattle.sftp_tree.proofs.Imports.{rekeyed, Table, get, without-absent, is_root, same_place, Node, Names, Tree}
+use Rattle.sftp_tree.proofs.Imports.{IsKept, IsNode, node_at, is_taken, is_directory, moved, put_in_its_stead}
 use Rattle.std.specs.Cmp.{first_so, second_so}
-use Rattle.std.specs.Cmp.Lexicographic.{pointwise, same_text}
-use Rattle.sftp_path.specs.Place.{Place, place_cmp}
-use Rattle.sftp_path.specs.Rekeying.{rekeyed}
-use Rattle.sftp_path.specs.Table.{Table, get}
-use Rattle.sftp_path.proofs.Table.Entries.{without-absent}
-use Rattle.sftp_treefile.specs.TreeFile.{is_root, same_place}
-use Rattle.sftp_tree.specs.declared.nodes.Node.{Node}
-use Rattle.sftp_tree.specs.Tree.{Names, Tree, IsKept, IsNode, node_at, is_taken, is_directory}
-use Rattle.sftp_tree.specs.Changes.{moved, put_in_its_stead}
 use Rattle.sftp_tree.proofs.PlaceTables.Each.{each-all, lookup_holds}
 
 pub absent-of : (found : Option Node) → is_taken found ≡ false → found ≡ None

@@ -1,18 +1,11 @@
 -- What makes a table of names that of a tree with some files, and that each change of one name keeps it.
-use Rattle.std.proofs.Common.{◌≡◌, ◌≢◌, Bool, true, false, cond, [], ◌∷◌, refl, sym, ap, subst, ◌∙◌, arith, Option, Some, None, IsTrue}
-use Rattle.std.specs.Ordering.{is_eq}
-use Rattle.std.specs.declared.cmp.Ordering.TheVariants.{Equal}
-use Rattle.std.specs.Cmp.{Equal-is}
-use Rattle.std.specs.List.{AllByRecursion}
-use Rattle.sftp_path.specs.Place.{Place, place_cmp, parent, are_names}
-use Rattle.sftp_path.specs.Table.{InOrder}
-use Rattle.sftp_path.proofs.Order.{place_cmp-total, place_cmp-same}
-use Rattle.sftp_path.proofs.Table.Laws.{get-put, get-put_elsewhere, get-without, get-without_elsewhere, InOrder-put, InOrder-without}
-use Rattle.sftp_treefile.specs.TreeFile.{IsOwner, is_root}
-use Rattle.sftp_treefile.specs.declared.files.Owner.{Owner}
-use Rattle.sftp_tree.specs.declared.nodes.Node.{Node}
-use Rattle.sftp_tree.specs.declared.nodes.Node.TheVariants.{Dir}
-use Rattle.sftp_tree.specs.Tree.{Names, Files, Tree, WellFormed, IsNode, node_at, with_node, without_node, is_directory, is_taken, has_entries}
+use Rattle.sftp_tree.proofs.Imports.{◌≡◌, ◌≢◌, Bool, true, false, cond, [], ◌∷◌, refl, sym, ap, subst, ◌∙◌, arith}
+use Rattle.sftp_tree.proofs.Imports.{Option, Some, None, IsTrue, is_eq, Equal, Equal-is, AllByRecursion, Place}
+use Rattle.sftp_tree.proofs.Imports.{place_cmp, parent, are_names, InOrder, place_cmp-total, place_cmp-same, get-put}
+use Rattle.sftp_tree.proofs.Imports.{get-put_elsewhere, get-without, InOrder-put, InOrder-without, IsOwner, is_root}
+use Rattle.sftp_tree.proofs.Imports.{Owner, Node, Dir, Names, Files, Tree, WellFormed, IsNode, node_at, with_node}
+use Rattle.sftp_tree.proofs.Imports.{without_node, is_directory, is_taken, has_entries}
+use Rattle.sftp_path.proofs.Table.Laws.{get-without_elsewhere}
 use Rattle.sftp_tree.proofs.PlaceTables.Each.{each-get, each-put}
 use Rattle.sftp_tree.proofs.WellFormedTrees.Places.{HaveParents}
 use Rattle.sftp_tree.proofs.PlaceTables.Removals.{each-without}

@@ -1,16 +1,11 @@
 -- Places of a tree, above and below one another: each place above a taken one is a directory.
-use Rattle.std.proofs.Common.{◌≡◌, ℕ, zero, suc, ◌+◌, ◌-◌, ◌<◌, ◌≤◌, ◌&&◌, Bool, true, false, [], ◌∷◌, ◌++◌, length, take, drop, refl, sym, ap, subst, ◌∙◌, arith, Option, Some, None, IsTrue, nat_lt, inl, inr}
-use Rattle.std.specs.Cmp.Lexicographic.{nat_list_eq_equiv}
-use Rattle.std.proofs.Math.Seq.{take-append_seam}
-use Rattle.std.proofs.lemmas.List.{take-take, length-take-le, take_all}
-use Rattle.std.proofs.lemmas.Bool.{and_parts, and_from, ltb-true, ltb-false, false_from_ne_true, both_ways, cases_lt, cases_Bool}
-use Rattle.sftp_path.specs.Place.{Name, Place, parent, begins, is_below, same_bytes, place_cmp}
-use Rattle.sftp_path.specs.Table.{InOrder}
-use Rattle.sftp_path.proofs.Order.{begins-is, begins-front, below-begins, place_cmp-total, place_cmp-same}
-use Rattle.sftp_treefile.specs.TreeFile.{same_place}
-use Rattle.sftp_tree.specs.declared.nodes.Node.{Node}
-use Rattle.sftp_tree.specs.Tree.{Names, node_at, is_taken, is_directory, has_entries}
-use Rattle.sftp_tree.specs.PlaceCauses.{goes_inside}
+use Rattle.sftp_tree.proofs.Imports.{◌≡◌, ℕ, zero, suc, ◌+◌, ◌-◌, ◌<◌, ◌≤◌, ◌&&◌, Bool, true, false, [], ◌∷◌, ◌++◌}
+use Rattle.sftp_tree.proofs.Imports.{length, take, drop, refl, sym, ap, subst, ◌∙◌, arith, Option, Some, None, IsTrue}
+use Rattle.sftp_tree.proofs.Imports.{nat_lt, inl, inr, nat_list_eq_equiv, take-append_seam, take-take, length-take-le}
+use Rattle.sftp_tree.proofs.Imports.{take_all, and_parts, and_from, ltb-true, ltb-false, false_from_ne_true, both_ways}
+use Rattle.sftp_tree.proofs.Imports.{cases_lt, cases_Bool, Name, Place, parent, begins, is_below, same_bytes, place_cmp}
+use Rattle.sftp_tree.proofs.Imports.{InOrder, begins-is, begins-front, below-begins, place_cmp-total, place_cmp-same}
+use Rattle.sftp_tree.proofs.Imports.{same_place, Node, Names, node_at, is_taken, is_directory, has_entries, goes_inside}
 use Rattle.sftp_tree.proofs.PlaceTables.Each.{get-each}
 use Rattle.sftp_tree.proofs.PlaceTables.Below.{has_entries-below, has_entries-none}
 use Rattle.sftp_tree.proofs.WellFormedTrees.Found.{absent-of, taken-of}

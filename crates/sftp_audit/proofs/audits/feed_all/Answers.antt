@@ -1,7 +1,7 @@
 -- Each turn of the loop gives an event and feeds it; the feed ends where no event is left, or at an error.
 use Rattle.sftp_audit.proofs.Imports.{ℕ, Bool, [], ◌∷◌, ◌++◌, refl, subst, ◌∙◌, arith, err_from_is_err_and, IsTold}
+use Rattle.sftp_audit.proofs.Imports.{recorded_exchanges}
 use Rattle.std.proofs.lemmas.Grind.{common_steps}
-use Rattle.sftp_audit.specs.Exchanges.{recorded_exchanges}
 use Rattle.sftp_audit.proofs.streams.Given.{gave_event, IsFeeding, feeding-start, feeding-next, all-fed, stops-fault}
 use Rattle.sftp_audit.proofs.streams.Given.{stops-refused, fault-refuses_nothing, refused-for_good, told-fault}
 use Rattle.sftp_audit.proofs.streams.Given.{told-refused}

@@ -1,4 +1,4 @@
-use Rattle.sftp_audit.proofs.Imports.{strictly-permitted}
+use Rattle.sftp_profile.proofs.Permissions.{strictly-permitted}
 use Rattle.sftp_audit.proofs.streams.StrictAccounts.{accounts-permitted}
 use Rattle.sftp_audit.proofs.laws.strict_accounts_stay.Goals as goal
 

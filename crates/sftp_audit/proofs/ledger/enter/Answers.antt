@@ -1,5 +1,5 @@
 use Rattle.sftp_audit.proofs.Imports.{◌≡◌, ◌<◌, ◌%◌, ◌+◌, ◌^◌, false, length, refl, sym, ◌∙◌, arith, window, IsOrdinal}
-use Rattle.sftp_audit.specs.Exchanges.{is_open}
+use Rattle.sftp_audit.proofs.Imports.{is_open}
 use Rattle.sftp_audit.proofs.auditing.Places.{in_use, not_in_use, ordinal-of, indexed-asked}
 use Rattle.sftp_audit.proofs.ledger.enter.Goals as goal
 

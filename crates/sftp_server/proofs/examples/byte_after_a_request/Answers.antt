@@ -1,11 +1,10 @@
 -- The request cannot be read, and nothing but the INIT is in front of it.
 use Rattle.sftp_server.proofs.Imports.{◌≡◌, ℕ, [], Some, Ok, Err, refl, sym, ap, ◌∙◌, inl, inr, Unreadable, Packet}
-use Rattle.sftp_server.proofs.Imports.{Init, Client, hex, spelling, front_of, client_packet_at, uint32_at, pairs_at}
-use Rattle.sftp_server.proofs.Imports.{pair_at, string_at, Tree, handshake_bytes, sent_by, remove_and_byte}
-use Rattle.sftp_server.proofs.Imports.{EndsAfterVersion}
+use Rattle.sftp_server.proofs.Imports.{Init, Client, hex, spelling, front_of, Tree, handshake_bytes, sent_by}
+use Rattle.sftp_packets.specs.Reading.{client_packet_at, uint32_at, pairs_at, pair_at, string_at, packet_of}
+use Rattle.sftp_server.specs.Examples.{remove_and_byte, EndsAfterVersion}
 use Rattle.sftp_packets.specs.declared.errors.Fault.{Fault}
 use Rattle.sftp_packets.specs.declared.errors.Fault.TheVariants.{Trailing, Short}
-use Rattle.sftp_packets.specs.Reading.{packet_of}
 use Rattle.sftp_tree.specs.Picture.{blank}
 use Rattle.sftp_server.specs.declared.ends.Ended.TheVariants as ends
 use Rattle.sftp_server.specs.declared.ends.SessionFault.TheVariants as faults

@@ -1,6 +1,7 @@
 -- The first request is answered as the blank tree allows; the second has its id.
 use Rattle.sftp_server.proofs.Imports.{[], refl, inr, Init, hex, spelling, get, retain, pins_of, started, sent_by}
-use Rattle.sftp_server.proofs.Imports.{answered_last, stat_bytes, stat_answered}
+use Rattle.sftp_server.proofs.Imports.{answered_last}
+use Rattle.sftp_server.specs.Examples.{stat_bytes, stat_answered}
 use Rattle.sftp_tree.specs.Picture.{blank}
 use Rattle.sftp_server.proofs.Worked.Openings.{greeting}
 use Rattle.sftp_server.proofs.Worked.Scripts.{stat_root, stat_spelled, root_spelled, looked}

@@ -1,7 +1,7 @@
 -- A flush that fails appends nothing.
 use Rattle.sftp_server.proofs.Imports.{◌≡◌, ℕ, List, [], ◌∷◌, ◌++◌, Option, Some, None, sym, inl, inr, ◌∙◌, append-nil}
-use Rattle.sftp_server.proofs.Imports.{Appends, Keeps, none-some, TranscriptError, Io, AppendsPart, Log, FailsToFlush}
-use Rattle.sftp_server.proofs.Imports.{IsLogging}
+use Rattle.sftp_server.proofs.Imports.{Appends, Keeps, none-some, TranscriptError, Io, AppendsPart, Log, IsLogging}
+use Rattle.sftp_transcript.specs.Log.{FailsToFlush}
 use Rattle.sftp_server.proofs.sending.flush_log.Goals as goal
 
 appends-none : (old new : Option (List ℕ)) (first rest : List ℕ) → [] ≡ first ++ rest → Appends old new first

@@ -1,5 +1,6 @@
 -- A batch: requests are taken, then done and answered; what comes after it leads on, or to the end.
-use Rattle.sftp_server.proofs.Imports.{subst, err_from_is_err_and, fault_of, stream_bytes, IsNext}
+use Rattle.sftp_server.proofs.Imports.{subst, err_from_is_err_and, fault_of, stream_bytes}
+use Rattle.sftp_server.specs.Ending.{IsNext}
 use Rattle.sftp_server.specs.declared.serving.Next.{Next}
 use Rattle.sftp_server.proofs.serving.serve_requests.Goals as goal
 

@@ -1,5 +1,6 @@
 -- The number after the direction says how long the record is.
-use Rattle.sftp_transcript.proofs.Imports.{◌≡◌, ℕ, ◌<◌, ◌^◌, List, ◌∷◌, ◌++◌, rules, arith, sym, ap, ◌∙◌, uint32}
+use Rattle.sftp_transcript.proofs.Imports.{◌≡◌, ℕ, ◌<◌, ◌^◌, List, ◌∷◌, ◌++◌, rules, arith, sym, ap, ◌∙◌}
+use Rattle.sftp_packets.specs.Spelling.{uint32}
 use Rattle.sftp_transcript.proofs.Inputs.{record_length}
 use Rattle.sftp_transcript.proofs.Fronts.{part_is_short}
 use Rattle.sftp_transcript.proofs.input.record_length.Goals as goal

@@ -1,6 +1,5 @@
-use Rattle.sftp_wire.proofs.StreamLaws.Front.{spellings-apart}
 use Rattle.sftp_transcript.proofs.transcripts.OneRecord.{records_are_one_lem}
 use Rattle.sftp_transcript.proofs.records.records_are_one.Goals as goal
 
 pub returns : goal.returns
-returns c = records_are_one_lem spellings-apart
+returns c = records_are_one_lem

@@ -1,5 +1,5 @@
 -- Each write appends the front of what is left.
-use Rattle.sftp_transcript.proofs.Imports.{take_rest}
+use Rattle.std.proofs.lemmas.List.{take_rest}
 use Rattle.sftp_transcript.proofs.Putting.{IsPutBefore-next}
 use Rattle.sftp_transcript.proofs.writer.put_all.Goals as goal
 

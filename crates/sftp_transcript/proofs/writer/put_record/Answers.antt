@@ -1,5 +1,6 @@
 -- Where a part of the record fails, a beginning of the whole is written.
-use Rattle.sftp_transcript.proofs.Imports.{[], ◌∷◌, opening_before, direction_of}
+use Rattle.sftp_transcript.proofs.Imports.{[], ◌∷◌, direction_of}
+use Rattle.sftp_transcript.specs.Log.{opening_before}
 use Rattle.sftp_transcript.proofs.Putting.{on_err, AppendsPart-first, AppendsPart-then}
 use Rattle.sftp_transcript.proofs.writer.put_record.Goals as goal
 

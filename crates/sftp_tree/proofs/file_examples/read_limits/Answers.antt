@@ -1,6 +1,5 @@
 -- A file has more than the limit.
-use Rattle.std.proofs.Common.{min, drop, arith}
-use Rattle.std.proofs.lemmas.List.{length-take, length-drop}
+use Rattle.sftp_tree.proofs.Imports.{min, drop, arith, length-take, length-drop}
 use Rattle.sftp_tree.proofs.file_examples.read_limits.Goals as goal
 
 pub returns-clause-usual : goal.returns-clause-usual

@@ -1,5 +1,4 @@
-use Rattle.std.proofs.Common.{◌+◌, ◌-◌}
-use Rattle.sftp_tree.specs.Tree.{times_pinned}
+use Rattle.sftp_tree.proofs.Imports.{◌+◌, ◌-◌, times_pinned}
 use Rattle.sftp_tree.proofs.FileCounts.Pins.{times_pinned-here, times_pinned-elsewhere}
 use Rattle.sftp_tree.proofs.file_laws.pins_are_counted.Goals as goal
 

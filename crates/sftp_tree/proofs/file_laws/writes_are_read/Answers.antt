@@ -1,4 +1,4 @@
-use Rattle.std.proofs.Common.{refl}
+use Rattle.sftp_tree.proofs.Imports.{refl}
 use Rattle.sftp_tree.proofs.OpenFiles.Written.{before-written, there-written, behind-written}
 use Rattle.sftp_tree.proofs.file_laws.writes_are_read.Goals as goal
 

@@ -1,9 +1,6 @@
-use Rattle.std.proofs.Common.{rules, ◌-◌, sym, ap, ◌∙◌}
-use Rattle.std.specs.Option.{option_copied_mut}
-use Rattle.sftp_path.specs.Table.{get}
-use Rattle.sftp_tree.specs.declared.file_contents.Stored.{Stored}
-use Rattle.sftp_tree.specs.StoredFiles.{without_a_name}
-use Rattle.sftp_tree.proofs.FileCounts.Changes.{changed-nowhere, changed-written, changed-removed, where_held-gone, where_held-left}
+use Rattle.sftp_tree.proofs.Imports.{rules, ◌-◌, sym, ap, ◌∙◌, option_copied_mut, get, Stored, without_a_name}
+use Rattle.sftp_tree.proofs.FileCounts.Changes.{changed-nowhere, changed-written, changed-removed, where_held-gone}
+use Rattle.sftp_tree.proofs.FileCounts.Changes.{where_held-left}
 use Rattle.sftp_tree.proofs.files.lower.Goals as goal
 
 pub returns-in_default : goal.returns-in_default

@@ -1,9 +1,5 @@
-use Rattle.std.proofs.Common.{sym, refl, ap, ◌∙◌, arith, ◌+◌, ◌<◌, ◌^◌}
-use Rattle.std.specs.Option.{option_copied_mut}
-use Rattle.std.proofs.lemmas.Option.{MatchOption-at_some}
-use Rattle.sftp_path.specs.Table.{get}
-use Rattle.sftp_tree.specs.declared.file_contents.Stored.{Stored}
-use Rattle.sftp_tree.specs.StoredFiles.{with_a_pin}
+use Rattle.sftp_tree.proofs.Imports.{sym, refl, ap, ◌∙◌, arith, ◌+◌, ◌<◌, ◌^◌, option_copied_mut, MatchOption-at_some}
+use Rattle.sftp_tree.proofs.Imports.{get, Stored, with_a_pin}
 use Rattle.sftp_tree.proofs.FileCounts.Changes.{changed-nowhere, changed-written}
 use Rattle.sftp_tree.proofs.files.pin.Goals as goal
 

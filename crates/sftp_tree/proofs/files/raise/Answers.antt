@@ -1,8 +1,4 @@
-use Rattle.std.proofs.Common.{rules, sym, refl, ap, ◌∙◌, ◌+◌}
-use Rattle.std.specs.Option.{option_copied_mut}
-use Rattle.sftp_path.specs.Table.{get}
-use Rattle.sftp_tree.specs.declared.file_contents.Stored.{Stored}
-use Rattle.sftp_tree.specs.StoredFiles.{with_a_name}
+use Rattle.sftp_tree.proofs.Imports.{rules, sym, refl, ap, ◌∙◌, ◌+◌, option_copied_mut, get, Stored, with_a_name}
 use Rattle.sftp_tree.proofs.FileCounts.Changes.{changed-nowhere, changed-written}
 use Rattle.sftp_tree.proofs.files.raise.Goals as goal
 

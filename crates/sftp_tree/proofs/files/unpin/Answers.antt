@@ -1,10 +1,7 @@
-use Rattle.std.proofs.Common.{◌-◌, ◌<◌, sym, ap, ◌∙◌, arith}
-use Rattle.std.specs.Option.{option_copied_mut}
-use Rattle.std.proofs.lemmas.Option.{MatchOption-at_some}
-use Rattle.sftp_path.specs.Table.{get}
-use Rattle.sftp_tree.specs.declared.file_contents.Stored.{Stored}
-use Rattle.sftp_tree.specs.StoredFiles.{without_a_pin}
-use Rattle.sftp_tree.proofs.FileCounts.Changes.{changed-nowhere, changed-written, changed-removed, where_held-gone, where_held-left}
+use Rattle.sftp_tree.proofs.Imports.{◌-◌, ◌<◌, sym, ap, ◌∙◌, arith, option_copied_mut, MatchOption-at_some, get, Stored}
+use Rattle.sftp_tree.proofs.Imports.{without_a_pin}
+use Rattle.sftp_tree.proofs.FileCounts.Changes.{changed-nowhere, changed-written, changed-removed, where_held-gone}
+use Rattle.sftp_tree.proofs.FileCounts.Changes.{where_held-left}
 use Rattle.sftp_tree.proofs.files.unpin.Goals as goal
 
 pub returns-in_default : goal.returns-in_default

@@ -1,6 +1,4 @@
-use Rattle.std.proofs.Common.{ap, sym, ◌∙◌, nat_lt}
-use Rattle.sftp_tree.specs.declared.file_contents.Stored.{Stored}
-use Rattle.sftp_tree.specs.StoredFiles.{without_pins}
+use Rattle.sftp_tree.proofs.Imports.{ap, sym, ◌∙◌, nat_lt, Stored, without_pins}
 use Rattle.sftp_tree.proofs.FileCounts.Unpinned.{retained}
 use Rattle.sftp_tree.proofs.files.unpin_all.Goals as goal
 

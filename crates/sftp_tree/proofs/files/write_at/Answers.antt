@@ -1,12 +1,5 @@
-use Rattle.std.proofs.Common.{◌≡◌, sym, ap, ◌∙◌, Some}
-use Rattle.std.specs.Option.{option_copied_mut}
-use Rattle.std.specs.Ordering.{nat_cmp}
-use Rattle.std.specs.BTreeMap.{is_at}
-use Rattle.std.specs.Map.{set_value}
-use Rattle.std.proofs.lemmas.Map.Steps.{set_value_same}
-use Rattle.std.proofs.lemmas.Result.{err_from_is_err_and}
-use Rattle.sftp_tree.specs.declared.file_contents.Stored.{Stored}
-use Rattle.sftp_tree.specs.StoredFiles.{with_bytes_written}
+use Rattle.sftp_tree.proofs.Imports.{◌≡◌, sym, ap, ◌∙◌, Some, option_copied_mut, nat_cmp, is_at, set_value}
+use Rattle.sftp_tree.proofs.Imports.{set_value_same, err_from_is_err_and, Stored, with_bytes_written}
 use Rattle.sftp_tree.proofs.FileCounts.Changes.{changed-nowhere, changed-written}
 use Rattle.sftp_tree.proofs.files.write_at.Goals as goal
 

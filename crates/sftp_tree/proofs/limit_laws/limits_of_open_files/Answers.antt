@@ -1,5 +1,4 @@
-use Rattle.std.proofs.Common.{refl}
-use Rattle.sftp_tree.specs.Tree.{content_at}
+use Rattle.sftp_tree.proofs.Imports.{refl, content_at}
 use Rattle.sftp_tree.proofs.CauseLaws.Limits.{changed-room}
 use Rattle.sftp_tree.proofs.OpenFiles.Written.{write-room}
 use Rattle.sftp_tree.proofs.limit_laws.limits_of_open_files.Goals as goal

@@ -1,6 +1,5 @@
 -- The numbers are computed.
-use Rattle.std.proofs.Common.{◌&&◌, nat_le, []}
-use Rattle.sftp_tree.specs.Tree.{depth_fits}
+use Rattle.sftp_tree.proofs.Imports.{◌&&◌, nat_le, [], depth_fits}
 use Rattle.sftp_tree.proofs.limit_laws.room_by_limits.Goals as goal
 
 pub returns-clause-usual : goal.returns-clause-usual

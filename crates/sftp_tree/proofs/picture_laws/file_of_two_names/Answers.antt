@@ -1,5 +1,4 @@
-use Rattle.std.proofs.Common.{refl}
-use Rattle.sftp_wire.specs.Examples.{hex}
+use Rattle.sftp_tree.proofs.Imports.{refl, hex}
 use Rattle.sftp_tree.proofs.TreeFiles.Examples.{two_names_start}
 use Rattle.sftp_tree.proofs.picture_laws.file_of_two_names.Goals as goal
 

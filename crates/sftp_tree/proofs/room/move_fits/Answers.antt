@@ -1,5 +1,4 @@
-use Rattle.std.proofs.Common.{sym, ◌∙◌, arith}
-use Rattle.std.proofs.lemmas.Bool.{le-leb}
+use Rattle.sftp_tree.proofs.Imports.{sym, ◌∙◌, arith, le-leb}
 use Rattle.sftp_tree.proofs.Limits.Moves.{shallow-fits}
 use Rattle.sftp_tree.proofs.room.move_fits.Goals as goal
 

@@ -16,7 +16,7 @@ returns-clause-entered c =
     let added : c.insert.new.self.entries ≡ old.open_requests.entries ++ (id, c.args.ask.now) ∷ [] =
     c.in_ok-insert.ensures.entries
     ∙ (insert_entry-new nat_eq old.open_requests id c.in_ok-clone.field-0 c.first_free-id.ensures.free
-    ∙ ap (λ (ask : Ask). old.open_requests.entries ++ (id, ask) ∷ []) c.in_ok-clone.ensures.cases) in
+    ∙ ap (λ (ask : Ask). old.open_requests.entries ++ (id, ask) ∷ []) c.in_ok-clone.ensures.cases.0) in
     rw (← c.self.view_is, c.in-Some.is)
     (sent_with_id c.in-Some.announced old.next id old.open_requests.entries c.insert.new.self.entries c.args.ask.now few
     may c.first_free-id.ensures added)

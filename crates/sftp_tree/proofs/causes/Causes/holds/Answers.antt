@@ -1,7 +1,5 @@
-use Rattle.std.proofs.Common.{◌/◌, ◌^◌, ◌∙◌, nat_eq, bit_and, ap}
+use Rattle.sftp_tree.proofs.Imports.{◌/◌, ◌^◌, ◌∙◌, nat_eq, bit_and, ap, row, in_set}
 use Rattle.std.proofs.lemmas.Nat.Bits.{shr_and_one}
-use Rattle.sftp_tree.specs.Causes.{row}
-use Rattle.sftp_tree.specs.Refusals.{in_set}
 use Rattle.sftp_tree.proofs.causes.Causes.holds.Goals as goal
 
 pub returns : goal.returns

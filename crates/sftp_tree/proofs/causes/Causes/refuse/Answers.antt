@@ -1,12 +1,9 @@
 -- Where no row of the table was found, none is in the set.
-use Rattle.std.proofs.Common.{◌≡◌, ◌||◌, Bool, true, false, cond, not, List, [], ◌∷◌, Some, None, refl, sym, ◌∙◌, ap, rules, tests, Bor}
+use Rattle.sftp_tree.proofs.Imports.{◌≡◌, ◌||◌, Bool, true, false, cond, not, List, [], ◌∷◌, Some, None, refl, sym, ◌∙◌}
+use Rattle.sftp_tree.proofs.Imports.{ap, rules, tests, Bor, list_any, find, Cause, every_cause, in_set}
 use Rattle.std.specs.Option.{option_map}
-use Rattle.std.specs.List.{list_any, find}
 use Rattle.std.proofs.lemmas.Iterator.{YieldsList-from_slice}
 use Rattle.std.proofs.lemmas.Iterator.Search.{find_from_yields_List}
-use Rattle.sftp_tree.specs.declared.causes.Cause.{Cause}
-use Rattle.sftp_tree.specs.Causes.{every_cause}
-use Rattle.sftp_tree.specs.Refusals.{in_set}
 use Rattle.sftp_tree.proofs.causes.Causes.refuse.Goals as goal
 
 none-found : (test : Cause → Bool) (xs : List Cause) → find test xs ≡ None → list_any test xs ≡ false

@@ -1,6 +1,5 @@
-use Rattle.std.proofs.Common.{◌*◌, ◌%◌, ◌^◌, ◌∙◌, bit_or, sym, ap}
-use Rattle.sftp_tree.specs.Causes.{when}
-use Rattle.sftp_tree.specs.Refusals.{in_set}
+use Rattle.sftp_tree.proofs.Imports.{◌*◌, ◌%◌, ◌^◌, ◌∙◌, sym, ap, when, in_set}
+use Rattle.std.proofs.Common.{bit_or}
 use Rattle.sftp_tree.proofs.CauseLaws.Bits.{when-not, when-set}
 use Rattle.sftp_tree.proofs.causes.Causes.when.Goals as goal
 

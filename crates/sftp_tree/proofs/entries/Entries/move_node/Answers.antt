@@ -1,5 +1,4 @@
-use Rattle.std.proofs.Common.{sym, ap, ◌∙◌, arith}
-use Rattle.sftp_tree.specs.Tree.{Names, node_at}
+use Rattle.sftp_tree.proofs.Imports.{sym, ap, ◌∙◌, arith, Names, node_at}
 use Rattle.sftp_tree.proofs.Nesting.Entries.{not-above, moved-is, moved-one, moved-none, moved-branch, gone-none}
 use Rattle.sftp_tree.proofs.entries.Entries.move_node.Goals as goal
 

@@ -1,5 +1,4 @@
-use Rattle.std.proofs.Common.{sym, ◌∙◌, arith}
-use Rattle.sftp_tree.specs.Nesting.{branch}
+use Rattle.sftp_tree.proofs.Imports.{sym, ◌∙◌, arith, branch}
 use Rattle.sftp_tree.proofs.Nesting.Changes.{still-branch}
 use Rattle.sftp_tree.proofs.Nesting.Entries.{put-in, put-is, put-more}
 use Rattle.sftp_tree.proofs.entries.Entries.put.Goals as goal

@@ -1,4 +1,4 @@
-use Rattle.std.proofs.Common.{[], sym, ◌∙◌, arith}
+use Rattle.sftp_tree.proofs.Imports.{[], sym, ◌∙◌, arith}
 use Rattle.sftp_tree.proofs.Nesting.Changes.{still-branch}
 use Rattle.sftp_tree.proofs.Nesting.Entries.{removed-left, removed-one, removed-none, removed-nothing}
 use Rattle.sftp_tree.proofs.entries.Entries.remove.Goals as goal

@@ -1,4 +1,4 @@
-use Rattle.std.proofs.Common.{sym, ap, length}
+use Rattle.sftp_tree.proofs.Imports.{sym, ap, length}
 use Rattle.sftp_tree.proofs.Nesting.Moves.{root-branch}
 use Rattle.sftp_tree.proofs.entries.Entries.root.Goals as goal
 

@@ -1,6 +1,5 @@
-use Rattle.std.proofs.Common.{sym, subst, ◌∙◌, IsTrue}
+use Rattle.sftp_tree.proofs.Imports.{sym, subst, ◌∙◌, IsTrue, node_at, with_node, is_directory}
 use Rattle.sftp_tree.specs.declared.nodes.Node.TheVariants as nodes
-use Rattle.sftp_tree.specs.Tree.{node_at, with_node, is_directory}
 use Rattle.sftp_tree.proofs.Nesting.Changes.{set-branch}
 use Rattle.sftp_tree.proofs.Nesting.Entries.{set-with, set-length}
 use Rattle.sftp_tree.proofs.entries.Entries.set_owner.Goals as goal

@@ -1,6 +1,5 @@
 -- What begins another and is shorter has it below.
-use Rattle.std.proofs.Common.{◌&&◌, nat_lt, length, sym, ◌∙◌, ap}
-use Rattle.sftp_path.proofs.Order.{below-begins}
+use Rattle.sftp_tree.proofs.Imports.{◌&&◌, nat_lt, length, sym, ◌∙◌, ap, below-begins}
 use Rattle.sftp_tree.proofs.entries.below.is_below.Goals as goal
 
 pub returns-then-starts_with : goal.returns-then-starts_with

@@ -1,11 +1,5 @@
-use Rattle.std.proofs.Common.{◌≡◌, ◌∙◌, sym, ap, Some, None, option_map}
-use Rattle.std.specs.Ordering.{nat_cmp}
-use Rattle.sftp_path.specs.Table.{get}
-use Rattle.sftp_path.proofs.Table.Values.{get-with_values}
-use Rattle.sftp_tree.specs.declared.file_contents.Stored.{Stored}
-use Rattle.sftp_tree.specs.Tree.{content_at}
-use Rattle.sftp_tree.specs.PictureParts.{Stores}
-use Rattle.sftp_tree.specs.StoredFiles.{contents}
+use Rattle.sftp_tree.proofs.Imports.{◌≡◌, ◌∙◌, sym, ap, Some, None, option_map, nat_cmp, get, get-with_values, Stored}
+use Rattle.sftp_tree.proofs.Imports.{content_at, Stores, contents}
 use Rattle.sftp_tree.proofs.files.Files.get.Goals as goal
 
 pub returns-in_err-stored : goal.returns-in_err-stored

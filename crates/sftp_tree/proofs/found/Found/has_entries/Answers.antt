@@ -1,9 +1,7 @@
-use Rattle.std.proofs.Common.{rules, ◌≡◌, ◌&&◌, Some, IfSome, sym, ap, subst, ◌∙◌}
+use Rattle.sftp_tree.proofs.Imports.{rules, ◌≡◌, ◌&&◌, Some, IfSome, sym, ap, subst, ◌∙◌, is_directory, has_entries}
+use Rattle.sftp_tree.proofs.Imports.{node_seen, IsDirAt}
 use Rattle.std.specs.Option.{option_map}
 use Rattle.sftp_tree.specs.declared.entries.seen.Seen.TheVariants.{Dir}
-use Rattle.sftp_tree.specs.Tree.{is_directory, has_entries}
-use Rattle.sftp_tree.specs.Seen.{node_seen}
-use Rattle.sftp_tree.specs.Trail.{IsDirAt}
 use Rattle.sftp_tree.proofs.Nesting.Entries.{has_entries-alike}
 use Rattle.sftp_tree.proofs.found.Found.has_entries.Goals as goal
 

@@ -1,9 +1,6 @@
-use Rattle.std.proofs.Common.{rules, ◌≡◌, Some, IfSome, sym, ap, subst, ◌∙◌}
+use Rattle.sftp_tree.proofs.Imports.{rules, ◌≡◌, Some, IfSome, sym, ap, subst, ◌∙◌, is_directory, node_seen, IsDirAt}
 use Rattle.std.specs.Option.{option_map}
 use Rattle.sftp_tree.specs.declared.entries.seen.Seen.TheVariants.{Dir, File, Link}
-use Rattle.sftp_tree.specs.Tree.{is_directory}
-use Rattle.sftp_tree.specs.Seen.{node_seen}
-use Rattle.sftp_tree.specs.Trail.{IsDirAt}
 use Rattle.sftp_tree.proofs.Nesting.Reach.{reach-alike}
 use Rattle.sftp_tree.proofs.Walks.Ends.{reach-no-directory}
 use Rattle.sftp_tree.proofs.found.Found.reaches_at_most.Goals as goal

@@ -1,10 +1,9 @@
 -- A directory is written and then what is below it, child by child.
-use Rattle.std.proofs.Common.{◌≡◌, ℕ, List, ◌∷◌, ◌++◌, ◌∙◌, ap, sym, subst, length, drop, length-append, arith}
-use Rattle.sftp_treefile.specs.TreeFile.{row_text}
+use Rattle.sftp_tree.proofs.Imports.{◌≡◌, ℕ, List, ◌∷◌, ◌++◌, ◌∙◌, ap, sym, subst, length, drop, length-append, arith}
+use Rattle.sftp_tree.proofs.Imports.{row_text, branch, placed, flat, AreBranches, AreWritable}
 use Rattle.sftp_treefile.specs.declared.files.Kind.TheVariants as kinds
-use Rattle.sftp_tree.specs.Nesting.{branch, placed, flat, AreBranches}
-use Rattle.sftp_tree.specs.Written.{AreWritable}
-use Rattle.sftp_tree.proofs.TreeFiles.Branches.{state_of, IsWritten, IsLeft, own_path, own_writable, own_count, dir_written, child_step, child_writable, child_few, next_smaller}
+use Rattle.sftp_tree.proofs.TreeFiles.Branches.{state_of, IsWritten, IsLeft, own_path, own_writable, own_count}
+use Rattle.sftp_tree.proofs.TreeFiles.Branches.{dir_written, child_step, child_writable, child_few, next_smaller}
 use Rattle.sftp_tree.proofs.pictures.branches.+branches.Goals as goal
 
 -- ---- a child

@@ -1,6 +1,5 @@
 -- Some children are written, and the others are to come. Each child has fewer entries than its directory.
-use Rattle.std.proofs.Common.{◌≡◌, ◌≤◌, ◌*◌, ◌+◌, length, drop}
-use Rattle.sftp_tree.specs.Nesting.{branch, flat, AreBranches}
+use Rattle.sftp_tree.proofs.Imports.{◌≡◌, ◌≤◌, ◌*◌, ◌+◌, length, drop, branch, flat, AreBranches}
 use Rattle.sftp_tree.proofs.TreeFiles.Branches.{state_of, IsLeft}
 use Rattle.sftp_tree.proofs.pictures.branches.+branches.Given as goal
 

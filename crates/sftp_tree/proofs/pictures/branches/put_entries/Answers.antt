@@ -1,8 +1,6 @@
 -- All entries but the root's are written.
-use Rattle.std.proofs.Common.{◌++◌, ◌∙◌, [], ap, sym, subst, length, drop, arith}
-use Rattle.std.specs.List.{flat_map}
-use Rattle.sftp_treefile.specs.TreeFile.{row_text}
-use Rattle.sftp_tree.specs.Written.{rows_from, AreWritable}
+use Rattle.sftp_tree.proofs.Imports.{◌++◌, ◌∙◌, [], ap, sym, subst, length, drop, arith, flat_map, row_text, rows_from}
+use Rattle.sftp_tree.proofs.Imports.{AreWritable}
 use Rattle.sftp_tree.proofs.TreeFiles.Branches.{tree_writable, tree_few, tree_written}
 use Rattle.sftp_tree.proofs.pictures.branches.put_entries.Goals as goal
 

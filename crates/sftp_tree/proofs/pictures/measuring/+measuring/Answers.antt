@@ -1,5 +1,5 @@
 -- Each child has fewer entries than its directory.
-use Rattle.std.proofs.Common.{arith}
+use Rattle.sftp_tree.proofs.Imports.{arith}
 use Rattle.sftp_tree.proofs.TreeFiles.Branches.{next_smaller}
 use Rattle.sftp_tree.proofs.pictures.measuring.+measuring.Goals as goal
 

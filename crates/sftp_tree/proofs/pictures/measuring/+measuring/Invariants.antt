@@ -1,6 +1,5 @@
 -- Each child has fewer entries than its directory.
-use Rattle.std.proofs.Common.{◌≤◌, ◌*◌, ◌+◌, length, drop}
-use Rattle.sftp_tree.specs.Nesting.{branch, flat, AreBranches}
+use Rattle.sftp_tree.proofs.Imports.{◌≤◌, ◌*◌, ◌+◌, length, drop, branch, flat, AreBranches}
 use Rattle.sftp_tree.proofs.pictures.measuring.+measuring.Given as goal
 
 abbrev pub decreases-size_below : goal.decreases-size_below

@@ -1,6 +1,5 @@
 -- The components of a place's text are the place.
-use Rattle.std.proofs.lemmas.Option.{MatchOption-at_some}
-use Rattle.sftp_treefile.proofs.Texts.Fields.{place_is}
+use Rattle.sftp_tree.proofs.Imports.{MatchOption-at_some, place_is}
 use Rattle.sftp_tree.proofs.pictures.reading.place_of.Goals as goal
 
 pub returns : goal.returns

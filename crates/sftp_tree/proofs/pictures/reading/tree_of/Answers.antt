@@ -1,16 +1,8 @@
 -- The tree of a tree file is one.
-use Rattle.std.proofs.Common.{◌≡◌, ℕ, List, [], length, sym, ap, subst, ◌∙◌, arith}
-use Rattle.sftp_path.specs.Place.{Place, place_cmp}
-use Rattle.sftp_path.specs.Table.{InOrder}
-use Rattle.sftp_treefile.specs.declared.files.Row.{Row}
-use Rattle.sftp_treefile.specs.declared.files.TreeFile.{TreeFile}
-use Rattle.sftp_treefile.specs.Limits.{highest_limits}
-use Rattle.sftp_treefile.specs.TreeFile.{place_of, AreRows}
-use Rattle.sftp_tree.specs.Tree.{Names, IsKept, is_directory, node_at}
-use Rattle.sftp_tree.specs.StoredFiles.{seen, AreCounted}
-use Rattle.sftp_tree.specs.PictureParts.{Stores, IsGrown, names_of, tree_of}
+use Rattle.sftp_tree.proofs.Imports.{◌≡◌, ℕ, List, [], length, sym, ap, subst, ◌∙◌, arith, Place, place_cmp, InOrder}
+use Rattle.sftp_tree.proofs.Imports.{Row, TreeFile, highest_limits, place_of, AreRows, Names, IsKept, is_directory}
+use Rattle.sftp_tree.proofs.Imports.{node_at, seen, AreCounted, Stores, IsGrown, names_of, tree_of, rows_wider}
 use Rattle.sftp_tree.proofs.TreeFiles.Files.{kept_of_file}
-use Rattle.sftp_treefile.proofs.Texts.Limits.{rows_wider}
 use Rattle.sftp_tree.proofs.TreeFiles.Numbers.{made_few, length-entries}
 use Rattle.sftp_tree.proofs.TreeFiles.Stores.{many_files, tree_grown}
 use Rattle.sftp_tree.proofs.pictures.reading.tree_of.Goals as goal

@@ -1,14 +1,12 @@
 -- Each row's entry comes after all others.
-use Rattle.std.proofs.Common.{◌≡◌, [], ◌∷◌, ◌<◌, ◌++◌, length, take, ap, sym, subst, ◌∙◌, append_assoc, append-nil, arith, refl}
+use Rattle.sftp_tree.proofs.Imports.{◌≡◌, [], ◌∷◌, ◌<◌, ◌++◌, length, take, ap, sym, subst, ◌∙◌, append_assoc}
+use Rattle.sftp_tree.proofs.Imports.{append-nil, arith, refl, nil_from_length, length-append, highest_limits, place_of}
+use Rattle.sftp_tree.proofs.Imports.{IsPlaceText, AreRows, names_in, place_in, IsKnown, IsGrown}
 use Rattle.std.specs.Vec.Iter.{into_iter_items}
-use Rattle.std.proofs.lemmas.List.{nil_from_length, length-append}
-use Rattle.sftp_treefile.specs.Limits.{highest_limits}
-use Rattle.sftp_treefile.specs.TreeFile.{place_of, IsPlaceText, AreRows}
-use Rattle.sftp_tree.specs.Growth.{names_in, place_in}
-use Rattle.sftp_tree.specs.PictureParts.{IsKnown, IsGrown}
 use Rattle.sftp_tree.proofs.TreeFiles.Growing.{entries_order, entry_later, put_last, open_root, open_more, room_for}
 use Rattle.sftp_tree.proofs.TreeFiles.Numbers.{rows_join}
-use Rattle.sftp_tree.proofs.TreeFiles.Stores.{kind_known, numbers_grow, grown_push, grown_room, grown_root, many_files, next_fits}
+use Rattle.sftp_tree.proofs.TreeFiles.Stores.{kind_known, numbers_grow, grown_push, grown_room, grown_root, many_files}
+use Rattle.sftp_tree.proofs.TreeFiles.Stores.{next_fits}
 use Rattle.sftp_tree.proofs.pictures.rows.grow.Goals as goal
 
 pub loop-row-init : goal.loop-row-init

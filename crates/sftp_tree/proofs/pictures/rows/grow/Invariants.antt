@@ -1,9 +1,6 @@
 -- The entries so far are what the rows so far say, and the others may come after them.
-use Rattle.std.proofs.Common.{◌≡◌, ◌≤◌, [], ◌++◌, length}
+use Rattle.sftp_tree.proofs.Imports.{◌≡◌, ◌≤◌, [], ◌++◌, length, highest_limits, AreRows, names_in, place_in}
 use Rattle.std.specs.Vec.Iter.{into_iter_items, into_iter_len}
-use Rattle.sftp_treefile.specs.Limits.{highest_limits}
-use Rattle.sftp_treefile.specs.TreeFile.{AreRows}
-use Rattle.sftp_tree.specs.Growth.{names_in, place_in}
 use Rattle.sftp_tree.specs.PictureParts as parts
 use Rattle.sftp_tree.proofs.TreeFiles.Growing.{IsOpen}
 use Rattle.sftp_tree.proofs.pictures.rows.grow.Given as goal

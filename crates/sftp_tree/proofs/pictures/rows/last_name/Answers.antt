@@ -1,7 +1,5 @@
 -- One name after the other is the last.
-use Rattle.std.proofs.Common.{◌≡◌, ◌++◌, ◌∷◌, ap, subst, length, take, arith}
-use Rattle.sftp_path.specs.Place.{Place}
-use Rattle.sftp_treefile.specs.TreeFile.{place_of}
+use Rattle.sftp_tree.proofs.Imports.{◌≡◌, ◌++◌, ◌∷◌, ap, subst, length, take, arith, Place, place_of}
 use Rattle.sftp_tree.proofs.TreeFiles.Growing.{names_step, last_named}
 use Rattle.sftp_tree.proofs.pictures.rows.last_name.Goals as goal
 

@@ -1,6 +1,5 @@
 -- The last name so far, those before it and those to come.
-use Rattle.std.proofs.Common.{◌≡◌, ◌+◌, ◌++◌, ◌∷◌, length, take}
-use Rattle.sftp_treefile.specs.TreeFile.{place_of}
+use Rattle.sftp_tree.proofs.Imports.{◌≡◌, ◌+◌, ◌++◌, ◌∷◌, length, take, place_of}
 use Rattle.sftp_tree.proofs.pictures.rows.last_name.Given as goal
 
 abbrev pub invariant-names : goal.invariant-names

@@ -1,9 +1,5 @@
 -- The head, and then the entries.
-use Rattle.std.proofs.Common.{[], ◌++◌, sym, ap, ◌∙◌, List, ℕ}
-use Rattle.std.specs.List.{flat_map}
-use Rattle.sftp_treefile.specs.TreeFile.{row_text}
-use Rattle.sftp_treefile.specs.TreeFileParts.{head_bytes}
-use Rattle.sftp_tree.specs.Picture.{rows_after}
+use Rattle.sftp_tree.proofs.Imports.{[], ◌++◌, sym, ap, ◌∙◌, List, ℕ, flat_map, row_text, head_bytes, rows_after}
 use Rattle.sftp_tree.specs.PictureParts.{head_of}
 use Rattle.sftp_tree.proofs.TreeFiles.Written.{picture_written}
 use Rattle.sftp_tree.proofs.pictures.writing.picture_of.Goals as goal

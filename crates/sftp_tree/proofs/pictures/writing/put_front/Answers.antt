@@ -1,6 +1,5 @@
 -- The head's numbers and its home fit their fields.
-use Rattle.std.proofs.Common.{length, ap, ◌∙◌, arith}
-use Rattle.sftp_path.specs.Place.{absolute}
+use Rattle.sftp_tree.proofs.Imports.{length, ap, ◌∙◌, arith, absolute}
 use Rattle.sftp_tree.proofs.TreeFiles.Written.{names_count, home_short}
 use Rattle.sftp_tree.proofs.pictures.writing.put_front.Goals as goal
 

@@ -1,7 +1,4 @@
-use Rattle.std.proofs.Common.{◌≡◌, ◌&&◌, true, false, sym, ap, ◌∙◌}
-use Rattle.std.specs.List.{list_all}
-use Rattle.sftp_tree.specs.Route.{is_done}
-use Rattle.sftp_tree.specs.Walk.{is_last}
+use Rattle.sftp_tree.proofs.Imports.{◌≡◌, ◌&&◌, true, false, sym, ap, ◌∙◌, list_all, is_done, is_last}
 use Rattle.sftp_tree.proofs.Walks.Routes.{is_last-targets}
 use Rattle.sftp_tree.proofs.route.Targets.is_done.Goals as goal
 

@@ -1,7 +1,5 @@
-use Rattle.std.proofs.Common.{◌++◌, ap, ◌∙◌}
-use Rattle.sftp_path.specs.Split.{Split}
+use Rattle.sftp_tree.proofs.Imports.{◌++◌, ap, ◌∙◌, Split, left_of}
 use Rattle.sftp_path.proofs.PathTexts.Splitting.{components-nil}
-use Rattle.sftp_tree.specs.Route.{left_of}
 use Rattle.sftp_tree.proofs.route.Targets.new.Goals as goal
 
 pub returns : goal.returns

@@ -1,5 +1,4 @@
-use Rattle.std.proofs.Common.{◌++◌, ap, ◌∙◌}
-use Rattle.sftp_tree.specs.Route.{left_of}
+use Rattle.sftp_tree.proofs.Imports.{◌++◌, ap, ◌∙◌, left_of}
 use Rattle.sftp_tree.proofs.Walks.Routes.{left_of-push}
 use Rattle.sftp_tree.proofs.route.Targets.next_component.Goals as goal
 

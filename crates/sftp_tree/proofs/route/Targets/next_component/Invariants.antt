@@ -1,5 +1,4 @@
-use Rattle.std.proofs.Common.{◌≡◌, ◌++◌, length}
-use Rattle.sftp_tree.specs.Route.{left_of}
+use Rattle.sftp_tree.proofs.Imports.{◌≡◌, ◌++◌, length, left_of}
 use Rattle.sftp_tree.proofs.route.Targets.next_component.Given as goal
 
 abbrev pub invariant-loop-component : goal.invariant-loop-component

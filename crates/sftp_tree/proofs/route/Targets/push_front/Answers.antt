@@ -1,6 +1,4 @@
-use Rattle.std.proofs.Common.{◌++◌, ap, ◌∙◌}
-use Rattle.sftp_path.specs.Split.{Split}
-use Rattle.sftp_tree.specs.Route.{left_of}
+use Rattle.sftp_tree.proofs.Imports.{◌++◌, ap, ◌∙◌, Split, left_of}
 use Rattle.sftp_tree.proofs.Walks.Routes.{left_of-push}
 use Rattle.sftp_tree.proofs.route.Targets.push_front.Goals as goal
 

@@ -1,6 +1,4 @@
-use Rattle.std.proofs.Common.{sym, subst, ap, ◌∙◌}
-use Rattle.sftp_tree.specs.Tree.{trim}
-use Rattle.sftp_tree.specs.Plans.{changed, IsReady}
+use Rattle.sftp_tree.proofs.Imports.{sym, subst, ap, ◌∙◌, trim, changed, IsReady}
 use Rattle.sftp_tree.proofs.KeptTrees.Trims.{trimmed-already}
 use Rattle.sftp_tree.proofs.trees.Tree.apply.Goals as goal
 

@@ -1,12 +1,6 @@
 -- The root alone.
-use Rattle.std.proofs.Common.{◌≡◌, [], sym, subst, ◌∙◌}
-use Rattle.sftp_path.specs.Place.{Place}
-use Rattle.sftp_treefile.specs.declared.limits.TreeLimits.{TreeLimits}
-use Rattle.sftp_treefile.specs.Limits.{usual_limits}
-use Rattle.sftp_tree.specs.Tree.{Names, IsKept}
-use Rattle.sftp_tree.specs.StoredFiles.{seen}
-use Rattle.sftp_tree.specs.PictureParts.{Stores, only_root}
-use Rattle.sftp_tree.specs.Picture.{blank}
+use Rattle.sftp_tree.proofs.Imports.{◌≡◌, [], sym, subst, ◌∙◌, Place, TreeLimits, usual_limits, Names, IsKept, seen}
+use Rattle.sftp_tree.proofs.Imports.{Stores, only_root, blank}
 use Rattle.sftp_tree.proofs.FileCounts.Pins.{none_pinned}
 use Rattle.sftp_tree.proofs.TreeFiles.Files.{blank_kept}
 use Rattle.sftp_tree.proofs.TreeFiles.Stores.{grown_root}

@@ -1,5 +1,4 @@
-use Rattle.std.proofs.Common.{sym, ap, ◌∙◌}
-use Rattle.sftp_tree.specs.Causes.{CauseSet}
+use Rattle.sftp_tree.proofs.Imports.{sym, ap, ◌∙◌, CauseSet}
 use Rattle.sftp_tree.proofs.CauseLaws.Places.{unjudged}
 use Rattle.sftp_tree.proofs.trees.Tree.causes.Goals as goal
 

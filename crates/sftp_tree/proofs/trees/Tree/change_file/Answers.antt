@@ -1,7 +1,5 @@
-use Rattle.std.proofs.Common.{◌≡◌, sym, ap, subst, ◌∙◌}
-use Rattle.sftp_tree.specs.Tree.{Tree, IsKept, content_at}
-use Rattle.sftp_tree.specs.Changes.{with_changed_file}
-use Rattle.sftp_tree.specs.StoredFiles.{seen, AreCounted}
+use Rattle.sftp_tree.proofs.Imports.{◌≡◌, sym, ap, subst, ◌∙◌, Tree, IsKept, content_at, with_changed_file, seen}
+use Rattle.sftp_tree.proofs.Imports.{AreCounted}
 use Rattle.sftp_tree.proofs.KeptTrees.Trims.{trimmed-already}
 use Rattle.sftp_tree.proofs.KeptTrees.Values.{kept-changed}
 use Rattle.sftp_tree.proofs.KeptTrees.Counts.{owner-there, owner-changed, changed-parts}

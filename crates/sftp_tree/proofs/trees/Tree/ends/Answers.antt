@@ -1,4 +1,4 @@
-use Rattle.sftp_tree.specs.Asks.{asked}
+use Rattle.sftp_tree.proofs.Imports.{asked}
 use Rattle.sftp_tree.specs.Found.{placed}
 use Rattle.sftp_tree.proofs.CauseLaws.Places.{led-is}
 use Rattle.sftp_tree.proofs.trees.Tree.ends.Goals as goal

@@ -1,10 +1,7 @@
-use Rattle.std.proofs.Common.{rules, ◌≡◌, ◌≤◌, ◌++◌, [], refl, sym, ap, ◌∙◌, subst, IfOk, MatchResult, arith}
-use Rattle.std.specs.List.{list_all}
-use Rattle.sftp_path.specs.Place.{is_step, are_names, components}
-use Rattle.sftp_path.specs.Split.{Split}
-use Rattle.sftp_path.proofs.PathTexts.GoodPaths.{list_all-octets}
+use Rattle.sftp_tree.proofs.Imports.{rules, ◌≡◌, ◌≤◌, ◌++◌, [], refl, sym, ap, ◌∙◌, subst, IfOk, MatchResult, arith}
+use Rattle.sftp_tree.proofs.Imports.{list_all, is_step, are_names, components, Split, list_all-octets, walk, looked}
+use Rattle.sftp_tree.proofs.Imports.{link_limit, looked_limit, steps_of}
 use Rattle.sftp_tree.specs.Found.{placed}
-use Rattle.sftp_tree.specs.Walk.{walk, looked, link_limit, looked_limit, steps_of}
 use Rattle.sftp_tree.proofs.Walks.Counts.{walk-count}
 use Rattle.sftp_tree.proofs.Walks.Steps.{reached-good, reached-bad, looked_of-good, looked_of-bad, counted-most}
 use Rattle.sftp_tree.proofs.Walks.Places.{steps-from}

@@ -1,12 +1,9 @@
-use Rattle.std.proofs.Common.{◌≡◌, suc, ◌-◌, ◌++◌, [], ◌∷◌, if◌then◌else◌, sym, ap, subst, ◌∙◌, Ok, arith}
-use Rattle.std.specs.List.{list_all}
-use Rattle.std.proofs.lemmas.Bool.{and_parts}
-use Rattle.sftp_path.specs.Place.{is_step, components}
-use Rattle.sftp_path.specs.Split.{Split}
-use Rattle.sftp_tree.specs.Walk.{walk, looked, start_of, meets, is_last, through}
-use Rattle.sftp_tree.specs.Stepping.{meeting}
-use Rattle.sftp_tree.specs.Trail.{Standing, IsLentAt}
-use Rattle.sftp_tree.proofs.Walks.Steps.{walk-turn, looked-turn, walk-nil, behind_link-none, behind_link-some, looked_behind-some, stays, lends, below, counted-on, counted-last, counted-all, counted-stopped, looked_behind-none, looked-nil, looked-cons}
+use Rattle.sftp_tree.proofs.Imports.{◌≡◌, suc, ◌-◌, ◌++◌, [], ◌∷◌, if◌then◌else◌, sym, ap, subst, ◌∙◌, Ok, arith}
+use Rattle.sftp_tree.proofs.Imports.{list_all, and_parts, is_step, components, Split, walk, looked, start_of, meets}
+use Rattle.sftp_tree.proofs.Imports.{is_last, through, meeting, Standing, IsLentAt}
+use Rattle.sftp_tree.proofs.Walks.Steps.{walk-turn, looked-turn, walk-nil, behind_link-none, behind_link-some}
+use Rattle.sftp_tree.proofs.Walks.Steps.{looked_behind-some, stays, lends, below, counted-on, counted-last, counted-all}
+use Rattle.sftp_tree.proofs.Walks.Steps.{counted-stopped, looked_behind-none, looked-nil, looked-cons}
 use Rattle.sftp_tree.proofs.Walks.Meetings.{steps-behind, through-link}
 use Rattle.sftp_tree.proofs.Walks.Places.{place-of}
 use Rattle.sftp_tree.proofs.trees.Tree.follow_route.Goals as goal

@@ -1,6 +1,4 @@
-use Rattle.std.proofs.Common.{◌≡◌, ◌+◌, [], true}
-use Rattle.std.specs.List.{list_all}
-use Rattle.sftp_path.specs.Place.{is_step}
+use Rattle.sftp_tree.proofs.Imports.{◌≡◌, ◌+◌, [], true, list_all, is_step}
 use Rattle.sftp_tree.specs.Walk as walks
 use Rattle.sftp_tree.proofs.trees.Tree.follow_route.Given as goal
 

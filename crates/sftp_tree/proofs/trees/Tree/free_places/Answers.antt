@@ -1,9 +1,6 @@
-use Rattle.std.proofs.Common.{sym, ap, ◌∙◌}
+use Rattle.sftp_tree.proofs.Imports.{sym, ap, ◌∙◌, CauseSet, asked, IsRefusal}
 use Rattle.sftp_tree.specs.declared.causes.Refused.{Refused}
 use Rattle.sftp_tree.specs.declared.causes.Refused.TheVariants as refusals
-use Rattle.sftp_tree.specs.Causes.{CauseSet}
-use Rattle.sftp_tree.specs.Asks.{asked}
-use Rattle.sftp_tree.specs.Refusals.{IsRefusal}
 use Rattle.sftp_tree.specs.Found.{placed, new_placed}
 use Rattle.sftp_tree.proofs.CauseLaws.Places.{exit, own-holds, lost-holds}
 use Rattle.sftp_tree.proofs.Walks.Ends.{lost-placed}

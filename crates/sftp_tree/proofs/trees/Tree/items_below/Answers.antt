@@ -1,13 +1,6 @@
-use Rattle.std.proofs.Common.{◌≡◌, ◌∷◌, List, ◌++◌, map, filter_map, refl, sym, subst, ap, ◌∙◌}
-use Rattle.std.specs.List.{AllByRecursion}
-use Rattle.sftp_path.specs.Place.{Name}
-use Rattle.sftp_tree.specs.declared.entries.directories.Child.{Child}
-use Rattle.sftp_tree.specs.declared.listings.Item.{Item}
-use Rattle.sftp_tree.specs.Tree.{IsNode, is_directory}
-use Rattle.sftp_tree.specs.Listings.{children, shown_child, listing}
-use Rattle.sftp_tree.specs.Items.{entry_of}
-use Rattle.sftp_tree.specs.Nesting.{Children, AreBranches}
-use Rattle.sftp_tree.specs.NodesBelow.{nodes_of}
+use Rattle.sftp_tree.proofs.Imports.{◌≡◌, ◌∷◌, List, ◌++◌, map, filter_map, refl, sym, subst, ap, ◌∙◌, AllByRecursion}
+use Rattle.sftp_tree.proofs.Imports.{Name, Child, Item, IsNode, is_directory, children, shown_child, listing, entry_of}
+use Rattle.sftp_tree.proofs.Imports.{Children, AreBranches, nodes_of}
 use Rattle.sftp_tree.proofs.Nesting.NodesBelow.{children-alike, own-kept, listed-child, listed-none}
 use Rattle.sftp_tree.proofs.Requests.Listings.{children-kept, listing-of}
 use Rattle.sftp_tree.proofs.trees.Tree.items_below.Goals as goal

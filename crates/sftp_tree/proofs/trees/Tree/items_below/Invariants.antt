@@ -1,11 +1,6 @@
 -- The items so far, and those of the children to come, are all; the children to come are nodes of the tree.
-use Rattle.std.proofs.Common.{◌≡◌, ◌++◌, map, filter_map}
-use Rattle.std.specs.List.{AllByRecursion}
-use Rattle.sftp_tree.specs.Tree.{IsNode}
-use Rattle.sftp_tree.specs.Listings.{shown_child, listing}
-use Rattle.sftp_tree.specs.Items.{entry_of}
-use Rattle.sftp_tree.specs.Nesting.{AreBranches}
-use Rattle.sftp_tree.specs.NodesBelow.{nodes_of}
+use Rattle.sftp_tree.proofs.Imports.{◌≡◌, ◌++◌, map, filter_map, AllByRecursion, IsNode, shown_child, listing, entry_of}
+use Rattle.sftp_tree.proofs.Imports.{AreBranches, nodes_of}
 use Rattle.sftp_tree.proofs.trees.Tree.items_below.Given as goal
 
 abbrev pub invariant-loop-name : goal.invariant-loop-name

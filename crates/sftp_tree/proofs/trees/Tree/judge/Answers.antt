@@ -1,12 +1,6 @@
-use Rattle.std.proofs.Common.{◌≡◌, ◌&&◌, not, sym, ap, ◌∙◌, Ok}
-use Rattle.std.specs.List.{list_any}
-use Rattle.sftp_path.specs.Place.{Place}
-use Rattle.sftp_tree.specs.Tree.{IsKept}
-use Rattle.sftp_tree.specs.Causes.{every_cause}
-use Rattle.sftp_tree.specs.Room.{has_room_for}
+use Rattle.sftp_tree.proofs.Imports.{◌≡◌, ◌&&◌, not, sym, ap, ◌∙◌, Ok, list_any, Place, IsKept, every_cause}
+use Rattle.sftp_tree.proofs.Imports.{has_room_for, asked, in_set}
 use Rattle.sftp_tree.specs.Found.{placed, new_placed}
-use Rattle.sftp_tree.specs.Asks.{asked}
-use Rattle.sftp_tree.specs.Refusals.{in_set}
 use Rattle.sftp_tree.proofs.CauseLaws.Limits.{judged}
 use Rattle.sftp_tree.proofs.Walks.Ends.{end-kept}
 use Rattle.sftp_tree.proofs.trees.Tree.judge.Goals as goal

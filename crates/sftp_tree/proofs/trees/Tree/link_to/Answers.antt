@@ -1,4 +1,4 @@
-use Rattle.std.proofs.Common.{arith}
+use Rattle.sftp_tree.proofs.Imports.{arith}
 use Rattle.sftp_tree.proofs.Requests.Plans.{bytes-are}
 use Rattle.sftp_tree.proofs.trees.Tree.link_to.Goals as goal
 

@@ -1,5 +1,4 @@
-use Rattle.std.proofs.Common.{map}
-use Rattle.sftp_tree.specs.Items.{entry_of}
+use Rattle.sftp_tree.proofs.Imports.{map, entry_of}
 use Rattle.sftp_tree.proofs.Requests.Listings.{listing-told}
 use Rattle.sftp_tree.proofs.Requests.Plans.{listed-directory}
 use Rattle.sftp_tree.proofs.trees.Tree.list.Goals as goal

@@ -1,10 +1,5 @@
-use Rattle.std.proofs.Common.{◌≡◌, ◌+◌, ◌^◌, nat_lt, arith, sym, ap, subst, ◌∙◌, None, ltb-true}
-use Rattle.std.specs.Ordering.{nat_cmp}
-use Rattle.sftp_path.specs.Table.{get, put}
-use Rattle.sftp_tree.specs.declared.nodes.Node.TheVariants.{File}
-use Rattle.sftp_tree.specs.Tree.{Tree, IsKept, node_at, with_node}
-use Rattle.sftp_tree.specs.StoredFiles.{seen, AreCounted}
-use Rattle.sftp_tree.specs.Changes.{with_new_file}
+use Rattle.sftp_tree.proofs.Imports.{◌≡◌, ◌+◌, ◌^◌, nat_lt, arith, sym, ap, subst, ◌∙◌, None, ltb-true, nat_cmp, get}
+use Rattle.sftp_tree.proofs.Imports.{put, File, Tree, IsKept, node_at, with_node, seen, AreCounted, with_new_file}
 use Rattle.sftp_tree.proofs.Limits.Tests.{fits-parts}
 use Rattle.sftp_tree.proofs.KeptTrees.Trims.{trimmed-already}
 use Rattle.sftp_tree.proofs.KeptTrees.Counts.{files-in_order}

@@ -1,14 +1,9 @@
-use Rattle.std.proofs.Common.{◌≡◌, ℕ, ◌+◌, ◌<◌, ◌∷◌, ◌++◌, false, refl, sym, ap, subst, ◌∙◌, None, IsTrue}
-use Rattle.sftp_path.specs.Place.{Name, Place, parent, begins}
-use Rattle.sftp_path.specs.Rekeying.{rekeyed}
-use Rattle.sftp_treefile.specs.TreeFile.{same_place}
+use Rattle.sftp_tree.proofs.Imports.{◌≡◌, ℕ, ◌+◌, ◌<◌, ◌∷◌, ◌++◌, false, refl, sym, ap, subst, ◌∙◌, None, IsTrue, Name}
+use Rattle.sftp_tree.proofs.Imports.{Place, parent, begins, rekeyed, same_place, nat_cmp, get, Tree, IsKept}
+use Rattle.sftp_tree.proofs.Imports.{is_directory, node_at, without_node, has_entries, times_named, trim, goes_inside}
+use Rattle.sftp_tree.proofs.Imports.{put_in_its_stead, seen, AreCounted, IsChangedWhereNamed, file_named}
+use Rattle.sftp_tree.proofs.Imports.{without_a_name}
 use Rattle.std.specs.Option.{IfSome}
-use Rattle.std.specs.Ordering.{nat_cmp}
-use Rattle.sftp_path.specs.Table.{get}
-use Rattle.sftp_tree.specs.Tree.{Tree, IsKept, is_directory, node_at, without_node, has_entries, times_named, trim}
-use Rattle.sftp_tree.specs.PlaceCauses.{goes_inside}
-use Rattle.sftp_tree.specs.Changes.{put_in_its_stead}
-use Rattle.sftp_tree.specs.StoredFiles.{seen, AreCounted, IsChangedWhereNamed, file_named, without_a_name}
 use Rattle.sftp_tree.proofs.KeptTrees.Moves.{kept-move}
 use Rattle.sftp_tree.proofs.WellFormedTrees.Places.{apart-from, alone-there}
 use Rattle.sftp_tree.proofs.FileCounts.Names.{one_name}

@@ -1,10 +1,5 @@
-use Rattle.std.proofs.Common.{◌≡◌, ℕ, ◌<◌, ◌^◌, sym, ap, subst, ◌∙◌}
-use Rattle.std.specs.Prelude.{is_some}
-use Rattle.sftp_path.specs.Table.{Table}
-use Rattle.sftp_tree.specs.declared.file_contents.Stored.{Stored}
-use Rattle.sftp_tree.specs.Tree.{Tree, IsKept, HasFile, content_at, times_pinned}
-use Rattle.sftp_tree.specs.StoredFiles.{contents, seen, AreCounted}
-use Rattle.sftp_tree.specs.FileChanges.{after_pin}
+use Rattle.sftp_tree.proofs.Imports.{◌≡◌, ℕ, ◌<◌, ◌^◌, sym, ap, subst, ◌∙◌, is_some, Table, Stored, Tree, IsKept}
+use Rattle.sftp_tree.proofs.Imports.{HasFile, content_at, times_pinned, contents, seen, AreCounted, after_pin}
 use Rattle.sftp_tree.proofs.KeptTrees.Counts.{files-in_order}
 use Rattle.sftp_tree.proofs.OpenFiles.Pinned.{kept-pin, room-to-pin, pin-parts}
 use Rattle.sftp_tree.proofs.trees.Tree.pin.Goals as goal

@@ -1,8 +1,6 @@
-use Rattle.std.proofs.Common.{subst, ap, ◌∙◌, IfSome}
+use Rattle.sftp_tree.proofs.Imports.{subst, ap, ◌∙◌, IfSome, asked, IsPlanAt, IsPlanned, HasNode}
 use Rattle.sftp_tree.specs.Found.{IsFoundIn, new_placed}
-use Rattle.sftp_tree.specs.Asks.{asked}
 use Rattle.sftp_tree.specs.Ends.{ok_where}
-use Rattle.sftp_tree.specs.Plans.{IsPlanAt, IsPlanned, HasNode}
 use Rattle.sftp_tree.proofs.CauseLaws.Places.{free-between}
 use Rattle.sftp_tree.proofs.Requests.Plans.{file-at, planned-at, planned-between, if-ok-both}
 use Rattle.sftp_tree.proofs.trees.Tree.plan_for.Goals as goal

@@ -1,6 +1,5 @@
-use Rattle.std.proofs.Common.{◌≡◌, sym, ap, subst, ◌∙◌, None}
-use Rattle.sftp_tree.specs.Tree.{Tree, IsKept, node_at, with_node}
-use Rattle.sftp_tree.specs.StoredFiles.{seen, AreCounted, IsChangedWhereNamed, with_a_name}
+use Rattle.sftp_tree.proofs.Imports.{◌≡◌, sym, ap, subst, ◌∙◌, None, Tree, IsKept, node_at, with_node, seen, AreCounted}
+use Rattle.sftp_tree.proofs.Imports.{IsChangedWhereNamed, with_a_name}
 use Rattle.sftp_tree.proofs.KeptTrees.Trims.{trimmed-already}
 use Rattle.sftp_tree.proofs.KeptTrees.Entries.{kept-put}
 use Rattle.sftp_tree.proofs.KeptTrees.Counts.{room-to-count, put-parts}

@@ -1,8 +1,5 @@
 -- The highest limits allow what the tree has.
-use Rattle.std.proofs.Common.{◌≡◌, ◌∙◌, ap}
-use Rattle.sftp_treefile.specs.declared.limits.TreeLimits.{TreeLimits}
-use Rattle.sftp_tree.specs.Tree.{raised}
-use Rattle.sftp_tree.specs.StoredFiles.{seen}
+use Rattle.sftp_tree.proofs.Imports.{◌≡◌, ◌∙◌, ap, TreeLimits, raised, seen}
 use Rattle.sftp_tree.proofs.KeptTrees.Raised.{raised-kept}
 use Rattle.sftp_tree.proofs.trees.Tree.raise.Goals as goal
 

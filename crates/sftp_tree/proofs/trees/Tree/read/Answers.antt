@@ -1,9 +1,5 @@
 -- A tree's file is that of one tree.
-use Rattle.std.proofs.Common.{sym, ap, subst, ◌∙◌}
-use Rattle.std.proofs.lemmas.Result.{err_from_is_err_and}
-use Rattle.sftp_tree.specs.Tree.{Tree}
-use Rattle.sftp_tree.specs.Picture.{IsStart, file_of}
-use Rattle.sftp_tree.specs.PictureParts.{tree_of}
+use Rattle.sftp_tree.proofs.Imports.{sym, ap, subst, ◌∙◌, err_from_is_err_and, Tree, IsStart, file_of, tree_of}
 use Rattle.sftp_tree.proofs.TreeFiles.Files.{stands_of_start, tree_again, spelled_of_start, start_of_spelled}
 use Rattle.sftp_tree.proofs.trees.Tree.read.Goals as goal
 

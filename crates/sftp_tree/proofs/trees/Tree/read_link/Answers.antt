@@ -1,5 +1,4 @@
-use Rattle.std.proofs.Common.{sym, ◌∙◌, ap}
-use Rattle.sftp_tree.specs.Tree.{is_link}
+use Rattle.sftp_tree.proofs.Imports.{sym, ◌∙◌, ap, is_link}
 use Rattle.sftp_tree.specs.Requests.{target_of}
 use Rattle.sftp_tree.proofs.Requests.Plans.{read-link, link-told}
 use Rattle.sftp_tree.proofs.trees.Tree.read_link.Goals as goal

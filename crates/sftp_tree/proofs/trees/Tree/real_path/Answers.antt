@@ -1,5 +1,4 @@
-use Rattle.std.proofs.Common.{◌∙◌, ap}
-use Rattle.sftp_path.specs.Place.{absolute}
+use Rattle.sftp_tree.proofs.Imports.{◌∙◌, ap, absolute}
 use Rattle.sftp_tree.proofs.Requests.Plans.{path-told}
 use Rattle.sftp_tree.proofs.trees.Tree.real_path.Goals as goal
 

@@ -1,9 +1,7 @@
-use Rattle.std.proofs.Common.{◌≡◌, ℕ, ◌+◌, ◌<◌, refl, sym, ap, subst, ◌∙◌}
+use Rattle.sftp_tree.proofs.Imports.{◌≡◌, ℕ, ◌+◌, ◌<◌, refl, sym, ap, subst, ◌∙◌, nat_cmp, get, Tree, IsKept, node_at}
+use Rattle.sftp_tree.proofs.Imports.{without_node, times_named, trim, seen, AreCounted, IsChangedWhereNamed, file_named}
+use Rattle.sftp_tree.proofs.Imports.{without_a_name}
 use Rattle.std.specs.Option.{IfSome}
-use Rattle.std.specs.Ordering.{nat_cmp}
-use Rattle.sftp_path.specs.Table.{get}
-use Rattle.sftp_tree.specs.Tree.{Tree, IsKept, node_at, without_node, times_named, trim}
-use Rattle.sftp_tree.specs.StoredFiles.{seen, AreCounted, IsChangedWhereNamed, file_named, without_a_name}
 use Rattle.sftp_tree.proofs.KeptTrees.Entries.{kept-without}
 use Rattle.sftp_tree.proofs.FileCounts.Names.{one_name, named-without}
 use Rattle.sftp_tree.proofs.KeptTrees.Counts.{name-to-lose, left-parts}

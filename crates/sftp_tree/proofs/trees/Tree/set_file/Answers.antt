@@ -1,5 +1,4 @@
-use Rattle.std.proofs.Common.{refl, sym, ◌∙◌}
-use Rattle.sftp_tree.specs.Tree.{content_at}
+use Rattle.sftp_tree.proofs.Imports.{refl, sym, ◌∙◌, content_at}
 use Rattle.sftp_tree.proofs.CauseLaws.Limits.{changed-room}
 use Rattle.sftp_tree.proofs.trees.Tree.set_file.Goals as goal
 

@@ -1,7 +1,5 @@
-use Rattle.std.proofs.Common.{◌≡◌, sym, ap, subst, ◌∙◌, IsTrue}
-use Rattle.sftp_tree.specs.declared.nodes.Node.TheVariants.{Dir}
-use Rattle.sftp_tree.specs.Tree.{Tree, IsKept, node_at, with_node, is_directory}
-use Rattle.sftp_tree.specs.StoredFiles.{seen, AreCounted}
+use Rattle.sftp_tree.proofs.Imports.{◌≡◌, sym, ap, subst, ◌∙◌, IsTrue, Dir, Tree, IsKept, node_at, with_node}
+use Rattle.sftp_tree.proofs.Imports.{is_directory, seen, AreCounted}
 use Rattle.sftp_tree.proofs.KeptTrees.Trims.{trimmed-already}
 use Rattle.sftp_tree.proofs.KeptTrees.Values.{kept-owner-there}
 use Rattle.sftp_tree.proofs.KeptTrees.Counts.{owner-parts}

@@ -1,6 +1,4 @@
-use Rattle.std.proofs.Common.{sym, ◌∙◌, ap, Some, option_map}
-use Rattle.sftp_tree.specs.Seen.{node_seen}
-use Rattle.sftp_tree.specs.declared.nodes.Node.TheVariants.{Dir}
+use Rattle.sftp_tree.proofs.Imports.{sym, ◌∙◌, ap, Some, option_map, node_seen, Dir}
 use Rattle.sftp_tree.proofs.WellFormedTrees.Found.{node-kept}
 use Rattle.sftp_tree.proofs.trees.Tree.setting.Goals as goal
 

@@ -1,5 +1,4 @@
-use Rattle.std.proofs.Common.{sym, ◌∙◌, ap, option_map}
-use Rattle.sftp_tree.specs.Seen.{node_seen}
+use Rattle.sftp_tree.proofs.Imports.{sym, ◌∙◌, ap, option_map, node_seen}
 use Rattle.sftp_tree.proofs.WellFormedTrees.Found.{node-kept}
 use Rattle.sftp_tree.proofs.trees.Tree.shown_at.Goals as goal
 

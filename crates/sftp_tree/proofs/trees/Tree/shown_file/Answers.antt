@@ -1,9 +1,5 @@
-use Rattle.std.proofs.Common.{◌≡◌, Some, sym, ◌∙◌, ap, arith}
-use Rattle.std.specs.BTreeMap.{is_at}
-use Rattle.std.specs.Prelude.{option_copied}
-use Rattle.std.specs.Ordering.{nat_cmp}
-use Rattle.sftp_path.specs.Table.{get}
-use Rattle.sftp_tree.specs.Tree.{IsContent, content_at}
+use Rattle.sftp_tree.proofs.Imports.{◌≡◌, Some, sym, ◌∙◌, ap, arith, is_at, option_copied, nat_cmp, get, IsContent}
+use Rattle.sftp_tree.proofs.Imports.{content_at}
 use Rattle.sftp_tree.proofs.PlaceTables.Each.{lookup_holds}
 use Rattle.sftp_tree.proofs.trees.Tree.shown_file.Goals as goal
 

@@ -1,6 +1,4 @@
-use Rattle.std.proofs.Common.{◌≡◌, sym, ◌∙◌, ap}
-use Rattle.sftp_tree.specs.Asks.{asked}
-use Rattle.sftp_tree.specs.Refusals.{stat_ask}
+use Rattle.sftp_tree.proofs.Imports.{◌≡◌, sym, ◌∙◌, ap, asked, stat_ask}
 use Rattle.sftp_tree.proofs.Requests.Plans.{stat-taken, stat-shown}
 use Rattle.sftp_tree.proofs.trees.Tree.stat.Goals as goal
 use Rattle.sftp_tree.proofs.trees.Tree.stat.Goals.{then-follow, else-follow}

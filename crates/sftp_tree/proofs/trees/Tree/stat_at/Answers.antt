@@ -1,6 +1,4 @@
-use Rattle.std.proofs.Common.{sym, ◌∙◌, ap, option_map}
-use Rattle.sftp_tree.specs.Seen.{node_seen}
-use Rattle.sftp_tree.specs.Tree.{node_at}
+use Rattle.sftp_tree.proofs.Imports.{sym, ◌∙◌, ap, option_map, node_seen, node_at}
 use Rattle.sftp_tree.proofs.WellFormedTrees.Found.{node-kept}
 use Rattle.sftp_tree.proofs.trees.Tree.stat_at.Goals as goal
 

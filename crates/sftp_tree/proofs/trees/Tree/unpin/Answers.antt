@@ -1,9 +1,5 @@
-use Rattle.std.proofs.Common.{◌≡◌, ℕ, sym, ap, subst, ◌∙◌}
-use Rattle.sftp_path.specs.Table.{Table}
-use Rattle.sftp_tree.specs.declared.file_contents.Stored.{Stored}
-use Rattle.sftp_tree.specs.Tree.{Tree, IsKept, is_pinned}
-use Rattle.sftp_tree.specs.StoredFiles.{seen, AreCounted}
-use Rattle.sftp_tree.specs.FileChanges.{after_unpin}
+use Rattle.sftp_tree.proofs.Imports.{◌≡◌, ℕ, sym, ap, subst, ◌∙◌, Table, Stored, Tree, IsKept, is_pinned, seen}
+use Rattle.sftp_tree.proofs.Imports.{AreCounted, after_unpin}
 use Rattle.sftp_tree.proofs.KeptTrees.Counts.{files-in_order}
 use Rattle.sftp_tree.proofs.OpenFiles.Pinned.{pinned-there, kept-unpin, pin-to-lose, unpin-parts}
 use Rattle.sftp_tree.proofs.trees.Tree.unpin.Goals as goal

@@ -1,6 +1,4 @@
-use Rattle.std.proofs.Common.{◌≡◌, ◌∙◌, [], ap, subst, sym}
-use Rattle.sftp_tree.specs.Tree.{Tree, IsKept, trim}
-use Rattle.sftp_tree.specs.StoredFiles.{seen, AreCounted}
+use Rattle.sftp_tree.proofs.Imports.{◌≡◌, ◌∙◌, [], ap, subst, sym, Tree, IsKept, trim, seen, AreCounted}
 use Rattle.sftp_tree.proofs.OpenFiles.Unpinned.{kept-unpinned, unpinned-parts}
 use Rattle.sftp_tree.proofs.trees.Tree.unpin_all.Goals as goal
 

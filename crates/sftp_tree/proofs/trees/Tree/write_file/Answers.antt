@@ -1,10 +1,5 @@
-use Rattle.std.proofs.Common.{◌≡◌, ℕ, IsTrue, sym, ap, refl, subst, ◌∙◌, arith}
-use Rattle.sftp_treefile.specs.TreeFile.{are_bytes}
-use Rattle.sftp_path.specs.Table.{Table}
-use Rattle.sftp_tree.specs.declared.file_contents.Stored.{Stored}
-use Rattle.sftp_tree.specs.Tree.{Tree, IsKept}
-use Rattle.sftp_tree.specs.StoredFiles.{seen, AreCounted}
-use Rattle.sftp_tree.specs.FileChanges.{written_content, with_written_file, after_write}
+use Rattle.sftp_tree.proofs.Imports.{◌≡◌, ℕ, IsTrue, sym, ap, refl, subst, ◌∙◌, arith, are_bytes, Table, Stored, Tree}
+use Rattle.sftp_tree.proofs.Imports.{IsKept, seen, AreCounted, written_content, with_written_file, after_write}
 use Rattle.sftp_tree.proofs.Requests.Plans.{bytes-are}
 use Rattle.sftp_tree.proofs.KeptTrees.Counts.{content-parts}
 use Rattle.sftp_tree.proofs.OpenFiles.Written.{kept-write}

@@ -1,5 +1,4 @@
-use Rattle.std.proofs.Common.{◌≡◌, ◌+◌, not, sym, ap, ◌∙◌, arith}
-use Rattle.sftp_tree.specs.Nesting.{branch, have_at_most}
+use Rattle.sftp_tree.proofs.Imports.{◌≡◌, ◌+◌, not, sym, ap, ◌∙◌, arith, branch, have_at_most}
 use Rattle.sftp_tree.specs.declared.nodes.Node.TheVariants as nodes
 use Rattle.sftp_tree.proofs.Nesting.Reach.{reach-none, reach-alone, reach-start, reach-on, reach-no, reach-end}
 use Rattle.sftp_tree.proofs.entries.directories.Dir.+reaches_at_most.Goals as goal

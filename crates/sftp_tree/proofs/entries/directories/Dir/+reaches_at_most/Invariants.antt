@@ -1,6 +1,5 @@
 -- The children to come decide.
-use Rattle.std.proofs.Common.{◌≡◌, ◌+◌}
-use Rattle.sftp_tree.specs.Nesting.{flat, have_at_most}
+use Rattle.sftp_tree.proofs.Imports.{◌≡◌, ◌+◌, flat, have_at_most}
 use Rattle.sftp_tree.proofs.entries.directories.Dir.+reaches_at_most.Given as goal
 
 abbrev pub decreases-reaches_at_most : goal.decreases-reaches_at_most

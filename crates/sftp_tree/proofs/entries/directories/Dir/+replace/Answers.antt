@@ -1,10 +1,7 @@
-use Rattle.std.proofs.Common.{ℕ, ◌≡◌, [], ◌∷◌, ◌++◌, Some, None, IsTrue, sym, ap, subst, ◌∙◌, arith}
-use Rattle.std.specs.BTreeMap.{get_by, is_at}
-use Rattle.sftp_path.specs.Place.{Place, name_cmp}
+use Rattle.sftp_tree.proofs.Imports.{ℕ, ◌≡◌, [], ◌∷◌, ◌++◌, Some, None, IsTrue, sym, ap, subst, ◌∙◌, arith, get_by}
+use Rattle.sftp_tree.proofs.Imports.{is_at, Place, name_cmp, node_at, is_taken, branch, IsBranch}
 use Rattle.sftp_tree.specs.declared.nodes.Node.TheVariants as nodes
 use Rattle.sftp_tree.specs.declared.entries.directories.Child.TheVariants.{Dir, File, Link}
-use Rattle.sftp_tree.specs.Tree.{node_at, is_taken}
-use Rattle.sftp_tree.specs.Nesting.{branch, IsBranch}
 use Rattle.sftp_tree.proofs.Nesting.Changes as changes
 use Rattle.sftp_tree.proofs.entries.directories.Dir.+replace.Goals as goal
 

@@ -1,13 +1,9 @@
-use Rattle.std.proofs.Common.{ℕ, ◌≡◌, [], ◌∷◌, ◌++◌, Some, None, refl, sym, ap, subst, ◌∙◌}
-use Rattle.std.specs.BTreeMap.{is_at}
-use Rattle.sftp_path.specs.Place.{Place, name_cmp}
-use Rattle.sftp_tree.specs.declared.nodes.Node.{Node}
+use Rattle.sftp_tree.proofs.Imports.{ℕ, ◌≡◌, [], ◌∷◌, ◌++◌, Some, None, refl, sym, ap, subst, ◌∙◌, is_at, Place}
+use Rattle.sftp_tree.proofs.Imports.{name_cmp, Node, Child, Names, node_at, branch, branch_of, flat_of, AreChildren}
+use Rattle.sftp_tree.proofs.Imports.{IsBranch, IsGrafted}
 use Rattle.sftp_tree.specs.declared.nodes.Node.TheVariants as nodes
 use Rattle.sftp_tree.specs.declared.entries.directories.Dir.TheInside.{Inside}
-use Rattle.sftp_tree.specs.declared.entries.directories.Child.{Child}
 use Rattle.sftp_tree.specs.declared.entries.directories.Child.TheVariants.{Dir}
-use Rattle.sftp_tree.specs.Tree.{Names, node_at}
-use Rattle.sftp_tree.specs.Nesting.{branch, branch_of, flat_of, AreChildren, IsBranch, IsGrafted}
 use Rattle.sftp_tree.proofs.Nesting.Changes as changes
 use Rattle.sftp_tree.proofs.entries.directories.Dir.+take.Goals as goal
 use Rattle.sftp_tree.proofs.entries.directories.Dir.+take.Goals.{in-Dir, in-File, in-Link}

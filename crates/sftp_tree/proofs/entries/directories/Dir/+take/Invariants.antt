@@ -1,4 +1,4 @@
-use Rattle.std.proofs.Common.{length}
+use Rattle.sftp_tree.proofs.Imports.{length}
 use Rattle.sftp_tree.proofs.entries.directories.Dir.+take.Given as goal
 
 abbrev pub decreases-take : goal.decreases-take

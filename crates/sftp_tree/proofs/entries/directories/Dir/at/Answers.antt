@@ -1,9 +1,4 @@
-use Rattle.std.proofs.Common.{◌≡◌, [], ◌∷◌, ◌++◌, ap, sym, ◌∙◌}
-use Rattle.std.proofs.lemmas.List.{append-nil}
-use Rattle.sftp_path.specs.Place.{Place}
-use Rattle.sftp_tree.specs.declared.nodes.Node.TheVariants.{File, Link}
-use Rattle.sftp_tree.specs.Tree.{node_at}
-use Rattle.sftp_tree.specs.Nesting.{branch}
+use Rattle.sftp_tree.proofs.Imports.{◌≡◌, [], ◌∷◌, ◌++◌, ap, sym, ◌∙◌, append-nil, Place, File, Link, node_at, branch}
 use Rattle.sftp_tree.proofs.Nesting.Changes.{no-names}
 use Rattle.sftp_tree.proofs.Nesting.Moves.{nothing, step-alone, step-here, step-none, step-in}
 use Rattle.sftp_tree.proofs.Nesting.Tables.{get-below_alone}

@@ -1,6 +1,4 @@
-use Rattle.std.proofs.Common.{◌≡◌, ◌++◌, length}
-use Rattle.sftp_path.specs.Place.{Place}
-use Rattle.sftp_tree.specs.Tree.{node_at}
+use Rattle.sftp_tree.proofs.Imports.{◌≡◌, ◌++◌, length, Place, node_at}
 use Rattle.sftp_tree.proofs.entries.directories.Dir.at.Given as goal
 
 abbrev pub invariant-loop-name : goal.invariant-loop-name

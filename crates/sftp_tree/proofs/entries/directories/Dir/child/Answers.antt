@@ -1,9 +1,4 @@
-use Rattle.std.proofs.Common.{◌∷◌, ap, sym, ◌∙◌}
-use Rattle.std.specs.BTreeMap.{is_at}
-use Rattle.sftp_path.specs.Place.{name_cmp}
-use Rattle.sftp_path.specs.Table.{get}
-use Rattle.sftp_tree.specs.Tree.{Names, node_at}
-use Rattle.sftp_tree.specs.Nesting.{branch_of}
+use Rattle.sftp_tree.proofs.Imports.{◌∷◌, ap, sym, ◌∙◌, is_at, name_cmp, get, Names, node_at, branch_of}
 use Rattle.sftp_tree.proofs.Nesting.Tables.{get-flat, branch-found}
 use Rattle.sftp_tree.proofs.entries.directories.Dir.child.Goals as goal
 

@@ -1,9 +1,4 @@
-use Rattle.std.proofs.Common.{[], ap, subst, ◌∙◌}
-use Rattle.sftp_path.specs.Place.{place_cmp}
-use Rattle.sftp_path.specs.Table.{InOrder}
-use Rattle.sftp_tree.specs.Tree.{Names}
-use Rattle.sftp_tree.specs.Listings.{children}
-use Rattle.sftp_tree.specs.NodesBelow.{nodes_of}
+use Rattle.sftp_tree.proofs.Imports.{[], ap, subst, ◌∙◌, place_cmp, InOrder, Names, children, nodes_of}
 use Rattle.sftp_tree.proofs.Nesting.Tables.{sorted-flat_of}
 use Rattle.sftp_tree.proofs.Nesting.NodesBelow.{nodes-children}
 use Rattle.sftp_tree.proofs.entries.directories.Dir.children.Goals as goal

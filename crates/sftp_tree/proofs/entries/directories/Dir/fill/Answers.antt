@@ -1,6 +1,4 @@
-use Rattle.std.proofs.Common.{◌∷◌, ◌++◌, [], subst}
-use Rattle.sftp_path.specs.Place.{Name}
-use Rattle.sftp_tree.specs.Nesting.{IsGrafted}
+use Rattle.sftp_tree.proofs.Imports.{◌∷◌, ◌++◌, [], subst, Name, IsGrafted}
 use Rattle.sftp_tree.proofs.Nesting.Moves.{root-branch, filled}
 use Rattle.sftp_tree.proofs.entries.directories.Dir.fill.Goals as goal
 

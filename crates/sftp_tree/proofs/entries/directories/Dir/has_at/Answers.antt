@@ -1,6 +1,4 @@
-use Rattle.std.proofs.Common.{Some, [], ◌∷◌, ap, sym, ◌∙◌}
-use Rattle.sftp_tree.specs.Tree.{node_at, is_taken}
-use Rattle.sftp_tree.specs.Seen.{branch_seen}
+use Rattle.sftp_tree.proofs.Imports.{Some, [], ◌∷◌, ap, sym, ◌∙◌, node_at, is_taken, branch_seen}
 use Rattle.sftp_tree.proofs.Nesting.Moves.{child-taken}
 use Rattle.sftp_tree.proofs.entries.directories.Dir.has_at.Goals as goal
 

@@ -1,6 +1,5 @@
 -- A directory's table is in order and starts at the directory.
-use Rattle.std.proofs.Common.{subst}
-use Rattle.sftp_tree.specs.Nesting.{IsBranch}
+use Rattle.sftp_tree.proofs.Imports.{subst, IsBranch}
 use Rattle.sftp_tree.specs.declared.entries.directories.Child.TheVariants.{Dir}
 use Rattle.sftp_tree.proofs.Nesting.Growth.{dir_branch}
 use Rattle.sftp_tree.proofs.entries.directories.Dir.into_child.Goals as goal

@@ -1,8 +1,4 @@
-use Rattle.std.proofs.Common.{◌∷◌, ◌++◌, [], sym, ap, subst, ◌∙◌}
-use Rattle.std.proofs.lemmas.List.{append_assoc}
-use Rattle.sftp_path.specs.Place.{Place}
-use Rattle.sftp_tree.specs.Tree.{node_at}
-use Rattle.sftp_tree.specs.Nesting.{branch, IsFilled}
+use Rattle.sftp_tree.proofs.Imports.{◌∷◌, ◌++◌, [], sym, ap, subst, ◌∙◌, append_assoc, Place, node_at, branch, IsFilled}
 use Rattle.sftp_tree.proofs.Nesting.Moves.{root-branch, moved-at, nothing, gone-free}
 use Rattle.sftp_tree.proofs.entries.directories.Dir.move_child.Goals as goal
 

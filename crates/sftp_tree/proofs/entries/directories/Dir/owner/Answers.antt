@@ -1,7 +1,4 @@
-use Rattle.std.proofs.Common.{[], ap, subst, sym}
-use Rattle.sftp_path.specs.Place.{place_cmp}
-use Rattle.sftp_path.specs.Table.{InOrder, get}
-use Rattle.sftp_tree.specs.Tree.{Names, node_at}
+use Rattle.sftp_tree.proofs.Imports.{[], ap, subst, sym, place_cmp, InOrder, get, Names, node_at}
 use Rattle.sftp_tree.proofs.Nesting.Tables.{sorted-flat_of}
 use Rattle.sftp_tree.proofs.entries.directories.Dir.owner.Goals as goal
 

@@ -1,10 +1,6 @@
 -- The child comes last in the map, and so in the table.
-use Rattle.std.proofs.Common.{◌≡◌, ◌++◌, ◌∷◌, [], ap, sym, subst, ◌∙◌}
-use Rattle.std.specs.List.{AllByRecursion}
-use Rattle.std.specs.Map.{keys_of}
-use Rattle.std.specs.declared.cmp.Ordering.TheVariants.{Less}
-use Rattle.sftp_path.specs.Place.{place_cmp}
-use Rattle.sftp_tree.specs.Nesting.{branch, placed, flat_of, AreChildren}
+use Rattle.sftp_tree.proofs.Imports.{◌≡◌, ◌++◌, ◌∷◌, [], ap, sym, subst, ◌∙◌, AllByRecursion, keys_of, Less, place_cmp}
+use Rattle.sftp_tree.proofs.Imports.{branch, placed, flat_of, AreChildren}
 use Rattle.sftp_tree.proofs.Nesting.Growth.{pushed}
 use Rattle.sftp_tree.proofs.entries.directories.Dir.push.Goals as goal
 

@@ -1,7 +1,5 @@
 -- An entry at the end of the directory comes at the end of all.
-use Rattle.std.proofs.Common.{◌++◌, ◌∷◌, [], ap, sym, ◌∙◌}
-use Rattle.sftp_tree.specs.declared.nodes.Node.TheVariants.{File, Link}
-use Rattle.sftp_tree.specs.Growth.{names_in, place_in, names_from}
+use Rattle.sftp_tree.proofs.Imports.{◌++◌, ◌∷◌, [], ap, sym, ◌∙◌, File, Link, names_in, place_in, names_from}
 use Rattle.sftp_tree.proofs.Nesting.Growth.{last_in_top, names_more}
 use Rattle.sftp_tree.proofs.entries.growing.Growth.add.Goals as goal
 

@@ -1,13 +1,7 @@
 -- The directory is the last child of the one above it.
-use Rattle.std.proofs.Common.{◌≡◌, ◌++◌, ◌∷◌, [], ap, sym, subst, ◌∙◌}
-use Rattle.std.specs.List.{AllByRecursion}
-use Rattle.std.specs.Map.{keys_of}
-use Rattle.std.specs.declared.cmp.Ordering.TheVariants.{Less}
-use Rattle.sftp_path.specs.Place.{place_cmp}
-use Rattle.sftp_path.specs.Table.{InOrder}
+use Rattle.sftp_tree.proofs.Imports.{◌≡◌, ◌++◌, ◌∷◌, [], ap, sym, subst, ◌∙◌, AllByRecursion, keys_of, Less, place_cmp}
+use Rattle.sftp_tree.proofs.Imports.{InOrder, names_from, branch, placed, IsBranch}
 use Rattle.sftp_tree.specs.declared.entries.directories.Child.TheVariants as children
-use Rattle.sftp_tree.specs.Growth.{names_from}
-use Rattle.sftp_tree.specs.Nesting.{branch, placed, IsBranch}
 use Rattle.sftp_tree.proofs.Nesting.Growth.{names_push, last_child}
 use Rattle.sftp_tree.proofs.entries.growing.Growth.close.Goals as goal
 

@@ -1,6 +1,5 @@
 -- The directories so far are closed, and what is open is a part of what was.
-use Rattle.std.proofs.Common.{◌≡◌, ◌≤◌, length, take}
-use Rattle.sftp_tree.specs.Growth.{names_in, place_in}
+use Rattle.sftp_tree.proofs.Imports.{◌≡◌, ◌≤◌, length, take, names_in, place_in}
 use Rattle.sftp_tree.proofs.entries.growing.Growth.close_below.Given as goal
 
 abbrev pub invariant-levels : goal.invariant-levels

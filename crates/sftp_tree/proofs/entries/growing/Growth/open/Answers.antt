@@ -1,9 +1,5 @@
 -- A new directory has its own entry alone.
-use Rattle.std.proofs.Common.{◌++◌, ◌∷◌, [], ◌∙◌}
-use Rattle.sftp_tree.specs.declared.entries.growing.Opened.{Opened}
-use Rattle.sftp_tree.specs.declared.nodes.Node.TheVariants.{Dir}
-use Rattle.sftp_tree.specs.Growth.{names_from}
-use Rattle.sftp_tree.specs.Nesting.{placed}
+use Rattle.sftp_tree.proofs.Imports.{◌++◌, ◌∷◌, [], ◌∙◌, Opened, Dir, names_from, placed}
 use Rattle.sftp_tree.proofs.Nesting.Growth.{names_push, names_more}
 use Rattle.sftp_tree.proofs.entries.growing.Growth.open.Goals as goal
 

@@ -1,11 +1,6 @@
 -- The directory that gets the entry is open.
-use Rattle.std.proofs.Common.{◌≡◌, ◌++◌, ◌∷◌, [], ap, sym, subst, ◌∙◌}
-use Rattle.std.specs.List.{AllByRecursion}
-use Rattle.std.specs.Map.{keys_of}
-use Rattle.std.specs.declared.cmp.Ordering.TheVariants.{Less}
-use Rattle.sftp_path.specs.Place.{Place, place_cmp}
-use Rattle.sftp_tree.specs.Growth.{names_in, place_in, open_after}
-use Rattle.sftp_tree.specs.Tree.{Names}
+use Rattle.sftp_tree.proofs.Imports.{◌≡◌, ◌++◌, ◌∷◌, [], ap, sym, subst, ◌∙◌, AllByRecursion, keys_of, Less, Place}
+use Rattle.sftp_tree.proofs.Imports.{place_cmp, names_in, place_in, open_after, Names}
 use Rattle.sftp_tree.proofs.entries.growing.Growth.put.Goals as goal
 
 pub add-requires : goal.add-requires

@@ -1,5 +1,4 @@
-use Rattle.std.proofs.Common.{◌++◌, [], ◌∷◌, subst, sym}
-use Rattle.sftp_tree.specs.Trail.{Standing, IsAt, AreAlong}
+use Rattle.sftp_tree.proofs.Imports.{◌++◌, [], ◌∷◌, subst, sym, Standing, IsAt, AreAlong}
 use Rattle.sftp_tree.proofs.Walks.Trails.{along-down}
 use Rattle.sftp_tree.proofs.entries.trail.Trail.enter.Goals as goal
 

@@ -1,6 +1,5 @@
-use Rattle.std.proofs.Common.{[], ◌∷◌, ◌++◌, sym, ap, ◌∙◌, option_copied}
+use Rattle.sftp_tree.proofs.Imports.{[], ◌∷◌, ◌++◌, sym, ap, ◌∙◌, option_copied, branch_of}
 use Rattle.sftp_tree.specs.declared.entries.directories.Child.TheVariants as children
-use Rattle.sftp_tree.specs.Nesting.{branch_of}
 use Rattle.sftp_tree.proofs.Walks.Trails.{along-found, lent-dir, lent-file, lent-link, lent-nothing}
 use Rattle.sftp_tree.proofs.entries.trail.Trail.find.Goals as goal
 

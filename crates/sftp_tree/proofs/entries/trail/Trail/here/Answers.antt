@@ -1,6 +1,5 @@
-use Rattle.std.proofs.Common.{Some, subst}
+use Rattle.sftp_tree.proofs.Imports.{Some, subst, Standing, IsLentAt, root_of}
 use Rattle.sftp_tree.specs.declared.entries.seen.Seen.TheVariants.{Dir}
-use Rattle.sftp_tree.specs.Trail.{Standing, IsLentAt, root_of}
 use Rattle.sftp_tree.proofs.Walks.Trails.{along-here, lent-directory}
 use Rattle.sftp_tree.proofs.entries.trail.Trail.here.Goals as goal
 
