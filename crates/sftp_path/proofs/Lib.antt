@@ -1,3 +1,4 @@
+pub mod Imports
 pub mod PathTexts
 pub mod Order
 pub mod Table

@@ -1,16 +1,12 @@
 -- Places that begin others, and the orders of keys.
-use Rattle.std.proofs.Common.{◌≡◌, ◌&&◌, ◌-◌, ℕ, suc, nat_eq, nat_lt, true, [], ◌∷◌, ◌++◌, length, take, drop, refl, ap}
-use Rattle.std.proofs.Common.{sym, ◌∙◌, arith}
-use Rattle.std.specs.Cmp.{IsTotalOrder}
-use Rattle.std.specs.Cmp.Lexicographic.{pointwise, bytes_decides, nat_list_cmp_total, nat_list_eq_equiv, lists_total}
-use Rattle.std.specs.FinMap.{IsAntisymmetric, nat_cmp-IsAntisymmetric, slice_cmp-IsAntisymmetric}
-use Rattle.std.proofs.lemmas.Bool.{and_parts, lt-ltb}
+use Rattle.sftp_path.proofs.Imports.{◌≡◌, ◌&&◌, ℕ, suc, nat_eq, nat_lt, true, [], ◌∷◌, ◌++◌, length, take, drop, refl}
+use Rattle.sftp_path.proofs.Imports.{ap, sym, ◌∙◌, arith, IsTotalOrder, nat_list_cmp_total, nat_list_eq_equiv}
+use Rattle.sftp_path.proofs.Imports.{IsAntisymmetric, nat_cmp-IsAntisymmetric, slice_cmp-IsAntisymmetric, and_parts}
+use Rattle.sftp_path.proofs.Imports.{lt-ltb, and_assoc, append-nil, length-append, common_steps}
+use Rattle.std.specs.Cmp.Lexicographic.{pointwise, bytes_decides, lists_total}
 use Rattle.std.proofs.lemmas.Bool.Decides.{nat_tests}
-use Rattle.std.proofs.Math.Bool.{and_assoc}
 use Rattle.std.proofs.Math.Seq.{take-append_seam}
-use Rattle.std.proofs.lemmas.List.{append-nil, length-append}
 use Rattle.sftp_path.specs.Place.{Name, Place, bytes_cmp, place_cmp, same_bytes, begins, is_below, parent}
-use Rattle.std.proofs.lemmas.Grind.{common_steps}
 
 -- ---- places that begin others
 

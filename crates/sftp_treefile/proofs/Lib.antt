@@ -1,2 +1,3 @@
+pub mod Imports
 pub mod Texts
 pub mod Order

@@ -1,15 +1,10 @@
 -- More laws of a directory that moves in a table of places: what is counted, an entry with none below it, and
 -- the move entry by entry.
-use Rattle.std.proofs.Common.{◌≡◌, ◌≢◌, ◌+◌, Bool, true, false, [], ◌∷◌, ◌++◌, length, drop, map, refl, sym, ap, ◌∙◌}
-use Rattle.std.proofs.Common.{arith, Some, None, inl, inr, true≢false}
-use Rattle.std.specs.declared.cmp.Ordering.TheVariants.{Equal}
-use Rattle.std.specs.Map.{keys_of}
-use Rattle.std.proofs.lemmas.Bool.{cases_Bool}
-use Rattle.std.proofs.lemmas.List.{append-nil, length-append, map-append}
-use Rattle.std.proofs.lemmas.Map.Keys.{sorted_tail}
+use Rattle.sftp_path.proofs.Imports.{◌≡◌, ◌≢◌, ◌+◌, Bool, true, false, [], ◌∷◌, ◌++◌, length, drop, map, refl, sym, ap}
+use Rattle.sftp_path.proofs.Imports.{◌∙◌, arith, Some, None, inl, inr, true≢false, Equal, keys_of, cases_Bool}
+use Rattle.sftp_path.proofs.Imports.{append-nil, length-append, map-append, sorted_tail, Table, InOrder, get, put}
+use Rattle.sftp_path.proofs.Imports.{without, from_entries, count, renamed, renamed_entry, rekeyed, NothingFrom}
 use Rattle.sftp_path.specs.Place.{Name, Place, place_cmp, begins}
-use Rattle.sftp_path.specs.Table.{Table, InOrder, get, put, without, from_entries, count}
-use Rattle.sftp_path.specs.Rekeying.{renamed, renamed_entry, rekeyed, NothingFrom}
 use Rattle.sftp_path.proofs.Order.{begins-front, begins-itself, place_cmp-total, place_cmp-same}
 use Rattle.sftp_path.proofs.Table.Laws.{get-put_here, get-put_elsewhere, get-without, get-without_here}
 use Rattle.sftp_path.proofs.Table.Laws.{get-without_elsewhere, get-from_entries, InOrder-put, InOrder-without}

@@ -1,17 +1,11 @@
 -- Laws of a directory that moves in a table of places.
-use Rattle.std.proofs.Common.{◌≡◌, ◌+◌, Bool, true, false, if◌then◌else◌, ◌&&◌, [], ◌∷◌, ◌++◌, length, drop, map}
-use Rattle.std.proofs.Common.{refl, sym, ap, ◌∙◌, arith, None, inl, inr, true≢false}
-use Rattle.std.specs.Ordering.{is_eq, ordering_then}
-use Rattle.std.specs.Cmp.{Equal-is}
-use Rattle.std.specs.Cmp.Lexicographic.{nat_list_cmp_total, nat_list_eq_equiv}
-use Rattle.std.specs.Map.{keys_of}
-use Rattle.std.proofs.lemmas.Bool.{and_parts, cases_Bool, false_from_ne_true, false≢true}
-use Rattle.std.proofs.lemmas.Cmp.{tied_itself}
-use Rattle.std.proofs.lemmas.List.{append_assoc, length-append}
-use Rattle.std.proofs.lemmas.Map.Keys.{sorted_head, sorted_tail}
+use Rattle.sftp_path.proofs.Imports.{◌≡◌, ◌+◌, Bool, true, false, if◌then◌else◌, ◌&&◌, [], ◌∷◌, ◌++◌, length, drop, map}
+use Rattle.sftp_path.proofs.Imports.{refl, sym, ap, ◌∙◌, arith, None, inl, inr, true≢false, is_eq, ordering_then}
+use Rattle.sftp_path.proofs.Imports.{Equal-is, nat_list_cmp_total, nat_list_eq_equiv, keys_of, and_parts, cases_Bool}
+use Rattle.sftp_path.proofs.Imports.{false_from_ne_true, false≢true, tied_itself, append_assoc, length-append}
+use Rattle.sftp_path.proofs.Imports.{sorted_head, sorted_tail, Table, InOrder, get, from_entries, size, renamed}
+use Rattle.sftp_path.proofs.Imports.{renamed_entry, rekeyed, NothingFrom}
 use Rattle.sftp_path.specs.Place.{Place, place_cmp, same_bytes, begins}
-use Rattle.sftp_path.specs.Table.{Table, InOrder, get, from_entries, size}
-use Rattle.sftp_path.specs.Rekeying.{renamed, renamed_entry, rekeyed, NothingFrom}
 use Rattle.sftp_path.proofs.Order.{begins-front, begins-append, place_cmp-total, place_cmp-same}
 use Rattle.sftp_path.proofs.Table.Entries.{get-none}
 use Rattle.sftp_path.proofs.Table.Laws.{get-empty, get-cons, get-below, get-from_entries, InOrder-from_entries}

@@ -1,11 +1,7 @@
 -- Tests of all entries of a table in which a directory moves.
-use Rattle.std.proofs.Common.{◌≡◌, ◌&&◌, Bool, [], ◌∷◌, map, refl, ap, ◌∙◌}
-use Rattle.std.specs.Map.{keys_of}
-use Rattle.std.specs.List.{list_all}
-use Rattle.std.proofs.lemmas.Map.Keys.{sorted_tail}
+use Rattle.sftp_path.proofs.Imports.{◌≡◌, ◌&&◌, Bool, [], ◌∷◌, map, refl, ap, ◌∙◌, keys_of, list_all, sorted_tail}
+use Rattle.sftp_path.proofs.Imports.{Table, InOrder, from_entries, renamed, renamed_entry, rekeyed, NothingFrom}
 use Rattle.sftp_path.specs.Place.{Place, place_cmp}
-use Rattle.sftp_path.specs.Table.{Table, InOrder, from_entries}
-use Rattle.sftp_path.specs.Rekeying.{renamed, renamed_entry, rekeyed, NothingFrom}
 use Rattle.sftp_path.proofs.Order.{place_cmp-total}
 use Rattle.sftp_path.proofs.Table.Laws.{get-from_entries}
 use Rattle.sftp_path.proofs.Table.Tests.{all-put_new}

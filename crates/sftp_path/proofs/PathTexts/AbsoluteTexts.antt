@@ -1,14 +1,10 @@
 -- The places that absolute texts stand for.
-use Rattle.std.proofs.Common.{◌≡◌, ◌≢◌, ℕ, ◌<◌, true, false, List, [], ◌∷◌, ◌++◌, length, refl, sym, ap, ◌∙◌, arith}
-use Rattle.std.specs.List.{list_all, flat_map}
+use Rattle.sftp_path.proofs.Imports.{◌≡◌, ◌≢◌, ℕ, ◌<◌, true, false, List, [], ◌∷◌, ◌++◌, length, refl, sym, ap, ◌∙◌}
+use Rattle.sftp_path.proofs.Imports.{arith, list_all, flat_map, Option, Some, None, and_parts, false≢true, append-nil}
+use Rattle.sftp_path.proofs.Imports.{IsTextOf, begins_at_slash, parts_after}
 use Rattle.std.specs.Option.{IfSome, IfNone}
-use Rattle.std.specs.Prelude.{Option, Some, None}
-use Rattle.std.proofs.lemmas.Bool.{and_parts, false≢true}
-use Rattle.std.proofs.lemmas.List.{append-nil}
 use Rattle.sftp_path.specs.Place.{is_inner, is_name, are_names, absolute, parts, components, is_nonempty, is_absolute}
 use Rattle.sftp_path.specs.Place.{Name, Place}
-use Rattle.sftp_path.specs.Text.{IsTextOf}
-use Rattle.sftp_path.specs.Cut.{begins_at_slash, parts_after}
 use Rattle.sftp_path.proofs.PathTexts.Splitting.{parts-whole, parts-append, parts-from_slash, parts-slash}
 use Rattle.sftp_path.proofs.PathTexts.Splitting.{components-slash, components-nil, components-are}
 use Rattle.sftp_path.proofs.PathTexts.GoodPaths.{list_all-weaker, list_all-between, filter_all}

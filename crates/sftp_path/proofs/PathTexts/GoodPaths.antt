@@ -1,20 +1,16 @@
 -- Good paths, and what holds of each of their components.
-use Rattle.std.proofs.Common.{◌≡◌, ◌≢◌, ℕ, suc, ◌+◌, ◌<◌, ◌≤◌, Bool, true, false, cond, not, ◌&&◌, ◌==◌, nat_lt, nat_le}
-use Rattle.std.proofs.Common.{if◌then◌else◌, List, [], ◌∷◌, ◌++◌, length, get_or, drop, refl, sym, ap, ◌∙◌, Fits, w8}
-use Rattle.std.proofs.Common.{arith, filter}
-use Rattle.std.specs.List.{list_all}
+use Rattle.sftp_path.proofs.Imports.{◌≡◌, ◌≢◌, ℕ, suc, ◌+◌, ◌<◌, ◌≤◌, Bool, true, false, cond, not, ◌&&◌, ◌==◌, nat_lt}
+use Rattle.sftp_path.proofs.Imports.{nat_le, if◌then◌else◌, List, [], ◌∷◌, ◌++◌, length, get_or, drop, refl, sym, ap}
+use Rattle.sftp_path.proofs.Imports.{◌∙◌, Fits, w8, arith, filter, list_all, inl, inr, zero-add, and-true, eq-eqb}
+use Rattle.sftp_path.proofs.Imports.{ne_eqb, lt-ltb, cond-true, and_parts, and_from, cases_Bool, at_drop_more}
+use Rattle.sftp_path.proofs.Imports.{at_drop_all, common_steps}
 use Rattle.std.specs.Prelude.{slice_index}
-use Rattle.std.proofs.Common.{inl, inr, zero-add}
-use Rattle.std.proofs.Math.Bool.{and-true}
-use Rattle.std.proofs.lemmas.Bool.{eq-eqb, ne_eqb, leb-true, le-leb, lt-leb, lt-ltb, cond-true, cond_both, leb-false}
-use Rattle.std.proofs.lemmas.Bool.{and_parts, and_from, and_left, and_right, cases_Bool, not_from_false}
-use Rattle.std.proofs.lemmas.List.{at_drop_more, at_drop_all}
+use Rattle.std.proofs.lemmas.Bool.{leb-true, le-leb, lt-leb, cond_both, leb-false, and_left, and_right, not_from_false}
 use Rattle.std.proofs.lemmas.List.Folds.{list_all-append}
 use Rattle.sftp_path.specs.Place.{is_step, is_inner, is_dot, is_dot_dot, is_name_byte, is_name, name_limit, path_limit}
 use Rattle.sftp_path.specs.Place.{with_first, parts, components, is_nonempty, is_good_path}
 use Rattle.sftp_path.proofs.PathTexts.Splitting.{is_nonzero, is_short, parts-nil, parts-slash, parts-inner}
 use Rattle.sftp_path.proofs.PathTexts.Splitting.{components-are, filter-nonempty}
-use Rattle.std.proofs.lemmas.Grind.{common_steps}
 
 -- ---- tests of each element
 

@@ -1,17 +1,14 @@
 -- The parts and components of a path.
-use Rattle.std.proofs.Common.{◌≡◌, ◌≢◌, ℕ, suc, zero, ◌+◌, ◌-◌, ◌<◌, ◌≤◌, Bool, true, false, cond, not, ◌==◌, nat_lt}
-use Rattle.std.proofs.Common.{nat_le, List, [], ◌∷◌, ◌++◌, length, take, drop, refl, sym, ap, ◌∙◌, subst, arith, filter}
-use Rattle.std.specs.List.{list_all, position, position_or_len}
-use Rattle.std.specs.Prelude.{slice_index, Option, Some, None, is_some, unwrap_or}
+use Rattle.sftp_path.proofs.Imports.{◌≡◌, ◌≢◌, ℕ, suc, zero, ◌+◌, ◌-◌, ◌<◌, ◌≤◌, Bool, true, false, cond, not, ◌==◌}
+use Rattle.sftp_path.proofs.Imports.{nat_lt, nat_le, List, [], ◌∷◌, ◌++◌, length, take, drop, refl, sym, ap, ◌∙◌, subst}
+use Rattle.sftp_path.proofs.Imports.{arith, filter, list_all, position, position_or_len, Option, Some, None, is_some}
+use Rattle.sftp_path.proofs.Imports.{inl, inr, eq-eqb, ne_eqb, lt-ltb, cond-true, and_parts, cases_Bool, false≢true}
+use Rattle.sftp_path.proofs.Imports.{drop_all, length-drop, take_rest, with_slashes, begins_at_slash, parts_after}
+use Rattle.std.specs.Prelude.{slice_index, unwrap_or}
 use Rattle.bstr.specs.Find.{IsFirstByte, is_byte}
-use Rattle.std.proofs.Common.{inl, inr}
-use Rattle.std.proofs.lemmas.Bool.{eq-eqb, eqb-true, ne_eqb, lt-ltb, ltb-true, ltb-false, cond-true, and_parts}
-use Rattle.std.proofs.lemmas.Bool.{cases_Bool, not-true, false≢true}
-use Rattle.std.proofs.lemmas.List.{drop_all, length-drop, take_rest}
+use Rattle.std.proofs.lemmas.Bool.{eqb-true, ltb-true, ltb-false, not-true}
 use Rattle.std.proofs.lemmas.Option.{cond_some, none-some}
 use Rattle.sftp_path.specs.Place.{is_inner, name_limit, with_first, parts, components, is_nonempty}
-use Rattle.sftp_path.specs.Text.{with_slashes}
-use Rattle.sftp_path.specs.Cut.{begins_at_slash, parts_after}
 
 -- ---- parts
 

@@ -1,18 +1,10 @@
 -- How many values of a table pass a test, after each operation; for any keys and values.
-use Rattle.std.proofs.Common.{◌≡◌, ◌+◌, ◌<◌, ℕ, Bool, true, false, cond, if◌then◌else◌, [], ◌∷◌, length, ap, ◌∙◌}
-use Rattle.std.proofs.Common.{arith, Some, None}
-use Rattle.std.specs.Bool.{IsTrue}
-use Rattle.std.specs.Ordering.{is_eq, match_ordering}
-use Rattle.std.specs.declared.cmp.Ordering.{Ordering}
-use Rattle.std.specs.declared.cmp.Ordering.TheVariants.{Less, Equal, Greater}
-use Rattle.std.specs.BTreeMap.{insert_entry, is_at}
-use Rattle.std.specs.Map.{lookup, remove_entry, keys_of}
+use Rattle.sftp_path.proofs.Imports.{◌≡◌, ◌+◌, ◌<◌, ℕ, Bool, true, false, cond, if◌then◌else◌, [], ◌∷◌, length, ap, ◌∙◌}
+use Rattle.sftp_path.proofs.Imports.{arith, Some, None, IsTrue, is_eq, match_ordering, Ordering, Less, Equal, Greater}
+use Rattle.sftp_path.proofs.Imports.{insert_entry, is_at, lookup, remove_entry, keys_of, IsTotalOrder, lookup-none}
+use Rattle.sftp_path.proofs.Imports.{sorted_tail, Table, InOrder, get, put, without, retain, count}
 use Rattle.std.specs.List.{filter}
-use Rattle.std.specs.Cmp.{IsTotalOrder}
-use Rattle.std.proofs.lemmas.Map.{lookup-none}
 use Rattle.std.proofs.lemmas.Map.Entries.{none_below_head}
-use Rattle.std.proofs.lemmas.Map.Keys.{sorted_tail}
-use Rattle.sftp_path.specs.Table.{Table, InOrder, get, put, without, retain, count}
 
 -- 1 for a value that passes
 abbrev pub one_if : Bool → ℕ

@@ -1,18 +1,9 @@
 -- Laws of the entries of a table one by one: the last one, those in front, and two keys that do not tie.
-use Rattle.std.proofs.Common.{◌≡◌, ◌≢◌, Bool, true, false, cond, List, [], ◌∷◌, ◌++◌, refl, sym, ap, ◌∙◌, Option, Some}
-use Rattle.std.proofs.Common.{arith, None}
-use Rattle.std.specs.Ordering.{is_eq}
-use Rattle.std.specs.declared.cmp.Ordering.{Ordering}
-use Rattle.std.specs.declared.cmp.Ordering.TheVariants.{Less, Equal}
-use Rattle.std.specs.BTreeMap.{is_at}
-use Rattle.std.specs.Map.{lookup, remove_entry, keys_of}
+use Rattle.sftp_path.proofs.Imports.{◌≡◌, ◌≢◌, Bool, true, false, cond, List, [], ◌∷◌, ◌++◌, refl, sym, ap, ◌∙◌, Option}
+use Rattle.sftp_path.proofs.Imports.{Some, arith, None, is_eq, Ordering, Less, Equal, is_at, lookup, remove_entry}
+use Rattle.sftp_path.proofs.Imports.{keys_of, IsStrictlySortedBy, IsTotalOrder, Equal-is, IsAntisymmetric}
+use Rattle.sftp_path.proofs.Imports.{false_from_ne_true, tied_itself, Table, InOrder, get, put, without, from_entries}
 use Rattle.std.specs.List.{AllByRecursion}
-use Rattle.std.specs.List.Sorted.{IsStrictlySortedBy}
-use Rattle.std.specs.Cmp.{IsTotalOrder, Equal-is}
-use Rattle.std.specs.FinMap.{IsAntisymmetric}
-use Rattle.std.proofs.lemmas.Bool.{false_from_ne_true}
-use Rattle.std.proofs.lemmas.Cmp.{tied_itself}
-use Rattle.sftp_path.specs.Table.{Table, InOrder, get, put, without, from_entries}
 use Rattle.sftp_path.proofs.Table.Laws.{get-empty, get-cons, get-put, get-without, get-from_entries, InOrder-put}
 use Rattle.sftp_path.proofs.Table.Laws.{InOrder-without, InOrder-from_entries, same_table}
 

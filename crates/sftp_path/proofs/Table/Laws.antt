@@ -1,22 +1,14 @@
 -- Laws of tables, for any keys and values.
-use Rattle.std.proofs.Common.{◌≡◌, ◌≢◌, ◌+◌, Bool, true, false, cond, ◌&&◌, List, [], ◌∷◌, length, refl, sym, ap, subst}
-use Rattle.std.proofs.Common.{◌∙◌, arith, Option, Some, None, is_some, inl, inr}
+use Rattle.sftp_path.proofs.Imports.{◌≡◌, ◌≢◌, ◌+◌, Bool, true, false, cond, ◌&&◌, List, [], ◌∷◌, length, refl, sym, ap}
+use Rattle.sftp_path.proofs.Imports.{subst, ◌∙◌, arith, Option, Some, None, is_some, inl, inr, is_eq, is_lt}
+use Rattle.sftp_path.proofs.Imports.{match_ordering, Ordering, Less, Equal, Greater, insert_entry, is_at, lookup}
+use Rattle.sftp_path.proofs.Imports.{remove_entry, keys_of, IsStrictlySortedBy, IsTotalOrder, Equal-is, IsAntisymmetric}
+use Rattle.sftp_path.proofs.Imports.{cases_Bool, tied_itself, eq_by_cmp_equiv, lookup-remove_entry, sorted_head}
+use Rattle.sftp_path.proofs.Imports.{sorted_tail, Table, InOrder, get, put, without, retain, from_entries, size, kept}
 use Rattle.std.proofs.Math.Dec.{T}
-use Rattle.std.specs.Ordering.{is_eq, is_lt, match_ordering}
-use Rattle.std.specs.declared.cmp.Ordering.{Ordering}
-use Rattle.std.specs.declared.cmp.Ordering.TheVariants.{Less, Equal, Greater}
-use Rattle.std.specs.BTreeMap.{insert_entry, is_at}
-use Rattle.std.specs.Map.{lookup, remove_entry, keys_of}
 use Rattle.std.specs.List.{AllByRecursion, filter}
-use Rattle.std.specs.List.Sorted.{IsStrictlySortedBy}
-use Rattle.std.specs.Cmp.{IsTotalOrder, Equal-is}
-use Rattle.std.specs.FinMap.{IsAntisymmetric}
 use Rattle.std.specs.FinMap.Entries as sorted_list
-use Rattle.std.proofs.lemmas.Bool.{cases_Bool}
-use Rattle.std.proofs.lemmas.Cmp.{tied_itself, eq_by_cmp_equiv}
-use Rattle.std.proofs.lemmas.Map.{lookup-remove_entry}
-use Rattle.std.proofs.lemmas.Map.Keys.{sorted_head, sorted_tail, IsDistinct-from_sorted}
-use Rattle.sftp_path.specs.Table.{Table, InOrder, get, put, without, retain, from_entries, size, kept}
+use Rattle.std.proofs.lemmas.Map.Keys.{IsDistinct-from_sorted}
 
 -- ---- orders
 

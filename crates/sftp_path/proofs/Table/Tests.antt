@@ -1,19 +1,9 @@
 -- Laws of a test that all entries of a table pass, after each operation.
-use Rattle.std.proofs.Common.{◌≡◌, Bool, true, false, cond, ◌&&◌, [], ◌∷◌, refl, ap, Some, None, arith}
-use Rattle.std.specs.Bool.{IsTrue}
-use Rattle.std.specs.Ordering.{is_eq, match_ordering}
-use Rattle.std.specs.declared.cmp.Ordering.{Ordering}
-use Rattle.std.specs.declared.cmp.Ordering.TheVariants.{Less, Equal, Greater}
-use Rattle.std.specs.BTreeMap.{insert_entry, is_at}
-use Rattle.std.specs.Map.{lookup, remove_entry, keys_of}
-use Rattle.std.specs.List.{list_all}
-use Rattle.std.specs.Cmp.{IsTotalOrder}
-use Rattle.std.specs.FinMap.{IsAntisymmetric}
-use Rattle.std.proofs.lemmas.Bool.{and_parts, and_from}
-use Rattle.std.proofs.lemmas.Map.{lookup-none}
+use Rattle.sftp_path.proofs.Imports.{◌≡◌, Bool, true, false, cond, ◌&&◌, [], ◌∷◌, refl, ap, Some, None, arith, IsTrue}
+use Rattle.sftp_path.proofs.Imports.{is_eq, match_ordering, Ordering, Less, Equal, Greater, insert_entry, is_at, lookup}
+use Rattle.sftp_path.proofs.Imports.{remove_entry, keys_of, list_all, IsTotalOrder, IsAntisymmetric, and_parts}
+use Rattle.sftp_path.proofs.Imports.{and_from, lookup-none, sorted_tail, Table, InOrder, get, put, without}
 use Rattle.std.proofs.lemmas.Map.Entries.{none_below_head}
-use Rattle.std.proofs.lemmas.Map.Keys.{sorted_tail}
-use Rattle.sftp_path.specs.Table.{Table, InOrder, get, put, without}
 
 swap-tests : (a b c : Bool) → (a && (b && c)) ≡ (b && (a && c))
 swap-tests true b c = refl

@@ -1,15 +1,9 @@
 -- Laws of a table whose keys get other values, each made of the one before.
-use Rattle.std.proofs.Common.{◌≡◌, Bool, [], ◌∷◌, refl, sym, ap, subst, arith}
+use Rattle.sftp_path.proofs.Imports.{◌≡◌, Bool, [], ◌∷◌, refl, sym, ap, subst, arith, match_ordering, Ordering, Less}
+use Rattle.sftp_path.proofs.Imports.{Equal, Greater, insert_entry, is_at, remove_entry, IsStrictlySortedBy, length-map}
+use Rattle.sftp_path.proofs.Imports.{Table, InOrder, get, put, without, size, with_values}
 use Rattle.std.specs.Option.{option_map}
-use Rattle.std.specs.Ordering.{match_ordering}
-use Rattle.std.specs.declared.cmp.Ordering.{Ordering}
-use Rattle.std.specs.declared.cmp.Ordering.TheVariants.{Less, Equal, Greater}
-use Rattle.std.specs.BTreeMap.{insert_entry, is_at}
-use Rattle.std.specs.Map.{remove_entry}
-use Rattle.std.specs.List.Sorted.{IsStrictlySortedBy}
-use Rattle.std.proofs.lemmas.List.{length-map}
 use Rattle.std.proofs.lemmas.Map.Made.{lookup-map_values, keys_of-map_values}
-use Rattle.sftp_path.specs.Table.{Table, InOrder, get, put, without, size, with_values}
 
 module _ {K X Y : Type 0} (f : X → Y) where
   insert-turn : (key : K) (value : X) (e : K × X) (es more : Table K X) (others : Table K Y) (o : Ordering)

@@ -1,23 +1,20 @@
 -- The last entry decides which may come next.
-use Rattle.std.proofs.Common.{◌≡◌, ℕ, ◌-◌, ◌<◌, ◌≤◌, Bool, true, false, ◌&&◌, ◌||◌, List, [], ◌∷◌, ◌++◌, length, take}
-use Rattle.std.proofs.Common.{drop, refl, sym, ap, subst, ◌∙◌, arith, inl, inr}
-use Rattle.std.specs.Prelude.{◌↔◌}
+use Rattle.sftp_treefile.proofs.Imports.{◌≡◌, ℕ, ◌-◌, ◌<◌, ◌≤◌, Bool, true, false, ◌&&◌, ◌||◌, List, [], ◌∷◌, ◌++◌}
+use Rattle.sftp_treefile.proofs.Imports.{length, take, drop, refl, sym, ap, subst, ◌∙◌, arith, inl, inr, ◌↔◌, and_parts}
+use Rattle.sftp_treefile.proofs.Imports.{false≢true, append-nil, length-append, nil_from_length, take_all, Row}
+use Rattle.sftp_treefile.proofs.Imports.{place_of, has_dir, IsLast, Follows, common_steps}
 use Rattle.std.specs.List.{list_any, AllByRecursion}
 use Rattle.std.specs.Ordering.{ordering_then}
 use Rattle.std.specs.declared.cmp.Ordering.{Ordering}
 use Rattle.std.specs.declared.cmp.Ordering.TheVariants.{Less, Equal, Greater}
 use Rattle.std.specs.Cmp.Lexicographic.{lists_equiv, nat_list_eq_equiv, bytes_decides}
-use Rattle.std.proofs.lemmas.Bool.{and_parts, cases_Bool, cases_lt, false≢true}
+use Rattle.std.proofs.lemmas.Bool.{cases_Bool, cases_lt}
 use Rattle.std.proofs.lemmas.Cmp.{tied_itself}
-use Rattle.std.proofs.lemmas.List.{append-nil, length-append, nil_from_length, take-append-drop, take-append-le}
-use Rattle.std.proofs.lemmas.List.{take-take, length-take, take_all}
+use Rattle.std.proofs.lemmas.List.{take-append-drop, take-append-le, take-take, length-take}
 use Rattle.std.proofs.lemmas.List.Folds.{list_any-append}
 use Rattle.sftp_path.specs.Place.{Place, place_cmp, name_cmp, parent, begins, same_bytes}
 use Rattle.sftp_path.proofs.Order.{place_cmp-total, place_cmp-same, bytes_cmp-same, begins-front, begins-append}
-use Rattle.sftp_treefile.specs.declared.files.Row.{Row}
-use Rattle.sftp_treefile.specs.TreeFile.{place_of, same_place, is_root, is_dir, is_dir_at, has_dir}
-use Rattle.sftp_treefile.specs.TreeFileParts.{IsLast, Follows}
-use Rattle.std.proofs.lemmas.Grind.{common_steps}
+use Rattle.sftp_treefile.specs.TreeFile.{same_place, is_root, is_dir, is_dir_at}
 
 -- ---- the order of places
 

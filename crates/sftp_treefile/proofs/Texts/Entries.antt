@@ -1,16 +1,10 @@
 -- Entries and their texts.
-use Rattle.std.proofs.Common.{◌≡◌, ℕ, ◌+◌, ◌<◌, ◌≤◌, ◌^◌, List, [], ◌∷◌, ◌++◌, length, refl, sym, ap, subst, ◌∙◌}
-use Rattle.std.proofs.Common.{append_assoc, arith, inl, inr}
-use Rattle.std.specs.List.{flat_map}
-use Rattle.std.proofs.lemmas.List.{append-nil, length-append}
+use Rattle.sftp_treefile.proofs.Imports.{◌≡◌, ℕ, ◌+◌, ◌<◌, ◌≤◌, ◌^◌, List, [], ◌∷◌, ◌++◌, length, refl, sym, ap, subst}
+use Rattle.sftp_treefile.proofs.Imports.{◌∙◌, append_assoc, arith, inl, inr, flat_map, append-nil, length-append}
+use Rattle.sftp_treefile.proofs.Imports.{string, TreeError, Kind, Row, TreeLimits, row_text, kind_text, IsPlaceText}
+use Rattle.sftp_treefile.proofs.Imports.{IsKind, AreRows, Reads, ReadsNone, OutOfMemoryOr, Follows, AreRead, AreNone}
 use Rattle.std.proofs.lemmas.List.Concat.{flat_map-append}
-use Rattle.sftp_packets.specs.Spelling.{string}
-use Rattle.sftp_treefile.specs.declared.errors.TreeError.{TreeError}
-use Rattle.sftp_treefile.specs.declared.files.Kind.{Kind}
-use Rattle.sftp_treefile.specs.declared.files.Row.{Row}
-use Rattle.sftp_treefile.specs.declared.limits.TreeLimits.{TreeLimits}
-use Rattle.sftp_treefile.specs.TreeFile.{row_text, kind_text, IsPlaceText, IsKind, IsNext, AreRows}
-use Rattle.sftp_treefile.specs.TreeFileParts.{Reads, ReadsNone, OutOfMemoryOr, Follows, AreRead, AreNone}
+use Rattle.sftp_treefile.specs.TreeFile.{IsNext}
 use Rattle.sftp_treefile.proofs.Texts.Fields.{path_front, kind_front}
 
 -- ---- an entry

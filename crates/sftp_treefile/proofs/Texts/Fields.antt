@@ -1,22 +1,16 @@
 -- A field's text says what the field is and what follows it.
-use Rattle.std.proofs.Common.{◌≡◌, ℕ, get_or, ◌*◌, ◌<◌, ◌≤◌, ◌^◌, true, false, List, [], ◌∷◌, ◌++◌, length, take}
-use Rattle.std.proofs.Common.{drop, refl, sym, ap, ◌∙◌, append_assoc, arith}
-use Rattle.std.specs.Prelude.{IsTrue, nat_eq}
-use Rattle.std.specs.List.{flat_map}
-use Rattle.std.proofs.lemmas.Bool.{leb-true, and_parts, eqb-true, ltb-true, false≢true}
-use Rattle.std.proofs.lemmas.List.{take_at, drop_at, length-append}
+use Rattle.sftp_treefile.proofs.Imports.{◌≡◌, ℕ, get_or, ◌*◌, ◌<◌, ◌≤◌, ◌^◌, true, false, List, [], ◌∷◌, ◌++◌, length}
+use Rattle.sftp_treefile.proofs.Imports.{take, drop, refl, sym, ap, ◌∙◌, append_assoc, arith, IsTrue, nat_eq, flat_map}
+use Rattle.sftp_treefile.proofs.Imports.{leb-true, and_parts, eqb-true, ltb-true, false≢true, length-append, uint32}
+use Rattle.sftp_treefile.proofs.Imports.{string, components, is_good_path, Owner, Kind, Row, TreeLimits, owner_text}
+use Rattle.sftp_treefile.proofs.Imports.{kind_text, place_of, IsPlaceText, IsOwner, IsKind, Reads, ReadsNone, IsNumber}
+use Rattle.sftp_treefile.proofs.Imports.{IsTarget, IsFileBytes, IsFile, file_text}
+use Rattle.std.proofs.lemmas.List.{take_at, drop_at}
 use Rattle.std.proofs.lemmas.Nat.{from_be_bytes-to_be_bytes_4}
-use Rattle.sftp_packets.specs.Spelling.{uint32, string}
-use Rattle.sftp_path.specs.Place.{Place, are_names, absolute, components, depth_limit, is_good_path}
+use Rattle.sftp_path.specs.Place.{Place, are_names, absolute, depth_limit}
 use Rattle.sftp_path.specs.Text.{IsTextOf}
 use Rattle.sftp_path.proofs.PathTexts.AbsoluteTexts.{components-absolute}
-use Rattle.sftp_treefile.specs.declared.files.Owner.{Owner}
-use Rattle.sftp_treefile.specs.declared.files.Kind.{Kind}
 use Rattle.sftp_treefile.specs.declared.files.Kind.TheVariants.{Dir, First, Further, Link}
-use Rattle.sftp_treefile.specs.declared.files.Row.{Row}
-use Rattle.sftp_treefile.specs.declared.limits.TreeLimits.{TreeLimits}
-use Rattle.sftp_treefile.specs.TreeFile.{owner_text, kind_text, place_of, IsPlaceText, IsOwner, IsKind}
-use Rattle.sftp_treefile.specs.TreeFileParts.{Reads, ReadsNone, IsNumber, IsTarget, IsFileBytes, IsFile, file_text}
 
 -- ---- numbers
 

@@ -1,16 +1,11 @@
 -- What a tree file says is a head and its entries, and each tree file says one thing.
-use Rattle.std.proofs.Common.{◌≡◌, ℕ, ◌<◌, List, [], ◌++◌, length, sym, ap, subst, ◌∙◌, append_assoc, arith, inl, inr}
-use Rattle.std.specs.List.{flat_map}
-use Rattle.std.proofs.lemmas.List.{append-nil, nil_from_length}
-use Rattle.sftp_treefile.specs.declared.errors.TreeError.{TreeError}
+use Rattle.sftp_treefile.proofs.Imports.{◌≡◌, ℕ, ◌<◌, List, [], ◌++◌, length, sym, ap, subst, ◌∙◌, append_assoc, arith}
+use Rattle.sftp_treefile.proofs.Imports.{inl, inr, flat_map, append-nil, nil_from_length, TreeError, Row, Head}
+use Rattle.sftp_treefile.proofs.Imports.{TreeLimits, row_text, spelled, AreRows, Reads, ReadsNone, OutOfMemoryOr}
+use Rattle.sftp_treefile.proofs.Imports.{head_bytes, IsHead, head_text, AreRead, AreNone}
 use Rattle.sftp_treefile.specs.declared.errors.TreeError.TheVariants.{NoMemory}
-use Rattle.sftp_treefile.specs.declared.files.Row.{Row}
 use Rattle.sftp_treefile.specs.declared.files.TreeFile.{TreeFile}
-use Rattle.sftp_treefile.specs.declared.heads.Head.{Head}
-use Rattle.sftp_treefile.specs.declared.limits.TreeLimits.{TreeLimits}
-use Rattle.sftp_treefile.specs.TreeFile.{row_text, spelled, AreRows, IsTreeFile, IsSpelled}
-use Rattle.sftp_treefile.specs.TreeFileParts.{Reads, ReadsNone, OutOfMemoryOr, head_bytes, IsHead, head_text, AreRead}
-use Rattle.sftp_treefile.specs.TreeFileParts.{AreNone}
+use Rattle.sftp_treefile.specs.TreeFile.{IsTreeFile, IsSpelled}
 use Rattle.sftp_treefile.proofs.Texts.Limits.{file_bytes_bound}
 use Rattle.sftp_treefile.proofs.Texts.Heads.{head_front}
 use Rattle.sftp_treefile.proofs.Texts.Entries.{entries_are_one}

@@ -1,16 +1,10 @@
 -- Heads and their texts: the front, the limits, and what is said of the root.
-use Rattle.std.proofs.Common.{◌≡◌, ◌<◌, ◌^◌, ℕ, Bool, true, false, List, ◌++◌, get_or, drop, refl, sym, ap, ◌∙◌}
-use Rattle.std.proofs.Common.{subst, arith}
-use Rattle.std.proofs.lemmas.Bool.{false≢true}
-use Rattle.sftp_packets.specs.Spelling.{uint32, string}
-use Rattle.sftp_treefile.specs.declared.files.Owner.{Owner}
-use Rattle.sftp_treefile.specs.declared.heads.Front.{Front}
-use Rattle.sftp_treefile.specs.declared.heads.Head.{Head}
-use Rattle.sftp_treefile.specs.declared.limits.TreeLimits.{TreeLimits}
-use Rattle.sftp_treefile.specs.Limits.{usual_limits, highest_limits, IsBetween, AreLimits, are_own}
-use Rattle.sftp_treefile.specs.TreeFile.{tree_opening, limits_text, owner_text, IsPlaceText, IsOwner}
-use Rattle.sftp_treefile.specs.TreeFileParts.{Reads, ReadsNone, IsNumber, IsCount, IsFront, front_bytes, AreSet, IsRoot}
-use Rattle.sftp_treefile.specs.TreeFileParts.{front_text, root_text, head_bytes, IsHead}
+use Rattle.sftp_treefile.proofs.Imports.{◌≡◌, ◌<◌, ◌^◌, ℕ, Bool, true, false, List, ◌++◌, get_or, drop, refl, sym, ap}
+use Rattle.sftp_treefile.proofs.Imports.{◌∙◌, subst, arith, false≢true, uint32, string, Owner, Front, Head, TreeLimits}
+use Rattle.sftp_treefile.proofs.Imports.{usual_limits, highest_limits, AreLimits, are_own, tree_opening, limits_text}
+use Rattle.sftp_treefile.proofs.Imports.{owner_text, IsPlaceText, IsOwner, Reads, ReadsNone, IsNumber, IsCount, IsFront}
+use Rattle.sftp_treefile.proofs.Imports.{front_bytes, AreSet, IsRoot, front_text, root_text, head_bytes, IsHead}
+use Rattle.sftp_treefile.specs.Limits.{IsBetween}
 use Rattle.sftp_treefile.proofs.Texts.Fields.{number_front, owner_front, path_front}
 use Rattle.sftp_treefile.proofs.Texts.Limits.{usual_are, usual_not_own, not_own}
 use Rattle.sftp_treefile.proofs.Texts.Sequence.{IsOne, Both, both_text, no_first, no_second, both_one, both_read}

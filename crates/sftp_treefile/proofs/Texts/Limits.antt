@@ -1,12 +1,8 @@
 -- The ranges of limits, and what they bound.
-use Rattle.std.proofs.Common.{◌≡◌, ◌<◌, ◌≤◌, ◌^◌, false, List, [], ◌∷◌, ◌++◌, refl, arith}
-use Rattle.std.proofs.lemmas.Bool.{and_parts, eqb-true, not-false}
-use Rattle.sftp_treefile.specs.declared.files.Kind.{Kind}
+use Rattle.sftp_treefile.proofs.Imports.{◌≡◌, ◌<◌, ◌≤◌, ◌^◌, false, List, [], ◌∷◌, ◌++◌, refl, arith, and_parts}
+use Rattle.sftp_treefile.proofs.Imports.{eqb-true, not-false, Kind, Row, TreeLimits, usual_limits, highest_limits}
+use Rattle.sftp_treefile.proofs.Imports.{AreLimits, are_own, IsKind, AreRows}
 use Rattle.sftp_treefile.specs.declared.files.Kind.TheVariants as kinds
-use Rattle.sftp_treefile.specs.declared.files.Row.{Row}
-use Rattle.sftp_treefile.specs.declared.limits.TreeLimits.{TreeLimits}
-use Rattle.sftp_treefile.specs.Limits.{usual_limits, highest_limits, AreLimits, are_own}
-use Rattle.sftp_treefile.specs.TreeFile.{IsKind, AreRows}
 
 pub usual_are : AreLimits usual_limits
 usual_are = record { entries = (omega arith, omega arith); file_bytes = (omega arith, omega arith); read_bytes = (omega arith, omega arith); open_handles = (omega arith, omega arith) }

@@ -1,11 +1,7 @@
 -- What is written, piece by piece.
-use Rattle.std.proofs.Common.{◌≡◌, ℕ, suc, zero, ◌<◌, ◌^◌, List, [], ◌∷◌, ◌++◌, length, get_or, append_assoc, arith}
-use Rattle.sftp_treefile.specs.declared.files.Kind.{Kind}
+use Rattle.sftp_treefile.proofs.Imports.{◌≡◌, ℕ, suc, zero, ◌<◌, ◌^◌, List, [], ◌∷◌, ◌++◌, length, get_or, append_assoc}
+use Rattle.sftp_treefile.proofs.Imports.{arith, Kind, Row, TreeLimits, IsKind, AreRows, KindHasLengths, HasLengths}
 use Rattle.sftp_treefile.specs.declared.files.Kind.TheVariants.{First, Link}
-use Rattle.sftp_treefile.specs.declared.files.Row.{Row}
-use Rattle.sftp_treefile.specs.declared.limits.TreeLimits.{TreeLimits}
-use Rattle.sftp_treefile.specs.TreeFile.{IsKind, AreRows}
-use Rattle.sftp_treefile.specs.TreeFileParts.{KindHasLengths, HasLengths}
 use Rattle.sftp_treefile.proofs.Texts.Fields.{path_length, target_length, file_bytes_length}
 
 pub two_pieces : (a b o0 o1 o2 : List ℕ) → o1 ≡ o0 ++ a → o2 ≡ o1 ++ b → o2 ≡ o0 ++ (a ++ b)

@@ -1,6 +1,5 @@
 -- A text of two parts, the second of which may depend on the value of the first, and values that are seen as such pairs.
-use Rattle.std.proofs.Common.{◌≡◌, List, ◌++◌, ℕ, sym, ap, subst, ◌∙◌, append_assoc}
-use Rattle.sftp_treefile.specs.TreeFileParts.{Reads, ReadsNone}
+use Rattle.sftp_treefile.proofs.Imports.{◌≡◌, List, ◌++◌, ℕ, sym, ap, subst, ◌∙◌, append_assoc, Reads, ReadsNone}
 
 -- bytes start with the text of one value
 abbrev pub IsOne : {A : Type 0} → (A → Type 0) → (A → List ℕ) → Type 0

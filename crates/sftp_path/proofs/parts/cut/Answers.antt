@@ -1,4 +1,4 @@
-use Rattle.std.proofs.Common.{arith}
+use Rattle.sftp_path.proofs.Imports.{arith}
 use Rattle.sftp_path.proofs.PathTexts.Splitting.{parts-found}
 use Rattle.sftp_path.proofs.parts.cut.Goals as goal
 

@@ -1,4 +1,4 @@
-use Rattle.std.proofs.Common.{◌≡◌, ◌≤◌, drop}
+use Rattle.sftp_path.proofs.Imports.{◌≡◌, ◌≤◌, drop}
 use Rattle.sftp_path.proofs.PathTexts.GoodPaths.{good_from}
 use Rattle.sftp_path.proofs.paths.good_path.Given as goal
 

@@ -1,4 +1,4 @@
-use Rattle.std.proofs.Common.{arith}
+use Rattle.sftp_path.proofs.Imports.{arith}
 use Rattle.sftp_path.proofs.Move.Laws.{rekeyed-unique, nothing-at}
 use Rattle.sftp_path.proofs.rekeying.rekeyed_is_one.Goals as goal
 

@@ -1,7 +1,4 @@
-use Rattle.std.specs.Ordering.{nat_cmp}
-use Rattle.std.specs.Cmp.{nat_cmp_total}
-use Rattle.std.specs.Cmp.Lexicographic.{nat_list_cmp_total}
-use Rattle.std.specs.FinMap.{nat_cmp-IsAntisymmetric}
+use Rattle.sftp_path.proofs.Imports.{nat_cmp, nat_cmp_total, nat_list_cmp_total, nat_cmp-IsAntisymmetric}
 use Rattle.sftp_path.specs.Place.{place_cmp, bytes_cmp}
 use Rattle.sftp_path.proofs.Order.{place_cmp-total, place_cmp-same, bytes_cmp-same}
 use Rattle.sftp_path.proofs.Table.Laws.{get-retain}

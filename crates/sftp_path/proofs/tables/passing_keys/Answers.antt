@@ -1,5 +1,4 @@
-use Rattle.std.specs.Ordering.{nat_cmp}
-use Rattle.std.specs.FinMap.{nat_cmp-IsAntisymmetric}
+use Rattle.sftp_path.proofs.Imports.{nat_cmp, nat_cmp-IsAntisymmetric}
 use Rattle.sftp_path.specs.Place.{place_cmp, bytes_cmp}
 use Rattle.sftp_path.proofs.Order.{place_cmp-same, bytes_cmp-same}
 use Rattle.sftp_path.proofs.Table.Tests.{keys-put_again}

@@ -1,5 +1,4 @@
-use Rattle.std.proofs.Common.{◌≡◌, ◌∷◌, take}
-use Rattle.std.specs.List.{flat_map}
+use Rattle.sftp_path.proofs.Imports.{◌≡◌, ◌∷◌, take, flat_map}
 use Rattle.sftp_path.proofs.texts.absolute.Given as goal
 
 -- the names so far, each after a `/`

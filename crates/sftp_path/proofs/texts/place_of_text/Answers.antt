@@ -1,5 +1,4 @@
-use Rattle.std.proofs.Common.{sym, refl, arith}
-use Rattle.std.proofs.lemmas.Bool.{false≢true}
+use Rattle.sftp_path.proofs.Imports.{sym, refl, arith, false≢true}
 use Rattle.sftp_path.proofs.PathTexts.AbsoluteTexts.{is_absolute-begins, not_absolute}
 use Rattle.sftp_path.proofs.PathTexts.Splitting.{parts_after-first}
 use Rattle.sftp_path.proofs.texts.place_of_text.Goals as goal

@@ -1,7 +1,6 @@
-use Rattle.std.proofs.Common.{◌≡◌, ◌+◌, ◌<◌, ◌++◌, [], ◌∷◌, IsTrue, length}
-use Rattle.std.specs.List.{flat_map}
+use Rattle.sftp_path.proofs.Imports.{◌≡◌, ◌+◌, ◌<◌, ◌++◌, [], ◌∷◌, length, flat_map, begins_at_slash, parts_after}
+use Rattle.std.proofs.Common.{IsTrue}
 use Rattle.sftp_path.specs.Place.{are_names, parts}
-use Rattle.sftp_path.specs.Cut.{begins_at_slash, parts_after}
 use Rattle.sftp_path.proofs.texts.place_of_text.Given as goal
 
 -- the names of the place so far are the parts so far

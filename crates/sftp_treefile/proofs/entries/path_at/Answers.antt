@@ -1,7 +1,5 @@
 -- The bytes start with a path that may not come next, and so with none that may.
-use Rattle.std.proofs.Common.{inr, ap, length, ◌∙◌, arith}
-use Rattle.std.proofs.lemmas.Bool.{false≢true}
-use Rattle.std.proofs.lemmas.Result.{err_from_is_err_and}
+use Rattle.sftp_treefile.proofs.Imports.{inr, ap, length, ◌∙◌, arith, false≢true, err_from_is_err_and}
 use Rattle.sftp_treefile.proofs.Texts.Entries.{or_fault, path_unfit, path_absent}
 use Rattle.sftp_treefile.proofs.entries.path_at.Goals as goal
 

@@ -1,10 +1,9 @@
 -- One entry more, or none that may come next.
-use Rattle.std.proofs.Common.{◌≡◌, ◌+◌, ◌-◌, arith}
-use Rattle.std.proofs.lemmas.Result.{err_from_is_err_and}
+use Rattle.sftp_treefile.proofs.Imports.{◌≡◌, ◌+◌, ◌-◌, arith, err_from_is_err_and, common_steps}
 use Rattle.sftp_treefile.proofs.Texts.Entries.{or_fault, read_none, read_more, row_none}
 use Rattle.sftp_treefile.proofs.entries.rows_at.Goals as goal
-use Rattle.sftp_treefile.proofs.entries.rows_at.Goals.{else-loop-entry-test, then-loop-entry-test+in_ok-row+in_ok-put_row+else-entry-count}
-use Rattle.std.proofs.lemmas.Grind.{common_steps}
+use Rattle.sftp_treefile.proofs.entries.rows_at.Goals.{else-loop-entry-test}
+use Rattle.sftp_treefile.proofs.entries.rows_at.Goals.{then-loop-entry-test+in_ok-row+in_ok-put_row+else-entry-count}
 
 pub loop-entry-init : goal.loop-entry-init
 loop-entry-init c = grind (arith, common_steps, read_none)

@@ -1,6 +1,5 @@
 -- The entries so far are read.
-use Rattle.std.proofs.Common.{◌-◌, ◌+◌, ◌≤◌}
-use Rattle.sftp_treefile.specs.TreeFileParts.{IsLast, AreRead}
+use Rattle.sftp_treefile.proofs.Imports.{◌-◌, ◌+◌, ◌≤◌, IsLast, AreRead}
 use Rattle.sftp_treefile.proofs.entries.rows_at.Given as goal
 
 abbrev pub invariant-loop-entry : goal.invariant-loop-entry

@@ -1,8 +1,4 @@
-use Rattle.std.proofs.Common.{refl, arith}
-use Rattle.sftp_wire.specs.Examples.{hex}
-use Rattle.sftp_path.specs.Place.{components, parts}
-use Rattle.sftp_treefile.specs.Limits.{are_own}
-use Rattle.sftp_treefile.specs.TreeFile.{spelled}
+use Rattle.sftp_treefile.proofs.Imports.{refl, arith, hex, components, parts, are_own, spelled}
 use Rattle.sftp_treefile.proofs.examples.blank_file.Goals as goal
 
 pub returns-clause-length : goal.returns-clause-length

@@ -1,10 +1,5 @@
-use Rattle.std.proofs.Common.{[], ◌∷◌, drop, refl, true, arith}
-use Rattle.sftp_wire.specs.Examples.{hex}
-use Rattle.sftp_path.specs.Place.{components, parts}
-use Rattle.sftp_treefile.specs.declared.heads.Front.{Front}
-use Rattle.sftp_treefile.specs.Limits.{usual_limits, AreLimits, are_own}
-use Rattle.sftp_treefile.specs.TreeFile.{spelled, limits_text}
-use Rattle.sftp_treefile.specs.TreeFileParts.{Reads, IsFront, front_bytes}
+use Rattle.sftp_treefile.proofs.Imports.{[], ◌∷◌, drop, refl, true, arith, hex, components, parts, Front, usual_limits}
+use Rattle.sftp_treefile.proofs.Imports.{AreLimits, are_own, spelled, limits_text, Reads, IsFront, front_bytes}
 use Rattle.sftp_treefile.specs.Examples.{usual_bytes}
 use Rattle.sftp_treefile.proofs.Texts.Heads.{limits_none, usual_none}
 use Rattle.sftp_treefile.proofs.Texts.Limits.{usual_are, usual_not_own}

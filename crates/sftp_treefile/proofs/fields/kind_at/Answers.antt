@@ -1,6 +1,5 @@
 -- A kind is its letter and what it says.
-use Rattle.std.proofs.Common.{inr}
-use Rattle.std.proofs.lemmas.Result.{err_from_is_err_and}
+use Rattle.sftp_treefile.proofs.Imports.{inr, err_from_is_err_and}
 use Rattle.sftp_treefile.proofs.Texts.Entries.{or_fault}
 use Rattle.sftp_treefile.proofs.Texts.Fields.{dir_none, first_none}
 use Rattle.sftp_treefile.proofs.fields.kind_at.Goals as goal

@@ -1,5 +1,5 @@
 -- The limits, one after the other.
-use Rattle.std.proofs.lemmas.Result.{err_from_is_err_and}
+use Rattle.sftp_treefile.proofs.Imports.{err_from_is_err_and}
 use Rattle.sftp_treefile.proofs.Texts.Heads.{entries_none, file_bytes_none, read_bytes_none, open_handles_none}
 use Rattle.sftp_treefile.proofs.Texts.Heads.{limits_read}
 use Rattle.sftp_treefile.proofs.heads.four_limits_at.Goals as goal

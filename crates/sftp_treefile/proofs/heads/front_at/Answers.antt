@@ -1,6 +1,5 @@
 -- The front, field by field.
-use Rattle.std.proofs.Common.{inr}
-use Rattle.std.proofs.lemmas.Result.{err_from_is_err_and}
+use Rattle.sftp_treefile.proofs.Imports.{inr, err_from_is_err_and}
 use Rattle.sftp_treefile.proofs.Texts.Entries.{or_fault}
 use Rattle.sftp_treefile.proofs.Texts.Heads.{opening_none, home_none, uid_none, gid_none, front_read}
 use Rattle.sftp_treefile.proofs.heads.front_at.Goals as goal

@@ -1,6 +1,5 @@
 -- The head: its front, the limits, and what it says of the root.
-use Rattle.std.proofs.Common.{inr}
-use Rattle.std.proofs.lemmas.Result.{err_from_is_err_and}
+use Rattle.sftp_treefile.proofs.Imports.{inr, err_from_is_err_and}
 use Rattle.sftp_treefile.proofs.Texts.Entries.{or_fault}
 use Rattle.sftp_treefile.proofs.Texts.Heads.{front_none, limits_none, root_none, head_read}
 use Rattle.sftp_treefile.proofs.heads.head_at.Goals as goal

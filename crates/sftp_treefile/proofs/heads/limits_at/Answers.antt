@@ -1,5 +1,5 @@
 -- The limits of a file with limits, or of one without.
-use Rattle.std.proofs.Common.{refl}
+use Rattle.sftp_treefile.proofs.Imports.{refl}
 use Rattle.sftp_treefile.proofs.Texts.Heads.{usual_set}
 use Rattle.sftp_treefile.proofs.heads.limits_at.Goals as goal
 

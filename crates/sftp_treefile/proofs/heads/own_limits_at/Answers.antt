@@ -1,6 +1,5 @@
 -- Four limits that are not all the usual ones.
-use Rattle.std.proofs.Common.{sym}
-use Rattle.std.proofs.lemmas.Result.{err_from_is_err_and}
+use Rattle.sftp_treefile.proofs.Imports.{sym, err_from_is_err_and}
 use Rattle.sftp_treefile.proofs.Texts.Heads.{no_limits, usual_none}
 use Rattle.sftp_treefile.proofs.heads.own_limits_at.Goals as goal
 

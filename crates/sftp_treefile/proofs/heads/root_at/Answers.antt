@@ -1,6 +1,5 @@
 -- How many entries there are, and then the owner of the root.
-use Rattle.std.proofs.Common.{arith}
-use Rattle.std.proofs.lemmas.Result.{err_from_is_err_and}
+use Rattle.sftp_treefile.proofs.Imports.{arith, err_from_is_err_and}
 use Rattle.sftp_treefile.proofs.Texts.Heads.{count_none, owner_none, root_read}
 use Rattle.sftp_treefile.proofs.heads.root_at.Goals as goal
 

@@ -1,8 +1,6 @@
 -- The head, the entries and nothing else: what was written, and nothing different.
-use Rattle.std.proofs.Common.{◌<◌, length, sym, ◌∙◌, arith}
-use Rattle.std.proofs.lemmas.Bool.{eqb-true}
+use Rattle.sftp_treefile.proofs.Imports.{◌<◌, length, sym, ◌∙◌, arith, eqb-true, err_from_is_err_and}
 use Rattle.std.proofs.lemmas.Bool.Decides.{nat_tests}
-use Rattle.std.proofs.lemmas.Result.{err_from_is_err_and}
 use Rattle.sftp_treefile.proofs.Texts.Files.{fault_only, no_file_head, no_file_entries, no_file_trailing, file_read}
 use Rattle.sftp_treefile.proofs.Texts.Files.{one_file}
 use Rattle.sftp_treefile.proofs.reading.read_rows.Goals as goal

@@ -1,7 +1,5 @@
 -- The fields, one after the other.
-use Rattle.std.proofs.Common.{[], ◌∷◌}
-use Rattle.sftp_packets.specs.Spelling.{string}
-use Rattle.sftp_treefile.specs.TreeFile.{owner_text}
+use Rattle.sftp_treefile.proofs.Imports.{[], ◌∷◌, string, owner_text}
 use Rattle.sftp_treefile.proofs.Texts.Pieces.{four_pieces}
 use Rattle.sftp_treefile.proofs.writing.put_file.Goals as goal
 

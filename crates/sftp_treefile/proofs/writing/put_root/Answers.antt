@@ -1,6 +1,5 @@
 -- The fields, one after the other.
-use Rattle.sftp_packets.specs.Spelling.{uint32}
-use Rattle.sftp_treefile.specs.TreeFile.{owner_text}
+use Rattle.sftp_treefile.proofs.Imports.{uint32, owner_text}
 use Rattle.sftp_treefile.proofs.Texts.Pieces.{two_pieces}
 use Rattle.sftp_treefile.proofs.writing.put_root.Goals as goal
 

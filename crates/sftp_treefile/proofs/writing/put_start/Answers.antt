@@ -1,8 +1,5 @@
 -- The front, the limits and the root, one after the other.
-use Rattle.std.proofs.Common.{length}
-use Rattle.sftp_treefile.specs.Limits.{are_own}
-use Rattle.sftp_treefile.specs.TreeFile.{limits_text}
-use Rattle.sftp_treefile.specs.TreeFileParts.{front_text, root_text}
+use Rattle.sftp_treefile.proofs.Imports.{length, are_own, limits_text, front_text, root_text}
 use Rattle.sftp_treefile.proofs.Texts.Fields.{path_length}
 use Rattle.sftp_treefile.proofs.Texts.Pieces.{three_pieces}
 use Rattle.sftp_treefile.proofs.writing.put_start.Goals as goal

@@ -1,7 +1,5 @@
 -- Each entry can be written, and all are.
-use Rattle.std.proofs.Common.{[], sym, subst, arith}
-use Rattle.std.proofs.lemmas.List.{take_all}
-use Rattle.sftp_treefile.specs.TreeFile.{AreRows}
+use Rattle.sftp_treefile.proofs.Imports.{[], sym, subst, arith, take_all, AreRows}
 use Rattle.sftp_treefile.proofs.Texts.Limits.{file_bytes_bound}
 use Rattle.sftp_treefile.proofs.Texts.Files.{head_written}
 use Rattle.sftp_treefile.proofs.Texts.Pieces.{row_at_place}

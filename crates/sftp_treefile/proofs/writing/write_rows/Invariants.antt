@@ -1,8 +1,5 @@
 -- What is written so far are the head and the entries so far.
-use Rattle.std.proofs.Common.{◌≡◌, ◌++◌, take}
-use Rattle.std.specs.List.{flat_map}
-use Rattle.sftp_treefile.specs.TreeFile.{row_text}
-use Rattle.sftp_treefile.specs.TreeFileParts.{head_text}
+use Rattle.sftp_treefile.proofs.Imports.{◌≡◌, ◌++◌, take, flat_map, row_text, head_text}
 use Rattle.sftp_treefile.proofs.writing.write_rows.Given as goal
 
 abbrev pub invariant-loop-row : goal.invariant-loop-row

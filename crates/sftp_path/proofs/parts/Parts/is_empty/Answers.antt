@@ -1,4 +1,4 @@
-use Rattle.std.proofs.Common.{◌==◌, length, ap, ◌∙◌}
+use Rattle.sftp_path.proofs.Imports.{◌==◌, length, ap, ◌∙◌}
 use Rattle.sftp_path.specs.Split.{Split}
 use Rattle.sftp_path.proofs.PathTexts.Splitting.{components-none_left}
 use Rattle.sftp_path.proofs.parts.Parts.is_empty.Goals as goal

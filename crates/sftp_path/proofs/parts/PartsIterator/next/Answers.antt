@@ -1,4 +1,4 @@
-use Rattle.std.proofs.Common.{arith}
+use Rattle.sftp_path.proofs.Imports.{arith}
 use Rattle.sftp_path.proofs.PathTexts.Splitting.{components-next, components-end}
 use Rattle.sftp_path.proofs.parts.PartsIterator.next.Goals as goal
 

@@ -1,4 +1,4 @@
-use Rattle.std.proofs.Common.{arith}
+use Rattle.sftp_path.proofs.Imports.{arith}
 use Rattle.sftp_path.proofs.Order.{begins-is}
 use Rattle.sftp_path.proofs.places.Place.starts_with.Goals as goal
 

@@ -1,4 +1,4 @@
-use Rattle.std.proofs.Common.{◌≡◌, take}
+use Rattle.sftp_path.proofs.Imports.{◌≡◌, take}
 use Rattle.sftp_path.proofs.places.Place.try_clone.Given as goal
 
 -- the names so far
