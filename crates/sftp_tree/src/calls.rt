@@ -272,7 +272,9 @@ impl Tree {
         ensures kept { OnOk result (tree.IsKept self.now) }
     {
         let places = self.free_places(PathAsk::Realpath { path })?;
-        Ok(absolute(self.home().allocator(), places.old.place.names())?)
+        let text = absolute(self.home().allocator(), places.old.place.names());
+        drop(places);
+        Ok(text?)
     }
 
     /// READLINK: the target of a link, as it was made.
@@ -288,8 +290,9 @@ impl Tree {
         ensures kept { OnOk result (tree.IsKept self.now) }
     {
         let places = self.free_places(PathAsk::Readlink { path })?;
-        let target = target_of(&places.old);
-        Ok(Vec::from_slice(self.home().allocator(), target)?)
+        let target = Vec::from_slice(self.home().allocator(), target_of(&places.old));
+        drop(places);
+        Ok(target?)
     }
 
     /// The number of the file that is opened where a path leads to: the next one if the place is free.

@@ -46,7 +46,9 @@ impl Tree {
         ensures kept { OnOk result (tree.IsKept self.now) }
     {
         let places = self.free_places(PathAsk::Opendir { path })?;
-        Ok(self.items_below(&places.old)?)
+        let items = self.items_below(&places.old);
+        drop(places);
+        Ok(items?)
     }
 
     /// The names in a directory that was found, in order, with the attributes shown of their nodes.
