@@ -136,31 +136,12 @@ impl From<TryGetError> for Stop {
     }
 }
 
-impl From<Stop> for ShowFault {
-    fn from(stop: Stop) -> ShowFault {
-        match stop {
-            Stop::NoMemory => ShowFault::NoMemory,
-            Stop::Unfit(_) => ShowFault::Unfit,
-        }
-    }
-}
-
 impl From<AllocError> for ShowFault {
     ghost use Rattle.sftp_text.specs.declared.errors.ShowFault.TheVariants.{NoMemory as no_memory};
 
     ghost from_gives = { λ _ e. e ≡ no_memory };
 
     fn from(_error: AllocError) -> ShowFault {
-        ShowFault::NoMemory
-    }
-}
-
-impl<T: Drop> From<AllocFailed<T>> for ShowFault {
-    ghost use Rattle.sftp_text.specs.declared.errors.ShowFault.TheVariants.{NoMemory as no_memory};
-
-    ghost from_gives = { λ _ e. e ≡ no_memory };
-
-    fn from(_error: AllocFailed<T>) -> ShowFault {
         ShowFault::NoMemory
     }
 }

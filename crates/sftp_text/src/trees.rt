@@ -38,6 +38,33 @@ fn read_labelled(label: &[u8], line: &mut &[u8], bytes: &mut Vec<u8>) -> Result<
     read_number(line, bytes)
 }
 
+/// Shows two uint32, each after a label.
+fn put_two_labelled(
+    first: &[u8],
+    second: &[u8],
+    bytes: &mut &[u8],
+    text: &mut Vec<u8>,
+) -> Result<(), Stop>
+    ensures { Moves result text.new.items bytes.new.now
+        ((word first.now then number then word second.now then number).show text.old.items bytes.old.now) }
+{
+    put_labelled(first, bytes, text)?;
+    put_labelled(second, bytes, text)
+}
+
+fn read_two_labelled(
+    first: &[u8],
+    second: &[u8],
+    line: &mut &[u8],
+    bytes: &mut Vec<u8>,
+) -> Result<(), Stop>
+    ensures { Moves result bytes.new.items line.new.now
+        ((word first.now then number then word second.now then number).read bytes.old.items line.old.now) }
+{
+    read_labelled(first, line, bytes)?;
+    read_labelled(second, line, bytes)
+}
+
 /// Shows a text after a label.
 fn put_text(label: &[u8], bytes: &mut &[u8], text: &mut Vec<u8>) -> Result<(), Stop>
     ensures { Moves result text.new.items bytes.new.now
@@ -79,8 +106,7 @@ fn put_front(bytes: &mut &[u8], text: &mut Vec<u8>) -> Result<(), Stop>
     ensures { Moves result text.new.items bytes.new.now (trees.front_text.show text.old.items bytes.old.now) }
 {
     put_text(b"home ", bytes, text)?;
-    put_labelled(b" uid ", bytes, text)?;
-    put_labelled(b" gid ", bytes, text)
+    put_two_labelled(b" uid ", b" gid ", bytes, text)
 }
 
 /// Reads the home, the user and the group.
@@ -88,30 +114,7 @@ fn read_front(line: &mut &[u8], bytes: &mut Vec<u8>) -> Result<(), Stop>
     ensures { Moves result bytes.new.items line.new.now (trees.front_text.read bytes.old.items line.old.now) }
 {
     read_text(b"home ", Expected::Head, line, bytes)?;
-    read_labelled(b" uid ", line, bytes)?;
-    read_labelled(b" gid ", line, bytes)
-}
-
-/// Shows the last two limits and the number of entries.
-fn put_last_limits(bytes: &mut &[u8], text: &mut Vec<u8>) -> Result<(), Stop>
-    ensures { Moves result text.new.items bytes.new.now
-        ((word (codes " ") then number then word (codes " ") then number
-        then word (codes " entries ") then number).show text.old.items bytes.old.now) }
-{
-    put_labelled(b" ", bytes, text)?;
-    put_labelled(b" ", bytes, text)?;
-    put_labelled(b" entries ", bytes, text)
-}
-
-/// Reads the last two limits and the number of entries.
-fn read_last_limits(line: &mut &[u8], bytes: &mut Vec<u8>) -> Result<(), Stop>
-    ensures { Moves result bytes.new.items line.new.now
-        ((word (codes " ") then number then word (codes " ") then number
-        then word (codes " entries ") then number).read bytes.old.items line.old.now) }
-{
-    read_labelled(b" ", line, bytes)?;
-    read_labelled(b" ", line, bytes)?;
-    read_labelled(b" entries ", line, bytes)
+    read_two_labelled(b" uid ", b" gid ", line, bytes)
 }
 
 /// Shows the limits, if there are some, and the number of entries.
@@ -122,9 +125,9 @@ fn put_behind_front(own: bool, bytes: &mut &[u8], text: &mut Vec<u8>) -> Result<
     if !own {
         return put_labelled(b" entries ", bytes, text);
     }
-    put_labelled(b" limits ", bytes, text)?;
-    put_labelled(b" ", bytes, text)?;
-    put_last_limits(bytes, text)
+    put_two_labelled(b" limits ", b" ", bytes, text)?;
+    put_two_labelled(b" ", b" ", bytes, text)?;
+    put_labelled(b" entries ", bytes, text)
 }
 
 /// Reads the limits, if there are to be some, and the number of entries.
@@ -135,9 +138,9 @@ fn read_behind_front(own: bool, line: &mut &[u8], bytes: &mut Vec<u8>) -> Result
     if !own {
         return read_labelled(b" entries ", line, bytes);
     }
-    read_labelled(b" limits ", line, bytes)?;
-    read_labelled(b" ", line, bytes)?;
-    read_last_limits(line, bytes)
+    read_two_labelled(b" limits ", b" ", line, bytes)?;
+    read_two_labelled(b" ", b" ", line, bytes)?;
+    read_labelled(b" entries ", line, bytes)
 }
 
 /// Shows the head of a tree file, from its opening up to its count of entries, as `home "/" uid 0 gid 0 entries 2`.
@@ -191,8 +194,7 @@ fn read_head_parts(line: &mut &[u8], bytes: &mut Vec<u8>) -> Result<(), Stop>
 fn put_owner(bytes: &mut &[u8], text: &mut Vec<u8>) -> Result<(), Stop>
     ensures { Moves result text.new.items bytes.new.now (trees.owner_text.show text.old.items bytes.old.now) }
 {
-    put_labelled(b" ", bytes, text)?;
-    put_labelled(b" ", bytes, text)?;
+    put_two_labelled(b" ", b" ", bytes, text)?;
     text.push(b' ')?;
     put_octal(bytes, text)
 }
@@ -201,8 +203,7 @@ fn put_owner(bytes: &mut &[u8], text: &mut Vec<u8>) -> Result<(), Stop>
 fn read_owner(line: &mut &[u8], bytes: &mut Vec<u8>) -> Result<(), Stop>
     ensures { Moves result bytes.new.items line.new.now (trees.owner_text.read bytes.old.items line.old.now) }
 {
-    read_labelled(b" ", line, bytes)?;
-    read_labelled(b" ", line, bytes)?;
+    read_two_labelled(b" ", b" ", line, bytes)?;
     read_word(b" ", Expected::Space, line)?;
     read_octal(line, bytes)
 }
