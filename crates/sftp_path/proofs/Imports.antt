@@ -19,7 +19,7 @@ pub use Rattle.std.specs.Cmp.{Equal-is, IsTotalOrder, nat_cmp_total}
 pub use Rattle.std.specs.Cmp.Lexicographic.{nat_list_cmp_total, nat_list_eq_equiv}
 pub use Rattle.std.specs.FinMap.{IsAntisymmetric, nat_cmp-IsAntisymmetric, slice_cmp-IsAntisymmetric}
 pub use Rattle.std.specs.List.{list_all, flat_map, position, position_or_len}
-pub use Rattle.std.specs.List.Sorted.{IsStrictlySortedBy}
+unfoldable pub use Rattle.std.specs.List.Sorted.{IsStrictlySortedBy}
 pub use Rattle.std.specs.Map.{keys_of, lookup, remove_entry}
 pub use Rattle.std.specs.Ordering.{is_eq, ordering_then, match_ordering, is_lt, nat_cmp}
 pub use Rattle.std.specs.declared.cmp.Ordering.{Ordering}
