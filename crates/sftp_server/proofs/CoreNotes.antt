@@ -4,8 +4,9 @@ use Rattle.sftp_server.proofs.Imports.{Some, None, is_some, if◌then◌else◌,
 use Rattle.sftp_server.proofs.Imports.{sym, ap, ◌∙◌, arith, none-some, same_Some, or-true, and_parts, Request, Reply}
 use Rattle.sftp_server.proofs.Imports.{State, Allowed, Entry, Pending, Done, Sent, Note, Machine, is_pending, ready_in}
 use Rattle.sftp_server.proofs.Imports.{reply_at, from_unsent, request_in, pending_at, with_progress, choices_of}
-use Rattle.sftp_server.proofs.Imports.{server_clash, blank, note_at, as_count, possible_count, AreNotes, sum_by_more_le}
-use Rattle.sftp_server.specs.Readiness.{ask_in, CanRefresh, KeepsNotes}
+use Rattle.sftp_server.proofs.Imports.{server_clash, blank, note_at, as_count, possible_count, AreNotes, ask_in}
+use Rattle.std.proofs.lemmas.List.Sums.{sum_by_more_le}
+use Rattle.sftp_server.specs.Readiness.{CanRefresh, KeepsNotes}
 use Rattle.sftp_server.specs.declared.cores.Choice.TheVariants as choices
 use Rattle.sftp_server.specs.declared.readiness.Readiness.{Readiness}
 use Rattle.sftp_server.proofs.Queues.{length-progress, from_unsent-short}

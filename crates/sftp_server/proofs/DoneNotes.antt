@@ -7,10 +7,10 @@ use Rattle.sftp_server.proofs.Imports.{touched, share, untouched, everything, to
 use Rattle.sftp_server.proofs.Imports.{Entry, Done, Note, is_pending_at, pending_in, reply_at, reply_in, with_progress}
 use Rattle.sftp_server.proofs.Imports.{Portion, portion_in, portions_clash, is_on, IsPortion, resizes, is_behind}
 use Rattle.sftp_server.proofs.Imports.{AreKnown, AreKnownBut, without, blank, note_at, ask_at, touched_at, portion_at}
-use Rattle.sftp_server.proofs.Imports.{portion_now, is_in_way, possible_count, pending_by, is_late, IsNoted}
-use Rattle.sftp_server.proofs.Imports.{IsMarkedBut, IsDone, AreNotes, is_all}
-use Rattle.sftp_server.specs.Readiness.{IsFree, IsBlocked, IsStopped, AreBlockedBut, AreNotReadyOn, HaveTheirRanges}
-use Rattle.sftp_server.specs.Readiness.{IsMarked, AreBlocked, AreBlockedButOn, IsMarkedAsked}
+use Rattle.sftp_server.proofs.Imports.{portion_now, is_in_way, possible_count, pending_by, is_late, IsNoted, IsDone}
+use Rattle.sftp_server.proofs.Imports.{AreNotes, IsFree, IsBlocked, IsStopped, AreBlockedBut, AreNotReadyOn}
+use Rattle.sftp_server.proofs.Imports.{HaveTheirRanges, IsMarked, AreBlockedButOn, IsMarkedAsked}
+use Rattle.sftp_server.specs.Readiness.{IsMarkedBut, is_all, AreBlocked}
 use Rattle.sftp_server.proofs.Queues.{length-progress}
 use Rattle.sftp_server.proofs.RangedNotes.{resizes-on, resizes-one, resizes-clashes, clash-right, all-none, clear-front}
 use Rattle.sftp_server.proofs.RangedNotes.{behind-without, known-kept, known-resized}

@@ -10,10 +10,11 @@ pub use Rattle.std.proofs.KnownBytes.{Appends-trans, Consumes-trans, Keeps-refl,
 pub use Rattle.std.proofs.lemmas.Bool.{true≢false, and_parts, ltb-true, ltb-false, and_from, cases_Bool, eqb-true}
 pub use Rattle.std.proofs.lemmas.Bool.{eqb-false, not-true, not_from_false, and_left, and_right, or_parts, ne_eqb}
 pub use Rattle.std.proofs.lemmas.Bool.{eq-eqb, or_cases, or_left, or_right, le-ltb}
-pub use Rattle.std.proofs.lemmas.List.{length-append, length-set, get_or-set_other, map-append, take_at, get_or-drop}
-pub use Rattle.std.proofs.lemmas.List.{get_or-set_same, take_all, drop_more, get_or_past, flat_map_more, drop_at}
-pub use Rattle.std.proofs.lemmas.List.Sums.{sum_by_more_le, sum_by_push, sum_by-set, sum_by-cons, sum_by-take-drop}
-pub use Rattle.std.proofs.lemmas.Option.{none-some, same_Some, slice_get_read, slice_get_within}
+pub use Rattle.std.proofs.lemmas.List.{length-append, length-set, get_or-set_other, map-append, take_at, length-map}
+pub use Rattle.std.proofs.lemmas.List.{get_or_append_left, get_or_push, get_or-drop, get_or-set_same, take_all}
+pub use Rattle.std.proofs.lemmas.List.{drop_more, get_or_past, flat_map_more, drop_at}
+pub use Rattle.std.proofs.lemmas.List.Sums.{sum_by_push, sum_by-set, sum_by-cons, sum_by-take-drop}
+pub use Rattle.std.proofs.lemmas.Option.{none-some, same_Some, slice_get_read, get_or_from_slice_get}
 pub use Rattle.std.proofs.lemmas.Result.{err_from_is_err_and, on_ok_weaker}
 pub use Rattle.std.specs.Io.KnownBytes.{Appends, Consumes, IsAtEnd, Keeps}
 pub use Rattle.std.specs.List.{AllByRecursion, flat_map}
@@ -29,7 +30,7 @@ pub use Rattle.sftp_handles.specs.State.{State, Good, started, closed_tree, sett
 pub use Rattle.sftp_handles.specs.Touch.{touched_as}
 pub use Rattle.sftp_handles.specs.declared.byte_range.ByteRange.{ByteRange}
 pub use Rattle.sftp_handles.specs.declared.touch.Touch.{Touch}
-pub use Rattle.sftp_handles.specs.declared.touch.Touch.TheVariants.{Everything, Nothing, WritesFile}
+pub use Rattle.sftp_handles.specs.declared.touch.Touch.TheVariants.{Everything, Nothing, ReadsFile, WritesFile}
 pub use Rattle.sftp_packets.specs.AskValues.{IsAsk}
 pub use Rattle.sftp_packets.specs.Spelling.{HasSpelling, side_of, server_extensions, FitsString, posix_rename_name}
 pub use Rattle.sftp_packets.specs.Spelling.{hardlink_name, fsync_name, limits_name, asked_handle, packet_limit}
@@ -49,7 +50,8 @@ pub use Rattle.sftp_transcript.specs.Examples.{handshake_bytes}
 pub use Rattle.sftp_transcript.specs.Explained.{StepOf, window as full_window, Run, window, Explained, BeginsFrom}
 unfoldable pub use Rattle.sftp_transcript.specs.Explained.{leading_pairs, exchanges_of, in_window, next_reply}
 unfoldable pub use Rattle.sftp_transcript.specs.Explained.{turn_after, requests_before_reply}
-pub use Rattle.sftp_transcript.specs.Ledger.{Exchange, StandsFor, keeps_window}
+pub use Rattle.sftp_transcript.specs.Ledger.{Exchange, StandsFor, keeps_window, IsAnswered}
+unfoldable pub use Rattle.sftp_transcript.specs.Ledger.{with_replies, is_open}
 pub use Rattle.sftp_transcript.specs.Log.{Log, IsAppended, FailsToRecord, opened_text}
 pub use Rattle.sftp_transcript.specs.Streams.{AppendsPart}
 pub use Rattle.sftp_transcript.specs.Transcript.{IsEvent, record_text, packet_of, transcript_opening}
@@ -83,9 +85,11 @@ unfoldable pub use Rattle.sftp_server.specs.Queue.{with_progress, AreUnsentApart
 pub use Rattle.sftp_server.specs.RangedNotes.{Portion, portion_in, portions_clash, is_on, IsPortion, resizes, is_behind}
 pub use Rattle.sftp_server.specs.RangedNotes.{AreKnown, AreKnownBut, without, is_behind_by, any_below, HasItsRange}
 pub use Rattle.sftp_server.specs.RangedNotes.{resizes_by, stands_in_way, IsClear, IsHindered, looked_at}
-pub use Rattle.sftp_server.specs.Readiness.{blank, note_at, as_count, possible_count, AreNotes, ask_at, touched_at}
-pub use Rattle.sftp_server.specs.Readiness.{portion_at, portion_now, is_in_way, pending_by, is_late, IsNoted}
-pub use Rattle.sftp_server.specs.Readiness.{IsMarkedBut, IsDone, is_all, only_reads, IsPlaced, IsSettling, touches_file}
+pub use Rattle.sftp_server.specs.Readiness.{blank, note_at, as_count, possible_count, AreNotes, ask_in, ask_at}
+pub use Rattle.sftp_server.specs.Readiness.{touched_at, portion_at, portion_now, is_in_way, pending_by, is_late}
+pub use Rattle.sftp_server.specs.Readiness.{IsNoted, IsDone, IsFree, IsBlocked, IsStopped, AreBlockedBut, AreNotReadyOn}
+pub use Rattle.sftp_server.specs.Readiness.{HaveTheirRanges, IsMarked, AreBlockedButOn, IsMarkedAsked, only_reads}
+pub use Rattle.sftp_server.specs.Readiness.{IsPlaced, IsFreeFrom, AreAlike, IsSettling, touches_file}
 pub use Rattle.sftp_server.specs.Served.{IsOpened, session_packets, recorded, IsListed, IsBeginning, IsCutInLast}
 pub use Rattle.sftp_server.specs.Served.{StreamBytes, stream_bytes, Passed, EndsSession, IsUnopenedBy, IsServed, Serves}
 pub use Rattle.sftp_server.specs.Served.{spelled_if, our_version, IsGreeting, IsNoGreeting, opened_record}
@@ -97,6 +101,7 @@ pub use Rattle.sftp_server.specs.declared.acts.Act.TheVariants.{Deliver, Work, S
 pub use Rattle.sftp_server.specs.declared.cores.Choice.{Choice}
 pub use Rattle.sftp_server.specs.declared.ends.SessionFault.{SessionFault}
 pub use Rattle.sftp_server.specs.declared.ends.Stop.{Stop}
+pub use Rattle.sftp_server.specs.declared.opening.First.{First}
 pub use Rattle.sftp_server.specs.declared.queue.Entry.{Entry}
 pub use Rattle.sftp_server.specs.declared.queue.Progress.{Progress}
 pub use Rattle.sftp_server.specs.declared.queue.Progress.TheVariants.{Pending, Done, Sent}

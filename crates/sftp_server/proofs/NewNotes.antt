@@ -4,9 +4,8 @@ use Rattle.sftp_server.proofs.Imports.{Option, is_some, length, slice_get, refl,
 use Rattle.sftp_server.proofs.Imports.{length-append, inl, inr, ltb-true, ltb-false, sum_by_push, Request, State, Entry}
 use Rattle.sftp_server.proofs.Imports.{Pending, Note, is_pending_at, reply_at, Portion, portion_in, IsPortion}
 use Rattle.sftp_server.proofs.Imports.{is_behind_by, blank, note_at, portion_at, portion_now, is_in_way, as_count}
-use Rattle.sftp_server.proofs.Imports.{possible_count, pending_by, is_late, IsNoted, AreNotes}
-use Rattle.std.proofs.lemmas.List.{get_or_append_left, get_or_push}
-use Rattle.sftp_server.specs.Readiness.{ask_in, IsFree, IsBlocked, IsStopped, IsMarked}
+use Rattle.sftp_server.proofs.Imports.{possible_count, pending_by, is_late, IsNoted, AreNotes, get_or_append_left}
+use Rattle.sftp_server.proofs.Imports.{get_or_push, ask_in, IsFree, IsBlocked, IsStopped, IsMarked}
 use Rattle.sftp_server.proofs.NotePlaces.{in_way-same, behind-alike}
 
 -- the note of a request that was just taken

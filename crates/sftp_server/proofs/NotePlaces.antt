@@ -7,8 +7,7 @@ use Rattle.sftp_server.proofs.Imports.{writes_file, takes_names, everything, Ent
 use Rattle.sftp_server.proofs.Imports.{is_pending, is_sent, is_pending_at, pending_in, reply_of, reply_in, reply_at}
 use Rattle.sftp_server.proofs.Imports.{from_unsent, with_progress, sent_in, portion_at, is_late, pending_by, blank}
 use Rattle.sftp_server.proofs.Imports.{note_at, ask_at, is_in_way, as_count, possible_count, Portion, portions_clash}
-use Rattle.sftp_server.proofs.Imports.{resizes, any_below, is_behind_by, AreKnown}
-use Rattle.sftp_server.specs.Readiness.{ask_in}
+use Rattle.sftp_server.proofs.Imports.{resizes, any_below, is_behind_by, AreKnown, ask_in}
 use Rattle.sftp_server.proofs.Queues.{from_unsent-short}
 use Rattle.sftp_server.proofs.RangedNotes.{same-below}
 

@@ -6,12 +6,11 @@ use Rattle.sftp_server.proofs.Imports.{length-set, get_or-set_same, get_or-set_o
 use Rattle.sftp_server.proofs.Imports.{slice_get_read, get_or, Ask, ByteRange, Touch, Nothing, touched, share, range}
 use Rattle.sftp_server.proofs.Imports.{are_apart, touched_as, State, Entry, Note, blank, note_at, ask_at, touched_at}
 use Rattle.sftp_server.proofs.Imports.{is_in_way, only_reads, as_count, possible_count, IsNoted, IsPlaced, portion_at}
-use Rattle.sftp_server.proofs.Imports.{pending_by, is_late, portion_now, IsMarkedBut, Portion, portions_clash}
-use Rattle.sftp_server.proofs.Imports.{IsPortion, is_behind_by, is_behind, AreKnown, AreKnownBut, is_all}
-use Rattle.std.proofs.lemmas.Option.{get_or_from_slice_get}
-use Rattle.sftp_handles.specs.declared.touch.Touch.TheVariants.{ReadsFile}
-use Rattle.sftp_server.specs.Readiness.{IsFree, IsFreeFrom, IsBlocked, AreBlockedBut, IsMarked, AreAlike, IsStopped}
-use Rattle.sftp_server.specs.Readiness.{HaveTheirRanges, IsBlockedBack, AreBlocked, IsShut, held, raised, IsMarkedAsked}
+use Rattle.sftp_server.proofs.Imports.{pending_by, is_late, portion_now, Portion, portions_clash, IsPortion}
+use Rattle.sftp_server.proofs.Imports.{is_behind_by, is_behind, AreKnown, AreKnownBut, get_or_from_slice_get, ReadsFile}
+use Rattle.sftp_server.proofs.Imports.{IsFree, IsFreeFrom, IsBlocked, AreBlockedBut, IsMarked, AreAlike, IsStopped}
+use Rattle.sftp_server.proofs.Imports.{HaveTheirRanges, IsMarkedAsked}
+use Rattle.sftp_server.specs.Readiness.{IsMarkedBut, is_all, IsBlockedBack, AreBlocked, IsShut, held, raised}
 use Rattle.std.proofs.Math.Nat.{le-max_left, le-max_right}
 use Rattle.sftp_server.proofs.RangedNotes.{behind-local}
 use Rattle.sftp_server.proofs.StillRanged.{portion-sound}

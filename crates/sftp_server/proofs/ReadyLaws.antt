@@ -3,14 +3,15 @@ use Rattle.sftp_server.proofs.Imports.{◌≡◌, ◌+◌, ◌<◌, ◌≤◌, �
 use Rattle.sftp_server.proofs.Imports.{false, List, [], ◌∷◌, ◌⊎◌, inl, inr, Option, Some, None, is_some, if◌then◌else◌}
 use Rattle.sftp_server.proofs.Imports.{length, take, drop, slice_get, refl, sym, ap, ap₂, ◌∙◌, ◌-◌, arith}
 use Rattle.sftp_server.proofs.Imports.{length-append, append_assoc, true≢false, ltb-true, ltb-false, and_from}
-use Rattle.sftp_server.proofs.Imports.{slice_get_within, sum_by-cons, and-false, or-false, Request, State, Touched}
-use Rattle.sftp_server.proofs.Imports.{touched, share, clash, everything, range, range_clash, Choice, Entry, Progress}
-use Rattle.sftp_server.proofs.Imports.{Pending, Done, Sent, Note, Machine, ClashOf, is_pending, is_free_of, ready_in}
-use Rattle.sftp_server.proofs.Imports.{is_ready, pending_in, reply_of, reply_in, reply_at, choices_at, choices_from}
-use Rattle.sftp_server.proofs.Imports.{choices_of, portion_in, portions_clash, stands_in_way, IsHindered, blank}
-use Rattle.sftp_server.proofs.Imports.{note_at, ask_at, portion_at, portion_now, as_count, possible_count, pending_by}
-use Rattle.sftp_server.proofs.Imports.{is_late, AreNotes, take_all, drop_more, get_or_past}
-use Rattle.sftp_server.specs.Readiness.{ask_in, IsStopped, IsMarked, IsShut, IsMarkedAsked, IsOpened}
+use Rattle.sftp_server.proofs.Imports.{sum_by-cons, and-false, or-false, Request, State, Touched, touched, share, clash}
+use Rattle.sftp_server.proofs.Imports.{everything, range, range_clash, Choice, Entry, Progress, Pending, Done, Sent}
+use Rattle.sftp_server.proofs.Imports.{Note, Machine, ClashOf, is_pending, is_free_of, ready_in, is_ready, pending_in}
+use Rattle.sftp_server.proofs.Imports.{reply_of, reply_in, reply_at, choices_at, choices_from, choices_of, portion_in}
+use Rattle.sftp_server.proofs.Imports.{portions_clash, stands_in_way, IsHindered, blank, note_at, ask_at, portion_at}
+use Rattle.sftp_server.proofs.Imports.{portion_now, as_count, possible_count, pending_by, is_late, AreNotes, take_all}
+use Rattle.sftp_server.proofs.Imports.{drop_more, get_or_past, ask_in, IsStopped, IsMarked, IsMarkedAsked}
+use Rattle.std.proofs.lemmas.Option.{slice_get_within}
+use Rattle.sftp_server.specs.Readiness.{IsShut, IsOpened}
 use Rattle.sftp_server.specs.declared.cores.Choice.TheVariants as choices
 use Rattle.sftp_server.proofs.RangedNotes.{clear-is, hindered-is, clash-left, all-none}
 use Rattle.sftp_server.proofs.StillRanged.{portion-sound}

@@ -1,10 +1,10 @@
 -- What comes of an act of a script, and of the acts so far.
-use Rattle.sftp_server.proofs.Imports.{◌≡◌, ◌≢◌, ◌<◌, ◌≤◌, ◌+◌, ◌^◌, ℕ, zero, suc, Bool, true, false, List, [], ◌∷◌}
-use Rattle.sftp_server.proofs.Imports.{◌++◌, Result, Ok, Err, length, take, get_or, refl, sym, ap, subst, ◌∙◌, arith}
-use Rattle.sftp_server.proofs.Imports.{append-nil, add-one, OnOk, le-ltb, Request, IsAsk, Tree, State, Good, Allowed}
-use Rattle.sftp_server.proofs.Imports.{Event, Asked, Explained, BeginsFrom, window, Act, Deliver, Refuse, Machine}
-use Rattle.sftp_server.proofs.Imports.{at_start, taken, can_take, IsDelivery, AreActs, Delivers, server_clash, started}
-use Rattle.sftp_server.proofs.Imports.{IsRefusedFor, IsValue, AreDeliverable, all_both, path-bytes}
+use Rattle.sftp_server.proofs.Imports.{Ask, ◌≡◌, ◌≢◌, ◌<◌, ◌≤◌, ◌+◌, ◌^◌, ℕ, zero, suc, Bool, true, false, List, []}
+use Rattle.sftp_server.proofs.Imports.{◌∷◌, ◌++◌, Result, Ok, Err, length, take, get_or, refl, sym, ap, subst, ◌∙◌}
+use Rattle.sftp_server.proofs.Imports.{arith, append-nil, add-one, OnOk, le-ltb, Request, IsAsk, Tree, State, Good}
+use Rattle.sftp_server.proofs.Imports.{Allowed, Event, Asked, Explained, BeginsFrom, window, Act, Deliver, Refuse}
+use Rattle.sftp_server.proofs.Imports.{Machine, at_start, taken, can_take, IsDelivery, AreActs, Delivers, server_clash}
+use Rattle.sftp_server.proofs.Imports.{started, IsRefusedFor, IsValue, AreDeliverable, all_both, path-bytes}
 use Rattle.std.proofs.Math.Seq.{take-suc}
 use Rattle.sftp_path.specs.declared.errors.NoMemory.{NoMemory}
 use Rattle.sftp_server.specs.declared.refusals.Refuse.TheVariants as refuses

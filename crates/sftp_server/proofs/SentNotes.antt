@@ -6,8 +6,9 @@ use Rattle.sftp_server.proofs.Imports.{eqb-false, length-set, get_or-set_other, 
 use Rattle.sftp_server.proofs.Imports.{Sent, Note, is_pending_at, pending_in, reply_at, reply_in, from_unsent}
 use Rattle.sftp_server.proofs.Imports.{with_progress, Portion, portion_in, portions_clash, IsPortion, is_behind}
 use Rattle.sftp_server.proofs.Imports.{AreKnown, blank, note_at, portion_at, portion_now, is_in_way, possible_count}
-use Rattle.sftp_server.proofs.Imports.{pending_by, is_late, IsNoted, AreNotes, length-drop}
-use Rattle.sftp_server.specs.Readiness.{IsFree, IsBlocked, IsStopped, IsMarked, AreBlocked, IsMarkedAsked, IsOpened}
+use Rattle.sftp_server.proofs.Imports.{pending_by, is_late, IsNoted, AreNotes, length-drop, IsFree, IsBlocked}
+use Rattle.sftp_server.proofs.Imports.{IsStopped, IsMarked, IsMarkedAsked}
+use Rattle.sftp_server.specs.Readiness.{AreBlocked, IsOpened}
 use Rattle.sftp_server.proofs.Queues.{length-progress}
 use Rattle.sftp_server.proofs.NotePlaces.{part-set, fails-set, fails-still, passed-before, count-set, other-progress}
 use Rattle.sftp_server.proofs.NotePlaces.{ask-progress, worked-here, reply-here, in_way-same, portion-set, reply-within}

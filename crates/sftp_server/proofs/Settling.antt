@@ -7,9 +7,9 @@ use Rattle.sftp_server.proofs.Imports.{Nothing, WritesFile, range, touched_as, S
 use Rattle.sftp_server.proofs.Imports.{IsPortion, resizes_by, resizes, is_behind_by, is_behind, stands_in_way}
 use Rattle.sftp_server.proofs.Imports.{AreKnownBut, looked_at, blank, note_at, ask_at, touched_at, portion_at}
 use Rattle.sftp_server.proofs.Imports.{is_in_way, as_count, only_reads, IsNoted, pending_by, is_late, portion_now}
-use Rattle.sftp_server.proofs.Imports.{IsMarkedBut, IsPlaced, IsSettling, touches_file, is_all}
-use Rattle.sftp_server.specs.Readiness.{IsFree, IsBlocked, IsStopped, AreBlockedBut, AreNotReadyOn, HaveTheirRanges}
-use Rattle.sftp_server.specs.Readiness.{AreBlockedButOn, IsSettled, resized_file, resizes_noted, IsMeasured}
+use Rattle.sftp_server.proofs.Imports.{IsPlaced, IsSettling, touches_file, IsFree, IsBlocked, IsStopped, AreBlockedBut}
+use Rattle.sftp_server.proofs.Imports.{AreNotReadyOn, HaveTheirRanges, AreBlockedButOn}
+use Rattle.sftp_server.specs.Readiness.{IsMarkedBut, is_all, IsSettled, resized_file, resizes_noted, IsMeasured}
 use Rattle.sftp_server.proofs.Notes.{by_place, below, set-same, set-other, set-field, stopped-kept, marks_but-alike}
 use Rattle.sftp_server.proofs.RangedNotes.{some-behind, behind-after, way-after, after-touched, known-passed}
 use Rattle.sftp_server.proofs.RangedNotes.{known-stopped, known-ended, known-looked}

@@ -1,8 +1,7 @@
 -- The requests that a machine has done, in the order asked, lead to its state.
 use Rattle.sftp_server.proofs.Imports.{◌≡◌, List, [], ◌∷◌, ◌++◌, Some, None, refl, sym, ap, subst, ◌∙◌, append-nil, inl}
 use Rattle.sftp_server.proofs.Imports.{inr, Request, Event, StepOf, exchanges_of, next_reply, Exchange, Machine}
-use Rattle.sftp_server.proofs.Imports.{AreDone, LeadsTo}
-use Rattle.sftp_transcript.specs.Ledger.{with_replies}
+use Rattle.sftp_server.proofs.Imports.{AreDone, LeadsTo, with_replies}
 use Rattle.sftp_server.proofs.Machines.Histories.{Item, Pair, pending, done, sent, ledger_of, answered, Finishes}
 use Rattle.sftp_server.proofs.Machines.Histories.{Follows}
 

@@ -11,8 +11,7 @@ use Rattle.sftp_server.proofs.Imports.{Allowed, bytes-by, Stop, at_start, starte
 use Rattle.sftp_server.proofs.Imports.{recorded, IsGreeting, IsNoGreeting, IsListed, closed_tree, IsCutInLast}
 use Rattle.sftp_server.proofs.Imports.{StreamBytes, stream_bytes, Passed, AreDone, IsAfterDone, Leaves, Stops}
 use Rattle.sftp_server.proofs.Imports.{tree_left, IsLogging, Ahead, IsRunning, IsUnopenedYet, FailsToSend, MatchResult}
-use Rattle.sftp_server.proofs.Imports.{drop_at, Consumes-kept, input_limit, ahead_without, BeginsWithGreeting}
-use Rattle.sftp_server.specs.declared.opening.First.{First}
+use Rattle.sftp_server.proofs.Imports.{drop_at, Consumes-kept, input_limit, ahead_without, BeginsWithGreeting, First}
 use Rattle.sftp_packets.specs.declared.packets.Packet.TheVariants.{Version, Request, Reply}
 use Rattle.sftp_server.specs.Opening.{IsFirst, IsInFront, IsGreetingOf}
 use Rattle.std.specs.Result.{IsErrAnd}

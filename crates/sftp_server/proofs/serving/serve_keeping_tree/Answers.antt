@@ -1,6 +1,5 @@
 -- The session begins with nothing read; it is opened, or its first packet ends it.
-use Rattle.sftp_server.proofs.Imports.{[], None, subst, sym, IsAtEnd, stream_bytes, Ahead, IsUnopenedYet}
-use Rattle.sftp_server.specs.declared.opening.First.{First}
+use Rattle.sftp_server.proofs.Imports.{[], None, subst, sym, IsAtEnd, stream_bytes, Ahead, IsUnopenedYet, First}
 use Rattle.sftp_server.specs.Opening.{IsFirst}
 use Rattle.sftp_server.proofs.Sessions.Closed.{unopened-at_start, unopened-stops, unopened, stopped-end}
 use Rattle.sftp_server.proofs.serving.serve_keeping_tree.Goals as goal

@@ -1,5 +1,4 @@
-use Rattle.sftp_server.proofs.Imports.{◌-◌, ◌≤◌}
-use Rattle.sftp_server.specs.Readiness.{IsFreeFrom}
+use Rattle.sftp_server.proofs.Imports.{◌-◌, ◌≤◌, IsFreeFrom}
 use Rattle.sftp_server.proofs.readiness.Readiness.look.Given as goal
 
 abbrev pub invariant-down : goal.invariant-down

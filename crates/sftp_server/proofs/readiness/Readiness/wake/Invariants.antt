@@ -1,5 +1,4 @@
-use Rattle.sftp_server.proofs.Imports.{◌≡◌, ◌-◌, ◌+◌, ◌≤◌, suc, note_at, IsNoted}
-use Rattle.sftp_server.specs.Readiness.{AreBlockedBut, AreAlike}
+use Rattle.sftp_server.proofs.Imports.{◌≡◌, ◌-◌, ◌+◌, ◌≤◌, suc, note_at, IsNoted, AreBlockedBut, AreAlike}
 use Rattle.sftp_server.proofs.readiness.Readiness.wake.Given as goal
 
 abbrev pub invariant-each : goal.invariant-each
