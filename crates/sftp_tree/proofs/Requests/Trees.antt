@@ -47,7 +47,7 @@ led-well t follow (Some path) place well bytes is =
     let one : reached t follow path ≡ Ok place = cc in
     well follow path place bytes one
 
-path-bytes : (ask : Ask) → IsAsk ask → IfSome (path_of ask) (λ path. IsTrue (are_bytes path))
+pub path-bytes : (ask : Ask) → IsAsk ask → IfSome (path_of ask) (λ path. IsTrue (are_bytes path))
 path-bytes (Mkdir path attrs) fits = bytes-fit path fits.0
 path-bytes (Rmdir path) fits = bytes-fit path fits
 path-bytes (Remove path) fits = bytes-fit path fits
