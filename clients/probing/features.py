@@ -29,8 +29,8 @@ FEATURES = {
     "realpath-ring": "REALPATH of links that lead round in a ring",
 }
 
-# What servers have room for, and this project's tree has not: a difference there says nothing of the server. Plans leave
-# it out unless `--also` names it.
+# What a server has room for, and the tree has not: a difference there says nothing of the server. Plans of the probe
+# leave it out unless `--also` names it.
 BEYOND = {"large", "long-target"}
 
 # The most bytes of a name, and fewer than any system takes for a path.

@@ -75,7 +75,8 @@ class Planner:
 
     def idle_file(self):
         """A file that is not open, if there is one. Few clients open a file twice: scenes of their own do that."""
-        return self.place(FILE, {opened.number for opened in self.opened.values() if opened.kind == FILE}) or self.file()
+        busy = {opened.number for opened in self.opened.values() if opened.kind == FILE}
+        return self.place(FILE, busy) or self.file()
 
     def directory(self):
         return self.place(DIRECTORY)
@@ -105,7 +106,7 @@ class Planner:
         """Attributes for something new: mostly none or permissions."""
         return self.random.choice([
             {}, {}, {"permissions": 0o640}, {"permissions": 0o100600}, {"permissions": 0o755},
-            {"permissions": 0o777}, {"owner": (7, 8), "permissions": 0o644}, {"times": (1, 2)},
+            {"permissions": 0o777}, {"permissions": 0o644}, {"times": (1, 2)},
         ])
 
     def size(self, step):

@@ -228,6 +228,18 @@ def making(p):
     yield p.ask("RMDIR", p.path(place))
 
 
+def giving_away(p):
+    """A file or a directory that is made for another user."""
+    place, given = p.free(), {"owner": (7, 8), "permissions": 0o644}
+    if p.random.random() < 0.3:
+        yield p.ask("MKDIR", p.path(place), given)
+    else:
+        step = p.ask("OPEN", p.path(place), WRITE | p.random.choice([CREAT, CREAT | TRUNC, CREAT | EXCL]), given)
+        yield step
+        yield p.ask("CLOSE", step.opened())
+    yield p.ask("STAT", p.path(place))
+
+
 def linking(p):
     """A link that is made, read and followed."""
     place = p.free()

@@ -34,6 +34,7 @@ WEIGHTS = {
     scenes.emptying: RARE,           # a file that is read is emptied by another OPEN
     scenes.leaving_gap: RARE,        # a WRITE behind the end, and READs across the gap
     scenes.listing_moved: RARE,      # a directory gets another place while it is listed
+    scenes.giving_away: RARE,        # OPEN and MKDIR with an owner
     # What users and programs run into: the place that is taken or empty, the thing of another kind.
     refusals.no_entry: 170,
     refusals.exists: 140,
@@ -54,7 +55,7 @@ WEIGHTS = {
     refusals.bad_path: 60,           # names and paths that are too long for any system
     refusals.no_room: 40,            # sizes that no file can have
     # What few clients ever do.
-    refusals.excl_dangling: RARE,    # OPEN with EXCL of a link that leads to nothing
+    refusals.excl_dangling: RARE // 2,  # links that lead to nothing: under EXCL; `exists` has them under RENAME
     refusals.nul_path: RARE,         # a byte of 0 in a path: no program in C can ask for it
     refusals.too_large: RARE,        # what servers have room for, and this project's tree has not
     refusals.long_target: RARE,      # the same, of the target of a link
