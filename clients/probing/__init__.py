@@ -5,6 +5,7 @@ model       what the planner believes the server's tree to be
 spelling    many paths that lead to one place
 planner     the plan of a session: draws scenes, and keeps the account of handles
 features    what `--skip` may name in a plan
+weights     how often each scene is drawn
 scenes      scenes that make sense; refusals: requests that some cause refuses; effects: what they do to the model
 sessions    plays a plan against a server, and records it
 verdicts    asks `sftpv3 audit`, and goes on after a difference

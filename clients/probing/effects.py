@@ -1,6 +1,6 @@
 """What a request does to the planner's model, if nothing refuses it."""
 import sftp3
-from probing.model import DIRECTORY, FILE, LINK, Entry
+from probing.model import DIRECTORY, FAR, FILE, LINK, Entry
 
 
 class Open:
@@ -61,19 +61,19 @@ def of_write(planner, model, _step, handle, offset, data):
     if opened and opened.kind == FILE and opened.flags & sftp3.WRITE and data:
         size = model.sizes[opened.number]
         end = size + len(data) if opened.flags & sftp3.APPEND else max(size, offset + len(data))
-        model.sizes[opened.number] = end if end <= 2 ** 24 else size
+        model.sizes[opened.number] = end if end <= model.largest else size
 
 
 def of_size(planner, model, _step, handle, given):
     opened = planner.opened.get(getattr(handle, "step", None))
-    if opened and opened.kind == FILE and opened.flags & sftp3.WRITE and given.get("size", 2 ** 25) <= 2 ** 24:
+    if opened and opened.kind == FILE and opened.flags & sftp3.WRITE and given.get("size", FAR) <= model.largest:
         model.sizes[opened.number] = given["size"]
 
 
 def of_setstat(_planner, model, _step, path, given):
     place = model.walk(path, True)
     entry = place is not None and model.at(place)
-    if entry and entry.kind == FILE and given.get("size", 2 ** 25) <= 2 ** 24:
+    if entry and entry.kind == FILE and given.get("size", FAR) <= model.largest:
         model.sizes[entry.number] = given["size"]
 
 

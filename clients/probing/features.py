@@ -2,7 +2,7 @@
 by what was planned before it."""
 import sftp3
 from probing import effects
-from probing.model import DIRECTORY, FILE, LINK
+from probing.model import DIRECTORY, FAR, FILE, LINK
 
 # Features, and the words of the help.
 FEATURES = {
@@ -10,7 +10,7 @@ FEATURES = {
     "slash": "paths that end in a slash, or in a dot",
     "long": "paths of 1,024 bytes or more",
     "huge": "offsets and sizes of 2^31 or more",
-    "large": "what makes a file larger than 16 MiB",
+    "large": "what makes a file larger than the tree has room for",
     "long-read": "READs of more than 32,768 bytes",
     "long-target": "targets of links with a name of more than 255 bytes",
     "owner": "attributes with a user and a group",
@@ -29,8 +29,12 @@ FEATURES = {
     "realpath-ring": "REALPATH of links that lead round in a ring",
 }
 
-# The most bytes of a file, and of a name.
-FILE_LIMIT, NAME_LIMIT = 2 ** 24, 255
+# What a server has room for, and the tree has not: a difference there says nothing of the server. Plans of the probe
+# leave it out unless `--also` names it.
+BEYOND = {"large", "long-target"}
+
+# The most bytes of a name, and fewer than any system takes for a path.
+NAME_LIMIT, PATH_LIMIT = 255, 4096
 
 
 def of_request(name, fields):
@@ -44,9 +48,8 @@ def of_request(name, fields):
         "slash": any(path.endswith((b"/", b"/.", b"/..")) and path.strip(b"/") for path in paths),
         "owner": "owner" in given,
         "huge": name != "OPEN" and any(number >= 2 ** 31 for number in numbers),
-        "large": given.get("size", 0) > FILE_LIMIT,
         "long-read": name == "READ" and fields[2] > 32768,
-        "long-target": name == "SYMLINK" and any(len(part) > NAME_LIMIT for part in fields[0].split(b"/")),
+        "long-target": name == "SYMLINK" and len(fields[0]) < PATH_LIMIT and longest_name(fields[0]) > NAME_LIMIT,
         "sticky": bool(given.get("permissions", 0) & 0o1000),
         "new-owner": name in ("OPEN", "MKDIR") and "owner" in given,
         "new-permissions": name in ("OPEN", "MKDIR") and "permissions" in given,
@@ -54,6 +57,10 @@ def of_request(name, fields):
         "append": name == "OPEN" and bool(fields[1] & sftp3.APPEND),
     }
     return {feature for feature, has in found.items() if has}
+
+
+def longest_name(path):
+    return max(len(name) for name in path.split(b"/"))
 
 
 def of_plan(planner, step):
@@ -89,7 +96,16 @@ def of_write(planner, _step, handle, offset, data):
         return set()
     size = planner.model.sizes[opened.number]
     start = size if opened.flags & sftp3.APPEND else offset
-    return ({"large"} if start + len(data) > FILE_LIMIT else set()) | ({"gap"} if start > size else set())
+    return of_length(planner, start + len(data)) | ({"gap"} if size < start < FAR - len(data) else set())
+
+
+def of_length(planner, length):
+    """Whether a server may have room for a file of this length, and the tree has not."""
+    return {"large"} if planner.model.largest < length < FAR else set()
+
+
+def of_size(planner, _step, _path_or_handle, given):
+    return of_length(planner, given.get("size", 0))
 
 
 def of_realpath(planner, _step, path):
@@ -117,6 +133,6 @@ def of_move(planner, step, *_paths):
 
 
 TESTS = {
-    "OPEN": of_open, "READ": of_read, "WRITE": of_write, "REALPATH": of_realpath, "RENAME": of_rename,
-    "POSIX-RENAME": of_move, "REMOVE": of_move, "RMDIR": of_move,
+    "OPEN": of_open, "READ": of_read, "WRITE": of_write, "SETSTAT": of_size, "FSETSTAT": of_size,
+    "REALPATH": of_realpath, "RENAME": of_rename, "POSIX-RENAME": of_move, "REMOVE": of_move, "RMDIR": of_move,
 }

@@ -6,6 +6,9 @@ from probing import trees
 
 DIRECTORY, FILE, LINK = "directory", "file", "link"
 
+# No file has so many bytes, on no system: offsets are signed numbers of 64 bits.
+FAR = 2 ** 63
+
 
 class Entry:
     """What is at a place: its kind, the number of a file, the target of a link."""
@@ -19,9 +22,11 @@ class Ring(Exception):
 
 
 class Model:
-    """Places, which are tuples of names, to entries; and the sizes of the files, by their numbers."""
+    """Places, which are tuples of names, to entries; and the sizes of the files, by their numbers. No file gets larger
+    than `largest`."""
 
     def __init__(self, tree):
+        self.largest = tree.largest()
         self.home = tuple(name for name in tree.home.split(b"/") if name)
         self.places, self.sizes = {(): Entry(DIRECTORY)}, {}
         by_path = {}

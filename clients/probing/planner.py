@@ -2,7 +2,7 @@
 import random
 
 import sftp3
-from probing import effects, features, refusals, scenes
+from probing import effects, features, weights
 from probing.model import DIRECTORY, FILE, LINK, Model
 from probing.spelling import spell
 
@@ -44,7 +44,7 @@ class Planner:
             if len(self.steps) >= count:
                 break
             if len(playing) < 3:
-                playing.append(self.scene())
+                playing.append(weights.draw(self.random)(self))
             scene = self.random.choice(playing)
             step = next(scene, None)
             if step is not None:
@@ -56,18 +56,14 @@ class Planner:
                 effects.apply(self, step)
         return self.steps
 
-    def scene(self):
-        if self.random.random() < 0.6:
-            return refusals.scene(self)
-        return self.random.choices(scenes.SCENES, scenes.WEIGHTS)[0](self)
-
     def ask(self, name, *fields, cause=None):
         self.last += 1
         return Step(self.last, name, list(fields), cause)
 
-    def place(self, kind):
-        """The place of something of this kind, or None."""
-        found = [place for place in self.model.of_kind(kind) if not self.crowd(place)]
+    def place(self, kind, busy=()):
+        """The place of something of this kind, but for files with these numbers, or None."""
+        found = [place for place in self.model.of_kind(kind)
+                 if self.model.at(place).number not in busy and not self.crowd(place)]
         return self.random.choice(found) if found else None
 
     def crowd(self, place):
@@ -76,6 +72,11 @@ class Planner:
 
     def file(self):
         return self.place(FILE)
+
+    def idle_file(self):
+        """A file that is not open, if there is one. Few clients open a file twice: scenes of their own do that."""
+        busy = {opened.number for opened in self.opened.values() if opened.kind == FILE}
+        return self.place(FILE, busy) or self.file()
 
     def directory(self):
         return self.place(DIRECTORY)
@@ -105,8 +106,13 @@ class Planner:
         """Attributes for something new: mostly none or permissions."""
         return self.random.choice([
             {}, {}, {"permissions": 0o640}, {"permissions": 0o100600}, {"permissions": 0o755},
-            {"permissions": 0o777}, {"owner": (7, 8), "permissions": 0o644}, {"times": (1, 2)},
+            {"permissions": 0o777}, {"permissions": 0o644}, {"times": (1, 2)},
         ])
+
+    def size(self, step):
+        """The size of the file that this step opens, as far as the plan knows."""
+        opened = self.opened.get(step.number)
+        return self.model.sizes[opened.number] if opened and opened.kind == FILE else 0
 
     def data(self):
         size = self.random.choice([0, 1, 1, 3, 5, 10, 26, 100, 1000, 8000])
@@ -114,6 +120,11 @@ class Planner:
 
     def offset(self):
         return self.random.choice([0, 0, 0, 1, 2, 5, 10, 20, 26, 30, 100, 1000, 40000])
+
+    def offset_within(self, step):
+        """Where a WRITE through the handle of this step leaves no gap: at the end of the file, or before it."""
+        size = self.size(step)
+        return self.random.choice([0, size, size, min(self.offset(), size)])
 
 
 def plan(seed, tree, count, skip=()):

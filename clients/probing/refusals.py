@@ -1,10 +1,15 @@
 """Requests that some cause refuses: docs/PROTOCOL.md has the causes. Each function yields the steps of one, the last of
 which is to be refused; it yields none if the tree has nothing to try it on."""
 import sftp3
-from probing.model import DIRECTORY, FILE, LINK
+from probing.model import DIRECTORY, FAR, FILE, LINK
 
 READ, WRITE, APPEND, CREAT, TRUNC, EXCL = (
     sftp3.READ, sftp3.WRITE, sftp3.APPEND, sftp3.CREAT, sftp3.TRUNC, sftp3.EXCL)
+
+CAUSES = {
+    "BadFlags", "BadHandle", "BadPath", "Exists", "Inside", "IsDir", "Loop", "NoEntry", "NoRoom", "NotDir", "NotEmpty",
+    "NotFile", "NotLink", "NotOpenFor", "Root", "Unknown", "WrongKind",
+}
 
 # Requests of one path, with what follows it.
 ONE_PATH = [
@@ -29,15 +34,26 @@ def with_path(p, path, cause, among=None):
 def bad_flags(p):
     flags = p.random.choice([0, CREAT, READ | TRUNC, READ | EXCL, WRITE | TRUNC, READ | APPEND, READ | CREAT | TRUNC,
                              READ | 64, WRITE | 0x80000000])
-    yield p.ask("OPEN", p.path(p.file()), flags, {}, cause="BadFlags")
+    yield p.ask("OPEN", p.path(p.idle_file()), flags, {}, cause="BadFlags")
 
 
 def bad_path(p):
-    path = p.random.choice([b"/f\0", b"/\0", b"/f\0g", b"/" + b"l" * 256, b"/x" * 2100, b"/d/" + b"m" * 300 + b"/x"])
+    path = p.random.choice([b"/" + b"l" * 256, b"/x" * 2100, b"/d/" + b"m" * 300 + b"/x"])
     if p.random.random() < 0.2:
-        yield p.ask("SYMLINK", p.random.choice([b"", b"f\0", b"t" * 300]), p.path(p.free()), cause="BadPath")
+        yield p.ask("SYMLINK", p.random.choice([b"", b"/x" * 2100]), p.path(p.free()), cause="BadPath")
     else:
         yield with_path(p, path, "BadPath")
+
+
+def nul_path(p):
+    if p.random.random() < 0.1:
+        yield p.ask("SYMLINK", b"f\0", p.path(p.free()), cause="BadPath")
+    else:
+        yield with_path(p, p.random.choice([b"/f\0", b"/\0", b"/f\0g"]), "BadPath")
+
+
+def long_target(p):
+    yield p.ask("SYMLINK", b"t" * 300, p.path(p.free()), cause="BadPath")
 
 
 def no_entry(p):
@@ -82,6 +98,14 @@ def exists(p):
         p.ask("RENAME", p.path(p.file()), place, cause="Exists"),
         p.ask("HARDLINK", p.path(p.file()), place, cause="Exists"),
     ])
+
+
+def excl_dangling(p):
+    """EXCL asks that nothing is at the place, and a link is, which leads to where a file might be made."""
+    aims = {link: p.model.walk(b"/" + b"/".join(link), True) for link in p.model.of_kind(LINK)}
+    links = [link for link, aim in aims.items() if aim is not None and not p.model.at(aim)]
+    if links:
+        yield p.ask("OPEN", p.path(p.random.choice(links)), WRITE | CREAT | EXCL, {}, cause="Exists")
 
 
 def is_dir(p):
@@ -180,25 +204,24 @@ def not_open_for(p):
 
 
 def no_room(p):
-    handle = p.handle(FILE, WRITE)
-    offset = p.random.choice([2 ** 24, 2 ** 31 - 1, 2 ** 32, 2 ** 62, 2 ** 63 - 1, 2 ** 64 - 1])
+    """No system has room for this."""
+    yield growing(p, p.random.choice([FAR, FAR + 1, 2 ** 64]))
+
+
+def too_large(p):
+    """The tree has no room for this, but a server may."""
+    yield growing(p, p.random.choice([p.model.largest + 1, 2 ** 31, 2 ** 32 + 1, 2 ** 62]))
+
+
+def growing(p, length):
+    """A request that makes a file as long as this."""
+    handle, size = p.handle(FILE, WRITE), {"size": min(length, 2 ** 64 - 1)}
     if handle and p.random.random() < 0.5:
-        yield p.ask("WRITE", handle, offset, b"x", cause="NoRoom")
-    else:
-        yield p.ask("SETSTAT", p.path(p.file()), {"size": max(offset, 2 ** 24 + 1)}, cause="NoRoom")
+        return p.random.choice([p.ask("WRITE", handle, length - 1, b"x", cause="NoRoom"),
+                                p.ask("FSETSTAT", handle, size, cause="NoRoom")])
+    return p.ask("SETSTAT", p.path(p.file()), size, cause="NoRoom")
 
 
 def unknown(p):
     name = p.random.choice([b"unheard-of@example.org", b"", b"check-file", b"x" * 300])
     yield p.ask("EXTENDED", name, p.random.choice([b"", b"\0\0\0\1f"]), cause="Unknown")
-
-
-MAKERS, WEIGHTS = zip(
-    (bad_flags, 2), (bad_path, 3), (no_entry, 5), (not_dir, 3), (loop, 2), (exists, 4), (is_dir, 3), (not_link, 1),
-    (not_file, 2), (not_empty, 2), (root, 1), (inside, 1), (bad_handle, 4), (wrong_kind, 3), (not_open_for, 3),
-    (no_room, 1), (unknown, 1))
-
-
-def scene(p):
-    """One of them, drawn."""
-    return p.random.choices(MAKERS, WEIGHTS)[0](p)

@@ -16,7 +16,7 @@ def looking(p):
 
 def reading(p):
     """A file that is read, also past its end."""
-    step = p.ask("OPEN", p.path(p.file()), READ, {})
+    step = p.ask("OPEN", p.path(p.idle_file()), READ, {})
     yield step
     handle = step.opened()
     for _ in range(p.random.randint(1, 4)):
@@ -34,13 +34,13 @@ def using(p, handle):
 def writing(p):
     """A file that is made or emptied, written and read."""
     new = p.random.random() < 0.6
-    place = p.free() if new else p.file()
+    place = p.free() if new else p.idle_file()
     flags = p.random.choice([READ, 0]) | WRITE | p.random.choice([CREAT, CREAT | TRUNC, CREAT | EXCL if new else CREAT])
     step = p.ask("OPEN", p.path(place), flags, p.attributes())
     yield step
     handle = step.opened()
     for _ in range(p.random.randint(1, 4)):
-        yield p.ask("WRITE", handle, p.offset(), p.data())
+        yield p.ask("WRITE", handle, p.offset_within(step), p.data())
         if flags & READ and p.random.random() < 0.5:
             yield p.ask("READ", handle, 0, p.random.choice([10, 30, 32768]))
     yield from using(p, handle)
@@ -50,29 +50,65 @@ def writing(p):
 
 def appending(p):
     """What is written with APPEND goes to the end, whatever the offset is."""
-    place = p.random.choice([p.file, p.free])()
-    step = p.ask("OPEN", p.path(place), READ | WRITE | APPEND | CREAT, {})
+    place = p.random.choice([p.idle_file, p.free])()
+    step = p.ask("OPEN", p.path(place), p.random.choice([READ, 0]) | WRITE | APPEND | CREAT, {})
     yield step
-    handle = step.opened()
     for _ in range(p.random.randint(1, 3)):
-        yield p.ask("WRITE", handle, p.offset(), p.data())
-        yield p.ask("READ", handle, p.offset(), 50)
-    yield from using(p, handle)
-    yield p.ask("CLOSE", handle)
+        yield p.ask("WRITE", step.opened(), p.offset(), p.data())
+    yield from using(p, step.opened())
+    yield p.ask("CLOSE", step.opened())
+    again = p.ask("OPEN", p.path(place), READ, {})
+    yield again
+    yield p.ask("READ", again.opened(), p.offset(), 50)
+    yield p.ask("CLOSE", again.opened())
+
+
+def append_reading(p):
+    """READs through the handle that is open with APPEND: they go by their offsets."""
+    step = p.ask("OPEN", p.path(p.random.choice([p.idle_file, p.free])()), READ | WRITE | APPEND | CREAT, {})
+    yield step
+    for _ in range(p.random.randint(1, 3)):
+        yield p.ask("WRITE", step.opened(), p.offset(), p.data())
+        yield p.ask("READ", step.opened(), p.offset(), 50)
+    yield p.ask("CLOSE", step.opened())
 
 
 def overlapping(p):
-    """READs and WRITEs of the same bytes, through two handles of one file, close together."""
+    """READs and WRITEs of the same bytes through one handle, close together."""
+    step = p.ask("OPEN", p.path(p.idle_file()), READ | WRITE, {})
+    yield step
+    yield from written_and_read(p, step, [step.opened()])
+    yield p.ask("CLOSE", step.opened())
+
+
+def two_handles(p):
+    """READs and WRITEs of the same bytes through two handles of one file, close together."""
     place = p.file()
     steps = [p.ask("OPEN", p.path(place), flags, {}) for flags in (READ | WRITE, p.random.choice([READ, READ | WRITE]))]
     yield from steps
-    first, second = (step.opened() for step in steps)
+    yield from written_and_read(p, steps[0], [step.opened() for step in steps])
+    for step in steps:
+        yield p.ask("CLOSE", step.opened())
+
+
+def written_and_read(p, step, handles):
+    """WRITEs through the handle of this step, each with a READ behind it through one of these handles."""
     for _ in range(p.random.randint(2, 5)):
-        yield p.ask("WRITE", first, p.random.choice([0, 1, 5]), p.data())
-        yield p.ask("READ", p.random.choice([first, second]), 0, p.random.choice([10, 30, 2000]))
-        yield from using(p, p.random.choice([first, second]))
-    yield p.ask("CLOSE", second)
-    yield p.ask("CLOSE", first)
+        yield p.ask("WRITE", step.opened(), min(p.random.choice([0, 1, 5]), p.size(step)), p.data())
+        yield p.ask("READ", p.random.choice(handles), 0, p.random.choice([10, 30, 2000]))
+        yield from using(p, p.random.choice(handles))
+
+
+def leaving_gap(p):
+    """A WRITE behind the end of a file, and READs before it, across it and in it: it is bytes of 0."""
+    step = p.ask("OPEN", p.path(p.random.choice([p.idle_file, p.free])()), READ | WRITE | CREAT, {})
+    yield step
+    for _ in range(p.random.randint(1, 2)):
+        size = p.size(step)
+        yield p.ask("WRITE", step.opened(), size + p.random.choice([1, 5, 100, 40000]), p.data())
+        yield p.ask("READ", step.opened(), max(size - p.random.choice([0, 0, 10]), 0), p.random.choice([3, 50, 32768]))
+    yield from using(p, step.opened())
+    yield p.ask("CLOSE", step.opened())
 
 
 def setting(p):
@@ -110,11 +146,11 @@ def emptying(p):
 
 def removing(p):
     """A file that loses its name while it is open."""
-    place = p.file()
+    place = p.idle_file()
     step = p.ask("OPEN", p.path(place), READ | WRITE, {})
     yield step
     yield p.ask("REMOVE", p.path(place))
-    yield p.ask("WRITE", step.opened(), p.offset(), p.data())
+    yield p.ask("WRITE", step.opened(), p.offset_within(step), p.data())
     yield p.ask("READ", step.opened(), 0, 40)
     if p.random.random() < 0.5:
         yield p.ask("OPEN", p.path(place), WRITE | CREAT | EXCL, {})
@@ -125,17 +161,17 @@ def removing(p):
 
 def naming(p):
     """A further name of a file: what is written through one name is read through the other."""
-    old, new = p.file(), p.free()
+    old, new = p.idle_file(), p.free()
     yield p.ask("HARDLINK", p.path(old), p.path(new))
     one = p.ask("OPEN", p.path(old), WRITE, {})
     yield one
+    yield p.ask("WRITE", one.opened(), p.offset_within(one), p.data())
+    yield p.ask("CLOSE", one.opened())
     other = p.ask("OPEN", p.path(new), READ, {})
     yield other
-    yield p.ask("WRITE", one.opened(), p.offset(), p.data())
     yield p.ask("READ", other.opened(), 0, 50)
     yield p.ask("REMOVE", p.path(old))
     yield p.ask("STAT", p.path(new))
-    yield p.ask("CLOSE", one.opened())
     yield p.ask("CLOSE", other.opened())
 
 
@@ -192,6 +228,18 @@ def making(p):
     yield p.ask("RMDIR", p.path(place))
 
 
+def giving_away(p):
+    """A file or a directory that is made for another user."""
+    place, given = p.free(), {"owner": (7, 8), "permissions": 0o644}
+    if p.random.random() < 0.3:
+        yield p.ask("MKDIR", p.path(place), given)
+    else:
+        step = p.ask("OPEN", p.path(place), WRITE | p.random.choice([CREAT, CREAT | TRUNC, CREAT | EXCL]), given)
+        yield step
+        yield p.ask("CLOSE", step.opened())
+    yield p.ask("STAT", p.path(place))
+
+
 def linking(p):
     """A link that is made, read and followed."""
     place = p.free()
@@ -241,7 +289,7 @@ def through_nowhere(p):
 
 def at_limits(p):
     """Offsets and sizes at the limits of numbers, through a handle."""
-    step = p.ask("OPEN", p.path(p.file()), READ | WRITE, {})
+    step = p.ask("OPEN", p.path(p.idle_file()), READ | WRITE, {})
     yield step
     for _ in range(2):
         offset = p.random.choice([2 ** 31 - 1, 2 ** 31, 2 ** 32 - 1, 2 ** 32, 2 ** 63 - 1, 2 ** 63, 2 ** 64 - 1])
@@ -250,9 +298,3 @@ def at_limits(p):
         yield p.ask("WRITE", step.opened(), 2 ** 24 - 1, b"e")
     yield p.ask("WRITE", step.opened(), p.random.choice([0, 2 ** 64 - 1]), b"")
     yield p.ask("CLOSE", step.opened())
-
-
-SCENES, WEIGHTS = zip(
-    (looking, 3), (reading, 4), (writing, 5), (appending, 2), (overlapping, 4), (setting, 3), (emptying, 1),
-    (removing, 2), (naming, 2), (listing, 4), (listing_moved, 2), (making, 2), (linking, 3), (moving, 3),
-    (replacing, 2), (replacing_directory, 1), (through_nowhere, 1), (at_limits, 1))

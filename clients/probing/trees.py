@@ -6,6 +6,10 @@ import struct
 OPENING, OPENING_WITH_LIMITS = b"SFTREE01", b"SFTREE02"
 DIRECTORY, FILE, FURTHER, LINK = b"D", b"F", b"H", b"L"
 
+# The limits of a tree with none of its own, and those that give a server the most room: docs/TREE.md, Limits. What one
+# READ gives is not raised, since servers give 32,768 bytes as a rule.
+USUAL, ROOMY = (65536, 2 ** 24, 32768, 256), (1048576, 2 ** 26, 32768, 1024)
+
 
 class Bad(Exception):
     """A file that is no tree file."""
@@ -34,6 +38,10 @@ class Tree:
 
     def with_entries(self, entries):
         return Tree(entries, self.home, self.uid, self.gid, self.root, self.limits)
+
+    def largest(self):
+        """The most bytes of a file."""
+        return (self.limits or USUAL)[1]
 
 
 def string(data):
@@ -117,7 +125,8 @@ def write(tree, name):
 
 def usual():
     """The tree that a probe starts from, if it is given none: directories, files with one name and with two, links that
-    lead to a file, to a directory, nowhere and round in a ring, and a directory of 130 names."""
+    lead to a file, to a directory, nowhere and round in a ring, and a directory of 130 names. It has room for what
+    plans make, as a server has."""
     letters = bytes(range(ord("a"), ord("z") + 1))
     entries = [
         Entry(b"/d", DIRECTORY),
@@ -137,7 +146,7 @@ def usual():
         Entry(b"/to-e", LINK, b"/d/e"),
     ]
     many = [Entry(b"/many/%03d" % number, FILE, b"", permissions=0o644) for number in range(130)]
-    return Tree(entries + many)
+    return Tree(entries + many, limits=ROOMY)
 
 
 def build(tree, folder):
