@@ -5,6 +5,7 @@
 mod attributes;
 mod copying;
 mod errors;
+pub mod examples;
 mod extensions;
 mod fields;
 mod handles;

@@ -7,7 +7,7 @@ ghost use Rattle.sftp_packets.specs.Spelling.{hides_extension, server_extensions
 ghost use Rattle.sftp_wire.specs.Fronts.{front_of};
 ghost use Rattle.sftp_wire.specs.Examples.{hex, IsRow, IsAsked, IsAnswered, no_attributes, version_bytes};
 
-use sftp_packets::{Answer, Ask, Fault, OpenFlags, Packet, Side};
+use sftp_packets::{Answer, Ask, Fault, Packet, Side};
 
 /// The first packets of a session: the nine bytes of an INIT of version 3 without extensions, and the 124
 /// bytes of the server's VERSION.
@@ -47,16 +47,6 @@ pub fn requests_on_paths()
     // The target of the link comes first.
     ensures symlink { IsAsked (codes "00000012 14 0000000f 00000003 2e2e74 00000002 2f6c") 15
         (Ask.Symlink (codes "..t") (codes "/l")) }
-{}
-
-/// The flags of OPEN (draft, section 6.3).
-pub fn open_flags()
-    ensures read { OpenFlags.READ.0 ≡ 0x0000_0001 }
-    ensures write { OpenFlags.WRITE.0 ≡ 0x0000_0002 }
-    ensures append { OpenFlags.APPEND.0 ≡ 0x0000_0004 }
-    ensures creat { OpenFlags.CREAT.0 ≡ 0x0000_0008 }
-    ensures trunc { OpenFlags.TRUNC.0 ≡ 0x0000_0010 }
-    ensures excl { OpenFlags.EXCL.0 ≡ 0x0000_0020 }
 {}
 
 /// The requests on handles (draft, section 6). A handle is any bytes, and may be empty.
