@@ -8,11 +8,11 @@ from pathlib import Path
 TOP = Path(__file__).resolve().parents[1]
 COLUMNS = 120
 MANUAL = "packaging/sftpv3.1.in"
-# Diaries and drafts name files as they were when they were written.
-DATED = ("docs/measurements/", "docs/drafts/", "CHANGELOG.md")
+# Diaries name files as they were when they were written.
+DATED = ("docs/measurements/", "CHANGELOG.md")
 # Files that no person writes line by line, and `crates.txt`, in which a crate is a line.
 UNBROKEN = re.compile(
-    r"\.(cases|edit|tree|transcript)$|/proofs/|^docs/drafts/|(^|/)(crates|list)\.txt$|^LICENSE$|/TRIED$")
+    r"\.(cases|edit|tree|transcript)$|/proofs/|(^|/)(crates|list)\.txt$|^LICENSE$|/TRIED$")
 # Sources with longer lines, and how many each may have: code that was proved before the check was there.
 LONGER = TOP / ".ci" / "longer"
 
