@@ -51,6 +51,7 @@ pub(crate) fn take_event(
 }
 
 /// The event of a packet: `Start` if the packet is an INIT or a VERSION.
+#[inline(always)]
 fn event_of(packet: Packet, number: u64) -> Result<Event, TranscriptError>
     ensures found { IfOk result (λ event. packet ≡ packet_of event) }
     ensures none { IfErr result (λ _. (event : Event) → packet ≡ packet_of event → ⊥) }
@@ -144,6 +145,7 @@ fn is_event(packet: &Packet) -> bool
 }
 
 /// The packet of the record in front, and the bytes after it. `Start` if no byte is left.
+#[inline(always)]
 fn take_record(alloc: Global, bytes: &[u8], number: u64) -> Result<(Packet, &[u8]), TranscriptError>
     ensures found { IfOk result (λ taken. Begins bytes.now taken.0 taken.1.now) }
     ensures only { (packet : Packet) (rest : List ℕ) → Begins bytes.now packet rest →
@@ -171,6 +173,7 @@ fn side_of_direction(direction: u8) -> Option<Side>
 }
 
 /// The packet in front, and the bytes after it.
+#[inline(always)]
 fn take_packet(
     alloc: Global,
     bytes: &[u8],

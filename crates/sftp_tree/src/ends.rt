@@ -33,6 +33,7 @@ pub(crate) struct Places<'a> {
 
 impl<'a> Ends<'a> {
     /// The places. If both paths lead nowhere, `BadPath` is returned first, and else the cause of the first path.
+    #[inline(always)]
     fn places(self) -> Result<Places<'a>, Cause>
         ensures led { IfOk result (λ places. spec.AreLed self.entry.old self.entry.new places) }
         ensures lost { IfErr result (λ cause. (self.entry.old ≡ Err cause) ⊎ (self.entry.new ≡ Some (Err cause))) }
@@ -77,6 +78,7 @@ impl Tree {
     ///
     /// `Cause` with the first cause that holds: of the request's own bytes, then of the walks, then in the order of the
     /// table. `NoMemory` if memory runs out.
+    #[inline(always)]
     pub(crate) fn free_places<'a>(&'a self, ask: PathAsk<'a>) -> Result<Places<'a>, Refused>
         ensures free { IfOk result (λ places. IsFree self.now (asked ask.entry)) }
         ensures led { IfOk result (λ places. spec.LeadTo self.now (asked ask.entry) places) }
@@ -96,6 +98,7 @@ impl Tree {
     /// # Errors
     ///
     /// `NoMemory` if memory runs out.
+    #[inline(always)]
     fn ends<'a>(&'a self, home: &'a Place, ask: PathAsk<'a>) -> Result<Ends<'a>, NoMemory>
         requires { home.now ≡ self.now.home }
         ensures old { IfOk result (λ ends. requests.led self.now (asked ask.entry) ≡ Some (placed ends.old)) }
@@ -111,6 +114,7 @@ impl Tree {
     }
 
     /// The causes of a request by where its paths lead.
+    #[inline(always)]
     fn judge(&self, ask: PathAsk<'_>, ends: &Ends<'_>) -> Causes
         requires old { requests.led self.now (asked ask) ≡ Some (placed ends.now.old) }
         requires new { requests.new_led self.now (asked ask) ≡ new_placed ends.now.new }

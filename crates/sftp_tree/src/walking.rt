@@ -55,6 +55,7 @@ impl Tree {
     /// # Errors
     ///
     /// `NoMemory` if memory runs out.
+    #[inline(always)]
     pub(crate) fn reach<'a>(
         &'a self,
         home: &'a Place,
