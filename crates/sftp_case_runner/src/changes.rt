@@ -16,7 +16,7 @@ struct Changed<'a> {
     end: &'a str,
 }
 
-/// Audits the session of the case with each change of a file, and leaves the file as it was.
+/// Audits the session of the case with each change of a file, and leaves the file unchanged.
 pub fn changes<R: Files + AllocGlobal, P: Program>(
     rt: &R,
     program: &P,

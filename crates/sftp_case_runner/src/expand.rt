@@ -6,7 +6,7 @@ use std::alloc::AllocError;
 /// A line below a block and those that go on with it, or the lines that a `repeat` line repeats.
 #[derive(Clone, Copy)]
 struct Group {
-    /// How many times the lines stand.
+    /// How many times the lines occur.
     count: u64,
     /// Whether a number behind `%` is counted up.
     repeats: bool,
@@ -17,11 +17,11 @@ struct Group {
 /// How lines of a group are written.
 #[derive(Clone, Copy)]
 struct Form {
-    /// As they stand, and not joined.
+    /// One by one, and not joined.
     literal: bool,
     /// Indented by two more spaces, and with a number behind `%` counted up.
     repeats: bool,
-    /// How many times the lines stood before.
+    /// How many times the lines occurred before.
     turn: u64,
 }
 
@@ -64,7 +64,7 @@ pub fn number_of(text: &str) -> Option<u64> {
     }
 }
 
-/// How many times a line says that the lines below it stand.
+/// How many times a line says that the lines below it occur.
 fn count_of(line: &str) -> Option<u64> {
     match line.strip_prefix("  repeat ") {
         Some(count) => number_of(count),

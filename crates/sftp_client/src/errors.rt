@@ -4,7 +4,7 @@ ghost use Rattle.std.specs.Prelude.{◌≡◌};
 use std::alloc::{AllocError, AllocFailed};
 use thiserror::Error;
 
-/// Why a call of `Pairing` was refused: the first of these reasons that holds. After each the session is as it was.
+/// Why a call of `Pairing` was refused: the first of these reasons that holds. After each the session is unchanged.
 #[derive(Clone, Copy, Debug, PartialEq, Eq, Error)]
 pub enum ClientError {
     /// The server's VERSION has not come.

@@ -71,8 +71,8 @@ impl Pairing {
     ///
     /// # Errors
     ///
-    /// `BadVersion` if the packet is no VERSION or not of version 3, or if VERSION has come before. The session is
-    /// then as it was.
+    /// `BadVersion` if the packet is no VERSION or not of version 3, or if VERSION has come before. On error the
+    /// session is unchanged.
     pub fn on_version(&mut self, packet: &Packet) -> Result<(), ClientError>
         ensures started { OnOk result (IsStarted self.old packet.now self.new) }
         ensures refused { IfErr result (λ e. version_error self.old packet.now ≡ Some e) }
@@ -99,7 +99,7 @@ impl Pairing {
     /// - `NotAnnounced` if it is a `PosixRename`, `Hardlink`, `Fsync` or `Limits` that VERSION did not name;
     /// - `NoMemory` if memory runs out.
     ///
-    /// The session is then as it was, and the request is dropped.
+    /// On error the session is unchanged, and the request is dropped.
     pub fn send(&mut self, ask: Ask) -> Result<Request, ClientError>
         ensures sent { IfOk result (λ request. IsSent self.old request self.new) }
         ensures asked { IfOk result (λ request. request.ask ≡ ask) }
@@ -146,7 +146,7 @@ impl Pairing {
     /// - `UnknownId` if no open request has the reply's id;
     /// - `WrongReply` if that request may not get a reply of this kind.
     ///
-    /// The session is then as it was, and the reply is dropped.
+    /// On error the session is unchanged, and the reply is dropped.
     pub fn on_reply(&mut self, reply: Reply) -> Result<(Request, Reply), ClientError>
         ensures paired { IfOk result (λ pair. IsPaired self.old pair.0 pair.1 self.new) }
         ensures same { IfOk result (λ pair. pair.1 ≡ reply) }

@@ -17,8 +17,7 @@ use sftp_wire::status::EOF;
 use sftp_wire::{Answer, Ask, Reply, Request};
 
 impl Session<GivenTable> {
-    /// Whether the reply to a request is allowed. If so, the session is then as the two leave it; if not, it is as
-    /// before.
+    /// Whether the reply to a request is allowed. If so, the session takes the step; if not, it is unchanged.
     ///
     /// # Errors
     ///
@@ -38,8 +37,7 @@ impl Session<GivenTable> {
 }
 
 impl<T: HandleTable> Session<T> {
-    /// Whether the answer to a request is allowed. If so, the session is then as the two leave it; if not, it is as
-    /// before.
+    /// Whether the answer to a request is allowed. If so, the session takes the step; if not, it is unchanged.
     ///
     /// # Errors
     ///

@@ -62,8 +62,8 @@ impl<T: HandleTable> Session<T> {
     /// # Errors
     ///
     /// `BadHandle` if the handle is not open, `WrongKind` if it is a directory's, `NotOpenFor` if a size is given and
-    /// the file was not opened to be written, or `NoRoom`. `NoMemory` if memory runs out. The session is then as
-    /// before.
+    /// the file was not opened to be written, or `NoRoom`. `NoMemory` if memory runs out. On error the session
+    /// is unchanged.
     pub(crate) fn set_open(&mut self, handle: &[u8], attrs: &Attrs) -> Result<(), Refused>
         ensures done { OnOk result (IsDone self.old (Fsetstat handle.now attrs.now) self.new) }
         ensures refused { IfErr result (IsRefusal self.old (Fsetstat handle.now attrs.now)) }

@@ -81,8 +81,7 @@ impl Judge {
         self.session.into_tree()
     }
 
-    /// Whether the profile permits the reply to a request. If so, the session is then as the two leave it; if not, it
-    /// is unchanged.
+    /// Whether the profile permits the reply to a request. If so, the session takes the step; if not, it is unchanged.
     ///
     /// # Errors
     ///
@@ -100,9 +99,9 @@ impl Judge {
         self.step(request, reply)
     }
 
-    /// Whether the profile permits the answer of a reply with the id of the request, for the request that stands for
-    /// it. If so, the session is then as the two leave it; if not, it is unchanged. The calls below say the same of
-    /// parts of what is permitted.
+    /// Whether the profile permits the answer of a reply with the id of the request, for the request that is judged in
+    /// its place. If so, the session takes the step; if not, it is unchanged. The calls below say the same of parts of
+    /// what is permitted.
     ///
     /// # Errors
     ///
@@ -123,7 +122,7 @@ impl Judge {
         permitted
     }
 
-    /// The request that stands for this one; `None` if the profile does not replace it.
+    /// The request that is judged in place of this one; `None` if the profile does not replace it.
     ///
     /// # Errors
     ///
@@ -170,7 +169,7 @@ impl Judge {
         found
     }
 
-    /// Whether the profile permits the answer for the request as it stands.
+    /// Whether the profile permits the answer for the request itself.
     ///
     /// # Errors
     ///

@@ -19,7 +19,7 @@ use sftp_tree::NoMemory;
 use sftp_wire::{Answer, Ask, NameItem, Names, Reply, Request};
 
 impl Judge {
-    /// Whether the answer to a request as it stands is permitted, with what is noted of directories.
+    /// Whether the answer to the request itself is permitted, with what is noted of directories.
     ///
     /// # Errors
     ///
@@ -65,7 +65,7 @@ impl Judge {
         put_note(&mut self.directories, self.alloc, there, answer)
     }
 
-    /// Whether the answer to a request as it stands is permitted. If so, this is noted.
+    /// Whether the answer to the request itself is permitted. If so, this is noted.
     ///
     /// # Errors
     ///
@@ -159,7 +159,7 @@ impl Judge {
         self.take_listed(request, reply)
     }
 
-    /// Whether an answer passes that leaves the session as it is.
+    /// Whether an answer passes that leaves the session unchanged.
     fn passes_directory(&self, ask: &Ask, answer: &Answer) -> bool
         ensures { result ≡ through.passes_directory self.now.profile
             (through.directory_of self.now.directories ask.now) ask.now answer.now }
@@ -168,7 +168,7 @@ impl Judge {
         passes_directory(self.profile, found, ask, answer)
     }
 
-    /// Whether the reply is permitted for the request that stands for one on a directory.
+    /// Whether the reply is permitted for the request that is judged in place of one on a directory.
     ///
     /// # Errors
     ///
@@ -188,7 +188,7 @@ impl Judge {
         permitted
     }
 
-    /// The request that stands for one on a directory.
+    /// The request that is judged in place of one on a directory.
     ///
     /// # Errors
     ///

@@ -62,7 +62,7 @@ pub struct Profile {
     pub new_owner: NewOwner,
     /// The permissions that nothing new has. It says nothing without `made`.
     pub umask: u32,
-    /// The paths of SYMLINK stand as the draft has them, that of the link first.
+    /// The paths of SYMLINK are in the order of the draft, that of the link first.
     pub symlink_draft: bool,
 }
 

@@ -1,4 +1,4 @@
-//! What a profile takes a request for, where it is not allowed as it stands.
+//! What a profile takes a request for, where it is not allowed itself.
 ghost use Rattle.std.specs.Prelude.{◌≡◌, IsTrue, IfOk, OnErr};
 ghost use Rattle.std.specs.Option.{option_map};
 ghost use Rattle.sftp_packets.specs.declared.packets.Ask.TheVariants as asks;
@@ -10,8 +10,7 @@ use crate::profiles::Profile;
 use sftp_tree::{NoMemory, Refused, Tree};
 use sftp_wire::{Ask, Attrs, ByteString};
 
-/// The request that the profile takes this one for, where it is not allowed as it stands; `None` if it takes it for no
-/// other.
+/// The request that the profile takes this one for, where it is not allowed itself; `None` if it takes it for no other.
 ///
 /// # Errors
 ///

@@ -20,7 +20,7 @@ const NEW_DIRECTORY: u32 = 0o777;
 /// The permissions of a file that is made without any.
 const NEW_FILE: u32 = 0o666;
 
-/// The request that stands for this one; `None` if the profile does not replace it.
+/// The request that is judged in place of this one; `None` if the profile does not replace it.
 ///
 /// # Errors
 ///

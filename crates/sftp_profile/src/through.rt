@@ -114,7 +114,7 @@ fn are_directory(answer: &Answer) -> bool
     }
 }
 
-/// The request that stands for one on a directory, if the answer does not refuse it.
+/// The request that is judged in place of one on a directory, if the answer does not refuse it.
 ///
 /// # Errors
 ///
@@ -216,7 +216,7 @@ fn text_of(alloc: Global, found: Option<&Directory>) -> Result<Option<ByteString
     Ok(Some(ByteString::new(absolute(alloc, place.names())?)))
 }
 
-/// Whether an answer passes that leaves the session as it is.
+/// Whether an answer passes that leaves the session unchanged.
 pub(crate) fn passes_directory(
     profile: Profile,
     found: Option<&Directory>,

@@ -235,7 +235,7 @@ impl Core {
     ///
     /// # Errors
     ///
-    /// The core as it was if the queue is not empty.
+    /// The core, unchanged, if the queue is not empty.
     pub fn finish(self) -> Result<Tree, Core>
         ensures tree { IfOk result (λ tree. tree ≡ closed_tree self.state) }
         ensures was_empty { OnOk result (self.queue ≡ []) }

@@ -520,7 +520,7 @@ impl Readiness {
         0
     }
 
-    /// A position up to `k` such that each request that may conflict with the one at `k` stands before it.
+    /// A position up to `k` such that each request that may conflict with the one at `k` comes before it.
     fn start(&self, k: usize) -> usize
         requires { k < length self.now.notes.items }
         ensures most { result ≤ k }

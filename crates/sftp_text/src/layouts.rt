@@ -38,7 +38,7 @@ pub enum PacketType {
     ExtendedReply,
 }
 
-/// A field: in the line it stands after a space.
+/// A field; in the line a space comes before it.
 #[derive(Clone, Copy)]
 pub enum Field {
     /// A uint32.
@@ -77,7 +77,7 @@ pub struct Layout {
     pub has_id: bool,
     /// The name in the line.
     pub name: &'static [u8],
-    /// What stands in the bytes after the id, and not in the line: the extension's name as a string.
+    /// What is in the bytes after the id, and not in the line: the extension's name as a string.
     pub mark: &'static [u8],
     pub fields: &'static [Field],
     pub tail: Tail,

@@ -98,7 +98,7 @@ fn behind_space(text: &[u8]) -> &[u8]
     left
 }
 
-/// What stands in front of the first space, or of the end.
+/// What comes before the first space, or before the end.
 #[tactic(auto, using(crate::proofs::SpaceLaws::up_to_space_more, crate::proofs::SpaceLaws::up_to_space_end))]
 fn up_to_space(text: &[u8]) -> &[u8]
     ensures { result.now ≡ table.up_to_space text.now }

@@ -137,7 +137,7 @@ pub(crate) fn read_quoted(line: &mut &[u8], bytes: &mut Vec<u8>) -> Result<(), S
     read_characters(line, bytes)
 }
 
-/// Appends bytes after a number that tells of them.
+/// Appends a number, and then bytes.
 pub(crate) fn append_numbered(
     number: u32,
     piece: &[u8],

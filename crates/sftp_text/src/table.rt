@@ -7,7 +7,7 @@ ghost use Rattle.sftp_text.specs.Seen.{seen};
 use crate::layouts::{Field, Layout, PacketType, Tail};
 use sftp_wire::Side;
 
-/// Every layout's packet type. Those of the known extensions stand before `Extended`, which has any name.
+/// Every layout's packet type. Those of the known extensions come before `Extended`, which has any name.
 #[tactic(auto, unfolding(crate::specs::Layouts::every_packet))]
 pub(crate) fn every_packet() -> [PacketType; 31]
     ensures { result ≡ table.every_packet }

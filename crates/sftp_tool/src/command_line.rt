@@ -254,7 +254,7 @@ pub(crate) fn parse<'a>(
     }
 }
 
-/// What an error of the parser stands for: memory ran out, help or the version was asked for, or usage is bad.
+/// What an error of the parser means: memory ran out, help or the version was asked for, or usage is bad.
 fn help_or_usage<'a>(alloc: Global, error: &Error) -> Result<Request<'a>, Failure<'a>> {
     if error.kind() == ErrorKind::OutOfMemory {
         return Err(Failure::OutOfMemory);

@@ -72,8 +72,8 @@ pub(crate) struct Flow {
     pub(crate) code: Option<i32>,
 }
 
-/// A writer that tells another one when the session opens, if it is to. The first bytes that a session writes are its
-/// VERSION.
+/// A writer that reports to another one that the session opens, if asked to. The first bytes that a session writes are
+/// its VERSION.
 #[derive(Drop)]
 pub(crate) struct Announcing<'a, W, E> {
     output: &'a mut W,

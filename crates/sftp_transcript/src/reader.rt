@@ -345,7 +345,7 @@ impl<R: Source> Reader<R> {
         ensures fault { OnOk result (self.new.fault ≡ None) }
         // An error is for good, unless memory ran out.
         ensures stays { IfErr result (λ error. error ≢ TranscriptError.NoMemory → self.new.fault ≡ Some error) }
-        // After an event the next one has the next number; with an error the numbers are as before.
+        // After an event the next one has the next number; on error the numbers are unchanged.
         ensures number { MatchResult result (λ given. self.new.number ≡ number_after self.old.number given)
             (λ _. self.new.number ≡ self.old.number) }
         ensures stage { MatchResult result (λ _. self.new.stage ≡ Stage.Events)
@@ -405,7 +405,7 @@ impl<R: Source> Reader<R> {
         ensures fault { OnOk result (self.new.fault ≡ None) }
         // An error is for good, unless memory ran out.
         ensures stays { IfErr result (λ error. error ≢ TranscriptError.NoMemory → self.new.fault ≡ Some error) }
-        // After a record of an event the next one has the next number; with an error the numbers are as before.
+        // After a record of an event the next one has the next number; on error the numbers are unchanged.
         ensures number { MatchResult result
             (λ given. self.new.number ≡ number_then self.old.stage self.old.number given)
             (λ _. self.new.number ≡ self.old.number) }

@@ -21,7 +21,7 @@ pub(crate) struct Found<'a> {
 }
 
 impl<'a> Found<'a> {
-    /// The directory where a walk stands.
+    /// The directory that a walk has reached.
     pub(crate) fn here(trail: Trail<'a>) -> Found<'a>
         ensures place { result.place ≡ trail.entry.at }
         ensures there { IsThere trail.entry.names result }

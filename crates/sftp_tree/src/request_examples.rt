@@ -156,7 +156,7 @@ pub fn removed_links()
     ensures absent { causes blank (Remove (codes "/d")) NoEntry ≡ true }
 {}
 
-/// SETSTAT takes the low twelve bits of the permissions, and leaves the rest as it was.
+/// SETSTAT takes the low twelve bits of the permissions, and leaves the rest unchanged.
 pub fn set_permissions()
     ensures free { is_none (causes with_file (Setstat (codes "/f") open_attributes)) ≡ true }
     ensures set { after with_file (Setstat (codes "/f") open_attributes) ≡ with_open_file }

@@ -9,12 +9,12 @@ use crate::entries::seen::Seen;
 use crate::entries::trail::Trail;
 use sftp_path::{Name, NoMemory, is_dot, is_dot_dot};
 
-/// What a walk meets at a component. Where it goes on, it has moved; else it stands where it did.
+/// What a walk meets at a component. Where it goes on, it has moved; otherwise it has not.
 #[derive(Drop)]
 pub(crate) enum Met<'a> {
     /// It goes on.
     Enters,
-    /// It ends at this name of the directory where it stands, which has this there, or nothing yet.
+    /// It ends at this name of the directory that it has reached, which has this there, or nothing yet.
     Ends(Name, Option<Seen<'a>>),
     /// It leads nowhere.
     Fails(Cause),

@@ -24,7 +24,7 @@ impl Child {
 }
 
 impl Dir {
-    /// What stands at the place to which these names lead from the directory.
+    /// What is at the place to which these names lead from the directory.
     #[tactic(auto, unfolding(sftp_path::specs::Table::get))]
     pub(crate) fn at(&self, names: &[Name]) -> Option<Seen<'_>>
         ensures there { option_map node_seen result ≡ tree.node_at self.now names.now }

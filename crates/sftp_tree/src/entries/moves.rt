@@ -10,7 +10,7 @@ use sftp_path::{Name, NoMemory, Place};
 use sftp_treefile::Owner;
 use std::alloc::Global;
 
-/// The owner of a directory that stands at a place only until another child comes there.
+/// The owner of a directory that holds a place only until another child comes there.
 const NOBODY: Owner = Owner {
     uid: 0,
     gid: 0,

@@ -1,10 +1,10 @@
-//! What stands at a place, lent.
+//! What is at a place, lent.
 
 use super::directories::Dir;
 use crate::file_numbers::FileNo;
 use sftp_treefile::Owner;
 
-/// What stands at a place, lent.
+/// What is at a place, lent.
 #[derive(Clone, Copy)]
 pub(crate) enum Seen<'a> {
     /// A directory, with its owner.

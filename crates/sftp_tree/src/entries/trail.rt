@@ -1,4 +1,4 @@
-//! The directories from the root to where a walk stands.
+//! The directories from the root to the one that a walk has reached.
 ghost use Rattle.std.specs.Prelude.{◌≡◌, ◌++◌, [], ◌∷◌, Some, OnOk, OnErr};
 ghost use Rattle.sftp_path.specs.Place.{parent};
 ghost use Rattle.sftp_tree.specs.Trail.{IsAt, IsLentAt};
@@ -9,12 +9,12 @@ use sftp_path::{Name, NoMemory, Place};
 use std::alloc::Global;
 use std::marker::Model;
 
-/// Where a walk stands, with the directories that lead there.
+/// How far a walk has come: the directory that it has reached, and those that lead there.
 #[derive(Drop)]
 pub(crate) struct Trail<'a> {
     /// The directories above, the root first.
     above: Vec<&'a Dir>,
-    /// The directory where it stands.
+    /// The directory that it has reached.
     here: &'a Dir,
     /// The place of that directory.
     at: Place,
@@ -31,7 +31,7 @@ impl<'a> Model for Trail<'a> {
 }
 
 impl<'a> Trail<'a> {
-    /// A walk that stands at the root. Does not allocate.
+    /// A walk that is at the root. Does not allocate.
     pub(crate) fn new(alloc: Global, root: &'a Dir) -> Trail<'a>
         ensures { result ≡ record { names = root.now; at = [] } }
     {
@@ -42,7 +42,7 @@ impl<'a> Trail<'a> {
         }
     }
 
-    /// The directory where it stands.
+    /// The directory that it has reached.
     pub(crate) fn here(&self) -> Seen<'a>
         ensures { IsLentAt self.now.names self.now.at (Some result) }
     {
@@ -70,7 +70,7 @@ impl<'a> Trail<'a> {
     ///
     /// # Errors
     ///
-    /// `NoMemory` if memory runs out; it stands where it did.
+    /// `NoMemory` if memory runs out; the trail is unchanged.
     pub(crate) fn enter(&mut self, name: Name, dir: &'a Dir) -> Result<(), NoMemory>
         requires { IsAt self.old.names (self.old.at ++ name ∷ []) dir.now }
         ensures ok { OnOk result (self.new ≡ record self.old { at = self.old.at ++ name ∷ [] }) }
@@ -110,7 +110,7 @@ impl<'a> Trail<'a> {
         self.at = Place::root(self.at.allocator());
     }
 
-    /// The place where it stands.
+    /// The place that it has reached.
     pub(crate) fn into_place(self) -> Place
         ensures { result ≡ self.entry.at }
     {

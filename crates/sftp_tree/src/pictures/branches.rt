@@ -15,7 +15,7 @@ use sftp_path::{Name, NoMemory};
 use sftp_treefile::{put_directory, put_link};
 use std::collections::BTreeMap;
 
-/// Where the writing of entries stands.
+/// How far the writing of entries has come.
 #[derive(Drop)]
 struct Progress {
     /// The text of the place that is written next, or of the directory whose children are: a `/` before each name, and
