@@ -29,28 +29,7 @@ fn asks_known(ask: &Ask) -> bool
 {
     match ask {
         Ask::Unknown { name, .. } => is_known(name.as_slice()),
-        Ask::Open { .. }
-        | Ask::Close { .. }
-        | Ask::Read { .. }
-        | Ask::Write { .. }
-        | Ask::Lstat { .. }
-        | Ask::Fstat { .. }
-        | Ask::Setstat { .. }
-        | Ask::Fsetstat { .. }
-        | Ask::Opendir { .. }
-        | Ask::Readdir { .. }
-        | Ask::Remove { .. }
-        | Ask::Mkdir { .. }
-        | Ask::Rmdir { .. }
-        | Ask::Realpath { .. }
-        | Ask::Stat { .. }
-        | Ask::Rename { .. }
-        | Ask::Readlink { .. }
-        | Ask::Symlink { .. }
-        | Ask::PosixRename { .. }
-        | Ask::Hardlink { .. }
-        | Ask::Fsync { .. }
-        | Ask::Limits => false,
+        _ => false,
     }
 }
 

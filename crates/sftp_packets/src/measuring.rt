@@ -4,15 +4,14 @@
 ghost use Rattle.std.specs.Prelude.{◌≡◌, ◌-◌, ◌^◌, ◌<◌, ◌++◌, length, min, IfSome};
 ghost use Rattle.std.specs.List.{flat_map, AllByRecursion};
 ghost use Rattle.sftp_packets.specs.Spelling.{uint32, uint64, two_uint32, string, pair, pairs, counted_pairs, optional};
-ghost use Rattle.sftp_packets.specs.Spelling.{attributes, name_item, names, ask_parts, answer_parts, with_id, contents};
+ghost use Rattle.sftp_packets.specs.Spelling.{attributes, name_item, names};
 ghost use Rattle.sftp_packets.specs.Spelling.{AreBytes, FitsString, FitsTwo, FitsPair, FitsPairs, FitsCounted};
-ghost use Rattle.sftp_packets.specs.Spelling.{FitsAttrs};
-ghost use Rattle.sftp_packets.specs.Spelling.{FitsNameItem, FitsNames, FitsAsk, FitsAnswer, FitsFields};
+ghost use Rattle.sftp_packets.specs.Spelling.{FitsAttrs, FitsNameItem, FitsNames};
+ghost use Rattle.sftp_packets.specs.Rows.{field_bytes, fields_bytes, row_contents, FitsField, Fit, FitsRow};
 
 use crate::attributes::Attrs;
-use crate::extensions::{FSYNC, HARDLINK, LIMITS, POSIX_RENAME};
 use crate::names::{NameItem, Names};
-use crate::packets::{Answer, Ask, Packet};
+use crate::rows::{Field, Fields, Row};
 use crate::strings::{ByteString, Pairs};
 
 /// The bytes of a uint32.
@@ -162,101 +161,41 @@ fn names_length(items: &Names) -> usize
     name_items_length(items).saturating_add(4)
 }
 
-/// The bytes of the fields after the id of a request.
-// Slow to prove, with an arm for each shape of a request and none to share.
-fn asked_length(ask: &Ask) -> usize
-    ensures exact { result ≡ min (length ((ask_parts ask.now).1)) (2 ^ 64 - 1) }
-    ensures fits { length ((ask_parts ask.now).1) < 2 ^ 32 → FitsAsk ask.now }
+/// The bytes of a field.
+fn field_length(field: &Field<'_>) -> usize
+    ensures exact { result ≡ min (length (field_bytes field.now)) (2 ^ 64 - 1) }
+    ensures fits { length (field_bytes field.now) < 2 ^ 32 → FitsField field.now }
 {
-    match ask {
-        Ask::Lstat { path: text }
-        | Ask::Opendir { path: text }
-        | Ask::Remove { path: text }
-        | Ask::Rmdir { path: text }
-        | Ask::Realpath { path: text }
-        | Ask::Stat { path: text }
-        | Ask::Readlink { path: text }
-        | Ask::Close { handle: text }
-        | Ask::Fstat { handle: text }
-        | Ask::Readdir { handle: text } => string_length(text),
-        Ask::Setstat { path: text, attrs }
-        | Ask::Mkdir { path: text, attrs }
-        | Ask::Fsetstat {
-            handle: text,
-            attrs,
-        } => string_and_attributes_length(text, attrs),
-        Ask::Open {
-            path,
-            pflags,
-            attrs,
-        } => string_and_attributes_length(path, attrs).saturating_add(number_length(*pflags)),
-        Ask::Read {
-            handle,
-            offset,
-            len,
-        } => string_length(handle).saturating_add(
-            long_number_length(*offset) + number_length(*len),
-        ),
-        Ask::Write {
-            handle,
-            offset,
-            bytes,
-        } => two_strings_length(handle, bytes).saturating_add(long_number_length(*offset)),
-        Ask::Rename { oldpath, newpath } => two_strings_length(oldpath, newpath),
-        Ask::Symlink {
-            targetpath,
-            linkpath,
-        } => two_strings_length(targetpath, linkpath),
-        Ask::PosixRename { oldpath, newpath } => {
-            two_strings_length(oldpath, newpath).saturating_add(4 + POSIX_RENAME.len())
-        }
-        Ask::Hardlink { oldpath, newpath } => {
-            two_strings_length(oldpath, newpath).saturating_add(4 + HARDLINK.len())
-        }
-        Ask::Fsync { handle } => string_length(handle).saturating_add(4 + FSYNC.len()),
-        Ask::Limits => 4 + LIMITS.len(),
-        Ask::Unknown { name, rest } => string_length(name).saturating_add(text_length(rest)),
+    match field {
+        Field::Number(number) => number_length(*number),
+        Field::LongNumber(number) => long_number_length(*number),
+        Field::Text(text) | Field::Handle(text) => string_length(text),
+        Field::Extension(name) => name.len().saturating_add(4),
+        Field::Rest(bytes) => text_length(bytes),
+        Field::PairsToEnd(extensions) => pairs_length(extensions),
+        Field::Attributes(attrs) => attributes_length(attrs),
+        Field::Items(items) => names_length(items),
     }
 }
 
-/// The bytes of the fields after the id of a reply.
-fn answered_length(answer: &Answer) -> usize
-    ensures exact { result ≡ min (length ((answer_parts answer.now).1)) (2 ^ 64 - 1) }
-    ensures fits { length ((answer_parts answer.now).1) < 2 ^ 32 → FitsAnswer answer.now }
+/// The bytes of the fields after the number of a packet.
+fn fields_length(fields: &Fields<'_>) -> usize
+    ensures exact { result ≡ min (length (fields_bytes fields.now)) (2 ^ 64 - 1) }
+    ensures fits { length (fields_bytes fields.now) < 2 ^ 32 → Fit fields.now }
 {
-    match answer {
-        Answer::Status {
-            code,
-            message,
-            language,
-        } => two_strings_length(message, language).saturating_add(number_length(*code)),
-        Answer::Handle(handle) => string_length(handle),
-        Answer::Data(bytes) => string_length(bytes),
-        Answer::Name(items) => names_length(items),
-        Answer::Attrs(attrs) => attributes_length(attrs),
-        Answer::Extended(bytes) => text_length(bytes),
+    match fields {
+        Fields::One(field) => field_length(field),
+        Fields::Two(first, second) => field_length(first).saturating_add(field_length(second)),
+        Fields::Three(first, second, third) => field_length(first)
+            .saturating_add(field_length(second))
+            .saturating_add(field_length(third)),
     }
 }
 
 /// The bytes after the packet's length.
-pub(crate) fn contents_length(packet: &Packet) -> usize
-    ensures exact { result ≡ min (length (contents packet.now)) (2 ^ 64 - 1) }
-    ensures fits { length (contents packet.now) < 2 ^ 32 → FitsFields packet.now }
+pub(crate) fn contents_length(row: &Row<'_>) -> usize
+    ensures exact { result ≡ min (length (row_contents row.now)) (2 ^ 64 - 1) }
+    ensures fits { length (row_contents row.now) < 2 ^ 32 → FitsRow row.now }
 {
-    match packet {
-        Packet::Init {
-            version,
-            extensions,
-        }
-        | Packet::Version {
-            version,
-            extensions,
-        } => pairs_length(extensions).saturating_add(1 + number_length(*version)),
-        Packet::Request(request) => {
-            asked_length(&request.ask).saturating_add(1 + number_length(request.id))
-        }
-        Packet::Reply(reply) => {
-            answered_length(&reply.answer).saturating_add(1 + number_length(reply.id))
-        }
-    }
+    fields_length(&row.fields).saturating_add(1 + number_length(row.number))
 }

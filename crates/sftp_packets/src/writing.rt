@@ -1,24 +1,20 @@
 //! Packets as bytes (draft, sections 3 to 8). After an error a private function may leave part of what it wrote:
 //! `encode` removes it.
-ghost use Rattle.std.specs.Prelude.{◌≡◌, ◌∷◌, ◌++◌, ◌<◌, ◌^◌, ◌↔◌, ◌⊎◌, length, OnOk, OnErr, IfErr, IsErrOf};
+ghost use Rattle.std.specs.Prelude.{◌≡◌, ◌++◌, ◌<◌, ◌^◌, ◌↔◌, ◌⊎◌, length, OnOk, OnErr, IfErr, IsErrOf};
 ghost use Rattle.std.specs.List.{flat_map};
 ghost use Rattle.sftp_packets.specs.Spelling.{uint32, uint64, two_uint32, string, pair, pairs, counted_pairs, optional};
 ghost use Rattle.sftp_packets.specs.Spelling.{attribute_flags, attribute_fields, attributes, name_item, names};
-ghost use Rattle.sftp_packets.specs.Spelling.{ask_parts};
-ghost use Rattle.sftp_packets.specs.Spelling.{answer_parts, with_id, contents, spelling, HasSpelling};
+ghost use Rattle.sftp_packets.specs.Spelling.{spelling, HasSpelling};
+ghost use Rattle.sftp_packets.specs.Rows.{field_bytes, fields_bytes, row_contents};
 ghost use Rattle.sftp_packets.specs.Writing.{Extends, IsTooLong, IsNotCanonical};
 
 use crate::attributes::{AttrFlags, Attrs};
 use crate::errors::WireError;
-use crate::extensions::{FSYNC, HARDLINK, LIMITS, POSIX_RENAME, hides_extension};
-use crate::handles::has_long_handle;
+use crate::extensions::hides_extension;
 use crate::measuring::contents_length;
 use crate::names::{NameItem, Names};
-use crate::packets::{
-    ATTRS, Answer, Ask, CLOSE, DATA, EXTENDED, EXTENDED_REPLY, FSETSTAT, FSTAT, HANDLE, INIT,
-    LSTAT, MKDIR, NAME, OPEN, OPENDIR, PACKET_LIMIT, Packet, READ, READDIR, READLINK, REALPATH,
-    REMOVE, RENAME, RMDIR, SETSTAT, STAT, STATUS, SYMLINK, VERSION, WRITE,
-};
+use crate::packets::{PACKET_LIMIT, Packet};
+use crate::rows::{Field, Fields, Row, has_long_handle, row_of};
 use crate::strings::{ByteString, Pairs};
 use bitflags::Flags;
 use bytes::BufMut;
@@ -63,8 +59,7 @@ fn put_two_strings(
     ensures err { OnErr result (Extends out.old.items out.new.items) }
 {
     put_string(out, first)?;
-    put_string(out, second)?;
-    Ok(())
+    put_string(out, second)
 }
 
 fn put_pairs(out: &mut Vec<u8>, extensions: &Pairs) -> Result<(), AllocError>
@@ -82,7 +77,22 @@ fn put_counted_pairs(out: &mut Vec<u8>, extended: &Pairs) -> Result<(), AllocErr
     ensures err { OnErr result (Extends out.old.items out.new.items) }
 {
     put_length(out, extended.as_slice().len())?;
-    put_pairs(out, extended)?;
+    put_pairs(out, extended)
+}
+
+fn put_number(out: &mut Vec<u8>, number: u32) -> Result<(), AllocError>
+    ensures ok { OnOk result (out.new.items ≡ out.old.items ++ uint32 number) }
+    ensures err { OnErr result (Extends out.old.items out.new.items) }
+{
+    out.put_u32(number)?;
+    Ok(())
+}
+
+fn put_long_number(out: &mut Vec<u8>, number: u64) -> Result<(), AllocError>
+    ensures ok { OnOk result (out.new.items ≡ out.old.items ++ uint64 number) }
+    ensures err { OnErr result (Extends out.old.items out.new.items) }
+{
+    out.put_u64(number)?;
     Ok(())
 }
 
@@ -99,40 +109,40 @@ fn put_size(out: &mut Vec<u8>, size: Option<u64>) -> Result<(), AllocError>
     ensures ok { OnOk result (out.new.items ≡ out.old.items ++ optional uint64 size) }
     ensures err { OnErr result (Extends out.old.items out.new.items) }
 {
-    if let Some(size) = size {
-        out.put_u64(size)?;
+    match size {
+        Some(size) => put_long_number(out, size),
+        None => Ok(()),
     }
-    Ok(())
 }
 
 fn put_permissions(out: &mut Vec<u8>, permissions: Option<u32>) -> Result<(), AllocError>
     ensures ok { OnOk result (out.new.items ≡ out.old.items ++ optional uint32 permissions) }
     ensures err { OnErr result (Extends out.old.items out.new.items) }
 {
-    if let Some(permissions) = permissions {
-        out.put_u32(permissions)?;
+    match permissions {
+        Some(permissions) => put_number(out, permissions),
+        None => Ok(()),
     }
-    Ok(())
 }
 
 fn put_optional_two(out: &mut Vec<u8>, numbers: Option<(u32, u32)>) -> Result<(), AllocError>
     ensures ok { OnOk result (out.new.items ≡ out.old.items ++ optional two_uint32 numbers) }
     ensures err { OnErr result (Extends out.old.items out.new.items) }
 {
-    if let Some(numbers) = numbers {
-        put_two(out, numbers)?;
+    match numbers {
+        Some(numbers) => put_two(out, numbers),
+        None => Ok(()),
     }
-    Ok(())
 }
 
 fn put_extended(out: &mut Vec<u8>, extended: &Option<Pairs>) -> Result<(), AllocError>
     ensures ok { OnOk result (out.new.items ≡ out.old.items ++ optional counted_pairs extended.now) }
     ensures err { OnErr result (Extends out.old.items out.new.items) }
 {
-    if let Some(extended) = extended {
-        put_counted_pairs(out, extended)?;
+    match extended {
+        Some(extended) => put_counted_pairs(out, extended),
+        None => Ok(()),
     }
-    Ok(())
 }
 
 fn flag_bits(attrs: &Attrs) -> u32
@@ -153,8 +163,7 @@ fn put_size_and_owner(out: &mut Vec<u8>, attrs: &Attrs) -> Result<(), AllocError
     ensures err { OnErr result (Extends out.old.items out.new.items) }
 {
     put_size(out, attrs.size)?;
-    put_optional_two(out, attrs.owner)?;
-    Ok(())
+    put_optional_two(out, attrs.owner)
 }
 
 fn put_permissions_and_times(out: &mut Vec<u8>, attrs: &Attrs) -> Result<(), AllocError>
@@ -163,8 +172,7 @@ fn put_permissions_and_times(out: &mut Vec<u8>, attrs: &Attrs) -> Result<(), All
     ensures err { OnErr result (Extends out.old.items out.new.items) }
 {
     put_permissions(out, attrs.permissions)?;
-    put_optional_two(out, attrs.times)?;
-    Ok(())
+    put_optional_two(out, attrs.times)
 }
 
 fn put_attribute_fields(out: &mut Vec<u8>, attrs: &Attrs) -> Result<(), AllocError>
@@ -173,8 +181,7 @@ fn put_attribute_fields(out: &mut Vec<u8>, attrs: &Attrs) -> Result<(), AllocErr
 {
     put_size_and_owner(out, attrs)?;
     put_permissions_and_times(out, attrs)?;
-    put_extended(out, &attrs.extended)?;
-    Ok(())
+    put_extended(out, &attrs.extended)
 }
 
 fn put_attributes(out: &mut Vec<u8>, attrs: &Attrs) -> Result<(), AllocError>
@@ -182,126 +189,7 @@ fn put_attributes(out: &mut Vec<u8>, attrs: &Attrs) -> Result<(), AllocError>
     ensures err { OnErr result (Extends out.old.items out.new.items) }
 {
     out.put_u32(flag_bits(attrs))?;
-    put_attribute_fields(out, attrs)?;
-    Ok(())
-}
-
-/// The type of a packet, and the number after it: a version or an id.
-fn put_type_and_number(out: &mut Vec<u8>, kind: u8, number: u32) -> Result<(), AllocError>
-    ensures ok { OnOk result (out.new.items ≡ out.old.items ++ (kind ∷ uint32 number)) }
-    ensures err { OnErr result (Extends out.old.items out.new.items) }
-{
-    out.put_u8(kind)?;
-    out.put_u32(number)?;
-    Ok(())
-}
-
-/// INIT or VERSION.
-fn put_first_packet(
-    out: &mut Vec<u8>,
-    kind: u8,
-    version: u32,
-    extensions: &Pairs,
-) -> Result<(), AllocError>
-    ensures ok { OnOk result (out.new.items
-        ≡ out.old.items ++ (kind ∷ uint32 version ++ pairs extensions.now)) }
-    ensures err { OnErr result (Extends out.old.items out.new.items) }
-{
-    put_type_and_number(out, kind, version)?;
-    put_pairs(out, extensions)?;
-    Ok(())
-}
-
-fn put_string_and_attributes(
-    out: &mut Vec<u8>,
-    text: &ByteString,
-    attrs: &Attrs,
-) -> Result<(), AllocError>
-    ensures ok { OnOk result (out.new.items ≡ out.old.items ++ (string text.now ++ attributes attrs.now)) }
-    ensures err { OnErr result (Extends out.old.items out.new.items) }
-{
-    put_string(out, text)?;
-    put_attributes(out, attrs)?;
-    Ok(())
-}
-
-fn put_open_fields(
-    out: &mut Vec<u8>,
-    path: &ByteString,
-    pflags: u32,
-    attrs: &Attrs,
-) -> Result<(), AllocError>
-    ensures ok { OnOk result (out.new.items
-        ≡ out.old.items ++ (string path.now ++ (uint32 pflags ++ attributes attrs.now))) }
-    ensures err { OnErr result (Extends out.old.items out.new.items) }
-{
-    put_string(out, path)?;
-    out.put_u32(pflags)?;
-    put_attributes(out, attrs)?;
-    Ok(())
-}
-
-fn put_range(out: &mut Vec<u8>, offset: u64, len: u32) -> Result<(), AllocError>
-    ensures ok { OnOk result (out.new.items ≡ out.old.items ++ (uint64 offset ++ uint32 len)) }
-    ensures err { OnErr result (Extends out.old.items out.new.items) }
-{
-    out.put_u64(offset)?;
-    out.put_u32(len)?;
-    Ok(())
-}
-
-fn put_read_fields(
-    out: &mut Vec<u8>,
-    handle: &ByteString,
-    offset: u64,
-    len: u32,
-) -> Result<(), AllocError>
-    ensures ok { OnOk result (out.new.items
-        ≡ out.old.items ++ (string handle.now ++ (uint64 offset ++ uint32 len))) }
-    ensures err { OnErr result (Extends out.old.items out.new.items) }
-{
-    put_string(out, handle)?;
-    put_range(out, offset, len)?;
-    Ok(())
-}
-
-fn put_bytes_at(out: &mut Vec<u8>, offset: u64, bytes: &ByteString) -> Result<(), AllocError>
-    ensures ok { OnOk result (out.new.items ≡ out.old.items ++ (uint64 offset ++ string bytes.now)) }
-    ensures err { OnErr result (Extends out.old.items out.new.items) }
-{
-    out.put_u64(offset)?;
-    put_string(out, bytes)?;
-    Ok(())
-}
-
-fn put_write_fields(
-    out: &mut Vec<u8>,
-    handle: &ByteString,
-    offset: u64,
-    bytes: &ByteString,
-) -> Result<(), AllocError>
-    ensures ok { OnOk result (out.new.items
-        ≡ out.old.items ++ (string handle.now ++ (uint64 offset ++ string bytes.now))) }
-    ensures err { OnErr result (Extends out.old.items out.new.items) }
-{
-    put_string(out, handle)?;
-    put_bytes_at(out, offset, bytes)?;
-    Ok(())
-}
-
-fn put_status_fields(
-    out: &mut Vec<u8>,
-    code: u32,
-    message: &ByteString,
-    language: &ByteString,
-) -> Result<(), AllocError>
-    ensures ok { OnOk result (out.new.items
-        ≡ out.old.items ++ (uint32 code ++ (string message.now ++ string language.now))) }
-    ensures err { OnErr result (Extends out.old.items out.new.items) }
-{
-    out.put_u32(code)?;
-    put_two_strings(out, message, language)?;
-    Ok(())
+    put_attribute_fields(out, attrs)
 }
 
 fn put_name_item(out: &mut Vec<u8>, item: &NameItem) -> Result<(), AllocError>
@@ -310,8 +198,7 @@ fn put_name_item(out: &mut Vec<u8>, item: &NameItem) -> Result<(), AllocError>
 {
     put_string(out, &item.filename)?;
     put_string(out, &item.longname)?;
-    put_attributes(out, &item.attrs)?;
-    Ok(())
+    put_attributes(out, &item.attrs)
 }
 
 fn put_name_items(out: &mut Vec<u8>, items: &Names) -> Result<(), AllocError>
@@ -329,214 +216,63 @@ fn put_names(out: &mut Vec<u8>, items: &Names) -> Result<(), AllocError>
     ensures err { OnErr result (Extends out.old.items out.new.items) }
 {
     put_length(out, items.as_slice().len())?;
-    put_name_items(out, items)?;
-    Ok(())
+    put_name_items(out, items)
 }
 
-fn put_two_paths_extension(
-    out: &mut Vec<u8>,
-    name: &[u8],
-    oldpath: &ByteString,
-    newpath: &ByteString,
-) -> Result<(), AllocError>
-    ensures ok { OnOk result (out.new.items
-        ≡ out.old.items ++ (string name.now ++ pair (oldpath.now, newpath.now))) }
+/// Bytes without their length.
+fn put_rest(out: &mut Vec<u8>, bytes: &ByteString) -> Result<(), AllocError>
+    ensures ok { OnOk result (out.new.items ≡ out.old.items ++ bytes.now) }
     ensures err { OnErr result (Extends out.old.items out.new.items) }
 {
-    put_bytes(out, name)?;
-    put_two_strings(out, oldpath, newpath)?;
+    out.put_slice(bytes.as_slice())?;
     Ok(())
 }
 
-fn put_handle_extension(
-    out: &mut Vec<u8>,
-    name: &[u8],
-    handle: &ByteString,
-) -> Result<(), AllocError>
-    ensures ok { OnOk result (out.new.items ≡ out.old.items ++ (string name.now ++ string handle.now)) }
+fn put_field(out: &mut Vec<u8>, field: &Field<'_>) -> Result<(), AllocError>
+    ensures ok { OnOk result (out.new.items ≡ out.old.items ++ field_bytes field.now) }
     ensures err { OnErr result (Extends out.old.items out.new.items) }
 {
-    put_bytes(out, name)?;
-    put_string(out, handle)?;
-    Ok(())
-}
-
-fn put_unknown(out: &mut Vec<u8>, name: &ByteString, rest: &ByteString) -> Result<(), AllocError>
-    ensures ok { OnOk result (out.new.items ≡ out.old.items ++ (string name.now ++ rest.now)) }
-    ensures err { OnErr result (Extends out.old.items out.new.items) }
-{
-    put_string(out, name)?;
-    out.put_slice(rest.as_slice())?;
-    Ok(())
-}
-
-/// The type of a request's packet.
-fn asked_type(ask: &Ask) -> u8
-    ensures { result ≡ (ask_parts ask.now).0 }
-{
-    match ask {
-        Ask::Open { .. } => OPEN,
-        Ask::Close { .. } => CLOSE,
-        Ask::Read { .. } => READ,
-        Ask::Write { .. } => WRITE,
-        Ask::Lstat { .. } => LSTAT,
-        Ask::Fstat { .. } => FSTAT,
-        Ask::Setstat { .. } => SETSTAT,
-        Ask::Fsetstat { .. } => FSETSTAT,
-        Ask::Opendir { .. } => OPENDIR,
-        Ask::Readdir { .. } => READDIR,
-        Ask::Remove { .. } => REMOVE,
-        Ask::Mkdir { .. } => MKDIR,
-        Ask::Rmdir { .. } => RMDIR,
-        Ask::Realpath { .. } => REALPATH,
-        Ask::Stat { .. } => STAT,
-        Ask::Rename { .. } => RENAME,
-        Ask::Readlink { .. } => READLINK,
-        Ask::Symlink { .. } => SYMLINK,
-        Ask::PosixRename { .. }
-        | Ask::Hardlink { .. }
-        | Ask::Fsync { .. }
-        | Ask::Limits
-        | Ask::Unknown { .. } => EXTENDED,
+    match field {
+        Field::Number(number) => put_number(out, *number),
+        Field::LongNumber(number) => put_long_number(out, *number),
+        Field::Text(text) | Field::Handle(text) => put_string(out, text),
+        Field::Extension(name) => put_bytes(out, name),
+        Field::Rest(bytes) => put_rest(out, bytes),
+        Field::PairsToEnd(extensions) => put_pairs(out, extensions),
+        Field::Attributes(attrs) => put_attributes(out, attrs),
+        Field::Items(items) => put_names(out, items),
     }
 }
 
-/// The fields after the id of a request.
-// Slow to prove, with an arm for each shape of a request and none to share.
-fn put_ask_fields(out: &mut Vec<u8>, ask: &Ask) -> Result<(), AllocError>
-    ensures ok { OnOk result (out.new.items ≡ out.old.items ++ (ask_parts ask.now).1) }
+/// The fields after the number of a packet.
+fn put_fields(out: &mut Vec<u8>, fields: &Fields<'_>) -> Result<(), AllocError>
+    ensures ok { OnOk result (out.new.items ≡ out.old.items ++ fields_bytes fields.now) }
     ensures err { OnErr result (Extends out.old.items out.new.items) }
 {
-    match ask {
-        Ask::Lstat { path: text }
-        | Ask::Opendir { path: text }
-        | Ask::Remove { path: text }
-        | Ask::Rmdir { path: text }
-        | Ask::Realpath { path: text }
-        | Ask::Stat { path: text }
-        | Ask::Readlink { path: text }
-        | Ask::Close { handle: text }
-        | Ask::Fstat { handle: text }
-        | Ask::Readdir { handle: text } => put_string(out, text),
-        Ask::Setstat { path: text, attrs }
-        | Ask::Mkdir { path: text, attrs }
-        | Ask::Fsetstat {
-            handle: text,
-            attrs,
-        } => put_string_and_attributes(out, text, attrs),
-        Ask::Open {
-            path,
-            pflags,
-            attrs,
-        } => put_open_fields(out, path, *pflags, attrs),
-        Ask::Read {
-            handle,
-            offset,
-            len,
-        } => put_read_fields(out, handle, *offset, *len),
-        Ask::Write {
-            handle,
-            offset,
-            bytes,
-        } => put_write_fields(out, handle, *offset, bytes),
-        Ask::Rename { oldpath, newpath } => put_two_strings(out, oldpath, newpath),
-        Ask::Symlink {
-            targetpath,
-            linkpath,
-        } => put_two_strings(out, targetpath, linkpath),
-        Ask::PosixRename { oldpath, newpath } => {
-            put_two_paths_extension(out, POSIX_RENAME, oldpath, newpath)
+    match fields {
+        Fields::One(field) => put_field(out, field),
+        Fields::Two(first, second) => {
+            put_field(out, first)?;
+            put_field(out, second)
         }
-        Ask::Hardlink { oldpath, newpath } => {
-            put_two_paths_extension(out, HARDLINK, oldpath, newpath)
-        }
-        Ask::Fsync { handle } => put_handle_extension(out, FSYNC, handle),
-        Ask::Limits => put_bytes(out, LIMITS),
-        Ask::Unknown { name, rest } => put_unknown(out, name, rest),
-    }
-}
-
-fn put_asked(out: &mut Vec<u8>, id: u32, ask: &Ask) -> Result<(), AllocError>
-    ensures ok { OnOk result (out.new.items ≡ out.old.items ++ with_id id (ask_parts ask.now)) }
-    ensures err { OnErr result (Extends out.old.items out.new.items) }
-{
-    put_type_and_number(out, asked_type(ask), id)?;
-    put_ask_fields(out, ask)?;
-    Ok(())
-}
-
-/// The type of a reply's packet.
-fn answered_type(answer: &Answer) -> u8
-    ensures { result ≡ (answer_parts answer.now).0 }
-{
-    match answer {
-        Answer::Status { .. } => STATUS,
-        Answer::Handle(_) => HANDLE,
-        Answer::Data(_) => DATA,
-        Answer::Name(_) => NAME,
-        Answer::Attrs(_) => ATTRS,
-        Answer::Extended(_) => EXTENDED_REPLY,
-    }
-}
-
-/// The fields after the id of a reply.
-fn put_answer_fields(out: &mut Vec<u8>, answer: &Answer) -> Result<(), AllocError>
-    ensures ok { OnOk result (out.new.items ≡ out.old.items ++ (answer_parts answer.now).1) }
-    ensures err { OnErr result (Extends out.old.items out.new.items) }
-{
-    match answer {
-        Answer::Status {
-            code,
-            message,
-            language,
-        } => put_status_fields(out, *code, message, language),
-        Answer::Handle(handle) => put_string(out, handle),
-        Answer::Data(bytes) => put_string(out, bytes),
-        Answer::Name(items) => put_names(out, items),
-        Answer::Attrs(attrs) => put_attributes(out, attrs),
-        Answer::Extended(bytes) => {
-            out.put_slice(bytes.as_slice())?;
-            Ok(())
+        Fields::Three(first, second, third) => {
+            put_field(out, first)?;
+            put_field(out, second)?;
+            put_field(out, third)
         }
     }
 }
 
-fn put_answered(out: &mut Vec<u8>, id: u32, answer: &Answer) -> Result<(), AllocError>
-    ensures ok { OnOk result (out.new.items ≡ out.old.items ++ with_id id (answer_parts answer.now)) }
-    ensures err { OnErr result (Extends out.old.items out.new.items) }
-{
-    put_type_and_number(out, answered_type(answer), id)?;
-    put_answer_fields(out, answer)?;
-    Ok(())
-}
-
-fn put_contents(out: &mut Vec<u8>, packet: &Packet) -> Result<(), AllocError>
-    ensures ok { OnOk result (out.new.items ≡ out.old.items ++ contents packet.now) }
-    ensures err { OnErr result (Extends out.old.items out.new.items) }
-{
-    match packet {
-        Packet::Init {
-            version,
-            extensions,
-        } => put_first_packet(out, INIT, *version, extensions),
-        Packet::Version {
-            version,
-            extensions,
-        } => put_first_packet(out, VERSION, *version, extensions),
-        Packet::Request(request) => put_asked(out, request.id, &request.ask),
-        Packet::Reply(reply) => put_answered(out, reply.id, &reply.answer),
-    }
-}
-
-#[tactic(auto, unfolding(crate::specs::Spelling::spelling))]
-fn put_packet(out: &mut Vec<u8>, size: u32, packet: &Packet) -> Result<(), AllocError>
-    requires { size ≡ length (contents packet.now) }
-    ensures ok { OnOk result (out.new.items ≡ out.old.items ++ spelling packet.now) }
+/// A packet, by the length of its contents and its row.
+fn put_row(out: &mut Vec<u8>, size: u32, row: &Row<'_>) -> Result<(), AllocError>
+    requires { size ≡ length (row_contents row.now) }
+    ensures ok { OnOk result (out.new.items ≡ out.old.items ++ string (row_contents row.now)) }
     ensures err { OnErr result (Extends out.old.items out.new.items) }
 {
     out.put_u32(size)?;
-    put_contents(out, packet)?;
-    Ok(())
+    out.put_u8(row.kind)?;
+    out.put_u32(row.number)?;
+    put_fields(out, &row.fields)
 }
 
 /// Appends the packet's one encoding (draft, sections 3 to 8). On error `out` is unchanged.
@@ -558,15 +294,16 @@ pub fn encode(packet: &Packet, out: &mut Vec<u8>) -> Result<(), WireError>
     ensures kinds { IfErr result (λ e. (e ≡ WireError.TooLong) ⊎ (e ≡ WireError.NotCanonical)
         ⊎ (e ≡ WireError.NoMemory)) }
 {
-    let size = contents_length(packet);
-    if size > PACKET_LIMIT - 4 || has_long_handle(packet) {
+    let row = row_of(packet);
+    let size = contents_length(&row);
+    if size > PACKET_LIMIT - 4 || has_long_handle(&row) {
         return Err(WireError::TooLong);
     }
     if hides_extension(packet) {
         return Err(WireError::NotCanonical);
     }
     let before = out.len();
-    match put_packet(out, size as u32, packet) {
+    match put_row(out, size as u32, &row) {
         Ok(()) => Ok(()),
         Err(error) => {
             out.truncate(before);
