@@ -21,7 +21,7 @@ impl Listing {
     /// # Errors
     ///
     /// `NoMemory` if memory runs out.
-    pub fn first(&self, alloc: Global) -> Result<Vec<ByteString>, NoMemory>
+    pub fn first_names(&self, alloc: Global) -> Result<Vec<ByteString>, NoMemory>
         ensures { IfOk result (λ names. names.items ≡ first.first_names first.names_in_reply self.now) }
     {
         let mut names = Vec::with_capacity(alloc, NAMES_IN_REPLY.min(self.left))?;

@@ -107,7 +107,7 @@ impl<T: HandleTable> Session<T> {
     {
         match self.listing_at(handle) {
             Ok(left) => {
-                let names = left.first(self.tree.allocator())?;
+                let names = left.first_names(self.tree.allocator())?;
                 Ok(names)
             }
             Err(cause) => Err(Refused::Cause(cause)),

@@ -1,6 +1,6 @@
 -- The names so far, and those from the place on, are all that are left.
 use Rattle.sftp_listing.proofs.Imports.{◌≡◌, ◌≤◌, ◌++◌, length, map, drop, name_of, names_in_reply, unmarked}
-use Rattle.sftp_listing.proofs.listing.Listing.first.Given as goal
+use Rattle.sftp_listing.proofs.listing.Listing.first_names.Given as goal
 
 abbrev pub invariant-loop-place : goal.invariant-loop-place
 invariant-loop-place l = record {

@@ -2,8 +2,8 @@ use Rattle.sftp_listing.proofs.Imports.{◌≤◌, ◌<◌, length, subst, ◌�
 use Rattle.sftp_listing.proofs.FirstNames.{first-all, first-front}
 use Rattle.sftp_listing.proofs.MarkedItems.{left-none}
 use Rattle.sftp_listing.proofs.ListedItems.{listed-next, few-next}
-use Rattle.sftp_listing.proofs.listing.Listing.first.Goals as goal
-use Rattle.sftp_listing.proofs.listing.Listing.first.Goals.{else-loop-place-test, then-loop-place-test+then-len-ge-NAMES_IN_REPLY}
+use Rattle.sftp_listing.proofs.listing.Listing.first_names.Goals as goal
+use Rattle.sftp_listing.proofs.listing.Listing.first_names.Goals.{else-loop-place-test, then-loop-place-test+then-len-ge-NAMES_IN_REPLY}
 
 pub loop-place-preserved : goal.loop-place-preserved
 loop-place-preserved c =
