@@ -19,7 +19,7 @@ use crate::opens::Open;
 use crate::sessions::Session;
 use crate::tables::{HandleTable, PutError};
 use bitflags::Flags;
-use sftp_listing::{Listing, listing_of};
+use sftp_listing::Listing;
 use sftp_tree::{FileNo, NoMemory, Refused};
 use sftp_wire::{Ask, Attrs, HANDLE_LIMIT, OpenFlags};
 
@@ -108,7 +108,7 @@ impl<T: HandleTable> Session<T> {
         ensures kept { OnErr result (self.new ≡ self.old) }
     {
         match self.tree.list(path) {
-            Ok(items) => match listing_of(items) {
+            Ok(items) => match Listing::from_items(items) {
                 Ok(left) => self.open_listing(left, want),
                 Err(_) => Err(NotOpened::Refused(Refused::NoMemory)),
             },

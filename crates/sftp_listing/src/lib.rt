@@ -12,5 +12,4 @@ mod strike;
 
 pub use attributes::same_attributes;
 pub use first_names::NAMES_IN_REPLY;
-pub use items::listing_of;
 pub use listing::Listing;

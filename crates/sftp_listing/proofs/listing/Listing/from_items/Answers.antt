@@ -1,6 +1,6 @@
 use Rattle.sftp_listing.proofs.Imports.{rules, ◌∙◌}
 use Rattle.sftp_listing.proofs.MarkedItems.{first-marks, first-marked, all-false}
-use Rattle.sftp_listing.proofs.items.listing_of.Goals as goal
+use Rattle.sftp_listing.proofs.listing.Listing.from_items.Goals as goal
 
 pub invariant_of-result : goal.invariant_of-result
 invariant_of-result c =
