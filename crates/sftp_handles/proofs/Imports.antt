@@ -4,41 +4,39 @@ pub use Rattle.std.proofs.Common.{◌≡◌, ℕ, ◌+◌, ◌^◌, ◌<◌, Lis
 pub use Rattle.std.proofs.Common.{◌&&◌, false, None, IsTrue, true, ◌==◌, nat_lt, zero, suc, ◌*◌, ◌≤◌, Bool, ◌∷◌, Option}
 pub use Rattle.std.proofs.Common.{ap, ◌∙◌, inl, inr, ◌||◌, not, nat_le, leb-true, ◌≢◌, if◌then◌else◌, min, take, nat_eq}
 pub use Rattle.std.proofs.Common.{option_map, cond, eq-eqb, Result, Ok, Err, is_some, unwrap_or, ◌↔◌, drop, ◌-◌, ◌⊎◌}
-pub use Rattle.std.proofs.Common.{map, get_or, zero-add, IsSome, IfOk, OnErr, ltb-true, IfErr, OnOk, append_assoc}
-pub use Rattle.std.proofs.Common.{option_copied, Bor, IfSome, IfNone, ◌/◌, lit≤, rules}
+pub use Rattle.std.proofs.Common.{map, get_or, zero-add, IsSome, IfOk, OnErr, ltb-true, IfErr, OnOk, option_copied}
+pub use Rattle.std.proofs.Common.{IfSome, ◌/◌, lit≤}
 pub use Rattle.std.proofs.Math.Bool.{and-false}
 pub use Rattle.std.proofs.Math.Nat.{mod-lt}
 pub use Rattle.std.proofs.lemmas.Bool.{and_from, not-false, both_ways, eqb-true, lt-ltb, and_parts, le-leb, ne_eqb}
 pub use Rattle.std.proofs.lemmas.Bool.{cases_eq, ltb-false, or_right, and_cases, true≢false, eqb-false, and_right}
 pub use Rattle.std.proofs.lemmas.Bool.{not-true, not_from_true}
-pub use Rattle.std.proofs.lemmas.List.{length-append, length-take, length-drop, take-append-drop, take_more, map-append}
-pub use Rattle.std.proofs.lemmas.List.{take_all, take_min, length-map, append-nil, length-set, length-replicate}
-pub use Rattle.std.proofs.lemmas.List.Folds.{list_any_more, list_any-append, list_all-append}
+pub use Rattle.std.proofs.lemmas.List.{length-append, length-take, length-drop, take-append-drop}
 pub use Rattle.std.proofs.lemmas.Map.Text.{is_eq-slice_cmp}
 pub use Rattle.std.proofs.lemmas.Option.{same_Some}
 pub use Rattle.std.proofs.lemmas.Result.{IfOk-weaker, err_from_is_err_and}
 pub use Rattle.std.proofs.lemmas.Slice.Eq.{bytes_eq-Decides}
-pub use Rattle.std.specs.BTreeMap.{is_at, insert_entry}
+pub use Rattle.std.specs.BTreeMap.{is_at}
 pub use Rattle.std.specs.Cmp.{IsTotalOrder, nat_cmp_total, nat_eq_equiv, Equal-is}
-pub use Rattle.std.specs.Cmp.Lexicographic.{nat_list_eq_equiv, nat_list_cmp_total, bytes_decides, texts_ties, pointwise}
+pub use Rattle.std.specs.Cmp.Lexicographic.{nat_list_eq_equiv, nat_list_cmp_total, bytes_decides, texts_ties}
 pub use Rattle.std.specs.FinMap.{nat_cmp-IsAntisymmetric, IsAntisymmetric}
 pub use Rattle.std.specs.Int.{w32, w64, from_be_bytes, byte_at, bytes_high_first}
-pub use Rattle.std.specs.List.{AllByRecursion, flat_map, IsDistinct, list_any, list_all, insert, filter}
-pub use Rattle.std.specs.Map.{lookup, keys_of, KeepsOthers, remove_entry}
+pub use Rattle.std.specs.List.{AllByRecursion, flat_map, IsDistinct, list_any, list_all, filter}
+pub use Rattle.std.specs.Map.{lookup, keys_of, KeepsOthers}
 pub use Rattle.std.specs.Ordering.{nat_cmp, is_eq}
 pub use Rattle.std.specs.Prelude.{codes, bytes_eq}
 pub use Rattle.std.specs.declared.cmp.Ordering.{Ordering}
-pub use Rattle.std.specs.declared.cmp.Ordering.TheVariants.{Equal, Less, Greater}
+pub use Rattle.std.specs.declared.cmp.Ordering.TheVariants.{Equal}
 pub use Rattle.sftp_path.proofs.Order.{bytes_cmp-same, place_cmp-same, place_cmp-total}
 pub use Rattle.sftp_path.proofs.Table.Counts.{one_if, count-without, count-found}
 pub use Rattle.sftp_path.proofs.Table.Entries.{without-absent}
 pub use Rattle.sftp_path.proofs.Table.Laws.{get-put, get-put_here, InOrder-put, same_table, size-put, InOrder-retain}
 pub use Rattle.sftp_path.proofs.Table.Laws.{InOrder-without, size-put_present, size-without, get-without, InOrder-empty}
 pub use Rattle.sftp_path.proofs.Table.Laws.{get-empty, get-cons, get-from_entries, InOrder-from_entries}
-pub use Rattle.sftp_path.proofs.Table.Laws.{from_entries-is, get-below, get-retain, get-without_elsewhere}
+pub use Rattle.sftp_path.proofs.Table.Laws.{get-without_elsewhere}
 pub use Rattle.sftp_path.specs.Place.{Name, same_bytes, bytes_cmp, Place, place_cmp, name_cmp, absolute, is_name}
-pub use Rattle.sftp_path.specs.Table.{Table, InOrder, size, count, kept}
-unfoldable pub use Rattle.sftp_path.specs.Table.{get, put, retain, from_entries, without}
+pub use Rattle.sftp_path.specs.Table.{Table, InOrder, size, count}
+unfoldable pub use Rattle.sftp_path.specs.Table.{get, put, retain, from_entries}
 pub use Rattle.sftp_tree.proofs.CauseLaws.Places.{outcome-is, free-led, free-at, lost-first, exit}
 pub use Rattle.sftp_tree.proofs.CauseLaws.Sets.{none-each, each-none, fewer}
 pub use Rattle.sftp_tree.proofs.KeptTrees.Files.{pins-stay, limits-stay}
@@ -72,9 +70,8 @@ pub use Rattle.sftp_tree.specs.declared.causes.Cause.TheVariants.{Unknown, NoRoo
 pub use Rattle.sftp_tree.specs.declared.causes.Cause.TheVariants.{NotOpenFor, NoEntry, NotLink, NotDir, Loop}
 pub use Rattle.sftp_tree.specs.declared.causes.Refused.{Refused}
 pub use Rattle.sftp_tree.specs.declared.file_contents.Content.{Content}
-pub use Rattle.sftp_tree.specs.declared.listings.Item.{Item}
 pub use Rattle.sftp_tree.specs.declared.nodes.Node.{Node}
-pub use Rattle.sftp_treefile.specs.TreeFile.{are_bytes, is_target}
+pub use Rattle.sftp_treefile.specs.TreeFile.{are_bytes}
 pub use Rattle.sftp_treefile.specs.declared.limits.TreeLimits.{TreeLimits}
 pub use Rattle.sftp_wire.specs.Examples.{no_attributes}
 pub use Rattle.sftp_packets.specs.Spelling.{string, attributes, FitsAttrs, name_item, FitsString, FitsNameItem}
@@ -100,8 +97,7 @@ pub use Rattle.sftp_handles.specs.Answered.{IsSpelledAnswer, IsReplyOf, status_o
 pub use Rattle.sftp_handles.specs.Clash.{Touched, untouched, everything, share, is_barrier, touched_through, touched_by}
 pub use Rattle.sftp_handles.specs.Clash.{ComesFirst, reads_file, writes_file, takes_names, may_change}
 unfoldable pub use Rattle.sftp_handles.specs.Clash.{touched, clash}
-pub use Rattle.sftp_handles.specs.FirstNames.{item_of, first_items, names_in_reply, AreFirst, AreFirstNames, name_of}
-pub use Rattle.sftp_handles.specs.FirstNames.{first_names}
+pub use Rattle.sftp_handles.specs.FirstNames.{item_of, first_items, names_in_reply, AreFirst, AreFirstNames}
 pub use Rattle.sftp_handles.specs.Fitting.{FitsSaid, FitsTwice, FitsData}
 pub use Rattle.sftp_handles.specs.Found.{found_file, IsWritable, with_room, refusing, granted, read_said}
 pub use Rattle.sftp_handles.specs.Given.{named, handles_in}
@@ -115,11 +111,10 @@ unfoldable pub use Rattle.sftp_handles.specs.Handles.{pins_of}
 pub use Rattle.sftp_handles.specs.Judged.{IsDone, IsJudged, refusal_code, IsRefusal, IsJudgedCode}
 pub use Rattle.sftp_handles.specs.Kinds.{kind_of}
 pub use Rattle.sftp_handles.specs.Laws.{is_opening, asked_state, IsOpenedBy, IsAskable, IsAnswerable}
-pub use Rattle.sftp_handles.specs.Marked.{unmarked, ArePaired}
 pub use Rattle.sftp_handles.specs.Payloads.{Carries, said_in}
 pub use Rattle.sftp_handles.specs.Replies.{shows, names, gives, ended, extends, names_in, refuses, are_some_left, opens}
 pub use Rattle.sftp_handles.specs.Replies.{is_new_handle, says, struck, names_given, is_among, gives_some, has_code}
-pub use Rattle.sftp_handles.specs.Replies.{Said, ok, are_distinct, same_attributes, has_attributes, is_left, lists}
+pub use Rattle.sftp_handles.specs.Replies.{Said, ok, same_attributes, has_attributes, is_left, lists}
 pub use Rattle.sftp_handles.specs.Requests.{with_handle_room, causes_by, said_to, after_by, changed, said_by, flags_of}
 pub use Rattle.sftp_handles.specs.Requests.{opened_by, with_new, path_causes, path_said, seen_by}
 unfoldable pub use Rattle.sftp_handles.specs.Requests.{causes, after, told_to, limits_data, answers}

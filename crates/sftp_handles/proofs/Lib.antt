@@ -2,7 +2,6 @@ pub mod Imports
 pub mod Good
 pub mod Judged
 pub mod HandleTables
-pub mod Listings
 pub mod OpenFiles
 pub mod TotalSteps
 pub mod Answered

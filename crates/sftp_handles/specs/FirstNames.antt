@@ -1,30 +1,10 @@
 -- The first names of a listing, as a reply to READDIR gives them. Words of private contracts.
-use Rattle.std.specs.Prelude.{◌≡◌, ℕ, List, Option, Some, None, map, take}
-use Rattle.sftp_packets.specs.declared.attributes.Attrs.{Attrs}
+use Rattle.std.specs.Prelude.{◌≡◌, List, Option, Some, None}
 use Rattle.sftp_packets.specs.declared.names.NameItem.{NameItem}
 use Rattle.sftp_path.specs.Place.{Name}
+pub use Rattle.sftp_listing.specs.FirstNames.{first_names, item_of, first_items, names_in_reply}
 use Rattle.sftp_handles.specs.declared.opens.Open.{Open}
 use Rattle.sftp_handles.specs.declared.opens.Open.TheVariants.{File, Listing}
-use Rattle.sftp_handles.specs.Handles.{Left}
-
-abbrev pub name_of : Name × Attrs → Name
-name_of e = e.0
-
--- the first `most` names of a listing, or all if there are fewer
-abbrev pub first_names : ℕ → Left → List Name
-first_names most left = map name_of (take most left)
-
--- an item with the attributes of a name, which is its long name too
-abbrev pub item_of : Name × Attrs → NameItem
-item_of e = record { filename = e.0; longname = e.0; attrs = e.1 }
-
--- the first `most` names of a listing, as items, or all if there are fewer
-abbrev pub first_items : ℕ → Left → List NameItem
-first_items most left = map item_of (take most left)
-
--- how many names a reply gives at most
-abbrev pub names_in_reply : ℕ
-names_in_reply = 32
 
 -- what is open is a listing, and these are its first names
 abbrev pub AreFirstNames : Option Open → List Name → Type 0

@@ -2,19 +2,15 @@
 -- 6.7).
 use Rattle.std.specs.Prelude.{◌==◌, ℕ, Bool, false, List, [], ◌∷◌, Option, is_some}
 use Rattle.std.specs.Int.RustNames.{bit_and}
-use Rattle.sftp_packets.specs.declared.attributes.Attrs.{Attrs}
 use Rattle.sftp_packets.specs.declared.open_flags.OpenFlags.{OpenFlags}
-use Rattle.sftp_path.specs.Place.{Name, bytes_cmp}
+use Rattle.sftp_path.specs.Place.{bytes_cmp}
 use Rattle.sftp_path.specs.Table.{Table, get, put, without, count}
 use Rattle.sftp_tree.specs.Tree.{Pins, with_pin}
+pub use Rattle.sftp_listing.specs.Left.{Left}
 use Rattle.sftp_handles.specs.declared.opens.Open.{Open}
 use Rattle.sftp_handles.specs.declared.opens.Open.TheVariants.{File, Listing}
 
 -- ---- handles
-
--- the remaining entries of a listing, with their attributes
-abbrev pub Left : Type 0
-Left = Table Name Attrs
 
 -- what is open under each handle; the name of a handle is a byte string
 abbrev pub Handles : Type 0

@@ -18,7 +18,6 @@ pub mod Slots
 pub mod FirstNames
 pub mod Found
 pub mod Uses
-pub mod Marked
 pub mod Judged
 pub mod Kinds
 pub mod Fitting

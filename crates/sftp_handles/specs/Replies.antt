@@ -1,15 +1,14 @@
 -- What replies say (draft-ietf-secsh-filexfer-02, section 7). Which fields of a reply are free is this profile's own.
-use Rattle.std.specs.Prelude.{◌==◌, ◌&&◌, not, nat_le, nat_lt, ℕ, Bool, true, false, List, [], ◌∷◌, length, map}
-use Rattle.std.specs.Prelude.{Option, Some, None}
-use Rattle.std.specs.List.{list_any, list_all}
+use Rattle.std.specs.Prelude.{◌==◌, ◌&&◌, not, nat_le, ℕ, Bool, false, List, [], ◌∷◌, length, Option, Some}
 use Rattle.sftp_packets.specs.declared.attributes.Attrs.{Attrs}
 use Rattle.sftp_packets.specs.declared.names.NameItem.{NameItem}
 use Rattle.sftp_packets.specs.declared.packets.Answer.{Answer}
 use Rattle.sftp_packets.specs.declared.packets.Answer.TheVariants as replies
 use Rattle.sftp_packets.specs.Spelling.{handle_limit}
-use Rattle.sftp_path.specs.Place.{Name, name_cmp, same_bytes}
-use Rattle.sftp_path.specs.Table.{get, retain}
+use Rattle.sftp_path.specs.Place.{Name, same_bytes}
 use Rattle.sftp_tree.specs.Causes.{CauseSet, allow}
+pub use Rattle.sftp_listing.specs.Left.{same_attributes, is_among, are_distinct, has_attributes, is_left, names_in}
+pub use Rattle.sftp_listing.specs.Left.{are_some_left, struck}
 use Rattle.sftp_handles.specs.Handles.{Left, Handles, is_open}
 
 -- ---- statuses
@@ -25,20 +24,6 @@ has_code wanted (replies.Status code message language) = code == wanted
 has_code wanted other = false
 
 -- ---- attributes
-
-abbrev pub same_number : Option ℕ → Option ℕ → Bool
-same_number (Some a) (Some b) = a == b
-same_number _ _ = false
-
-abbrev pub same_numbers : Option (ℕ × ℕ) → Option (ℕ × ℕ) → Bool
-same_numbers (Some a) (Some b) = a.0 == b.0 && a.1 == b.1
-same_numbers _ _ = false
-
--- whether both attributes have the size, the owner and the permissions, and the same ones; times and extended pairs are
--- free
-abbrev pub same_attributes : Attrs → Attrs → Bool
-same_attributes a b =
-    same_number a.size b.size && (same_numbers a.owner b.owner && same_number a.permissions b.permissions)
 
 -- the attributes of what was asked for
 abbrev pub is_shown : Option Attrs → Answer → Bool
@@ -63,29 +48,6 @@ abbrev pub is_named : Option (List ℕ) → Answer → Bool
 is_named (Some text) (replies.Name items) = is_one_name text items
 is_named _ _ = false
 
-abbrev pub is_among : Name → List Name → Bool
-is_among name names = list_any (same_bytes name) names
-
--- no name comes twice
-abbrev pub are_distinct : List Name → Bool
-are_distinct [] = true
-are_distinct (name ∷ names) = not (is_among name names) && are_distinct names
-
-abbrev pub has_attributes : Option Attrs → Attrs → Bool
-has_attributes None attrs = false
-has_attributes (Some left) attrs = same_attributes left attrs
-
--- a remaining entry of the listing, with its attributes
-abbrev pub is_left : Left → NameItem → Bool
-is_left left item = has_attributes (get name_cmp left item.filename) item.attrs
-
-abbrev pub names_in : List NameItem → List Name
-names_in items = map (λ item. item.filename) items
-
--- one or more of the remaining entries of the listing, each once, in any order
-abbrev pub are_some_left : Left → List NameItem → Bool
-are_some_left left items = nat_lt 0 (length items) && (list_all (is_left left) items && are_distinct (names_in items))
-
 abbrev pub gives_some : Left → Answer → Bool
 gives_some left (replies.Name items) = are_some_left left items
 gives_some left other = false
@@ -94,10 +56,6 @@ gives_some left other = false
 abbrev pub names_given : Answer → List Name
 names_given (replies.Name items) = names_in items
 names_given other = []
-
--- what is left without these names
-abbrev pub struck : Left → List Name → Left
-struck left names = retain left (λ e. not (is_among e.0 names))
 
 -- ---- handles
 

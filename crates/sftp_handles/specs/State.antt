@@ -1,14 +1,14 @@
 -- The state of a session: its tree, and what is open.
-use Rattle.std.specs.Prelude.{◌≡◌, ◌&&◌, not, nat_le, ℕ, ◌+◌, ◌≤◌, Bool, List, [], length, is_some, IsTrue}
+use Rattle.std.specs.Prelude.{◌≡◌, ◌&&◌, nat_le, ℕ, ◌+◌, ◌≤◌, Bool, List, [], length, IsTrue}
 use Rattle.std.specs.List.{AllByRecursion}
-use Rattle.sftp_packets.specs.declared.attributes.Attrs.{Attrs}
-use Rattle.sftp_packets.specs.Spelling.{FitsAttrs, handle_limit}
-use Rattle.sftp_path.specs.Place.{Name, bytes_cmp, name_cmp, is_name}
+use Rattle.sftp_packets.specs.Spelling.{handle_limit}
+use Rattle.sftp_path.specs.Place.{bytes_cmp}
 use Rattle.sftp_path.specs.Table.{InOrder, size}
 use Rattle.sftp_tree.specs.Tree.{Tree, IsKept, limits, trim, fits}
+pub use Rattle.sftp_listing.specs.Left.{is_plain, IsItem, IsLeft}
 use Rattle.sftp_handles.specs.declared.opens.Open.{Open}
 use Rattle.sftp_handles.specs.declared.opens.Open.TheVariants.{File, Listing}
-use Rattle.sftp_handles.specs.Handles.{Left, Handles, pins_of}
+use Rattle.sftp_handles.specs.Handles.{Handles, pins_of}
 
 pub record State : Type 0 where
   pub tree : Tree
@@ -41,21 +41,6 @@ abbrev pub state_fits : State → Bool
 state_fits s = fits s.tree && handles_fit s
 
 -- ---- good states
-
--- size, owner and permissions, and nothing else
-abbrev pub is_plain : Attrs → Bool
-is_plain a =
-    is_some a.size && (is_some a.owner && (is_some a.permissions
-    && (not (is_some a.times) && not (is_some a.extended))))
-
--- a name of a directory, with attributes that can be encoded
-abbrev pub IsItem : Name × Attrs → Type 0
-IsItem e = IsTrue (is_name e.0) × FitsAttrs e.1 × IsTrue (is_plain e.1)
-
--- the names of a listing are in order, and each comes once
-pub record IsLeft (left : Left) : Type 0 where
-  pub ordered : InOrder name_cmp left
-  pub items : AllByRecursion IsItem left
 
 abbrev pub IsOpen : Open → Type 0
 IsOpen (File number flags) = Unit {0}

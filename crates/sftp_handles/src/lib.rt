@@ -3,7 +3,6 @@
 #![tactic(auto)]
 
 mod answer;
-mod attributes;
 mod byte_range;
 mod changes;
 mod clash;
@@ -15,7 +14,6 @@ mod judge;
 mod kinds;
 pub mod laws;
 mod limits;
-mod listing;
 mod not_opened;
 mod open_changes;
 mod open_files;
@@ -38,13 +36,12 @@ mod slots;
 mod tables;
 mod touch;
 
-pub use attributes::same_attributes;
 pub use byte_range::ByteRange;
 pub use clash::is_barrier;
 pub use given_table::GivenTable;
-pub use listing::Listing;
 pub use opens::Open;
 pub use sessions::Session;
+pub use sftp_listing::{Listing, same_attributes};
 pub use slab_table::SlabTable;
 pub use tables::{HandleTable, PutError};
 pub use touch::Touch;

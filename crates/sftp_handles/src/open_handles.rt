@@ -10,11 +10,11 @@ ghost use Rattle.sftp_handles.specs.Giving.{listing_in};
 ghost use Rattle.sftp_handles.specs.Found.{found_file, refusing};
 ghost use Rattle.sftp_handles.specs.Requests.{causes};
 
-use crate::listing::Listing;
 use crate::opens::Open;
 use crate::sessions::Session;
 use crate::tables::HandleTable;
 use bitflags::Flags;
+use sftp_listing::Listing;
 use sftp_tree::{Cause, FileNo};
 use sftp_wire::OpenFlags;
 

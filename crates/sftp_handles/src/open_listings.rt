@@ -10,10 +10,10 @@ ghost use Rattle.sftp_handles.specs.Replies.{names_in};
 ghost use Rattle.sftp_handles.specs.Giving.{IsListing, gives_names, with_struck};
 ghost use Rattle.sftp_handles.specs.Judged.{IsJudged, IsJudgedCode};
 
-use crate::listing::Listing;
 use crate::opens::Open;
 use crate::sessions::Session;
 use crate::tables::HandleTable;
+use sftp_listing::Listing;
 use sftp_path::Name;
 use sftp_tree::NoMemory;
 use sftp_wire::{ByteString, NameItem, Names};

@@ -14,13 +14,12 @@ ghost use Rattle.sftp_handles.specs.Allowed.{Does};
 ghost use Rattle.sftp_handles.specs.Judged.{IsJudged};
 ghost use Rattle.sftp_handles.specs.Opening.{IsNotOpened, not_opened};
 
-use crate::listing::Listing;
-use crate::listing::items::listing_of;
 use crate::not_opened::NotOpened;
 use crate::opens::Open;
 use crate::sessions::Session;
 use crate::tables::{HandleTable, PutError};
 use bitflags::Flags;
+use sftp_listing::Listing;
 use sftp_tree::{FileNo, NoMemory, Refused};
 use sftp_wire::{Ask, Attrs, HANDLE_LIMIT, OpenFlags};
 
@@ -109,7 +108,7 @@ impl<T: HandleTable> Session<T> {
         ensures kept { OnErr result (self.new ≡ self.old) }
     {
         match self.tree.list(path) {
-            Ok(items) => match listing_of(items) {
+            Ok(items) => match Listing::from_items(items) {
                 Ok(left) => self.open_listing(left, want),
                 Err(_) => Err(NotOpened::Refused(Refused::NoMemory)),
             },

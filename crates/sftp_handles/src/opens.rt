@@ -1,6 +1,6 @@
 //! What a handle opens: a file, or a listing of a directory.
 
-use crate::listing::Listing;
+use sftp_listing::Listing;
 use sftp_tree::FileNo;
 use sftp_wire::OpenFlags;
 

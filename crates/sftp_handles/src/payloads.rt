@@ -6,7 +6,7 @@ ghost use Rattle.sftp_handles.specs.Payloads.{said_in};
 ghost use Rattle.sftp_handles.specs.Answered.{IsReplyOf};
 
 use crate::answer::forms::{has_code, one_name, status};
-use crate::attributes::same_attributes;
+use sftp_listing::same_attributes;
 use sftp_tree::NoMemory;
 use sftp_wire::status::EOF;
 use sftp_wire::{Answer, Attrs, ByteString, Names};

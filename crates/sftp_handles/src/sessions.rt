@@ -5,9 +5,9 @@ ghost use Rattle.sftp_handles.specs.Handles.{open_at};
 ghost use Rattle.sftp_handles.specs.Giving.{listing_in};
 ghost use Rattle.sftp_handles.specs.State.{settled};
 
-use crate::listing::Listing;
 use crate::opens::Open;
 use crate::tables::HandleTable;
+use sftp_listing::Listing;
 use sftp_tree::{NoMemory, Tree};
 use std::marker::Model;
 

@@ -8,7 +8,7 @@ use Rattle.sftp_handles.proofs.Imports.{open_at, State, Good, IsItem, is_plain, 
 use Rattle.sftp_handles.proofs.Imports.{causes, Does, IsJudged, IsSpelledAnswer, IsAnswered, IsListing, gives_names}
 use Rattle.sftp_handles.proofs.Imports.{with_struck, item_of, first_items, names_in_reply, AreFirst, AreFirstNames}
 use Rattle.sftp_packets.specs.declared.packets.Answer.TheVariants as replies
-use Rattle.sftp_handles.proofs.Listings.FirstNames.{Extended, attributes_of, first-some}
+use Rattle.sftp_listing.proofs.FirstNames.{Extended, attributes_of, first-some}
 use Rattle.sftp_handles.proofs.Judged.GivenNames.{has_none, listing-left, given-judged, readdir-ends}
 use Rattle.sftp_handles.proofs.Judged.Judgements.{allow-one}
 use Rattle.sftp_handles.proofs.Good.NewStates.{state_of}

@@ -1,8 +1,11 @@
 -- What is open under a handle, exchanged twice and put back.
-use Rattle.sftp_handles.proofs.Imports.{◌≡◌, Bool, true, false, cond, List, ℕ, Some, is_some, refl, sym, ap, ◌∙◌, is_eq}
-use Rattle.sftp_handles.proofs.Imports.{Equal-is, nat_list_cmp_total, Name, bytes_cmp, InOrder, bytes_cmp-same, get-put}
-use Rattle.sftp_handles.proofs.Imports.{get-put_here, InOrder-put, same_table, Open, Listing, Left, Handles, open_at}
-use Rattle.sftp_handles.proofs.Imports.{is_open, with_open, struck, with_struck}
+use Rattle.sftp_handles.proofs.Imports.{◌≡◌, Bool, true, false, cond, List, ℕ, drop, length, Option, Some, is_some, refl}
+use Rattle.sftp_handles.proofs.Imports.{sym, ap, subst, ◌∙◌, is_eq, Equal-is, nat_list_cmp_total, NameItem, Name}
+use Rattle.sftp_handles.proofs.Imports.{bytes_cmp, name_cmp, InOrder, bytes_cmp-same, get-put, get-put_here}
+use Rattle.sftp_handles.proofs.Imports.{InOrder-put, same_table, Open, Listing, Left, Handles, open_at, is_open}
+use Rattle.sftp_handles.proofs.Imports.{with_open, names_in, struck, IsListing, with_struck, first_items}
+use Rattle.sftp_handles.proofs.Imports.{names_in_reply, AreFirst}
+use Rattle.sftp_listing.proofs.Strikes.{struck-first_items}
 use Rattle.sftp_handles.proofs.OpenFiles.Opened.{opened-again}
 
 same-there : (handles : Handles) (handle at : List ℕ) (it : Open) (b : Bool) → open_at handles handle ≡ Some it
@@ -39,3 +42,12 @@ struck-apart before between after handle names first left next order there taken
     ∙ ((λ i. with_open (taken i) handle (Listing (struck_is i)))
     ∙ (opened-again before handle first (Listing (struck left names)) order
     ∙ ap (with_struck before handle names) (sym there)))
+
+-- the names of a reply are struck from a listing: as many entries are dropped
+pub dropped-struck : (items : List NameItem) (left : Left) (found : Option Open) → found ≡ Some (Listing left)
+    → IsListing found → AreFirst found items → drop (length items) left ≡ struck left (names_in items)
+dropped-struck items left found there order first =
+    let ordered : InOrder name_cmp left = subst IsListing there order in
+    let same : items ≡ first_items names_in_reply left = subst (λ o. AreFirst o items) there first in
+    ap (λ xs. drop (length xs) left) same
+    ∙ (sym (struck-first_items names_in_reply left ordered) ∙ ap (λ xs. struck left (names_in xs)) (sym same))

@@ -27,7 +27,7 @@ use Rattle.sftp_tree.proofs.KeptTrees.Trims.{named-there}
 use Rattle.sftp_handles.proofs.Good.Pins.{pin-times, pins-times, pins-open_file, pins-open_listing}
 use Rattle.sftp_handles.proofs.Good.NewStates.{state_of}
 use Rattle.sftp_handles.proofs.Good.GoodPaths.{opened-named}
-use Rattle.sftp_handles.proofs.Listings.FirstListings.{listing-fits}
+use Rattle.sftp_listing.proofs.FirstListings.{listing-fits}
 
 -- ---- tables of handles
 

@@ -10,7 +10,7 @@ use Rattle.sftp_handles.proofs.Imports.{has_handle_left, shows, names, opens, Fi
 use Rattle.std.specs.Option.{option_map}
 use Rattle.sftp_tree.specs.declared.nodes.Node.TheVariants.{Dir, File, Link}
 use Rattle.sftp_tree.specs.Requests.{target_of}
-use Rattle.sftp_handles.proofs.Listings.FirstListings.{node-shown, short-target}
+use Rattle.sftp_listing.proofs.FirstListings.{node-shown, short-target}
 use Rattle.sftp_handles.proofs.TotalSteps.PlaceTexts.{bytes-by, text-fits}
 
 -- ---- what is at a place

@@ -10,7 +10,7 @@ use Rattle.sftp_handles.proofs.Imports.{gives, ended, lists, opens, extends, say
 use Rattle.sftp_handles.proofs.Imports.{has_attributes, limits_data, FitsSaid, FitsData}
 use Rattle.sftp_packets.specs.declared.packets.Answer.TheVariants as replies
 use Rattle.sftp_treefile.specs.Limits.{highest_limits}
-use Rattle.sftp_handles.proofs.Listings.FirstNames.{Extended, attributes_of, found-first, same-itself}
+use Rattle.sftp_listing.proofs.FirstNames.{Extended, attributes_of, found-first, same-itself}
 use Rattle.sftp_handles.proofs.TotalSteps.PlaceTexts.{name-parts, bytes-joined, number-bytes}
 use Rattle.sftp_handles.proofs.TotalSteps.NewHandles.{name-left}
 

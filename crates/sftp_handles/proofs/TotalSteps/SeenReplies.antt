@@ -8,7 +8,7 @@ use Rattle.sftp_handles.proofs.Imports.{Good, IsHandle, IsLeft, Needed, anything
 use Rattle.sftp_handles.proofs.Imports.{seen_file, gives, ended, FitsData, FitsSaid, row_of, said_of, seen_by}
 use Rattle.sftp_treefile.specs.Limits.{highest_limits}
 use Rattle.sftp_handles.specs.HandleRequests.{listed}
-use Rattle.sftp_handles.proofs.Listings.FirstListings.{content-shown}
+use Rattle.sftp_listing.proofs.FirstListings.{content-shown}
 use Rattle.sftp_handles.proofs.TotalSteps.PlaceTexts.{bytes-by}
 
 -- ---- the bytes that a READ gives

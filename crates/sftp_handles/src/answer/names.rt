@@ -18,9 +18,6 @@ use sftp_tree::{Cause, Refused};
 use sftp_wire::status::EOF;
 use sftp_wire::{Answer, Ask, ByteString};
 
-/// How many names a reply to READDIR gives at most.
-pub const NAMES_IN_REPLY: usize = 32;
-
 impl<T: HandleTable> Session<T> {
     /// OPEN and OPENDIR: a new handle.
     ///
@@ -110,7 +107,7 @@ impl<T: HandleTable> Session<T> {
     {
         match self.listing_at(handle) {
             Ok(left) => {
-                let names = left.first(self.tree.allocator(), NAMES_IN_REPLY)?;
+                let names = left.first_names(self.tree.allocator())?;
                 Ok(names)
             }
             Err(cause) => Err(Refused::Cause(cause)),

@@ -10,7 +10,7 @@ use Rattle.sftp_server.proofs.Imports.{IsLogging, Ahead, IsRunning, FailsToSend,
 use Rattle.sftp_server.proofs.Imports.{Appends-kept, Consumes-kept, Keeps-refl}
 use Rattle.sftp_tree.proofs.Walks.Places.{path-found}
 use Rattle.sftp_handles.proofs.Good.GoodLaws.{allowed-good}
-use Rattle.sftp_handles.proofs.Listings.FirstListings.{listing-fits}
+use Rattle.sftp_listing.proofs.FirstListings.{listing-fits}
 use Rattle.sftp_handles.proofs.TotalSteps.SomeReplies.{some-allowed}
 use Rattle.sftp_server.specs.declared.ends.Stop.TheVariants as stops
 use Rattle.sftp_server.specs.declared.ends.Stream.TheVariants as streams

@@ -1,8 +1,7 @@
 use Rattle.sftp_handles.proofs.Imports.{[], length, drop, sym, ap, subst, ◌∙◌, Listing, open_at, names_in}
 use Rattle.sftp_handles.proofs.Imports.{names_in_reply, AreFirst, AreFirstNames}
-use Rattle.sftp_handles.proofs.Listings.FirstNames.{first-again, as-many-items, items-counted}
-use Rattle.sftp_handles.proofs.Listings.FirstStruck.{dropped-struck}
-use Rattle.sftp_handles.proofs.HandleTables.Swaps.{opened-open, struck-apart}
+use Rattle.sftp_listing.proofs.FirstNames.{first-again, as-many-items, items-counted}
+use Rattle.sftp_handles.proofs.HandleTables.Swaps.{opened-open, struck-apart, dropped-struck}
 use Rattle.sftp_handles.proofs.open_listings.give_first.Goals as goal
 
 pub take_first-names-requires-clause-names : goal.take_first-names-requires-clause-names

@@ -2,7 +2,7 @@ use Rattle.sftp_handles.proofs.Imports.{◌<◌, ◌^◌, sym, ap, subst, ◌∙
 use Rattle.sftp_handles.proofs.Imports.{times_pinned, pins-stay, State, Good}
 use Rattle.sftp_packets.specs.declared.packets.Ask.TheVariants as asks
 use Rattle.sftp_handles.proofs.Good.NewStates.{state_of}
-use Rattle.sftp_handles.proofs.Listings.MarkedItems.{none-left}
+use Rattle.sftp_listing.proofs.MarkedItems.{none-left}
 use Rattle.sftp_handles.proofs.OpenFiles.Opened as opened
 use Rattle.sftp_handles.proofs.sessions.Session.open_file.Goals as goal
 

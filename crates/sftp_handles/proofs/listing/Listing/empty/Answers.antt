@@ -1,5 +1,0 @@
-use Rattle.sftp_handles.proofs.Listings.MarkedItems.{nothing-marked}
-use Rattle.sftp_handles.proofs.listing.Listing.empty.Goals as goal
-
-pub invariant_of-result : goal.invariant_of-result
-invariant_of-result c = rw (c.new.ensures.items, c.new-2.ensures.items) nothing-marked

@@ -1,9 +1,0 @@
-use Rattle.sftp_handles.proofs.Imports.{subst, name_cmp, InOrder}
-use Rattle.sftp_handles.proofs.Listings.MarkedItems.{unmarked-rises}
-use Rattle.sftp_handles.proofs.listing.Listing.is_empty.Goals as goal
-
-pub returns-clause-ordered : goal.returns-clause-ordered
-returns-clause-ordered c =
-    let inside = c.self.inside in
-    subst (InOrder name_cmp) c.self.view_is
-    (unmarked-rises inside.items.items inside.marks.items c.self.invariant.paired.ordered)

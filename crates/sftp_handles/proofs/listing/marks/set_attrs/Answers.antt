@@ -1,6 +1,0 @@
-use Rattle.sftp_handles.proofs.Listings.MarkedItems.{attrs-set}
-use Rattle.sftp_handles.proofs.listing.marks.set_attrs.Goals as goal
-
-pub returns-in-Some : goal.returns-in-Some
-returns-in-Some c =
-    attrs-set c.args.items.now.items c.args.place c.in-Some.item.now c.args.attrs c.in-Some.ensures.value
