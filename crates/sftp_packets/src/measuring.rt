@@ -4,14 +4,18 @@
 ghost use Rattle.std.specs.Prelude.{◌≡◌, ◌-◌, ◌^◌, ◌<◌, ◌++◌, length, min, IfSome};
 ghost use Rattle.std.specs.List.{flat_map, AllByRecursion};
 ghost use Rattle.sftp_packets.specs.Spelling.{uint32, uint64, two_uint32, string, pair, pairs, counted_pairs, optional};
-ghost use Rattle.sftp_packets.specs.Spelling.{attributes, name_item, names};
+ghost use Rattle.sftp_packets.specs.Spelling.{attributes, name_item, names, ask_parts, answer_parts, with_id, contents};
 ghost use Rattle.sftp_packets.specs.Spelling.{AreBytes, FitsString, FitsTwo, FitsPair, FitsPairs, FitsCounted};
-ghost use Rattle.sftp_packets.specs.Spelling.{FitsAttrs, FitsNameItem, FitsNames};
-ghost use Rattle.sftp_packets.specs.Rows.{field_bytes, fields_bytes, row_contents, FitsField, Fit, FitsRow};
+ghost use Rattle.sftp_packets.specs.Spelling.{FitsAttrs, FitsNameItem, FitsNames, FitsAsk, FitsAnswer, FitsFields};
+ghost use Rattle.sftp_packets.specs.Parts.{field_bytes, fields_bytes, FitsField, Fit};
 
 use crate::attributes::Attrs;
+use crate::extensions::{FSYNC, HARDLINK, LIMITS, POSIX_RENAME};
 use crate::names::{NameItem, Names};
-use crate::rows::{Field, Fields, Row};
+use crate::packets::{Answer, Ask, Packet};
+use crate::parts::Field::{Attributes, Extension, Items, LongNumber, Number, Rest, Text};
+use crate::parts::Fields::{One, Three, Two};
+use crate::parts::{Field, Fields};
 use crate::strings::{ByteString, Pairs};
 
 /// The bytes of a uint32.
@@ -161,41 +165,133 @@ fn names_length(items: &Names) -> usize
     name_items_length(items).saturating_add(4)
 }
 
-/// The bytes of a field.
+/// The bytes of a field. Inlined, since most callers name its kind.
+#[inline(always)]
 fn field_length(field: &Field<'_>) -> usize
     ensures exact { result ≡ min (length (field_bytes field.now)) (2 ^ 64 - 1) }
     ensures fits { length (field_bytes field.now) < 2 ^ 32 → FitsField field.now }
 {
     match field {
-        Field::Number(number) => number_length(*number),
-        Field::LongNumber(number) => long_number_length(*number),
-        Field::Text(text) | Field::Handle(text) => string_length(text),
-        Field::Extension(name) => name.len().saturating_add(4),
-        Field::Rest(bytes) => text_length(bytes),
-        Field::PairsToEnd(extensions) => pairs_length(extensions),
-        Field::Attributes(attrs) => attributes_length(attrs),
-        Field::Items(items) => names_length(items),
+        Number(number) => number_length(*number),
+        LongNumber(number) => long_number_length(*number),
+        Text(text) => string_length(text),
+        Extension(name) => name.len().saturating_add(4),
+        Rest(bytes) => text_length(bytes),
+        Attributes(attrs) => attributes_length(attrs),
+        Items(items) => names_length(items),
     }
 }
 
-/// The bytes of the fields after the number of a packet.
+/// The bytes of the fields after an id. Inlined, since callers name their kinds.
+#[inline(always)]
 fn fields_length(fields: &Fields<'_>) -> usize
     ensures exact { result ≡ min (length (fields_bytes fields.now)) (2 ^ 64 - 1) }
     ensures fits { length (fields_bytes fields.now) < 2 ^ 32 → Fit fields.now }
 {
     match fields {
-        Fields::One(field) => field_length(field),
-        Fields::Two(first, second) => field_length(first).saturating_add(field_length(second)),
-        Fields::Three(first, second, third) => field_length(first)
+        One(field) => field_length(field),
+        Two(first, second) => field_length(first).saturating_add(field_length(second)),
+        Three(first, second, third) => field_length(first)
             .saturating_add(field_length(second))
             .saturating_add(field_length(third)),
     }
 }
 
-/// The bytes after the packet's length.
-pub(crate) fn contents_length(row: &Row<'_>) -> usize
-    ensures exact { result ≡ min (length (row_contents row.now)) (2 ^ 64 - 1) }
-    ensures fits { length (row_contents row.now) < 2 ^ 32 → FitsRow row.now }
+/// The bytes of the fields after the id of a request.
+// Slow to prove, with an arm for each shape of a request and none to share.
+fn asked_length(ask: &Ask) -> usize
+    ensures exact { result ≡ min (length ((ask_parts ask.now).1)) (2 ^ 64 - 1) }
+    ensures fits { length ((ask_parts ask.now).1) < 2 ^ 32 → FitsAsk ask.now }
 {
-    fields_length(&row.fields).saturating_add(1 + number_length(row.number))
+    match ask {
+        Ask::Lstat { path: text }
+        | Ask::Opendir { path: text }
+        | Ask::Remove { path: text }
+        | Ask::Rmdir { path: text }
+        | Ask::Realpath { path: text }
+        | Ask::Stat { path: text }
+        | Ask::Readlink { path: text }
+        | Ask::Close { handle: text }
+        | Ask::Fstat { handle: text }
+        | Ask::Readdir { handle: text } => fields_length(&One(Text(text))),
+        Ask::Setstat { path: text, attrs }
+        | Ask::Mkdir { path: text, attrs }
+        | Ask::Fsetstat {
+            handle: text,
+            attrs,
+        } => fields_length(&Two(Text(text), Attributes(attrs))),
+        Ask::Open {
+            path,
+            pflags,
+            attrs,
+        } => fields_length(&Three(Text(path), Number(*pflags), Attributes(attrs))),
+        Ask::Read {
+            handle,
+            offset,
+            len,
+        } => fields_length(&Three(Text(handle), LongNumber(*offset), Number(*len))),
+        Ask::Write {
+            handle,
+            offset,
+            bytes,
+        } => fields_length(&Three(Text(handle), LongNumber(*offset), Text(bytes))),
+        Ask::Rename {
+            oldpath: one,
+            newpath: other,
+        }
+        | Ask::Symlink {
+            targetpath: one,
+            linkpath: other,
+        } => fields_length(&Two(Text(one), Text(other))),
+        Ask::PosixRename { oldpath, newpath } => {
+            fields_length(&Three(Extension(POSIX_RENAME), Text(oldpath), Text(newpath)))
+        }
+        Ask::Hardlink { oldpath, newpath } => {
+            fields_length(&Three(Extension(HARDLINK), Text(oldpath), Text(newpath)))
+        }
+        Ask::Fsync { handle } => fields_length(&Two(Extension(FSYNC), Text(handle))),
+        Ask::Limits => fields_length(&One(Extension(LIMITS))),
+        Ask::Unknown { name, rest } => fields_length(&Two(Text(name), Rest(rest))),
+    }
+}
+
+/// The bytes of the fields after the id of a reply.
+fn answered_length(answer: &Answer) -> usize
+    ensures exact { result ≡ min (length ((answer_parts answer.now).1)) (2 ^ 64 - 1) }
+    ensures fits { length ((answer_parts answer.now).1) < 2 ^ 32 → FitsAnswer answer.now }
+{
+    match answer {
+        Answer::Status {
+            code,
+            message,
+            language,
+        } => fields_length(&Three(Number(*code), Text(message), Text(language))),
+        Answer::Handle(text) | Answer::Data(text) => fields_length(&One(Text(text))),
+        Answer::Name(items) => fields_length(&One(Items(items))),
+        Answer::Attrs(attrs) => fields_length(&One(Attributes(attrs))),
+        Answer::Extended(bytes) => fields_length(&One(Rest(bytes))),
+    }
+}
+
+/// The bytes after the packet's length.
+pub(crate) fn contents_length(packet: &Packet) -> usize
+    ensures exact { result ≡ min (length (contents packet.now)) (2 ^ 64 - 1) }
+    ensures fits { length (contents packet.now) < 2 ^ 32 → FitsFields packet.now }
+{
+    match packet {
+        Packet::Init {
+            version,
+            extensions,
+        }
+        | Packet::Version {
+            version,
+            extensions,
+        } => pairs_length(extensions).saturating_add(1 + number_length(*version)),
+        Packet::Request(request) => {
+            asked_length(&request.ask).saturating_add(1 + number_length(request.id))
+        }
+        Packet::Reply(reply) => {
+            answered_length(&reply.answer).saturating_add(1 + number_length(reply.id))
+        }
+    }
 }

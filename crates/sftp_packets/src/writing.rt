@@ -1,20 +1,27 @@
 //! Packets as bytes (draft, sections 3 to 8). After an error a private function may leave part of what it wrote:
 //! `encode` removes it.
-ghost use Rattle.std.specs.Prelude.{◌≡◌, ◌++◌, ◌<◌, ◌^◌, ◌↔◌, ◌⊎◌, length, OnOk, OnErr, IfErr, IsErrOf};
+ghost use Rattle.std.specs.Prelude.{◌≡◌, ◌∷◌, ◌++◌, ◌<◌, ◌^◌, ◌↔◌, ◌⊎◌, length, OnOk, OnErr, IfErr, IsErrOf};
 ghost use Rattle.std.specs.List.{flat_map};
 ghost use Rattle.sftp_packets.specs.Spelling.{uint32, uint64, two_uint32, string, pair, pairs, counted_pairs, optional};
 ghost use Rattle.sftp_packets.specs.Spelling.{attribute_flags, attribute_fields, attributes, name_item, names};
-ghost use Rattle.sftp_packets.specs.Spelling.{spelling, HasSpelling};
-ghost use Rattle.sftp_packets.specs.Rows.{field_bytes, fields_bytes, row_contents};
+ghost use Rattle.sftp_packets.specs.Spelling.{ask_parts, answer_parts, with_id, contents, spelling, HasSpelling};
+ghost use Rattle.sftp_packets.specs.Parts.{field_bytes, fields_bytes};
 ghost use Rattle.sftp_packets.specs.Writing.{Extends, IsTooLong, IsNotCanonical};
 
 use crate::attributes::{AttrFlags, Attrs};
 use crate::errors::WireError;
-use crate::extensions::hides_extension;
+use crate::extensions::{FSYNC, HARDLINK, LIMITS, POSIX_RENAME, hides_extension};
+use crate::handles::has_long_handle;
 use crate::measuring::contents_length;
 use crate::names::{NameItem, Names};
-use crate::packets::{PACKET_LIMIT, Packet};
-use crate::rows::{Field, Fields, Row, has_long_handle, row_of};
+use crate::packets::{
+    ATTRS, Answer, Ask, CLOSE, DATA, EXTENDED, EXTENDED_REPLY, FSETSTAT, FSTAT, HANDLE, INIT,
+    LSTAT, MKDIR, NAME, OPEN, OPENDIR, PACKET_LIMIT, Packet, READ, READDIR, READLINK, REALPATH,
+    REMOVE, RENAME, RMDIR, SETSTAT, STAT, STATUS, SYMLINK, VERSION, WRITE,
+};
+use crate::parts::Field::{Attributes, Extension, Items, LongNumber, Number, Rest, Text};
+use crate::parts::Fields::{One, Three, Two};
+use crate::parts::{Field, Fields};
 use crate::strings::{ByteString, Pairs};
 use bitflags::Flags;
 use bytes::BufMut;
@@ -228,34 +235,36 @@ fn put_rest(out: &mut Vec<u8>, bytes: &ByteString) -> Result<(), AllocError>
     Ok(())
 }
 
+/// A field. Inlined, since most callers name its kind.
+#[inline(always)]
 fn put_field(out: &mut Vec<u8>, field: &Field<'_>) -> Result<(), AllocError>
     ensures ok { OnOk result (out.new.items ≡ out.old.items ++ field_bytes field.now) }
     ensures err { OnErr result (Extends out.old.items out.new.items) }
 {
     match field {
-        Field::Number(number) => put_number(out, *number),
-        Field::LongNumber(number) => put_long_number(out, *number),
-        Field::Text(text) | Field::Handle(text) => put_string(out, text),
-        Field::Extension(name) => put_bytes(out, name),
-        Field::Rest(bytes) => put_rest(out, bytes),
-        Field::PairsToEnd(extensions) => put_pairs(out, extensions),
-        Field::Attributes(attrs) => put_attributes(out, attrs),
-        Field::Items(items) => put_names(out, items),
+        Number(number) => put_number(out, *number),
+        LongNumber(number) => put_long_number(out, *number),
+        Text(text) => put_string(out, text),
+        Extension(name) => put_bytes(out, name),
+        Rest(bytes) => put_rest(out, bytes),
+        Attributes(attrs) => put_attributes(out, attrs),
+        Items(items) => put_names(out, items),
     }
 }
 
-/// The fields after the number of a packet.
+/// The fields after an id. Inlined, since callers name their kinds.
+#[inline(always)]
 fn put_fields(out: &mut Vec<u8>, fields: &Fields<'_>) -> Result<(), AllocError>
     ensures ok { OnOk result (out.new.items ≡ out.old.items ++ fields_bytes fields.now) }
     ensures err { OnErr result (Extends out.old.items out.new.items) }
 {
     match fields {
-        Fields::One(field) => put_field(out, field),
-        Fields::Two(first, second) => {
+        One(field) => put_field(out, field),
+        Two(first, second) => {
             put_field(out, first)?;
             put_field(out, second)
         }
-        Fields::Three(first, second, third) => {
+        Three(first, second, third) => {
             put_field(out, first)?;
             put_field(out, second)?;
             put_field(out, third)
@@ -263,16 +272,200 @@ fn put_fields(out: &mut Vec<u8>, fields: &Fields<'_>) -> Result<(), AllocError>
     }
 }
 
-/// A packet, by the length of its contents and its row.
-fn put_row(out: &mut Vec<u8>, size: u32, row: &Row<'_>) -> Result<(), AllocError>
-    requires { size ≡ length (row_contents row.now) }
-    ensures ok { OnOk result (out.new.items ≡ out.old.items ++ string (row_contents row.now)) }
+/// The type of a packet, and the number after it: a version or an id.
+fn put_type_and_number(out: &mut Vec<u8>, kind: u8, number: u32) -> Result<(), AllocError>
+    ensures ok { OnOk result (out.new.items ≡ out.old.items ++ (kind ∷ uint32 number)) }
+    ensures err { OnErr result (Extends out.old.items out.new.items) }
+{
+    out.put_u8(kind)?;
+    out.put_u32(number)?;
+    Ok(())
+}
+
+/// INIT or VERSION.
+fn put_first_packet(
+    out: &mut Vec<u8>,
+    kind: u8,
+    version: u32,
+    extensions: &Pairs,
+) -> Result<(), AllocError>
+    ensures ok { OnOk result (out.new.items
+        ≡ out.old.items ++ (kind ∷ uint32 version ++ pairs extensions.now)) }
+    ensures err { OnErr result (Extends out.old.items out.new.items) }
+{
+    put_type_and_number(out, kind, version)?;
+    put_pairs(out, extensions)
+}
+
+/// The type of a request's packet.
+fn asked_type(ask: &Ask) -> u8
+    ensures { result ≡ (ask_parts ask.now).0 }
+{
+    match ask {
+        Ask::Open { .. } => OPEN,
+        Ask::Close { .. } => CLOSE,
+        Ask::Read { .. } => READ,
+        Ask::Write { .. } => WRITE,
+        Ask::Lstat { .. } => LSTAT,
+        Ask::Fstat { .. } => FSTAT,
+        Ask::Setstat { .. } => SETSTAT,
+        Ask::Fsetstat { .. } => FSETSTAT,
+        Ask::Opendir { .. } => OPENDIR,
+        Ask::Readdir { .. } => READDIR,
+        Ask::Remove { .. } => REMOVE,
+        Ask::Mkdir { .. } => MKDIR,
+        Ask::Rmdir { .. } => RMDIR,
+        Ask::Realpath { .. } => REALPATH,
+        Ask::Stat { .. } => STAT,
+        Ask::Rename { .. } => RENAME,
+        Ask::Readlink { .. } => READLINK,
+        Ask::Symlink { .. } => SYMLINK,
+        Ask::PosixRename { .. }
+        | Ask::Hardlink { .. }
+        | Ask::Fsync { .. }
+        | Ask::Limits
+        | Ask::Unknown { .. } => EXTENDED,
+    }
+}
+
+/// The fields after the id of a request.
+// Slow to prove, with an arm for each shape of a request and none to share.
+fn put_ask_fields(out: &mut Vec<u8>, ask: &Ask) -> Result<(), AllocError>
+    ensures ok { OnOk result (out.new.items ≡ out.old.items ++ (ask_parts ask.now).1) }
+    ensures err { OnErr result (Extends out.old.items out.new.items) }
+{
+    match ask {
+        Ask::Lstat { path: text }
+        | Ask::Opendir { path: text }
+        | Ask::Remove { path: text }
+        | Ask::Rmdir { path: text }
+        | Ask::Realpath { path: text }
+        | Ask::Stat { path: text }
+        | Ask::Readlink { path: text }
+        | Ask::Close { handle: text }
+        | Ask::Fstat { handle: text }
+        | Ask::Readdir { handle: text } => put_fields(out, &One(Text(text))),
+        Ask::Setstat { path: text, attrs }
+        | Ask::Mkdir { path: text, attrs }
+        | Ask::Fsetstat {
+            handle: text,
+            attrs,
+        } => put_fields(out, &Two(Text(text), Attributes(attrs))),
+        Ask::Open {
+            path,
+            pflags,
+            attrs,
+        } => put_fields(out, &Three(Text(path), Number(*pflags), Attributes(attrs))),
+        Ask::Read {
+            handle,
+            offset,
+            len,
+        } => put_fields(out, &Three(Text(handle), LongNumber(*offset), Number(*len))),
+        Ask::Write {
+            handle,
+            offset,
+            bytes,
+        } => put_fields(out, &Three(Text(handle), LongNumber(*offset), Text(bytes))),
+        Ask::Rename {
+            oldpath: one,
+            newpath: other,
+        }
+        | Ask::Symlink {
+            targetpath: one,
+            linkpath: other,
+        } => put_fields(out, &Two(Text(one), Text(other))),
+        Ask::PosixRename { oldpath, newpath } => {
+            put_fields(
+                out,
+                &Three(Extension(POSIX_RENAME), Text(oldpath), Text(newpath)),
+            )
+        }
+        Ask::Hardlink { oldpath, newpath } => {
+            put_fields(
+                out,
+                &Three(Extension(HARDLINK), Text(oldpath), Text(newpath)),
+            )
+        }
+        Ask::Fsync { handle } => put_fields(out, &Two(Extension(FSYNC), Text(handle))),
+        Ask::Limits => put_fields(out, &One(Extension(LIMITS))),
+        Ask::Unknown { name, rest } => put_fields(out, &Two(Text(name), Rest(rest))),
+    }
+}
+
+fn put_asked(out: &mut Vec<u8>, id: u32, ask: &Ask) -> Result<(), AllocError>
+    ensures ok { OnOk result (out.new.items ≡ out.old.items ++ with_id id (ask_parts ask.now)) }
+    ensures err { OnErr result (Extends out.old.items out.new.items) }
+{
+    put_type_and_number(out, asked_type(ask), id)?;
+    put_ask_fields(out, ask)
+}
+
+/// The type of a reply's packet.
+fn answered_type(answer: &Answer) -> u8
+    ensures { result ≡ (answer_parts answer.now).0 }
+{
+    match answer {
+        Answer::Status { .. } => STATUS,
+        Answer::Handle(_) => HANDLE,
+        Answer::Data(_) => DATA,
+        Answer::Name(_) => NAME,
+        Answer::Attrs(_) => ATTRS,
+        Answer::Extended(_) => EXTENDED_REPLY,
+    }
+}
+
+/// The fields after the id of a reply.
+fn put_answer_fields(out: &mut Vec<u8>, answer: &Answer) -> Result<(), AllocError>
+    ensures ok { OnOk result (out.new.items ≡ out.old.items ++ (answer_parts answer.now).1) }
+    ensures err { OnErr result (Extends out.old.items out.new.items) }
+{
+    match answer {
+        Answer::Status {
+            code,
+            message,
+            language,
+        } => put_fields(out, &Three(Number(*code), Text(message), Text(language))),
+        Answer::Handle(text) | Answer::Data(text) => put_fields(out, &One(Text(text))),
+        Answer::Name(items) => put_fields(out, &One(Items(items))),
+        Answer::Attrs(attrs) => put_fields(out, &One(Attributes(attrs))),
+        Answer::Extended(bytes) => put_fields(out, &One(Rest(bytes))),
+    }
+}
+
+fn put_answered(out: &mut Vec<u8>, id: u32, answer: &Answer) -> Result<(), AllocError>
+    ensures ok { OnOk result (out.new.items ≡ out.old.items ++ with_id id (answer_parts answer.now)) }
+    ensures err { OnErr result (Extends out.old.items out.new.items) }
+{
+    put_type_and_number(out, answered_type(answer), id)?;
+    put_answer_fields(out, answer)
+}
+
+fn put_contents(out: &mut Vec<u8>, packet: &Packet) -> Result<(), AllocError>
+    ensures ok { OnOk result (out.new.items ≡ out.old.items ++ contents packet.now) }
+    ensures err { OnErr result (Extends out.old.items out.new.items) }
+{
+    match packet {
+        Packet::Init {
+            version,
+            extensions,
+        } => put_first_packet(out, INIT, *version, extensions),
+        Packet::Version {
+            version,
+            extensions,
+        } => put_first_packet(out, VERSION, *version, extensions),
+        Packet::Request(request) => put_asked(out, request.id, &request.ask),
+        Packet::Reply(reply) => put_answered(out, reply.id, &reply.answer),
+    }
+}
+
+#[tactic(auto, unfolding(crate::specs::Spelling::spelling))]
+fn put_packet(out: &mut Vec<u8>, size: u32, packet: &Packet) -> Result<(), AllocError>
+    requires { size ≡ length (contents packet.now) }
+    ensures ok { OnOk result (out.new.items ≡ out.old.items ++ spelling packet.now) }
     ensures err { OnErr result (Extends out.old.items out.new.items) }
 {
     out.put_u32(size)?;
-    out.put_u8(row.kind)?;
-    out.put_u32(row.number)?;
-    put_fields(out, &row.fields)
+    put_contents(out, packet)
 }
 
 /// Appends the packet's one encoding (draft, sections 3 to 8). On error `out` is unchanged.
@@ -294,16 +487,15 @@ pub fn encode(packet: &Packet, out: &mut Vec<u8>) -> Result<(), WireError>
     ensures kinds { IfErr result (λ e. (e ≡ WireError.TooLong) ⊎ (e ≡ WireError.NotCanonical)
         ⊎ (e ≡ WireError.NoMemory)) }
 {
-    let row = row_of(packet);
-    let size = contents_length(&row);
-    if size > PACKET_LIMIT - 4 || has_long_handle(&row) {
+    let size = contents_length(packet);
+    if size > PACKET_LIMIT - 4 || has_long_handle(packet) {
         return Err(WireError::TooLong);
     }
     if hides_extension(packet) {
         return Err(WireError::NotCanonical);
     }
     let before = out.len();
-    match put_row(out, size as u32, &row) {
+    match put_packet(out, size as u32, packet) {
         Ok(()) => Ok(()),
         Err(error) => {
             out.truncate(before);

@@ -1,0 +1,33 @@
+//! The fields of packets as values, so that what is measured and what is written is said in the same words (draft,
+//! sections 3 to 8).
+
+use crate::attributes::Attrs;
+use crate::names::Names;
+use crate::strings::ByteString;
+
+/// A field of a packet, lent (draft, section 3).
+#[derive(Clone, Copy)]
+pub(crate) enum Field<'a> {
+    /// A uint32.
+    Number(u32),
+    /// A uint64.
+    LongNumber(u64),
+    /// A string: its length and its bytes.
+    Text(&'a ByteString),
+    /// A string that is the name of an extension.
+    Extension(&'a [u8]),
+    /// Bytes up to the packet's end.
+    Rest(&'a ByteString),
+    /// File attributes.
+    Attributes(&'a Attrs),
+    /// The names of a NAME reply.
+    Items(&'a Names),
+}
+
+/// The fields of a packet that follow its id.
+#[derive(Clone, Copy)]
+pub(crate) enum Fields<'a> {
+    One(Field<'a>),
+    Two(Field<'a>, Field<'a>),
+    Three(Field<'a>, Field<'a>, Field<'a>),
+}
