@@ -2,5 +2,5 @@ pub mod Spelling
 pub mod Reading
 pub mod Writing
 pub mod Copying
-pub mod Parts
+pub mod Seen
 pub mod AskValues

@@ -107,43 +107,113 @@ is_known_extension name = list_any (bytes_eq name) known_extensions
 abbrev pub server_extensions : List (List ℕ × List ℕ)
 server_extensions = map (λ name. (name, codes "1")) known_extensions
 
--- ---- packets
+-- ---- packets as rows
 
--- The type of a request's packet, and the fields after its id (draft, sections 6 and 8; OpenSSH's PROTOCOL, section 4,
--- for the order of SYMLINK's fields and for the data of the known extensions).
+-- a field of a packet (draft, section 3)
+pub data Field : Type 0 where
+  -- a number of four bytes, and one of eight
+  Number : ℕ → Field
+  LongNumber : ℕ → Field
+  -- a string
+  Text : List ℕ → Field
+  -- a string that is a handle
+  Handle : List ℕ → Field
+  -- a string that is the name of an extension
+  Name : List ℕ → Field
+  -- bytes up to the packet's end
+  Rest : List ℕ → Field
+  -- file attributes, and names of a directory
+  Attributes : Attrs → Field
+  Items : List NameItem → Field
+
+-- the fields after an id, in their order
+pub data Fields : Type 0 where
+  Nothing : Fields
+  One : Field → Fields
+  Two : Field → Field → Fields
+  Three : Field → Field → Field → Fields
+
+-- a packet's type, the name of an extension that has a request of its own, and the fields after these
+pub record Row : Type 0 where
+  pub kind : ℕ
+  pub name : Option (List ℕ)
+  pub fields : Fields
+
+abbrev pub row : ℕ → Fields → Row
+row kind fields = record { kind = kind; name = None; fields = fields }
+
+abbrev pub extension : List ℕ → Fields → Row
+extension name fields = record { kind = 200; name = Some name; fields = fields }
+
+-- The requests (draft, sections 6 and 8; OpenSSH's PROTOCOL, section 4, for the order of SYMLINK's fields and for the
+-- data of the known extensions).
+abbrev pub ask_row : Ask → Row
+ask_row (asks.Open path pflags attrs) = row 3 (Three (Text path) (Number pflags) (Attributes attrs))
+ask_row (asks.Close handle) = row 4 (One (Handle handle))
+ask_row (asks.Read handle offset len) = row 5 (Three (Handle handle) (LongNumber offset) (Number len))
+ask_row (asks.Write handle offset bytes) = row 6 (Three (Handle handle) (LongNumber offset) (Text bytes))
+ask_row (asks.Lstat path) = row 7 (One (Text path))
+ask_row (asks.Fstat handle) = row 8 (One (Handle handle))
+ask_row (asks.Setstat path attrs) = row 9 (Two (Text path) (Attributes attrs))
+ask_row (asks.Fsetstat handle attrs) = row 10 (Two (Handle handle) (Attributes attrs))
+ask_row (asks.Opendir path) = row 11 (One (Text path))
+ask_row (asks.Readdir handle) = row 12 (One (Handle handle))
+ask_row (asks.Remove path) = row 13 (One (Text path))
+ask_row (asks.Mkdir path attrs) = row 14 (Two (Text path) (Attributes attrs))
+ask_row (asks.Rmdir path) = row 15 (One (Text path))
+ask_row (asks.Realpath path) = row 16 (One (Text path))
+ask_row (asks.Stat path) = row 17 (One (Text path))
+ask_row (asks.Rename oldpath newpath) = row 18 (Two (Text oldpath) (Text newpath))
+ask_row (asks.Readlink path) = row 19 (One (Text path))
+ask_row (asks.Symlink targetpath linkpath) = row 20 (Two (Text targetpath) (Text linkpath))
+ask_row (asks.PosixRename oldpath newpath) = extension posix_rename_name (Two (Text oldpath) (Text newpath))
+ask_row (asks.Hardlink oldpath newpath) = extension hardlink_name (Two (Text oldpath) (Text newpath))
+ask_row (asks.Fsync handle) = extension fsync_name (One (Handle handle))
+ask_row asks.Limits = extension limits_name Nothing
+ask_row (asks.Unknown name rest) = row 200 (Two (Name name) (Rest rest))
+
+-- the replies (draft, sections 7 and 8)
+abbrev pub answer_row : Answer → Row
+answer_row (answers.Status code message language) = row 101 (Three (Number code) (Text message) (Text language))
+answer_row (answers.Handle handle) = row 102 (One (Handle handle))
+answer_row (answers.Data bytes) = row 103 (One (Text bytes))
+answer_row (answers.Name items) = row 104 (One (Items items))
+answer_row (answers.Attrs attrs) = row 105 (One (Attributes attrs))
+answer_row (answers.Extended bytes) = row 201 (One (Rest bytes))
+
+-- ---- how rows are spelled
+
+abbrev pub field_bytes : Field → List ℕ
+field_bytes (Number number) = uint32 number
+field_bytes (LongNumber number) = uint64 number
+field_bytes (Text text) = string text
+field_bytes (Handle handle) = string handle
+field_bytes (Name name) = string name
+field_bytes (Rest bytes) = bytes
+field_bytes (Attributes attrs) = attributes attrs
+field_bytes (Items items) = names items
+
+abbrev pub fields_bytes : Fields → List ℕ
+fields_bytes Nothing = []
+fields_bytes (One field) = field_bytes field
+fields_bytes (Two first second) = field_bytes first ++ field_bytes second
+fields_bytes (Three first second third) = field_bytes first ++ (field_bytes second ++ field_bytes third)
+
+-- the name of an extension comes before its data
+abbrev pub named_bytes : Option (List ℕ) → Fields → List ℕ
+named_bytes None fields = fields_bytes fields
+named_bytes (Some name) Nothing = string name
+named_bytes (Some name) fields = string name ++ fields_bytes fields
+
+-- a row's type and the bytes after its id
+abbrev pub row_parts : Row → ℕ × List ℕ
+row_parts it = (it.kind, named_bytes it.name it.fields)
+
 abbrev pub ask_parts : Ask → ℕ × List ℕ
-ask_parts (asks.Open path pflags attrs) = (3, string path ++ (uint32 pflags ++ attributes attrs))
-ask_parts (asks.Close handle) = (4, string handle)
-ask_parts (asks.Read handle offset len) = (5, string handle ++ (uint64 offset ++ uint32 len))
-ask_parts (asks.Write handle offset bytes) = (6, string handle ++ (uint64 offset ++ string bytes))
-ask_parts (asks.Lstat path) = (7, string path)
-ask_parts (asks.Fstat handle) = (8, string handle)
-ask_parts (asks.Setstat path attrs) = (9, string path ++ attributes attrs)
-ask_parts (asks.Fsetstat handle attrs) = (10, string handle ++ attributes attrs)
-ask_parts (asks.Opendir path) = (11, string path)
-ask_parts (asks.Readdir handle) = (12, string handle)
-ask_parts (asks.Remove path) = (13, string path)
-ask_parts (asks.Mkdir path attrs) = (14, string path ++ attributes attrs)
-ask_parts (asks.Rmdir path) = (15, string path)
-ask_parts (asks.Realpath path) = (16, string path)
-ask_parts (asks.Stat path) = (17, string path)
-ask_parts (asks.Rename oldpath newpath) = (18, string oldpath ++ string newpath)
-ask_parts (asks.Readlink path) = (19, string path)
-ask_parts (asks.Symlink targetpath linkpath) = (20, string targetpath ++ string linkpath)
-ask_parts (asks.PosixRename oldpath newpath) = (200, string posix_rename_name ++ (string oldpath ++ string newpath))
-ask_parts (asks.Hardlink oldpath newpath) = (200, string hardlink_name ++ (string oldpath ++ string newpath))
-ask_parts (asks.Fsync handle) = (200, string fsync_name ++ string handle)
-ask_parts asks.Limits = (200, string limits_name)
-ask_parts (asks.Unknown name rest) = (200, string name ++ rest)
+ask_parts ask = row_parts (ask_row ask)
 
--- the type of a reply's packet, and the fields after its id (draft, sections 7 and 8)
 abbrev pub answer_parts : Answer → ℕ × List ℕ
-answer_parts (answers.Status code message language) = (101, uint32 code ++ (string message ++ string language))
-answer_parts (answers.Handle handle) = (102, string handle)
-answer_parts (answers.Data bytes) = (103, string bytes)
-answer_parts (answers.Name items) = (104, names items)
-answer_parts (answers.Attrs attrs) = (105, attributes attrs)
-answer_parts (answers.Extended bytes) = (201, bytes)
+answer_parts answer = row_parts (answer_row answer)
 
 -- a type, an id, and the fields in their order (draft, section 3)
 abbrev pub with_id : ℕ → ℕ × List ℕ → List ℕ
@@ -206,38 +276,27 @@ pub record FitsNameItem (n : NameItem) : Type 0 where
 abbrev pub FitsNames : List NameItem → Type 0
 FitsNames ns = (length ns < 2 ^ 32) × AllByRecursion FitsNameItem ns
 
+abbrev pub FitsField : Field → Type 0
+FitsField (Number number) = number < 2 ^ 32
+FitsField (LongNumber number) = number < 2 ^ 64
+FitsField (Text text) = FitsString text
+FitsField (Handle handle) = FitsString handle
+FitsField (Name name) = FitsString name
+FitsField (Rest bytes) = AreBytes bytes
+FitsField (Attributes attrs) = FitsAttrs attrs
+FitsField (Items items) = FitsNames items
+
+abbrev pub Fit : Fields → Type 0
+Fit Nothing = Unit {0}
+Fit (One field) = FitsField field
+Fit (Two first second) = FitsField first × FitsField second
+Fit (Three first second third) = FitsField first × FitsField second × FitsField third
+
 abbrev pub FitsAsk : Ask → Type 0
-FitsAsk (asks.Open path pflags attrs) = FitsString path × (pflags < 2 ^ 32) × FitsAttrs attrs
-FitsAsk (asks.Close handle) = FitsString handle
-FitsAsk (asks.Read handle offset len) = FitsString handle × (offset < 2 ^ 64) × (len < 2 ^ 32)
-FitsAsk (asks.Write handle offset bytes) = FitsString handle × (offset < 2 ^ 64) × FitsString bytes
-FitsAsk (asks.Lstat path) = FitsString path
-FitsAsk (asks.Fstat handle) = FitsString handle
-FitsAsk (asks.Setstat path attrs) = FitsString path × FitsAttrs attrs
-FitsAsk (asks.Fsetstat handle attrs) = FitsString handle × FitsAttrs attrs
-FitsAsk (asks.Opendir path) = FitsString path
-FitsAsk (asks.Readdir handle) = FitsString handle
-FitsAsk (asks.Remove path) = FitsString path
-FitsAsk (asks.Mkdir path attrs) = FitsString path × FitsAttrs attrs
-FitsAsk (asks.Rmdir path) = FitsString path
-FitsAsk (asks.Realpath path) = FitsString path
-FitsAsk (asks.Stat path) = FitsString path
-FitsAsk (asks.Rename oldpath newpath) = FitsString oldpath × FitsString newpath
-FitsAsk (asks.Readlink path) = FitsString path
-FitsAsk (asks.Symlink targetpath linkpath) = FitsString targetpath × FitsString linkpath
-FitsAsk (asks.PosixRename oldpath newpath) = FitsString oldpath × FitsString newpath
-FitsAsk (asks.Hardlink oldpath newpath) = FitsString oldpath × FitsString newpath
-FitsAsk (asks.Fsync handle) = FitsString handle
-FitsAsk asks.Limits = Unit {0}
-FitsAsk (asks.Unknown name rest) = FitsString name × AreBytes rest
+FitsAsk ask = Fit (ask_row ask).fields
 
 abbrev pub FitsAnswer : Answer → Type 0
-FitsAnswer (answers.Status code message language) = (code < 2 ^ 32) × FitsString message × FitsString language
-FitsAnswer (answers.Handle handle) = FitsString handle
-FitsAnswer (answers.Data bytes) = FitsString bytes
-FitsAnswer (answers.Name items) = FitsNames items
-FitsAnswer (answers.Attrs attrs) = FitsAttrs attrs
-FitsAnswer (answers.Extended bytes) = AreBytes bytes
+FitsAnswer answer = Fit (answer_row answer).fields
 
 -- each number is in its field's range, and each string is of bytes
 abbrev pub FitsFields : Packet → Type 0
@@ -254,21 +313,20 @@ packet_limit = 262144
 abbrev pub handle_limit : ℕ
 handle_limit = 256
 
+-- the handle among fields, which comes first
+abbrev pub handle_in : Fields → Option (List ℕ)
+handle_in (One (Handle handle)) = Some handle
+handle_in (Two (Handle handle) second) = Some handle
+handle_in (Three (Handle handle) second third) = Some handle
+handle_in other = None
+
 -- the handle that a request names
 abbrev pub asked_handle : Ask → Option (List ℕ)
-asked_handle (asks.Close handle) = Some handle
-asked_handle (asks.Read handle offset len) = Some handle
-asked_handle (asks.Write handle offset bytes) = Some handle
-asked_handle (asks.Fstat handle) = Some handle
-asked_handle (asks.Fsetstat handle attrs) = Some handle
-asked_handle (asks.Readdir handle) = Some handle
-asked_handle (asks.Fsync handle) = Some handle
-asked_handle other = None
+asked_handle ask = handle_in (ask_row ask).fields
 
 -- the handle that an answer gives
 abbrev pub answered_handle : Answer → Option (List ℕ)
-answered_handle (answers.Handle handle) = Some handle
-answered_handle other = None
+answered_handle answer = handle_in (answer_row answer).fields
 
 abbrev pub handle_of : Packet → Option (List ℕ)
 handle_of (Init version extensions) = None

@@ -3,9 +3,9 @@
 //!
 //! A copy of a request says that its bytes are bytes and that the numbers of an owner have 32 bits. A proof learns that
 //! only of what code reads, so functions here read them.
-ghost use Rattle.std.specs.Prelude.{◌≡◌, IfOk, IfSome, Some};
+ghost use Rattle.std.specs.Prelude.{◌≡◌, [], ◌∷◌, IfOk, IfSome, Some, None};
 ghost use Rattle.sftp_packets.specs.AskValues.{IsAsk, IsAttrs};
-ghost use Rattle.sftp_packets.specs.Copying.{one_string, string_and_attributes, two_strings};
+ghost use Rattle.sftp_packets.specs.Copying.{owned_by};
 ghost use Rattle.sftp_packets.specs.Spelling.{AreBytes, FitsTwo};
 
 use crate::attributes::Attrs;
@@ -80,7 +80,7 @@ fn copy_two_strings(
 
 /// The request made of its one string.
 fn of_one_string(ask: &Ask, text: ByteString) -> Ask
-    requires parts { one_string ask.now ≡ Some text }
+    requires owned { owned_by ask.now ≡ (text ∷ [], None) }
     requires bytes { AreBytes text }
     ensures same { result ≡ ask.now }
     ensures value { IsAsk result }
@@ -108,7 +108,7 @@ fn of_one_string(ask: &Ask, text: ByteString) -> Ask
 
 /// The request made of its string and its attributes.
 fn of_string_and_attributes(ask: &Ask, text: ByteString, attrs: Attrs) -> Ask
-    requires parts { string_and_attributes ask.now ≡ Some (text, attrs) }
+    requires owned { owned_by ask.now ≡ (text ∷ [], Some attrs) }
     requires bytes { AreBytes text }
     requires numbers { IsAttrs attrs }
     ensures same { result ≡ ask.now }
@@ -132,7 +132,7 @@ fn of_string_and_attributes(ask: &Ask, text: ByteString, attrs: Attrs) -> Ask
 
 /// The request made of its two strings.
 fn of_two_strings(ask: &Ask, first: ByteString, second: ByteString) -> Ask
-    requires parts { two_strings ask.now ≡ Some (first, second) }
+    requires owned { owned_by ask.now ≡ (first ∷ second ∷ [], None) }
     requires first { AreBytes first }
     requires second { AreBytes second }
     ensures same { result ≡ ask.now }

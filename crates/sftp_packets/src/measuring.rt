@@ -7,15 +7,16 @@ ghost use Rattle.sftp_packets.specs.Spelling.{uint32, uint64, two_uint32, string
 ghost use Rattle.sftp_packets.specs.Spelling.{attributes, name_item, names, ask_parts, answer_parts, with_id, contents};
 ghost use Rattle.sftp_packets.specs.Spelling.{AreBytes, FitsString, FitsTwo, FitsPair, FitsPairs, FitsCounted};
 ghost use Rattle.sftp_packets.specs.Spelling.{FitsAttrs, FitsNameItem, FitsNames, FitsAsk, FitsAnswer, FitsFields};
-ghost use Rattle.sftp_packets.specs.Parts.{field_bytes, fields_bytes, FitsField, Fit};
+ghost use Rattle.sftp_packets.specs.Spelling.{field_bytes, fields_bytes, FitsField, Fit};
+ghost use Rattle.sftp_packets.specs.Seen.{seen, all_seen};
 
 use crate::attributes::Attrs;
 use crate::extensions::{FSYNC, HARDLINK, LIMITS, POSIX_RENAME};
 use crate::names::{NameItem, Names};
 use crate::packets::{Answer, Ask, Packet};
-use crate::parts::Field::{Attributes, Extension, Items, LongNumber, Number, Rest, Text};
-use crate::parts::Fields::{One, Three, Two};
-use crate::parts::{Field, Fields};
+use crate::rows::Field::{Attributes, Handle, Items, LongNumber, Name, Number, Rest, Text};
+use crate::rows::Fields::{One, Three, Two};
+use crate::rows::{Field, Fields, with_answered, with_asked};
 use crate::strings::{ByteString, Pairs};
 
 /// The bytes of a uint32.
@@ -41,6 +42,14 @@ fn text_length(text: &ByteString) -> usize
 {
     let bytes = text.as_slice();
     bytes.len()
+}
+
+/// The bytes of a string.
+fn bytes_length(bytes: &[u8]) -> usize
+    ensures exact { result ≡ min (length (string bytes.now)) (2 ^ 64 - 1) }
+    ensures fits { length (string bytes.now) < 2 ^ 32 → FitsString bytes.now }
+{
+    bytes.len().saturating_add(4)
 }
 
 fn string_length(text: &ByteString) -> usize
@@ -168,14 +177,14 @@ fn names_length(items: &Names) -> usize
 /// The bytes of a field. Inlined, since most callers name its kind.
 #[inline(always)]
 fn field_length(field: &Field<'_>) -> usize
-    ensures exact { result ≡ min (length (field_bytes field.now)) (2 ^ 64 - 1) }
-    ensures fits { length (field_bytes field.now) < 2 ^ 32 → FitsField field.now }
+    ensures exact { result ≡ min (length (field_bytes (seen field.now))) (2 ^ 64 - 1) }
+    ensures fits { length (field_bytes (seen field.now)) < 2 ^ 32 → FitsField (seen field.now) }
 {
     match field {
         Number(number) => number_length(*number),
         LongNumber(number) => long_number_length(*number),
-        Text(text) => string_length(text),
-        Extension(name) => name.len().saturating_add(4),
+        Text(text) | Handle(text) => string_length(text),
+        Name(name) => bytes_length(name),
         Rest(bytes) => text_length(bytes),
         Attributes(attrs) => attributes_length(attrs),
         Items(items) => names_length(items),
@@ -185,8 +194,8 @@ fn field_length(field: &Field<'_>) -> usize
 /// The bytes of the fields after an id. Inlined, since callers name their kinds.
 #[inline(always)]
 fn fields_length(fields: &Fields<'_>) -> usize
-    ensures exact { result ≡ min (length (fields_bytes fields.now)) (2 ^ 64 - 1) }
-    ensures fits { length (fields_bytes fields.now) < 2 ^ 32 → Fit fields.now }
+    ensures exact { result ≡ min (length (fields_bytes (all_seen fields.now))) (2 ^ 64 - 1) }
+    ensures fits { length (fields_bytes (all_seen fields.now)) < 2 ^ 32 → Fit (all_seen fields.now) }
 {
     match fields {
         One(field) => field_length(field),
@@ -203,56 +212,7 @@ fn asked_length(ask: &Ask) -> usize
     ensures exact { result ≡ min (length ((ask_parts ask.now).1)) (2 ^ 64 - 1) }
     ensures fits { length ((ask_parts ask.now).1) < 2 ^ 32 → FitsAsk ask.now }
 {
-    match ask {
-        Ask::Lstat { path: text }
-        | Ask::Opendir { path: text }
-        | Ask::Remove { path: text }
-        | Ask::Rmdir { path: text }
-        | Ask::Realpath { path: text }
-        | Ask::Stat { path: text }
-        | Ask::Readlink { path: text }
-        | Ask::Close { handle: text }
-        | Ask::Fstat { handle: text }
-        | Ask::Readdir { handle: text } => fields_length(&One(Text(text))),
-        Ask::Setstat { path: text, attrs }
-        | Ask::Mkdir { path: text, attrs }
-        | Ask::Fsetstat {
-            handle: text,
-            attrs,
-        } => fields_length(&Two(Text(text), Attributes(attrs))),
-        Ask::Open {
-            path,
-            pflags,
-            attrs,
-        } => fields_length(&Three(Text(path), Number(*pflags), Attributes(attrs))),
-        Ask::Read {
-            handle,
-            offset,
-            len,
-        } => fields_length(&Three(Text(handle), LongNumber(*offset), Number(*len))),
-        Ask::Write {
-            handle,
-            offset,
-            bytes,
-        } => fields_length(&Three(Text(handle), LongNumber(*offset), Text(bytes))),
-        Ask::Rename {
-            oldpath: one,
-            newpath: other,
-        }
-        | Ask::Symlink {
-            targetpath: one,
-            linkpath: other,
-        } => fields_length(&Two(Text(one), Text(other))),
-        Ask::PosixRename { oldpath, newpath } => {
-            fields_length(&Three(Extension(POSIX_RENAME), Text(oldpath), Text(newpath)))
-        }
-        Ask::Hardlink { oldpath, newpath } => {
-            fields_length(&Three(Extension(HARDLINK), Text(oldpath), Text(newpath)))
-        }
-        Ask::Fsync { handle } => fields_length(&Two(Extension(FSYNC), Text(handle))),
-        Ask::Limits => fields_length(&One(Extension(LIMITS))),
-        Ask::Unknown { name, rest } => fields_length(&Two(Text(name), Rest(rest))),
-    }
+    with_asked!(ask, fields => fields_length(&fields))
 }
 
 /// The bytes of the fields after the id of a reply.
@@ -260,17 +220,7 @@ fn answered_length(answer: &Answer) -> usize
     ensures exact { result ≡ min (length ((answer_parts answer.now).1)) (2 ^ 64 - 1) }
     ensures fits { length ((answer_parts answer.now).1) < 2 ^ 32 → FitsAnswer answer.now }
 {
-    match answer {
-        Answer::Status {
-            code,
-            message,
-            language,
-        } => fields_length(&Three(Number(*code), Text(message), Text(language))),
-        Answer::Handle(text) | Answer::Data(text) => fields_length(&One(Text(text))),
-        Answer::Name(items) => fields_length(&One(Items(items))),
-        Answer::Attrs(attrs) => fields_length(&One(Attributes(attrs))),
-        Answer::Extended(bytes) => fields_length(&One(Rest(bytes))),
-    }
+    with_answered!(answer, fields => fields_length(&fields))
 }
 
 /// The bytes after the packet's length.

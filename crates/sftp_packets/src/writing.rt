@@ -5,23 +5,21 @@ ghost use Rattle.std.specs.List.{flat_map};
 ghost use Rattle.sftp_packets.specs.Spelling.{uint32, uint64, two_uint32, string, pair, pairs, counted_pairs, optional};
 ghost use Rattle.sftp_packets.specs.Spelling.{attribute_flags, attribute_fields, attributes, name_item, names};
 ghost use Rattle.sftp_packets.specs.Spelling.{ask_parts, answer_parts, with_id, contents, spelling, HasSpelling};
-ghost use Rattle.sftp_packets.specs.Parts.{field_bytes, fields_bytes};
+ghost use Rattle.sftp_packets.specs.Spelling.{field_bytes, fields_bytes};
+ghost use Rattle.sftp_packets.specs.Seen.{seen, all_seen};
 ghost use Rattle.sftp_packets.specs.Writing.{Extends, IsTooLong, IsNotCanonical};
 
 use crate::attributes::{AttrFlags, Attrs};
 use crate::errors::WireError;
 use crate::extensions::{FSYNC, HARDLINK, LIMITS, POSIX_RENAME, hides_extension};
-use crate::handles::has_long_handle;
 use crate::measuring::contents_length;
 use crate::names::{NameItem, Names};
-use crate::packets::{
-    ATTRS, Answer, Ask, CLOSE, DATA, EXTENDED, EXTENDED_REPLY, FSETSTAT, FSTAT, HANDLE, INIT,
-    LSTAT, MKDIR, NAME, OPEN, OPENDIR, PACKET_LIMIT, Packet, READ, READDIR, READLINK, REALPATH,
-    REMOVE, RENAME, RMDIR, SETSTAT, STAT, STATUS, SYMLINK, VERSION, WRITE,
+use crate::packets::{Answer, Ask, INIT, PACKET_LIMIT, Packet, VERSION};
+use crate::rows::Field::{Attributes, Handle, Items, LongNumber, Name, Number, Rest, Text};
+use crate::rows::Fields::{One, Three, Two};
+use crate::rows::{
+    Field, Fields, answered_type, asked_type, has_long_handle, with_answered, with_asked,
 };
-use crate::parts::Field::{Attributes, Extension, Items, LongNumber, Number, Rest, Text};
-use crate::parts::Fields::{One, Three, Two};
-use crate::parts::{Field, Fields};
 use crate::strings::{ByteString, Pairs};
 use bitflags::Flags;
 use bytes::BufMut;
@@ -238,14 +236,14 @@ fn put_rest(out: &mut Vec<u8>, bytes: &ByteString) -> Result<(), AllocError>
 /// A field. Inlined, since most callers name its kind.
 #[inline(always)]
 fn put_field(out: &mut Vec<u8>, field: &Field<'_>) -> Result<(), AllocError>
-    ensures ok { OnOk result (out.new.items ≡ out.old.items ++ field_bytes field.now) }
+    ensures ok { OnOk result (out.new.items ≡ out.old.items ++ field_bytes (seen field.now)) }
     ensures err { OnErr result (Extends out.old.items out.new.items) }
 {
     match field {
         Number(number) => put_number(out, *number),
         LongNumber(number) => put_long_number(out, *number),
-        Text(text) => put_string(out, text),
-        Extension(name) => put_bytes(out, name),
+        Text(text) | Handle(text) => put_string(out, text),
+        Name(name) => put_bytes(out, name),
         Rest(bytes) => put_rest(out, bytes),
         Attributes(attrs) => put_attributes(out, attrs),
         Items(items) => put_names(out, items),
@@ -255,7 +253,7 @@ fn put_field(out: &mut Vec<u8>, field: &Field<'_>) -> Result<(), AllocError>
 /// The fields after an id. Inlined, since callers name their kinds.
 #[inline(always)]
 fn put_fields(out: &mut Vec<u8>, fields: &Fields<'_>) -> Result<(), AllocError>
-    ensures ok { OnOk result (out.new.items ≡ out.old.items ++ fields_bytes fields.now) }
+    ensures ok { OnOk result (out.new.items ≡ out.old.items ++ fields_bytes (all_seen fields.now)) }
     ensures err { OnErr result (Extends out.old.items out.new.items) }
 {
     match fields {
@@ -297,99 +295,13 @@ fn put_first_packet(
     put_pairs(out, extensions)
 }
 
-/// The type of a request's packet.
-fn asked_type(ask: &Ask) -> u8
-    ensures { result ≡ (ask_parts ask.now).0 }
-{
-    match ask {
-        Ask::Open { .. } => OPEN,
-        Ask::Close { .. } => CLOSE,
-        Ask::Read { .. } => READ,
-        Ask::Write { .. } => WRITE,
-        Ask::Lstat { .. } => LSTAT,
-        Ask::Fstat { .. } => FSTAT,
-        Ask::Setstat { .. } => SETSTAT,
-        Ask::Fsetstat { .. } => FSETSTAT,
-        Ask::Opendir { .. } => OPENDIR,
-        Ask::Readdir { .. } => READDIR,
-        Ask::Remove { .. } => REMOVE,
-        Ask::Mkdir { .. } => MKDIR,
-        Ask::Rmdir { .. } => RMDIR,
-        Ask::Realpath { .. } => REALPATH,
-        Ask::Stat { .. } => STAT,
-        Ask::Rename { .. } => RENAME,
-        Ask::Readlink { .. } => READLINK,
-        Ask::Symlink { .. } => SYMLINK,
-        Ask::PosixRename { .. }
-        | Ask::Hardlink { .. }
-        | Ask::Fsync { .. }
-        | Ask::Limits
-        | Ask::Unknown { .. } => EXTENDED,
-    }
-}
-
 /// The fields after the id of a request.
 // Slow to prove, with an arm for each shape of a request and none to share.
 fn put_ask_fields(out: &mut Vec<u8>, ask: &Ask) -> Result<(), AllocError>
     ensures ok { OnOk result (out.new.items ≡ out.old.items ++ (ask_parts ask.now).1) }
     ensures err { OnErr result (Extends out.old.items out.new.items) }
 {
-    match ask {
-        Ask::Lstat { path: text }
-        | Ask::Opendir { path: text }
-        | Ask::Remove { path: text }
-        | Ask::Rmdir { path: text }
-        | Ask::Realpath { path: text }
-        | Ask::Stat { path: text }
-        | Ask::Readlink { path: text }
-        | Ask::Close { handle: text }
-        | Ask::Fstat { handle: text }
-        | Ask::Readdir { handle: text } => put_fields(out, &One(Text(text))),
-        Ask::Setstat { path: text, attrs }
-        | Ask::Mkdir { path: text, attrs }
-        | Ask::Fsetstat {
-            handle: text,
-            attrs,
-        } => put_fields(out, &Two(Text(text), Attributes(attrs))),
-        Ask::Open {
-            path,
-            pflags,
-            attrs,
-        } => put_fields(out, &Three(Text(path), Number(*pflags), Attributes(attrs))),
-        Ask::Read {
-            handle,
-            offset,
-            len,
-        } => put_fields(out, &Three(Text(handle), LongNumber(*offset), Number(*len))),
-        Ask::Write {
-            handle,
-            offset,
-            bytes,
-        } => put_fields(out, &Three(Text(handle), LongNumber(*offset), Text(bytes))),
-        Ask::Rename {
-            oldpath: one,
-            newpath: other,
-        }
-        | Ask::Symlink {
-            targetpath: one,
-            linkpath: other,
-        } => put_fields(out, &Two(Text(one), Text(other))),
-        Ask::PosixRename { oldpath, newpath } => {
-            put_fields(
-                out,
-                &Three(Extension(POSIX_RENAME), Text(oldpath), Text(newpath)),
-            )
-        }
-        Ask::Hardlink { oldpath, newpath } => {
-            put_fields(
-                out,
-                &Three(Extension(HARDLINK), Text(oldpath), Text(newpath)),
-            )
-        }
-        Ask::Fsync { handle } => put_fields(out, &Two(Extension(FSYNC), Text(handle))),
-        Ask::Limits => put_fields(out, &One(Extension(LIMITS))),
-        Ask::Unknown { name, rest } => put_fields(out, &Two(Text(name), Rest(rest))),
-    }
+    with_asked!(ask, fields => put_fields(out, &fields))
 }
 
 fn put_asked(out: &mut Vec<u8>, id: u32, ask: &Ask) -> Result<(), AllocError>
@@ -400,36 +312,12 @@ fn put_asked(out: &mut Vec<u8>, id: u32, ask: &Ask) -> Result<(), AllocError>
     put_ask_fields(out, ask)
 }
 
-/// The type of a reply's packet.
-fn answered_type(answer: &Answer) -> u8
-    ensures { result ≡ (answer_parts answer.now).0 }
-{
-    match answer {
-        Answer::Status { .. } => STATUS,
-        Answer::Handle(_) => HANDLE,
-        Answer::Data(_) => DATA,
-        Answer::Name(_) => NAME,
-        Answer::Attrs(_) => ATTRS,
-        Answer::Extended(_) => EXTENDED_REPLY,
-    }
-}
-
 /// The fields after the id of a reply.
 fn put_answer_fields(out: &mut Vec<u8>, answer: &Answer) -> Result<(), AllocError>
     ensures ok { OnOk result (out.new.items ≡ out.old.items ++ (answer_parts answer.now).1) }
     ensures err { OnErr result (Extends out.old.items out.new.items) }
 {
-    match answer {
-        Answer::Status {
-            code,
-            message,
-            language,
-        } => put_fields(out, &Three(Number(*code), Text(message), Text(language))),
-        Answer::Handle(text) | Answer::Data(text) => put_fields(out, &One(Text(text))),
-        Answer::Name(items) => put_fields(out, &One(Items(items))),
-        Answer::Attrs(attrs) => put_fields(out, &One(Attributes(attrs))),
-        Answer::Extended(bytes) => put_fields(out, &One(Rest(bytes))),
-    }
+    with_answered!(answer, fields => put_fields(out, &fields))
 }
 
 fn put_answered(out: &mut Vec<u8>, id: u32, answer: &Answer) -> Result<(), AllocError>
