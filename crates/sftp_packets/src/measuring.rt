@@ -14,7 +14,7 @@ use crate::attributes::Attrs;
 use crate::extensions::{FSYNC, HARDLINK, LIMITS, POSIX_RENAME};
 use crate::names::{NameItem, Names};
 use crate::packets::{Answer, Ask, Packet};
-use crate::rows::Field::{Attributes, Handle, Items, LongNumber, Name, Number, Rest, Text};
+use crate::rows::Field::{Attributes, Items, LongNumber, Name, Number, Rest, Text};
 use crate::rows::Fields::{One, Three, Two};
 use crate::rows::{Field, Fields, with_answered, with_asked};
 use crate::strings::{ByteString, Pairs};
@@ -183,7 +183,7 @@ fn field_length(field: &Field<'_>) -> usize
     match field {
         Number(number) => number_length(*number),
         LongNumber(number) => long_number_length(*number),
-        Text(text) | Handle(text) => string_length(text),
+        Text(text) => string_length(text),
         Name(name) => bytes_length(name),
         Rest(bytes) => text_length(bytes),
         Attributes(attrs) => attributes_length(attrs),

@@ -4,7 +4,6 @@ ghost use Rattle.std.specs.Prelude.{◌≡◌, ◌<◌, ◌↔◌, IsTrue, lengt
 ghost use Rattle.std.specs.Option.{IsSomeAnd};
 ghost use Rattle.sftp_packets.specs.Spelling.{ask_parts, answer_parts, asked_handle, answered_handle, handle_of};
 ghost use Rattle.sftp_packets.specs.Spelling.{handle_limit};
-ghost use Rattle.sftp_packets.specs.Seen.{lent_handle};
 
 use crate::attributes::Attrs;
 use crate::extensions::{FSYNC, HARDLINK, LIMITS, POSIX_RENAME};
@@ -14,7 +13,7 @@ use crate::packets::{
     HANDLE_LIMIT, LSTAT, MKDIR, NAME, OPEN, OPENDIR, Packet, READ, READDIR, READLINK, REALPATH,
     REMOVE, RENAME, RMDIR, SETSTAT, STAT, STATUS, SYMLINK, WRITE,
 };
-use crate::rows::Field::{Attributes, Handle, Items, LongNumber, Name, Number, Rest, Text};
+use crate::rows::Field::{Attributes, Items, LongNumber, Name, Number, Rest, Text};
 use crate::rows::Fields::{One, Three, Two};
 use crate::strings::ByteString;
 
@@ -25,10 +24,8 @@ pub(crate) enum Field<'a> {
     Number(u32),
     /// A uint64.
     LongNumber(u64),
-    /// A string: its length and its bytes.
+    /// A string, be it a path or a handle: its length and its bytes.
     Text(&'a ByteString),
-    /// A string that is a handle.
-    Handle(&'a ByteString),
     /// A string that is the name of an extension.
     Name(&'a [u8]),
     /// Bytes up to the packet's end.
@@ -52,26 +49,23 @@ pub(crate) enum Fields<'a> {
 macro_rules! with_asked {
     ($ask:expr, $fields:ident => $value:expr) => {
         match $ask {
-            Ask::Lstat { path }
-            | Ask::Opendir { path }
-            | Ask::Remove { path }
-            | Ask::Rmdir { path }
-            | Ask::Realpath { path }
-            | Ask::Stat { path }
-            | Ask::Readlink { path } => {
-                let $fields = One(Text(path));
+            Ask::Lstat { path: text }
+            | Ask::Opendir { path: text }
+            | Ask::Remove { path: text }
+            | Ask::Rmdir { path: text }
+            | Ask::Realpath { path: text }
+            | Ask::Stat { path: text }
+            | Ask::Readlink { path: text }
+            | Ask::Close { handle: text }
+            | Ask::Fstat { handle: text }
+            | Ask::Readdir { handle: text } => {
+                let $fields = One(Text(text));
                 $value
             }
-            Ask::Close { handle } | Ask::Fstat { handle } | Ask::Readdir { handle } => {
-                let $fields = One(Handle(handle));
-                $value
-            }
-            Ask::Setstat { path, attrs } | Ask::Mkdir { path, attrs } => {
-                let $fields = Two(Text(path), Attributes(attrs));
-                $value
-            }
-            Ask::Fsetstat { handle, attrs } => {
-                let $fields = Two(Handle(handle), Attributes(attrs));
+            Ask::Setstat { path: text, attrs }
+            | Ask::Mkdir { path: text, attrs }
+            | Ask::Fsetstat { handle: text, attrs } => {
+                let $fields = Two(Text(text), Attributes(attrs));
                 $value
             }
             Ask::Open { path, pflags, attrs } => {
@@ -79,11 +73,11 @@ macro_rules! with_asked {
                 $value
             }
             Ask::Read { handle, offset, len } => {
-                let $fields = Three(Handle(handle), LongNumber(*offset), Number(*len));
+                let $fields = Three(Text(handle), LongNumber(*offset), Number(*len));
                 $value
             }
             Ask::Write { handle, offset, bytes } => {
-                let $fields = Three(Handle(handle), LongNumber(*offset), Text(bytes));
+                let $fields = Three(Text(handle), LongNumber(*offset), Text(bytes));
                 $value
             }
             Ask::Rename { oldpath: one, newpath: other }
@@ -100,7 +94,7 @@ macro_rules! with_asked {
                 $value
             }
             Ask::Fsync { handle } => {
-                let $fields = Two(Name(FSYNC), Handle(handle));
+                let $fields = Two(Name(FSYNC), Text(handle));
                 $value
             }
             Ask::Limits => {
@@ -123,12 +117,8 @@ macro_rules! with_answered {
                 let $fields = Three(Number(*code), Text(message), Text(language));
                 $value
             }
-            Answer::Handle(handle) => {
-                let $fields = One(Handle(handle));
-                $value
-            }
-            Answer::Data(bytes) => {
-                let $fields = One(Text(bytes));
+            Answer::Handle(text) | Answer::Data(text) => {
+                let $fields = One(Text(text));
                 $value
             }
             Answer::Name(items) => {
@@ -195,33 +185,31 @@ pub(crate) fn answered_type(answer: &Answer) -> u8
     }
 }
 
-/// The handle among the fields of a packet. It comes first, or after the name of an extension. Inlined, since callers
-/// name their kinds.
-#[inline(always)]
-fn handle_in<'a>(fields: &Fields<'a>) -> Option<&'a ByteString>
-    ensures { option_copied result ≡ lent_handle fields.now }
-{
-    match fields {
-        One(Handle(handle))
-        | Two(Handle(handle), _)
-        | Three(Handle(handle), _, _)
-        | Two(Name(_), Handle(handle)) => Some(*handle),
-        _ => None,
-    }
-}
-
 /// The handle that a request names.
 fn asked_handle(ask: &Ask) -> Option<&ByteString>
     ensures { option_copied result ≡ asked_handle ask.now }
 {
-    with_asked!(ask, fields => handle_in(&fields))
+    match ask {
+        Ask::Close { handle }
+        | Ask::Read { handle, .. }
+        | Ask::Write { handle, .. }
+        | Ask::Fstat { handle }
+        | Ask::Fsetstat { handle, .. }
+        | Ask::Readdir { handle }
+        | Ask::Fsync { handle } => Some(handle),
+        // the rows of all others name none, as the proof finds
+        _ => None,
+    }
 }
 
 /// The handle that an answer gives.
 fn answered_handle(answer: &Answer) -> Option<&ByteString>
     ensures { option_copied result ≡ answered_handle answer.now }
 {
-    with_answered!(answer, fields => handle_in(&fields))
+    match answer {
+        Answer::Handle(handle) => Some(handle),
+        _ => None,
+    }
 }
 
 /// The handle that a packet has.

@@ -15,7 +15,7 @@ use crate::extensions::{FSYNC, HARDLINK, LIMITS, POSIX_RENAME, hides_extension};
 use crate::measuring::contents_length;
 use crate::names::{NameItem, Names};
 use crate::packets::{Answer, Ask, INIT, PACKET_LIMIT, Packet, VERSION};
-use crate::rows::Field::{Attributes, Handle, Items, LongNumber, Name, Number, Rest, Text};
+use crate::rows::Field::{Attributes, Items, LongNumber, Name, Number, Rest, Text};
 use crate::rows::Fields::{One, Three, Two};
 use crate::rows::{
     Field, Fields, answered_type, asked_type, has_long_handle, with_answered, with_asked,
@@ -242,7 +242,7 @@ fn put_field(out: &mut Vec<u8>, field: &Field<'_>) -> Result<(), AllocError>
     match field {
         Number(number) => put_number(out, *number),
         LongNumber(number) => put_long_number(out, *number),
-        Text(text) | Handle(text) => put_string(out, text),
+        Text(text) => put_string(out, text),
         Name(name) => put_bytes(out, name),
         Rest(bytes) => put_rest(out, bytes),
         Attributes(attrs) => put_attributes(out, attrs),
