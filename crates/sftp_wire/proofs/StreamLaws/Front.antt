@@ -18,8 +18,7 @@ use Rattle.sftp_wire.specs.Fronts.{IsReading, StandsInFront, front_of}
 use Rattle.sftp_packets.proofs.Bytes.Numbers.{IsBytes, IsBytes-take, IsBytes-drop, wide32}
 use Rattle.sftp_packets.proofs.Readers.Steps.{bind_ok, guard_ok, ok_is}
 use Rattle.sftp_packets.proofs.PacketLaws.Rows.{contents-parts}
-use Rattle.sftp_packets.proofs.PacketLaws.Spelled.{packet_of_takes}
-use Rattle.sftp_packets.proofs.PacketLaws.Again.{packet_of_again, server_packets_refused}
+use Rattle.sftp_packets.proofs.PacketLaws.Packets.{packet_of_takes, packet_of_again, server_packets_refused}
 
 -- a test that returns `None` where it holds, and did not hold
 guard_none : {A : Type 0} (test : Bool) (read : Result (Option A) Fault) (x : A) → cond test (Ok None) read ≡ Ok (Some x) → (test ≡ false) × (read ≡ Ok (Some x))
