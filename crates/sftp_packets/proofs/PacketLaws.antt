@@ -5,3 +5,4 @@ pub mod Extensions
 pub mod Requests
 pub mod Replies
 pub mod Packets
+pub mod Values

@@ -1,6 +1,5 @@
 -- Requests: what is planned for them, and the trees that they leave.
 pub mod Listings
-pub mod AskValues
 pub mod ListedNames
 pub mod Plans
 pub mod Trees
