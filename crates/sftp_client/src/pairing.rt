@@ -96,7 +96,7 @@ impl Pairing {
     ///
     /// - `NotStarted` if the server's VERSION has not come;
     /// - `Full` if `OPEN_LIMIT` requests are open;
-    /// - `NotAnnounced` if it is a `PosixRename`, `Hardlink`, `Fsync` or `Limits` that VERSION did not name;
+    /// - `NotAnnounced` if it is an extension with a request of its own that VERSION did not name;
     /// - `NoMemory` if memory runs out.
     ///
     /// On error the session is unchanged, and the request is dropped.

@@ -117,8 +117,8 @@ macro_rules! with_answered {
                 let $fields = Three(Number(*code), Text(message), Text(language));
                 $value
             }
-            Answer::Handle(text) | Answer::Data(text) => {
-                let $fields = One(Text(text));
+            Answer::Handle(bytes) | Answer::Data(bytes) => {
+                let $fields = One(Text(bytes));
                 $value
             }
             Answer::Name(items) => {
