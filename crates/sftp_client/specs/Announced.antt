@@ -1,12 +1,11 @@
 -- What the server's VERSION announces, and which requests may be sent then (draft-ietf-secsh-filexfer-02, section 4;
 -- OpenSSH's PROTOCOL, section 4).
-use Rattle.std.specs.Prelude.{ℕ, Bool, true, List, Option, Some, None, if◌then◌else◌, nat_eq, bytes_eq}
+use Rattle.std.specs.Prelude.{◌&&◌, ℕ, Bool, true, List, Option, Some, None, if◌then◌else◌, nat_eq, bytes_eq}
 use Rattle.std.specs.List.{list_any}
 use Rattle.sftp_packets.specs.declared.packets.Ask.{Ask}
-use Rattle.sftp_packets.specs.declared.packets.Ask.TheVariants.{PosixRename, Hardlink, Fsync, Limits}
 use Rattle.sftp_packets.specs.declared.packets.Packet.{Packet}
 use Rattle.sftp_packets.specs.declared.packets.Packet.TheVariants.{Init, Version, Request, Reply}
-use Rattle.sftp_packets.specs.Spelling.{posix_rename_name, hardlink_name, fsync_name, limits_name}
+use Rattle.sftp_packets.specs.Spelling.{posix_rename_name, hardlink_name, fsync_name, limits_name, ask_row}
 use Rattle.sftp_client.specs.declared.announced.Announced.{Announced}
 
 -- one of the extensions has this name, with any data
@@ -29,10 +28,18 @@ announced_by (Version version extensions) = if nat_eq version 3 then Some (named
 announced_by (Request request) = None
 announced_by (Reply reply) = None
 
+-- whether the extension of a name was announced
+abbrev pub is_announced : Announced → List ℕ → Bool
+is_announced announced name =
+    if bytes_eq name posix_rename_name then announced.posix_rename else
+    if bytes_eq name hardlink_name then announced.hardlink else
+    if bytes_eq name fsync_name then announced.fsync else
+    bytes_eq name limits_name && announced.limits
+
+abbrev pub may_be_named : Announced → Option (List ℕ) → Bool
+may_be_named announced None = true
+may_be_named announced (Some name) = is_announced announced name
+
 -- a request may be sent: an extension with a request of its own only if it was announced
 abbrev pub may_be_sent : Announced → Ask → Bool
-may_be_sent announced (PosixRename oldpath newpath) = announced.posix_rename
-may_be_sent announced (Hardlink oldpath newpath) = announced.hardlink
-may_be_sent announced (Fsync handle) = announced.fsync
-may_be_sent announced Limits = announced.limits
-may_be_sent announced other = true
+may_be_sent announced ask = may_be_named announced (ask_row ask).name
