@@ -1,10 +1,9 @@
 -- What holds of the values of requests: their bytes are bytes, and the numbers of an owner have 32 bits. Nothing is
 -- said of lengths, so it holds of more requests than can be encoded.
-use Rattle.std.specs.Prelude.{IfSome}
+use Rattle.std.specs.Prelude.{List, [], ◌∷◌, IfSome}
 use Rattle.sftp_packets.specs.declared.attributes.Attrs.{Attrs}
 use Rattle.sftp_packets.specs.declared.packets.Ask.{Ask}
-use Rattle.sftp_packets.specs.Spelling.{AreBytes, FitsTwo, Field, Text, Attributes, Fields, Nothing, One, Two, Three}
-use Rattle.sftp_packets.specs.Spelling.{ask_row}
+use Rattle.sftp_packets.specs.Spelling.{AreBytes, FitsTwo, Field, Text, Attributes, ask_row}
 
 -- the numbers of the owner, if one is given, have 32 bits
 abbrev pub IsAttrs : Attrs → Type 0
@@ -16,11 +15,10 @@ IsValue (Text text) = AreBytes text
 IsValue (Attributes attrs) = IsAttrs attrs
 IsValue other = Unit {0}
 
-abbrev pub AreValues : Fields → Type 0
-AreValues Nothing = Unit {0}
-AreValues (One field) = IsValue field
-AreValues (Two first second) = IsValue first × IsValue second
-AreValues (Three first second third) = IsValue first × IsValue second × IsValue third
+abbrev pub AreValues : List Field → Type 0
+AreValues [] = Unit {0}
+AreValues (field ∷ []) = IsValue field
+AreValues (field ∷ next ∷ others) = IsValue field × AreValues (next ∷ others)
 
 -- of a request
 abbrev pub IsAsk : Ask → Type 0

@@ -1,10 +1,10 @@
 -- The fields of packets as the code lends them. Words of private contracts.
+use Rattle.std.specs.Prelude.{List, [], ◌∷◌}
 use Rattle.sftp_packets.specs.declared.rows.Field.{Field as Lent}
 use Rattle.sftp_packets.specs.declared.rows.Field.TheVariants as lent
-use Rattle.sftp_packets.specs.declared.rows.Fields.{Fields as LentFields}
-use Rattle.sftp_packets.specs.declared.rows.Fields.TheVariants as lists
+use Rattle.sftp_packets.specs.declared.rows.Fields.{Fields}
+use Rattle.sftp_packets.specs.declared.rows.Fields.TheVariants.{One, Two, Three}
 use Rattle.sftp_packets.specs.Spelling.{Field, Number, LongNumber, Text, Name, Rest, Attributes, Items}
-use Rattle.sftp_packets.specs.Spelling.{Fields, One, Two, Three}
 
 abbrev pub seen : Lent → Field
 seen (lent.Number number) = Number number
@@ -16,7 +16,7 @@ seen (lent.Attributes attrs) = Attributes attrs.now
 seen (lent.Items items) = Items items.now
 
 -- the name of an extension is the first of them
-abbrev pub all_seen : LentFields → Fields
-all_seen (lists.One field) = One (seen field)
-all_seen (lists.Two first second) = Two (seen first) (seen second)
-all_seen (lists.Three first second third) = Three (seen first) (seen second) (seen third)
+abbrev pub all_seen : Fields → List Field
+all_seen (One field) = seen field ∷ []
+all_seen (Two first second) = seen first ∷ seen second ∷ []
+all_seen (Three first second third) = seen first ∷ seen second ∷ seen third ∷ []

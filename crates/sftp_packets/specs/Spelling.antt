@@ -126,60 +126,53 @@ pub data Field : Type 0 where
   Attributes : Attrs → Field
   Items : List NameItem → Field
 
--- the fields after an id, in their order
-pub data Fields : Type 0 where
-  Nothing : Fields
-  One : Field → Fields
-  Two : Field → Field → Fields
-  Three : Field → Field → Field → Fields
-
--- a packet's type, the name of an extension that has a request of its own, and the fields after these
+-- a packet's type, the name of an extension that has a request of its own, and the further fields in their order
 pub record Row : Type 0 where
   pub kind : ℕ
   pub name : Option (List ℕ)
-  pub fields : Fields
+  pub fields : List Field
 
-abbrev pub row : ℕ → Fields → Row
+abbrev pub row : ℕ → List Field → Row
 row kind fields = record { kind = kind; name = None; fields = fields }
 
-abbrev pub extension : List ℕ → Fields → Row
+abbrev pub extension : List ℕ → List Field → Row
 extension name fields = record { kind = 200; name = Some name; fields = fields }
 
 -- The requests (draft, sections 6 and 8; OpenSSH's PROTOCOL, section 4, for the order of SYMLINK's fields and for the
 -- data of the known extensions).
 abbrev pub ask_row : Ask → Row
-ask_row (asks.Open path pflags attrs) = row 3 (Three (Text path) (Number pflags) (Attributes attrs))
-ask_row (asks.Close handle) = row 4 (One (Handle handle))
-ask_row (asks.Read handle offset len) = row 5 (Three (Handle handle) (LongNumber offset) (Number len))
-ask_row (asks.Write handle offset bytes) = row 6 (Three (Handle handle) (LongNumber offset) (Text bytes))
-ask_row (asks.Lstat path) = row 7 (One (Text path))
-ask_row (asks.Fstat handle) = row 8 (One (Handle handle))
-ask_row (asks.Setstat path attrs) = row 9 (Two (Text path) (Attributes attrs))
-ask_row (asks.Fsetstat handle attrs) = row 10 (Two (Handle handle) (Attributes attrs))
-ask_row (asks.Opendir path) = row 11 (One (Text path))
-ask_row (asks.Readdir handle) = row 12 (One (Handle handle))
-ask_row (asks.Remove path) = row 13 (One (Text path))
-ask_row (asks.Mkdir path attrs) = row 14 (Two (Text path) (Attributes attrs))
-ask_row (asks.Rmdir path) = row 15 (One (Text path))
-ask_row (asks.Realpath path) = row 16 (One (Text path))
-ask_row (asks.Stat path) = row 17 (One (Text path))
-ask_row (asks.Rename oldpath newpath) = row 18 (Two (Text oldpath) (Text newpath))
-ask_row (asks.Readlink path) = row 19 (One (Text path))
-ask_row (asks.Symlink targetpath linkpath) = row 20 (Two (Text targetpath) (Text linkpath))
-ask_row (asks.PosixRename oldpath newpath) = extension posix_rename_name (Two (Text oldpath) (Text newpath))
-ask_row (asks.Hardlink oldpath newpath) = extension hardlink_name (Two (Text oldpath) (Text newpath))
-ask_row (asks.Fsync handle) = extension fsync_name (One (Handle handle))
-ask_row asks.Limits = extension limits_name Nothing
-ask_row (asks.Unknown name rest) = row 200 (Two (Name name) (Rest rest))
+ask_row (asks.Open path pflags attrs) = row 3 (Text path ∷ Number pflags ∷ Attributes attrs ∷ [])
+ask_row (asks.Close handle) = row 4 (Handle handle ∷ [])
+ask_row (asks.Read handle offset len) = row 5 (Handle handle ∷ LongNumber offset ∷ Number len ∷ [])
+ask_row (asks.Write handle offset bytes) = row 6 (Handle handle ∷ LongNumber offset ∷ Text bytes ∷ [])
+ask_row (asks.Lstat path) = row 7 (Text path ∷ [])
+ask_row (asks.Fstat handle) = row 8 (Handle handle ∷ [])
+ask_row (asks.Setstat path attrs) = row 9 (Text path ∷ Attributes attrs ∷ [])
+ask_row (asks.Fsetstat handle attrs) = row 10 (Handle handle ∷ Attributes attrs ∷ [])
+ask_row (asks.Opendir path) = row 11 (Text path ∷ [])
+ask_row (asks.Readdir handle) = row 12 (Handle handle ∷ [])
+ask_row (asks.Remove path) = row 13 (Text path ∷ [])
+ask_row (asks.Mkdir path attrs) = row 14 (Text path ∷ Attributes attrs ∷ [])
+ask_row (asks.Rmdir path) = row 15 (Text path ∷ [])
+ask_row (asks.Realpath path) = row 16 (Text path ∷ [])
+ask_row (asks.Stat path) = row 17 (Text path ∷ [])
+ask_row (asks.Rename oldpath newpath) = row 18 (Text oldpath ∷ Text newpath ∷ [])
+ask_row (asks.Readlink path) = row 19 (Text path ∷ [])
+ask_row (asks.Symlink targetpath linkpath) = row 20 (Text targetpath ∷ Text linkpath ∷ [])
+ask_row (asks.PosixRename oldpath newpath) = extension posix_rename_name (Text oldpath ∷ Text newpath ∷ [])
+ask_row (asks.Hardlink oldpath newpath) = extension hardlink_name (Text oldpath ∷ Text newpath ∷ [])
+ask_row (asks.Fsync handle) = extension fsync_name (Handle handle ∷ [])
+ask_row asks.Limits = extension limits_name []
+ask_row (asks.Unknown name rest) = row 200 (Name name ∷ Rest rest ∷ [])
 
 -- the replies (draft, sections 7 and 8)
 abbrev pub answer_row : Answer → Row
-answer_row (answers.Status code message language) = row 101 (Three (Number code) (Text message) (Text language))
-answer_row (answers.Handle handle) = row 102 (One (Handle handle))
-answer_row (answers.Data bytes) = row 103 (One (Text bytes))
-answer_row (answers.Name items) = row 104 (One (Items items))
-answer_row (answers.Attrs attrs) = row 105 (One (Attributes attrs))
-answer_row (answers.Extended bytes) = row 201 (One (Rest bytes))
+answer_row (answers.Status code message language) = row 101 (Number code ∷ Text message ∷ Text language ∷ [])
+answer_row (answers.Handle handle) = row 102 (Handle handle ∷ [])
+answer_row (answers.Data bytes) = row 103 (Text bytes ∷ [])
+answer_row (answers.Name items) = row 104 (Items items ∷ [])
+answer_row (answers.Attrs attrs) = row 105 (Attributes attrs ∷ [])
+answer_row (answers.Extended bytes) = row 201 (Rest bytes ∷ [])
 
 -- ---- how rows are spelled
 
@@ -193,17 +186,16 @@ field_bytes (Rest bytes) = bytes
 field_bytes (Attributes attrs) = attributes attrs
 field_bytes (Items items) = names items
 
-abbrev pub fields_bytes : Fields → List ℕ
-fields_bytes Nothing = []
-fields_bytes (One field) = field_bytes field
-fields_bytes (Two first second) = field_bytes first ++ field_bytes second
-fields_bytes (Three first second third) = field_bytes first ++ (field_bytes second ++ field_bytes third)
+abbrev pub fields_bytes : List Field → List ℕ
+fields_bytes [] = []
+fields_bytes (field ∷ []) = field_bytes field
+fields_bytes (field ∷ next ∷ others) = field_bytes field ++ fields_bytes (next ∷ others)
 
 -- the name of an extension comes before its data
-abbrev pub named_bytes : Option (List ℕ) → Fields → List ℕ
+abbrev pub named_bytes : Option (List ℕ) → List Field → List ℕ
 named_bytes None fields = fields_bytes fields
-named_bytes (Some name) Nothing = string name
-named_bytes (Some name) fields = string name ++ fields_bytes fields
+named_bytes (Some name) [] = string name
+named_bytes (Some name) (field ∷ fields) = string name ++ fields_bytes (field ∷ fields)
 
 -- a row's type and the bytes after its id
 abbrev pub row_parts : Row → ℕ × List ℕ
@@ -286,11 +278,10 @@ FitsField (Rest bytes) = AreBytes bytes
 FitsField (Attributes attrs) = FitsAttrs attrs
 FitsField (Items items) = FitsNames items
 
-abbrev pub Fit : Fields → Type 0
-Fit Nothing = Unit {0}
-Fit (One field) = FitsField field
-Fit (Two first second) = FitsField first × FitsField second
-Fit (Three first second third) = FitsField first × FitsField second × FitsField third
+abbrev pub Fit : List Field → Type 0
+Fit [] = Unit {0}
+Fit (field ∷ []) = FitsField field
+Fit (field ∷ next ∷ others) = FitsField field × Fit (next ∷ others)
 
 abbrev pub FitsAsk : Ask → Type 0
 FitsAsk ask = Fit (ask_row ask).fields
@@ -314,10 +305,8 @@ abbrev pub handle_limit : ℕ
 handle_limit = 256
 
 -- the handle among fields, which comes first
-abbrev pub handle_in : Fields → Option (List ℕ)
-handle_in (One (Handle handle)) = Some handle
-handle_in (Two (Handle handle) second) = Some handle
-handle_in (Three (Handle handle) second third) = Some handle
+abbrev pub handle_in : List Field → Option (List ℕ)
+handle_in (Handle handle ∷ others) = Some handle
 handle_in other = None
 
 -- the handle that a request names

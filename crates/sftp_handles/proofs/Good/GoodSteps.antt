@@ -41,7 +41,7 @@ next-content (Write handle offset bytes) flags before next fit is e =
     subst IsContent (same_Some (written_content (start_of flags offset before) bytes before) next e) (
       is.0,
       written-bytes (length bytes == 0) (start_of flags offset before) bytes before.bytes
-          (bytes-fit bytes fit.2) is.1,
+          (bytes-fit bytes fit.1.1) is.1,
     )
 next-content (Fsetstat handle attrs) flags before next fit is e =
     subst IsContent (same_Some (changed_content attrs before) next e) (changed-content-fits attrs before fit.1 is)

@@ -26,7 +26,7 @@ reply_takes kind answer takes =
     (λ id a f g. record { fields = (f, g.0); handle = g.1; canonical = refl; kind_is = g.2; is_sent = refl })
 
 status_takes : TakesRow Server 101 (reply_at (three uint32_at string_at string_at answers.Status))
-status_takes = reply_takes 101 (three uint32_at string_at string_at answers.Status) (three_takes uint32_at string_at string_at answers.Status uint32 string string answer_fields Is32 FitsString FitsString (FitsAnswerOf 101) uint32_takes string_takes string_takes (λ a b c. refl) (λ a b c f g h. ((f, g, h), tt, refl)))
+status_takes = reply_takes 101 (three uint32_at string_at string_at answers.Status) (three_takes uint32_at string_at string_at answers.Status uint32 string string answer_fields Is32 FitsString FitsString (FitsAnswerOf 101) uint32_takes string_takes string_takes (λ a b c. refl) (λ a b c f g h. ((f, (g, h)), tt, refl)))
 
 given_handle_takes : TakesRow Server 102 (reply_at (one handle_at answers.Handle))
 given_handle_takes = reply_takes 102 (one handle_at answers.Handle) (one_takes handle_at answers.Handle string answer_fields FitsHandle (FitsAnswerOf 102) handle_takes (λ a. refl) (λ a f. (f.0, f.1, refl)))
@@ -66,7 +66,7 @@ reply_again answer id a lt e =
 
 pub answered_again : (id : ℕ) (answer : Answer) → id < 2 ^ 32 → FitsAnswer answer → IfSome (answered_handle answer) IsSmall → packet_of Server (with_id id (answer_parts answer)) ≡ Ok (Reply (record { id = id; answer = answer }))
 unfolding server_packet_at
-answered_again id (answers.Status code message language) lt fits small = ends Server 101 _ _ (reply_again (three uint32_at string_at string_at answers.Status) id _ lt (three_again uint32_at string_at string_at answers.Status uint32 string string code message language [] (uint32_again (string message ++ (string language ++ [])) code fits.0) (string_again (string language ++ []) message fits.1) (string_again [] language fits.2)))
+answered_again id (answers.Status code message language) lt fits small = ends Server 101 _ _ (reply_again (three uint32_at string_at string_at answers.Status) id _ lt (three_again uint32_at string_at string_at answers.Status uint32 string string code message language [] (uint32_again (string message ++ (string language ++ [])) code fits.0) (string_again (string language ++ []) message fits.1.0) (string_again [] language fits.1.1)))
 answered_again id (answers.Handle handle) lt fits small = ends Server 102 _ _ (reply_again (one handle_at answers.Handle) id _ lt (one_again handle_at answers.Handle (string handle) handle [] (handle_again [] handle (fits, small))))
 answered_again id (answers.Data bytes) lt fits small = ends Server 103 _ _ (reply_again (one string_at answers.Data) id _ lt (one_again string_at answers.Data (string bytes) bytes [] (string_again [] bytes fits)))
 answered_again id (answers.Name items) lt fits small = ends Server 104 _ _ (reply_again (one names_at answers.Name) id _ lt (one_again names_at answers.Name (names items) items [] (names_again [] items fits)))

@@ -41,13 +41,13 @@ path_attrs_takes : (kind : ℕ) (make : List ℕ → Attrs → Ask) → ((a : Li
 path_attrs_takes kind make same fit = request_takes kind (two string_at attributes_at make) (two_takes string_at attributes_at make string attributes ask_fields FitsString FitsAttrs (FitsAskOf kind) string_takes attributes_takes same fit)
 
 open_takes : TakesRow Client 3 (request_at (three string_at uint32_at attributes_at asks.Open))
-open_takes = request_takes 3 (three string_at uint32_at attributes_at asks.Open) (three_takes string_at uint32_at attributes_at asks.Open string uint32 attributes ask_fields FitsString Is32 FitsAttrs (FitsAskOf 3) string_takes uint32_takes attributes_takes (λ a b c. refl) (λ a b c f g h. ((f, g, h), tt, refl, refl)))
+open_takes = request_takes 3 (three string_at uint32_at attributes_at asks.Open) (three_takes string_at uint32_at attributes_at asks.Open string uint32 attributes ask_fields FitsString Is32 FitsAttrs (FitsAskOf 3) string_takes uint32_takes attributes_takes (λ a b c. refl) (λ a b c f g h. ((f, (g, h)), tt, refl, refl)))
 
 read_takes : TakesRow Client 5 (request_at (three handle_at uint64_at uint32_at asks.Read))
-read_takes = request_takes 5 (three handle_at uint64_at uint32_at asks.Read) (three_takes handle_at uint64_at uint32_at asks.Read string uint64 uint32 ask_fields FitsHandle Is64 Is32 (FitsAskOf 5) handle_takes uint64_takes uint32_takes (λ a b c. refl) (λ a b c f g h. ((f.0, g, h), f.1, refl, refl)))
+read_takes = request_takes 5 (three handle_at uint64_at uint32_at asks.Read) (three_takes handle_at uint64_at uint32_at asks.Read string uint64 uint32 ask_fields FitsHandle Is64 Is32 (FitsAskOf 5) handle_takes uint64_takes uint32_takes (λ a b c. refl) (λ a b c f g h. ((f.0, (g, h)), f.1, refl, refl)))
 
 write_takes : TakesRow Client 6 (request_at (three handle_at uint64_at string_at asks.Write))
-write_takes = request_takes 6 (three handle_at uint64_at string_at asks.Write) (three_takes handle_at uint64_at string_at asks.Write string uint64 string ask_fields FitsHandle Is64 FitsString (FitsAskOf 6) handle_takes uint64_takes string_takes (λ a b c. refl) (λ a b c f g h. ((f.0, g, h), f.1, refl, refl)))
+write_takes = request_takes 6 (three handle_at uint64_at string_at asks.Write) (three_takes handle_at uint64_at string_at asks.Write string uint64 string ask_fields FitsHandle Is64 FitsString (FitsAskOf 6) handle_takes uint64_takes string_takes (λ a b c. refl) (λ a b c f g h. ((f.0, (g, h)), f.1, refl, refl)))
 
 fsetstat_takes : TakesRow Client 10 (request_at (two handle_at attributes_at asks.Fsetstat))
 fsetstat_takes = request_takes 10 (two handle_at attributes_at asks.Fsetstat) (two_takes handle_at attributes_at asks.Fsetstat string attributes ask_fields FitsHandle FitsAttrs (FitsAskOf 10) handle_takes attributes_takes (λ a b. refl) (λ a b f g. ((f.0, g), f.1, refl, refl)))
@@ -102,10 +102,10 @@ request_again ask id a lt e =
 
 pub asked_again : (id : ℕ) (ask : Ask) → id < 2 ^ 32 → FitsAsk ask → IfSome (asked_handle ask) IsSmall → asks_known ask ≡ false → packet_of Client (with_id id (ask_parts ask)) ≡ Ok (Request (record { id = id; ask = ask }))
 unfolding client_packet_at
-asked_again id (asks.Open path pflags attrs) lt fits small known = ends Client 3 _ _ (request_again (three string_at uint32_at attributes_at asks.Open) id _ lt (three_again string_at uint32_at attributes_at asks.Open string uint32 attributes path pflags attrs [] (string_again (uint32 pflags ++ (attributes attrs ++ [])) path fits.0) (uint32_again (attributes attrs ++ []) pflags fits.1) (attributes_again [] attrs fits.2)))
+asked_again id (asks.Open path pflags attrs) lt fits small known = ends Client 3 _ _ (request_again (three string_at uint32_at attributes_at asks.Open) id _ lt (three_again string_at uint32_at attributes_at asks.Open string uint32 attributes path pflags attrs [] (string_again (uint32 pflags ++ (attributes attrs ++ [])) path fits.0) (uint32_again (attributes attrs ++ []) pflags fits.1.0) (attributes_again [] attrs fits.1.1)))
 asked_again id (asks.Close handle) lt fits small known = ends Client 4 _ _ (request_again (one handle_at asks.Close) id _ lt (handle_only_again asks.Close handle (fits, small)))
-asked_again id (asks.Read handle offset len) lt fits small known = ends Client 5 _ _ (request_again (three handle_at uint64_at uint32_at asks.Read) id _ lt (three_again handle_at uint64_at uint32_at asks.Read string uint64 uint32 handle offset len [] (handle_again (uint64 offset ++ (uint32 len ++ [])) handle (fits.0, small)) (uint64_again (uint32 len ++ []) offset fits.1) (uint32_again [] len fits.2)))
-asked_again id (asks.Write handle offset bytes) lt fits small known = ends Client 6 _ _ (request_again (three handle_at uint64_at string_at asks.Write) id _ lt (three_again handle_at uint64_at string_at asks.Write string uint64 string handle offset bytes [] (handle_again (uint64 offset ++ (string bytes ++ [])) handle (fits.0, small)) (uint64_again (string bytes ++ []) offset fits.1) (string_again [] bytes fits.2)))
+asked_again id (asks.Read handle offset len) lt fits small known = ends Client 5 _ _ (request_again (three handle_at uint64_at uint32_at asks.Read) id _ lt (three_again handle_at uint64_at uint32_at asks.Read string uint64 uint32 handle offset len [] (handle_again (uint64 offset ++ (uint32 len ++ [])) handle (fits.0, small)) (uint64_again (uint32 len ++ []) offset fits.1.0) (uint32_again [] len fits.1.1)))
+asked_again id (asks.Write handle offset bytes) lt fits small known = ends Client 6 _ _ (request_again (three handle_at uint64_at string_at asks.Write) id _ lt (three_again handle_at uint64_at string_at asks.Write string uint64 string handle offset bytes [] (handle_again (uint64 offset ++ (string bytes ++ [])) handle (fits.0, small)) (uint64_again (string bytes ++ []) offset fits.1.0) (string_again [] bytes fits.1.1)))
 asked_again id (asks.Lstat path) lt fits small known = ends Client 7 _ _ (request_again (one string_at asks.Lstat) id _ lt (path_again asks.Lstat path fits))
 asked_again id (asks.Fstat handle) lt fits small known = ends Client 8 _ _ (request_again (one handle_at asks.Fstat) id _ lt (handle_only_again asks.Fstat handle (fits, small)))
 asked_again id (asks.Setstat path attrs) lt fits small known = ends Client 9 _ _ (request_again (two string_at attributes_at asks.Setstat) id _ lt (path_attrs_again asks.Setstat path attrs fits))

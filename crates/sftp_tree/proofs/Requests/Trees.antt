@@ -143,7 +143,7 @@ well-at t (Remove path) place well fits leads none =
 well-at t (Setstat path attrs) place well fits leads none = well-attributes t attrs place (node_at t.names place) refl well fits.1
 well-at t (Symlink target link) place well fits leads none = well-with t place (Link target) well leads (ap is_taken (free-place (node_at t.names place) none)) (bytes-fit target fits.0)
 well-at t (Open path flags attrs) place well fits leads none =
-    well-opened t flags attrs place (node_at t.names place) refl well fits.2 leads
+    well-opened t flags attrs place (node_at t.names place) refl well fits.1.1 leads
 well-at t other place well fits leads none = well
 
 -- ---- requests with two paths
