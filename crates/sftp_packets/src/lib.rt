@@ -26,6 +26,7 @@ pub use names::{NameItem, Names};
 pub use open_flags::OpenFlags;
 pub use packets::{Answer, Ask, HANDLE_LIMIT, PACKET_LIMIT, Packet, Reply, Request, Side};
 pub use reading::read_fields;
+pub use rows::asked_handle;
 pub use slices::{take_number, take_string};
 pub use strings::{ByteString, Pairs};
 pub use writing::encode;

@@ -186,7 +186,7 @@ pub(crate) fn answered_type(answer: &Answer) -> u8
 }
 
 /// The handle that a request names.
-fn asked_handle(ask: &Ask) -> Option<&ByteString>
+pub fn asked_handle(ask: &Ask) -> Option<&[u8]>
     ensures { option_copied result ≡ asked_handle ask.now }
 {
     match ask {
@@ -196,24 +196,24 @@ fn asked_handle(ask: &Ask) -> Option<&ByteString>
         | Ask::Fstat { handle }
         | Ask::Fsetstat { handle, .. }
         | Ask::Readdir { handle }
-        | Ask::Fsync { handle } => Some(handle),
+        | Ask::Fsync { handle } => Some(handle.as_slice()),
         // the rows of all others name none, as the proof finds
         _ => None,
     }
 }
 
 /// The handle that an answer gives.
-fn answered_handle(answer: &Answer) -> Option<&ByteString>
+fn answered_handle(answer: &Answer) -> Option<&[u8]>
     ensures { option_copied result ≡ answered_handle answer.now }
 {
     match answer {
-        Answer::Handle(handle) => Some(handle),
+        Answer::Handle(handle) => Some(handle.as_slice()),
         _ => None,
     }
 }
 
 /// The handle that a packet has.
-fn handle(packet: &Packet) -> Option<&ByteString>
+fn handle(packet: &Packet) -> Option<&[u8]>
     ensures { option_copied result ≡ handle_of packet.now }
 {
     match packet {
@@ -228,7 +228,7 @@ pub(crate) fn has_long_handle(packet: &Packet) -> bool
     ensures { IsTrue result ↔ IsSomeAnd (handle_of packet.now) (λ handle. handle_limit < length handle) }
 {
     match handle(packet) {
-        Some(handle) => handle.as_slice().len() > HANDLE_LIMIT,
+        Some(handle) => handle.len() > HANDLE_LIMIT,
         None => false,
     }
 }
