@@ -39,11 +39,10 @@ pub use Rattle.sftp_path.specs.Table.{Table, InOrder, size, count}
 unfoldable pub use Rattle.sftp_path.specs.Table.{get, put, retain, from_entries}
 pub use Rattle.sftp_tree.proofs.CauseLaws.Places.{outcome-is, free-led, free-at, lost-first, exit}
 pub use Rattle.sftp_tree.proofs.CauseLaws.Sets.{none-each, each-none, fewer}
-pub use Rattle.sftp_tree.proofs.KeptTrees.Files.{pins-stay, limits-stay}
 pub use Rattle.sftp_tree.proofs.KeptTrees.Trims.{trimmed-already}
 pub use Rattle.sftp_tree.proofs.Limits.Tests.{Stands, fits-parts, fits-from}
 pub use Rattle.sftp_tree.proofs.PlaceTables.Each.{each-get, each-put, get-each, each-retain, each-all}
-pub use Rattle.sftp_tree.proofs.Requests.Trees.{PathsLeadWell, outcome-stands}
+pub use Rattle.sftp_tree.proofs.Requests.Outcomes.{PathsLeadWell, outcome-stands, pins-stay, limits-stay}
 pub use Rattle.sftp_tree.proofs.WellFormedTrees.Fields.{bytes-fit, bytes-dropped}
 pub use Rattle.sftp_packets.specs.AskValues.{IsAsk}
 pub use Rattle.sftp_tree.specs.Attributes.{changed_content, resized, said, shown, shown_content}

@@ -60,7 +60,8 @@ pub use Rattle.sftp_transcript.specs.declared.errors.TranscriptError.TheVariants
 pub use Rattle.sftp_transcript.specs.declared.events.Event.{Event}
 pub use Rattle.sftp_transcript.specs.declared.events.Event.TheVariants.{Asked, Replied}
 pub use Rattle.sftp_tree.proofs.PlaceTables.Rising.{all_both}
-pub use Rattle.sftp_tree.proofs.Requests.Trees.{path-bytes, PathsLeadWell}
+pub use Rattle.sftp_tree.proofs.Requests.Outcomes.{PathsLeadWell}
+pub use Rattle.sftp_tree.proofs.Requests.Rows.{path-bytes}
 pub use Rattle.sftp_tree.specs.Tree.{Tree}
 pub use Rattle.sftp_wire.proofs.StreamLaws.Front.{length-spelling, none-leaves_room, front_again, spellings-apart}
 pub use Rattle.sftp_wire.specs.Examples.{version_bytes, no_attributes}

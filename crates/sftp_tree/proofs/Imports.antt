@@ -76,14 +76,11 @@ pub use Rattle.sftp_treefile.specs.declared.files.Row.{Row}
 pub use Rattle.sftp_treefile.specs.declared.files.TreeFile.{TreeFile}
 pub use Rattle.sftp_treefile.specs.declared.limits.TreeLimits.{TreeLimits}
 unfoldable pub use Rattle.sftp_wire.specs.Examples.{hex}
-pub use Rattle.sftp_packets.specs.Spelling.{FitsAsk, AreBytes}
+pub use Rattle.sftp_packets.specs.Spelling.{AreBytes}
 pub use Rattle.sftp_packets.specs.declared.attributes.Attrs.{Attrs}
 pub use Rattle.sftp_packets.specs.declared.packets.Ask.{Ask}
-pub use Rattle.sftp_packets.specs.declared.packets.Ask.TheVariants.{Setstat, Remove, Mkdir, Rmdir, Rename, Symlink}
-pub use Rattle.sftp_packets.specs.declared.packets.Ask.TheVariants.{PosixRename, Hardlink, Open, Opendir, Stat, Lstat}
-pub use Rattle.sftp_packets.specs.declared.packets.Ask.TheVariants.{Readlink, Realpath}
 pub use Rattle.sftp_packets.specs.AskValues.{IsAttrs, IsAsk}
-pub use Rattle.sftp_tree.specs.Asks.{asked}
+pub use Rattle.sftp_tree.specs.Asks.{asked, has_room_for, IsPlanAt, IsPlanBetween, HasNode}
 pub use Rattle.sftp_tree.specs.Attributes.{directory_owner, changed_owner, changed_content, resized, file_owner}
 pub use Rattle.sftp_tree.specs.Causes.{row, CauseSet, every_cause, is_none, only}
 unfoldable pub use Rattle.sftp_tree.specs.Causes.{no_causes, when, joined}
@@ -111,12 +108,10 @@ pub use Rattle.sftp_tree.specs.PlaceCauses.{making_causes, needing_causes, link_
 pub use Rattle.sftp_tree.specs.PlaceCauses.{leaving_causes, giving_causes, moving_causes, clashing_causes}
 pub use Rattle.sftp_tree.specs.PlaceCauses.{replacing_causes, exchanging_causes, goes_inside, are_one, are_one_file}
 pub use Rattle.sftp_tree.specs.PlaceCauses.{directory_causes, removing_causes, opening_causes}
-pub use Rattle.sftp_tree.specs.Plans.{CanMake, changed, IsReady, CanTake, HasNode, IsPlanned, IsPlanAt, IsNaming}
-pub use Rattle.sftp_tree.specs.Plans.{IsPlanBetween, IsFileAt, plan_to_open, IsSettingOf, IsSetting}
+pub use Rattle.sftp_tree.specs.Plans.{CanMake, changed, IsReady, IsPlanned}
 pub use Rattle.sftp_tree.specs.Refusals.{IsFree, stat_ask, IsRefusal}
 unfoldable pub use Rattle.sftp_tree.specs.Refusals.{in_set}
-pub use Rattle.sftp_tree.specs.Room.{has_room, size_fits, size_fits_at, move_fits, has_room_at, has_room_between}
-pub use Rattle.sftp_tree.specs.Room.{has_room_for, has_room_to_open, has_room_for_file, reaches_at_most}
+pub use Rattle.sftp_tree.specs.Room.{has_room, size_fits, move_fits, has_room_for_file, reaches_at_most}
 pub use Rattle.sftp_tree.specs.Route.{left_of, is_done}
 pub use Rattle.sftp_tree.specs.Seen.{branch_seen, node_seen}
 pub use Rattle.sftp_tree.specs.Stepping.{meeting, StaysAtLink, LendsEnd}

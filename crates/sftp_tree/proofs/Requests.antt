@@ -3,3 +3,5 @@ pub mod Listings
 pub mod ListedNames
 pub mod Plans
 pub mod Trees
+pub mod Rows
+pub mod Outcomes

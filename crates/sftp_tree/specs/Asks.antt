@@ -1,10 +1,22 @@
--- The requests that are judged by their paths, as the code has them.
+-- The requests that are judged by their paths, as the code has them, and what private contracts say of each.
+use Rattle.std.specs.Prelude.{◌≡◌, ◌||◌, Bool, true, if◌then◌else◌, Option, Some, None, Result, Ok, Err, IsTrue}
+use Rattle.sftp_path.specs.Place.{Place}
+use Rattle.sftp_treefile.specs.TreeFile.{IsOwner, are_bytes}
 use Rattle.sftp_packets.specs.declared.packets.Ask as wire
 use Rattle.sftp_packets.specs.declared.packets.Ask.TheVariants as asks
 use Rattle.sftp_tree.specs.declared.asks.PathAsk.{PathAsk}
 use Rattle.sftp_tree.specs.declared.asks.PathAsk.TheVariants.{Mkdir, Rmdir, Remove, Setstat, Stat, Lstat, Realpath}
 use Rattle.sftp_tree.specs.declared.asks.PathAsk.TheVariants.{Readlink, Symlink, Rename, PosixRename, Hardlink}
 use Rattle.sftp_tree.specs.declared.asks.PathAsk.TheVariants.{Open, Opendir}
+use Rattle.sftp_tree.specs.declared.causes.Cause.{Cause}
+use Rattle.sftp_tree.specs.declared.nodes.Node.TheVariants as nodes
+use Rattle.sftp_tree.specs.declared.plans.Plan.{Plan}
+use Rattle.sftp_tree.specs.declared.plans.Plan.TheVariants as plans
+use Rattle.sftp_tree.specs.Tree.{Tree, limits, node_at, is_file}
+use Rattle.sftp_tree.specs.Attributes.{directory_owner, file_owner}
+use Rattle.sftp_tree.specs.PlaceCauses.{are_one}
+use Rattle.sftp_tree.specs.Room.{has_room, size_fits_at, has_room_to_open, move_fits}
+use Rattle.sftp_tree.specs.Plans.{IsSetting, IsNaming, plan_to_open}
 
 -- the request
 abbrev pub asked : PathAsk → wire.Ask
@@ -22,3 +34,59 @@ asked (PosixRename old new) = asks.PosixRename old.now new.now
 asked (Hardlink old new) = asks.Hardlink old.now new.now
 asked (Open path flags attrs) = asks.Open path.now flags attrs.now
 asked (Opendir path) = asks.Opendir path.now
+
+-- ---- whether what it asks for keeps to the limits
+
+-- at the place that its path leads to
+abbrev pub has_room_at : Tree → wire.Ask → Place → Bool
+has_room_at t (asks.Mkdir path attrs) place = has_room t place
+has_room_at t (asks.Symlink target link) place = has_room t place
+has_room_at t (asks.Setstat path attrs) place = size_fits_at (limits t) attrs.size (node_at t.names place)
+has_room_at t (asks.Open path pflags attrs) place = has_room_to_open t place (node_at t.names place)
+has_room_at t other place = true
+
+-- with the two places that its paths lead to
+abbrev pub has_room_between : Tree → wire.Ask → Place → Place → Bool
+has_room_between t (asks.Rename oldpath newpath) old new = move_fits t.names old new
+has_room_between t (asks.PosixRename oldpath newpath) old new = are_one t.names old new || move_fits t.names old new
+has_room_between t (asks.Hardlink oldpath newpath) old new = has_room t new
+has_room_between t other old new = true
+
+-- by where its paths lead
+abbrev pub has_room_for : Tree → wire.Ask → Result Place Cause → Option (Result Place Cause) → Bool
+has_room_for t ask (Ok place) None = has_room_at t ask place
+has_room_for t ask (Ok old) (Some (Ok new)) = has_room_between t ask old new
+has_room_for t ask (Ok old) (Some (Err cause)) = true
+has_room_for t ask (Err cause) new = true
+
+-- ---- what is to be done for it
+
+-- at the place that its path leads to
+abbrev pub IsPlanAt : Tree → wire.Ask → Place → Plan → Type 0
+IsPlanAt t (asks.Mkdir path attrs) place plan = plan ≡ plans.Put place (nodes.Dir (directory_owner t attrs))
+IsPlanAt t (asks.Symlink target link) place plan = plan ≡ plans.Put place (nodes.Link target)
+IsPlanAt t (asks.Rmdir path) place plan = plan ≡ plans.Remove place
+IsPlanAt t (asks.Remove path) place plan = plan ≡ plans.Remove place
+IsPlanAt t (asks.Setstat path attrs) place plan = IsSetting (node_at t.names place) place attrs plan
+IsPlanAt t (asks.Open path pflags attrs) place plan = plan ≡ plan_to_open t pflags attrs place (node_at t.names place)
+IsPlanAt t other place plan = plan ≡ plans.Nothing
+
+-- with the two places that its paths lead to
+abbrev pub IsPlanBetween : Tree → wire.Ask → Place → Place → Plan → Type 0
+IsPlanBetween t (asks.Rename oldpath newpath) old new plan = plan ≡ plans.Move old new
+IsPlanBetween t (asks.PosixRename oldpath newpath) old new plan =
+    plan ≡ (if are_one t.names old new then plans.Nothing else plans.Move old new)
+IsPlanBetween t (asks.Hardlink oldpath newpath) old new plan = IsNaming (node_at t.names old) new plan
+IsPlanBetween t other old new plan = plan ≡ plans.Nothing
+
+-- the owner of a new directory or of a new file is an owner, and the target of a new link is bytes
+abbrev pub HasNode : Tree → wire.Ask → Type 0
+HasNode t (asks.Mkdir path attrs) = IsOwner (directory_owner t attrs)
+HasNode t (asks.Symlink target link) = IsTrue (are_bytes target)
+HasNode t (asks.Open path pflags attrs) = IsOwner (file_owner t attrs)
+HasNode t other = Unit {0}
+
+-- only a file gets a further name
+abbrev pub IsFileAt : Tree → wire.Ask → Place → Type 0
+IsFileAt t (asks.Hardlink oldpath newpath) old = IsTrue (is_file (node_at t.names old))
+IsFileAt t other old = Unit {0}

@@ -19,7 +19,6 @@ pub mod FileChanges
 pub mod Requests
 pub mod Told
 pub mod Refusals
-pub mod Asks
 pub mod Picture
 pub mod PictureParts
 pub mod Written
@@ -29,6 +28,7 @@ pub mod Room
 pub mod Found
 pub mod Ends
 pub mod Plans
+pub mod Asks
 pub mod RequestExamples
 pub mod FileExamples
 pub mod Route

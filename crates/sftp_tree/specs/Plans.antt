@@ -2,22 +2,20 @@
 use Rattle.std.specs.Prelude.{◌≡◌, ℕ, false, if◌then◌else◌, Option, Some, None, IsTrue}
 use Rattle.sftp_path.specs.Place.{Place, parent, are_names}
 use Rattle.sftp_treefile.specs.declared.files.Owner.{Owner}
-use Rattle.sftp_treefile.specs.TreeFile.{IsOwner, are_bytes, is_root, same_place}
+use Rattle.sftp_treefile.specs.TreeFile.{IsOwner, is_root, same_place}
 use Rattle.sftp_packets.specs.declared.attributes.Attrs.{Attrs}
 use Rattle.sftp_packets.specs.declared.packets.Ask.{Ask}
-use Rattle.sftp_packets.specs.declared.packets.Ask.TheVariants.{Open, Setstat, Remove, Mkdir, Rmdir, Rename, Symlink}
-use Rattle.sftp_packets.specs.declared.packets.Ask.TheVariants.{PosixRename, Hardlink}
 use Rattle.sftp_tree.specs.declared.file_contents.Content.{Content}
 use Rattle.sftp_tree.specs.declared.nodes.Node.{Node}
 use Rattle.sftp_tree.specs.declared.nodes.Node.TheVariants as nodes
 use Rattle.sftp_tree.specs.declared.plans.Plan.{Plan}
-use Rattle.sftp_tree.specs.declared.plans.Plan.TheVariants.{Nothing, Put, Remove as Take, Move}
-use Rattle.sftp_tree.specs.declared.plans.Plan.TheVariants.{SetOwner, SetFile, Make, Truncate}
+use Rattle.sftp_tree.specs.declared.plans.Plan.TheVariants.{Nothing, Put, Remove, Move, SetOwner}
+use Rattle.sftp_tree.specs.declared.plans.Plan.TheVariants.{SetFile, Make, Truncate}
 use Rattle.sftp_tree.specs.Tree.{Tree, IsKept, IsNode, IsContent, fits, node_at, content_at}
-use Rattle.sftp_tree.specs.Tree.{is_taken, is_directory, is_file, has_entries, trim}
-use Rattle.sftp_tree.specs.Attributes.{directory_owner, file_owner, changed_owner}
+use Rattle.sftp_tree.specs.Tree.{is_taken, is_directory, has_entries, trim}
+use Rattle.sftp_tree.specs.Attributes.{changed_owner}
 use Rattle.sftp_tree.specs.OpenFlags.{truncates}
-use Rattle.sftp_tree.specs.PlaceCauses.{are_one, goes_inside}
+use Rattle.sftp_tree.specs.PlaceCauses.{goes_inside}
 use Rattle.sftp_tree.specs.Changes.{with_entry, without_entry, put_in_its_stead, with_new_file, new_content}
 use Rattle.sftp_tree.specs.Changes.{with_emptied_file, with_changed_file}
 use Rattle.sftp_tree.specs.Requests.{after}
@@ -26,7 +24,7 @@ use Rattle.sftp_tree.specs.Requests.{after}
 abbrev pub changed : Tree → Plan → Tree
 changed t Nothing = t
 changed t (Put place node) = with_entry t place node
-changed t (Take place) = without_entry t place
+changed t (Remove place) = without_entry t place
 changed t (Move old new) = put_in_its_stead t old new
 changed t (SetOwner place owner) = with_entry t place (nodes.Dir owner)
 changed t (SetFile number attrs) = with_changed_file t attrs.now number (content_at t.files number)
@@ -77,14 +75,14 @@ pub record CanMake (t : Tree) (place : Place) (content : Content) : Type 0 where
 abbrev pub IsReady : Tree → Plan → Type 0
 IsReady t Nothing = IsKept t
 IsReady t (Put place node) = CanPut t place node
-IsReady t (Take place) = CanTake t place
+IsReady t (Remove place) = CanTake t place
 IsReady t (Move old new) = CanMove t old new
 IsReady t (SetOwner place owner) = CanOwn t place owner
 IsReady t (SetFile number attrs) = IsTrue (fits (changed t (SetFile number attrs)))
 IsReady t (Make place content) = CanMake t place content
 IsReady t (Truncate number) = IsTrue (fits (with_emptied_file t number (content_at t.files number)))
 
--- ---- what is to be done, by request
+-- ---- what is to be done
 
 abbrev pub IsSettingOf : ℕ → Attrs → Plan → Type 0
 IsSettingOf number attrs (SetFile n given) = (n ≡ number) × (given.now ≡ attrs)
@@ -105,39 +103,10 @@ plan_to_open t flags attrs place (Some (nodes.File number)) = if truncates flags
 plan_to_open t flags attrs place (Some (nodes.Dir owner)) = Nothing
 plan_to_open t flags attrs place (Some (nodes.Link target)) = Nothing
 
--- at the place that its path leads to
-abbrev pub IsPlanAt : Tree → Ask → Place → Plan → Type 0
-IsPlanAt t (Mkdir path attrs) place plan = plan ≡ Put place (nodes.Dir (directory_owner t attrs))
-IsPlanAt t (Symlink target link) place plan = plan ≡ Put place (nodes.Link target)
-IsPlanAt t (Rmdir path) place plan = plan ≡ Take place
-IsPlanAt t (Remove path) place plan = plan ≡ Take place
-IsPlanAt t (Setstat path attrs) place plan = IsSetting (node_at t.names place) place attrs plan
-IsPlanAt t (Open path pflags attrs) place plan = plan ≡ plan_to_open t pflags attrs place (node_at t.names place)
-IsPlanAt t other place plan = plan ≡ Nothing
-
+-- what was found gets a further name at the new place
 abbrev pub IsNaming : Option Node → Place → Plan → Type 0
 IsNaming None new plan = ⊥
 IsNaming (Some node) new plan = plan ≡ Put new node
-
--- with the two places that its paths lead to
-abbrev pub IsPlanBetween : Tree → Ask → Place → Place → Plan → Type 0
-IsPlanBetween t (Rename oldpath newpath) old new plan = plan ≡ Move old new
-IsPlanBetween t (PosixRename oldpath newpath) old new plan =
-    plan ≡ (if are_one t.names old new then Nothing else Move old new)
-IsPlanBetween t (Hardlink oldpath newpath) old new plan = IsNaming (node_at t.names old) new plan
-IsPlanBetween t other old new plan = plan ≡ Nothing
-
--- the owner of a new directory or of a new file is an owner, and the target of a new link is bytes
-abbrev pub HasNode : Tree → Ask → Type 0
-HasNode t (Mkdir path attrs) = IsOwner (directory_owner t attrs)
-HasNode t (Symlink target link) = IsTrue (are_bytes target)
-HasNode t (Open path pflags attrs) = IsOwner (file_owner t attrs)
-HasNode t other = Unit {0}
-
--- only a file gets a further name
-abbrev pub IsFileAt : Tree → Ask → Place → Type 0
-IsFileAt t (Hardlink oldpath newpath) old = IsTrue (is_file (node_at t.names old))
-IsFileAt t other old = Unit {0}
 
 -- the plan can be carried out, and leaves the tree after the request
 pub record IsPlanned (t : Tree) (ask : Ask) (plan : Plan) : Type 0 where

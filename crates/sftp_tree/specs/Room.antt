@@ -1,16 +1,11 @@
 -- Whether what requests ask for keeps to the limits, in numbers.
 use Rattle.std.specs.Prelude.{◌+◌, ◌-◌, ◌^◌, ◌&&◌, ◌||◌, not, nat_lt, nat_le, Bool, true, length, ℕ, Option, Some}
-use Rattle.std.specs.Prelude.{None, Result, Ok, Err}
+use Rattle.std.specs.Prelude.{None}
 use Rattle.std.specs.List.{list_all}
 use Rattle.sftp_path.specs.Place.{Place, begins, depth_limit}
 use Rattle.sftp_treefile.specs.declared.limits.TreeLimits.{TreeLimits}
-use Rattle.sftp_packets.specs.declared.packets.Ask.{Ask}
-use Rattle.sftp_packets.specs.declared.packets.Ask.TheVariants.{Open, Setstat, Mkdir, Rename, Symlink, PosixRename}
-use Rattle.sftp_packets.specs.declared.packets.Ask.TheVariants.{Hardlink}
 use Rattle.sftp_tree.specs.declared.nodes.Node.{Node}
-use Rattle.sftp_tree.specs.declared.causes.Cause.{Cause}
-use Rattle.sftp_tree.specs.Tree.{Tree, Names, limits, node_at, is_file, depth_fits}
-use Rattle.sftp_tree.specs.PlaceCauses.{are_one}
+use Rattle.sftp_tree.specs.Tree.{Tree, Names, limits, is_file, depth_fits}
 
 -- whether one more entry, at a new place, keeps to the limits; the root is a place, but does not count as an entry
 abbrev pub has_room : Tree → Place → Bool
@@ -41,25 +36,3 @@ reaches_at_most names top room = list_all (λ e. not (begins top e.0) || nat_le 
 -- whether the node at the old place, with all below it, keeps to the limit of names in a place at the new one
 abbrev pub move_fits : Names → Place → Place → Bool
 move_fits names old new = nat_le (length new) depth_limit && reaches_at_most names old (depth_limit - length new)
-
--- by request, at the place that its path leads to
-abbrev pub has_room_at : Tree → Ask → Place → Bool
-has_room_at t (Mkdir path attrs) place = has_room t place
-has_room_at t (Symlink target link) place = has_room t place
-has_room_at t (Setstat path attrs) place = size_fits_at (limits t) attrs.size (node_at t.names place)
-has_room_at t (Open path pflags attrs) place = has_room_to_open t place (node_at t.names place)
-has_room_at t other place = true
-
--- and with the two places that its paths lead to
-abbrev pub has_room_between : Tree → Ask → Place → Place → Bool
-has_room_between t (Rename oldpath newpath) old new = move_fits t.names old new
-has_room_between t (PosixRename oldpath newpath) old new = are_one t.names old new || move_fits t.names old new
-has_room_between t (Hardlink oldpath newpath) old new = has_room t new
-has_room_between t other old new = true
-
--- by where its paths lead
-abbrev pub has_room_for : Tree → Ask → Result Place Cause → Option (Result Place Cause) → Bool
-has_room_for t ask (Ok place) None = has_room_at t ask place
-has_room_for t ask (Ok old) (Some (Ok new)) = has_room_between t ask old new
-has_room_for t ask (Ok old) (Some (Err cause)) = true
-has_room_for t ask (Err cause) new = true

@@ -1,13 +1,24 @@
-//! The requests that are judged by the paths that they name: their paths, and the causes of their own bytes.
-ghost use Rattle.std.specs.Prelude.{◌≡◌, Some, MatchOption, option_copied};
+//! The requests that are judged by the paths that they name, and what there is to say of each: its paths, the causes of
+//! its own bytes, the causes at the places that the paths lead to, whether there is room, and its plan.
+ghost use Rattle.std.specs.Prelude.{◌≡◌, Some, IfOk, MatchOption, option_copied};
 ghost use Rattle.sftp_treefile.specs.TreeFile.{is_target};
 ghost use Rattle.sftp_tree.specs.Requests as requests;
 ghost use Rattle.sftp_tree.specs.Refusals.{in_set};
+ghost use Rattle.sftp_tree.specs.Found.{IsThere, IsFoundIn};
+ghost use Rattle.sftp_tree.specs.Asks as spec;
 ghost use Rattle.sftp_tree.specs.Asks.{asked};
 
 use crate::causes::{Cause, Causes};
 use crate::flags::{are_good, excludes};
-use sftp_path::good_path;
+use crate::found::Found;
+use crate::nodes::Node;
+use crate::place_causes::{
+    giving, listing, making, naming, needing, opening, reading, setting, unlinking,
+};
+use crate::plans::{Plan, file_of};
+use crate::room::move_fits;
+use crate::trees::Tree;
+use sftp_path::{NoMemory, good_path};
 use sftp_wire::{Ask, Attrs};
 
 /// A request that is judged by the paths that it names.
@@ -127,15 +138,15 @@ pub(crate) fn path_ask(ask: &Ask) -> Option<PathAsk<'_>>
         Ask::Opendir { path } => Some(PathAsk::Opendir {
             path: path.as_slice(),
         }),
-        Ask::Close { .. } => None,
-        Ask::Read { .. } => None,
-        Ask::Write { .. } => None,
-        Ask::Fstat { .. } => None,
-        Ask::Fsetstat { .. } => None,
-        Ask::Readdir { .. } => None,
-        Ask::Fsync { .. } => None,
-        Ask::Limits => None,
-        Ask::Unknown { .. } => None,
+        Ask::Close { .. }
+        | Ask::Read { .. }
+        | Ask::Write { .. }
+        | Ask::Fstat { .. }
+        | Ask::Fsetstat { .. }
+        | Ask::Readdir { .. }
+        | Ask::Fsync { .. }
+        | Ask::Limits
+        | Ask::Unknown { .. } => None,
     }
 }
 
@@ -170,17 +181,17 @@ impl<'a> PathAsk<'a> {
             PathAsk::Rename { new, .. } => Some(new),
             PathAsk::PosixRename { new, .. } => Some(new),
             PathAsk::Hardlink { new, .. } => Some(new),
-            PathAsk::Mkdir { .. } => None,
-            PathAsk::Rmdir { .. } => None,
-            PathAsk::Remove { .. } => None,
-            PathAsk::Setstat { .. } => None,
-            PathAsk::Stat { .. } => None,
-            PathAsk::Lstat { .. } => None,
-            PathAsk::Realpath { .. } => None,
-            PathAsk::Readlink { .. } => None,
-            PathAsk::Symlink { .. } => None,
-            PathAsk::Open { .. } => None,
-            PathAsk::Opendir { .. } => None,
+            PathAsk::Mkdir { .. }
+            | PathAsk::Rmdir { .. }
+            | PathAsk::Remove { .. }
+            | PathAsk::Setstat { .. }
+            | PathAsk::Stat { .. }
+            | PathAsk::Lstat { .. }
+            | PathAsk::Realpath { .. }
+            | PathAsk::Readlink { .. }
+            | PathAsk::Symlink { .. }
+            | PathAsk::Open { .. }
+            | PathAsk::Opendir { .. } => None,
         }
     }
 
@@ -194,15 +205,15 @@ impl<'a> PathAsk<'a> {
             PathAsk::Realpath { .. } => true,
             PathAsk::Open { flags, .. } => !excludes(flags),
             PathAsk::Opendir { .. } => true,
-            PathAsk::Mkdir { .. } => false,
-            PathAsk::Rmdir { .. } => false,
-            PathAsk::Remove { .. } => false,
-            PathAsk::Lstat { .. } => false,
-            PathAsk::Readlink { .. } => false,
-            PathAsk::Symlink { .. } => false,
-            PathAsk::Rename { .. } => false,
-            PathAsk::PosixRename { .. } => false,
-            PathAsk::Hardlink { .. } => false,
+            PathAsk::Mkdir { .. }
+            | PathAsk::Rmdir { .. }
+            | PathAsk::Remove { .. }
+            | PathAsk::Lstat { .. }
+            | PathAsk::Readlink { .. }
+            | PathAsk::Symlink { .. }
+            | PathAsk::Rename { .. }
+            | PathAsk::PosixRename { .. }
+            | PathAsk::Hardlink { .. } => false,
         }
     }
 
@@ -214,18 +225,218 @@ impl<'a> PathAsk<'a> {
         match self {
             PathAsk::Symlink { target, .. } => none.when(Cause::BadPath, !is_target(target)),
             PathAsk::Open { flags, .. } => none.when(Cause::BadFlags, !are_good(flags)),
-            PathAsk::Opendir { .. } => none,
-            PathAsk::Mkdir { .. } => none,
-            PathAsk::Rmdir { .. } => none,
-            PathAsk::Remove { .. } => none,
-            PathAsk::Setstat { .. } => none,
-            PathAsk::Stat { .. } => none,
-            PathAsk::Lstat { .. } => none,
-            PathAsk::Realpath { .. } => none,
-            PathAsk::Readlink { .. } => none,
-            PathAsk::Rename { .. } => none,
-            PathAsk::PosixRename { .. } => none,
-            PathAsk::Hardlink { .. } => none,
+            PathAsk::Opendir { .. }
+            | PathAsk::Mkdir { .. }
+            | PathAsk::Rmdir { .. }
+            | PathAsk::Remove { .. }
+            | PathAsk::Setstat { .. }
+            | PathAsk::Stat { .. }
+            | PathAsk::Lstat { .. }
+            | PathAsk::Realpath { .. }
+            | PathAsk::Readlink { .. }
+            | PathAsk::Rename { .. }
+            | PathAsk::PosixRename { .. }
+            | PathAsk::Hardlink { .. } => none,
+        }
+    }
+}
+
+impl Tree {
+    /// The causes at the place that the path, or the first of two, leads to.
+    pub(crate) fn causes_at(&self, ask: PathAsk<'_>, found: &Found<'_>) -> Causes
+        requires { IsThere self.now.names found.now }
+        ensures { in_set result ≡ requests.causes_at self.now (asked ask.entry) found.now.place }
+    {
+        match ask {
+            PathAsk::Mkdir { .. } => making(found),
+            PathAsk::Rmdir { .. } => self.removing(found),
+            PathAsk::Remove { .. } => unlinking(found),
+            PathAsk::Setstat { attrs, .. } => setting(attrs, found),
+            PathAsk::Stat { .. } => needing(found),
+            PathAsk::Lstat { .. } => needing(found),
+            PathAsk::Realpath { .. } => Causes::none(),
+            PathAsk::Readlink { .. } => reading(found),
+            PathAsk::Symlink { .. } => making(found),
+            PathAsk::Rename { .. } => self.leaving(found),
+            PathAsk::PosixRename { .. } => self.leaving(found),
+            PathAsk::Hardlink { .. } => naming(found),
+            PathAsk::Open { flags, .. } => opening(flags, found),
+            PathAsk::Opendir { .. } => listing(found),
+        }
+    }
+
+    /// The causes at the place that the second path leads to.
+    pub(crate) fn new_causes_at(&self, ask: PathAsk<'_>, found: &Found<'_>) -> Causes
+        requires { IsThere self.now.names found.now }
+        ensures { in_set result ≡ requests.new_causes_at self.now (asked ask.entry) found.now.place }
+    {
+        match ask {
+            PathAsk::Rename { .. } => making(found),
+            PathAsk::PosixRename { .. } => giving(&found.place),
+            PathAsk::Hardlink { .. } => making(found),
+            PathAsk::Mkdir { .. }
+            | PathAsk::Rmdir { .. }
+            | PathAsk::Remove { .. }
+            | PathAsk::Setstat { .. }
+            | PathAsk::Stat { .. }
+            | PathAsk::Lstat { .. }
+            | PathAsk::Realpath { .. }
+            | PathAsk::Readlink { .. }
+            | PathAsk::Symlink { .. }
+            | PathAsk::Open { .. }
+            | PathAsk::Opendir { .. } => Causes::none(),
+        }
+    }
+
+    /// The causes of two places.
+    pub(crate) fn causes_between(
+        &self,
+        ask: PathAsk<'_>,
+        old: &Found<'_>,
+        new: &Found<'_>,
+    ) -> Causes
+        requires old { IsThere self.now.names old.now }
+        requires new { IsThere self.now.names new.now }
+        ensures { in_set result ≡ requests.causes_between self.now (asked ask.entry) old.now.place new.now.place }
+    {
+        match ask {
+            PathAsk::Rename { .. } => self.moving(old, &new.place),
+            PathAsk::PosixRename { .. } => self.exchanging(old, new),
+            PathAsk::Hardlink { .. }
+            | PathAsk::Mkdir { .. }
+            | PathAsk::Rmdir { .. }
+            | PathAsk::Remove { .. }
+            | PathAsk::Setstat { .. }
+            | PathAsk::Stat { .. }
+            | PathAsk::Lstat { .. }
+            | PathAsk::Realpath { .. }
+            | PathAsk::Readlink { .. }
+            | PathAsk::Symlink { .. }
+            | PathAsk::Open { .. }
+            | PathAsk::Opendir { .. } => Causes::none(),
+        }
+    }
+
+    /// Whether what a request asks for at a place keeps to the limits.
+    pub(crate) fn has_room_at(&self, ask: PathAsk<'_>, found: &Found<'_>) -> bool
+        requires { IsThere self.now.names found.now }
+        ensures { result ≡ spec.has_room_at self.now (asked ask.entry) found.now.place }
+    {
+        match ask {
+            PathAsk::Mkdir { .. } => self.has_room(&found.place),
+            PathAsk::Symlink { .. } => self.has_room(&found.place),
+            PathAsk::Setstat { attrs, .. } => self.size_fits_of(attrs, found),
+            PathAsk::Open { .. } => self.has_room_to_open(found),
+            PathAsk::Rmdir { .. }
+            | PathAsk::Remove { .. }
+            | PathAsk::Stat { .. }
+            | PathAsk::Lstat { .. }
+            | PathAsk::Realpath { .. }
+            | PathAsk::Readlink { .. }
+            | PathAsk::Rename { .. }
+            | PathAsk::PosixRename { .. }
+            | PathAsk::Hardlink { .. }
+            | PathAsk::Opendir { .. } => true,
+        }
+    }
+
+    /// Whether what a request asks for with two places keeps to the limits.
+    pub(crate) fn has_room_between(
+        &self,
+        ask: PathAsk<'_>,
+        old: &Found<'_>,
+        new: &Found<'_>,
+    ) -> bool
+        requires old { IsFoundIn self.now old.now }
+        requires new { IsThere self.now.names new.now }
+        ensures { result ≡ spec.has_room_between self.now (asked ask.entry) old.now.place new.now.place }
+    {
+        match ask {
+            PathAsk::Rename { .. } => move_fits(old, &new.place),
+            PathAsk::PosixRename { .. } => self.are_one(old, new) || move_fits(old, &new.place),
+            PathAsk::Hardlink { .. } => self.has_room(&new.place),
+            PathAsk::Mkdir { .. }
+            | PathAsk::Rmdir { .. }
+            | PathAsk::Remove { .. }
+            | PathAsk::Setstat { .. }
+            | PathAsk::Stat { .. }
+            | PathAsk::Lstat { .. }
+            | PathAsk::Realpath { .. }
+            | PathAsk::Readlink { .. }
+            | PathAsk::Symlink { .. }
+            | PathAsk::Open { .. }
+            | PathAsk::Opendir { .. } => true,
+        }
+    }
+
+    /// The plan of a request at the place that its path leads to.
+    ///
+    /// # Errors
+    ///
+    /// `NoMemory` if memory runs out.
+    pub(crate) fn plan_at<'a>(
+        &self,
+        ask: PathAsk<'a>,
+        found: Found<'_>,
+    ) -> Result<Plan<'a>, NoMemory>
+        requires { IsFoundIn self.now found }
+        ensures plan { IfOk result (spec.IsPlanAt self.now (asked ask.entry) found.entry.place) }
+        ensures node { IfOk result (λ plan. spec.HasNode self.now (asked ask.entry)) }
+    {
+        let Found { place, node } = found;
+        Ok(match ask {
+            PathAsk::Mkdir { attrs, .. } => {
+                Plan::Put(place, Node::Dir(self.directory_owner(attrs)))
+            }
+            PathAsk::Rmdir { .. } => Plan::Remove(place),
+            PathAsk::Remove { .. } => Plan::Remove(place),
+            PathAsk::Setstat { attrs, .. } => self.setting(place, &node, attrs),
+            PathAsk::Symlink { target, .. } => Plan::Put(place, self.link_to(target)?),
+            PathAsk::Open { flags, attrs, .. } => self.plan_to_open(flags, attrs, place, &node),
+            PathAsk::Stat { .. }
+            | PathAsk::Lstat { .. }
+            | PathAsk::Realpath { .. }
+            | PathAsk::Readlink { .. }
+            | PathAsk::Rename { .. }
+            | PathAsk::PosixRename { .. }
+            | PathAsk::Hardlink { .. }
+            | PathAsk::Opendir { .. } => Plan::Nothing,
+        })
+    }
+
+    /// The plan of a request at the two places that its paths lead to.
+    pub(crate) fn plan_between<'a>(
+        &self,
+        ask: PathAsk<'a>,
+        old: Found<'_>,
+        new: Found<'_>,
+    ) -> Plan<'a>
+        requires old { IsThere self.now.names old }
+        requires new { IsThere self.now.names new }
+        requires file { spec.IsFileAt self.now (asked ask) old.place }
+        ensures { spec.IsPlanBetween self.now (asked ask.entry) old.entry.place new.entry.place result }
+    {
+        match ask {
+            PathAsk::Rename { .. } => Plan::Move(old.place, new.place),
+            PathAsk::PosixRename { .. } => {
+                if self.are_one(&old, &new) {
+                    Plan::Nothing
+                } else {
+                    Plan::Move(old.place, new.place)
+                }
+            }
+            PathAsk::Hardlink { .. } => Plan::Put(new.place, Node::File(file_of(&old))),
+            PathAsk::Mkdir { .. }
+            | PathAsk::Rmdir { .. }
+            | PathAsk::Remove { .. }
+            | PathAsk::Setstat { .. }
+            | PathAsk::Stat { .. }
+            | PathAsk::Lstat { .. }
+            | PathAsk::Realpath { .. }
+            | PathAsk::Readlink { .. }
+            | PathAsk::Symlink { .. }
+            | PathAsk::Open { .. }
+            | PathAsk::Opendir { .. } => Plan::Nothing,
         }
     }
 }

@@ -4,11 +4,10 @@ ghost use Rattle.sftp_path.specs.Place.{parent};
 ghost use Rattle.sftp_tree.specs.declared.causes.Cause.{Cause as cause};
 ghost use Rattle.sftp_tree.specs.Tree as tree;
 ghost use Rattle.sftp_tree.specs.Requests as requests;
-ghost use Rattle.sftp_tree.specs.Asks.{asked};
+ghost use Rattle.sftp_tree.specs.Asks.{asked, has_room_for};
 ghost use Rattle.sftp_tree.specs.Refusals.{in_set, IsFree, IsRefusal};
 ghost use Rattle.sftp_tree.specs.Found.{placed, new_placed, EndIsThere, NewEndIsThere};
 ghost use Rattle.sftp_tree.specs.Ends as spec;
-ghost use Rattle.sftp_tree.specs.Room as room;
 
 use crate::asks::{PathAsk, path_ask};
 use crate::causes::{Cause, Causes, Refused};
@@ -184,7 +183,7 @@ impl Tree {
     fn has_room_for(&self, ask: PathAsk<'_>, ends: &Ends<'_>) -> bool
         requires { spec.EndsAreWell self.now ends.now.old ends.now.new }
         ensures { result
-            ≡ room.has_room_for self.now (asked ask.entry) (placed ends.now.old) (new_placed ends.now.new) }
+            ≡ has_room_for self.now (asked ask.entry) (placed ends.now.old) (new_placed ends.now.new) }
     {
         match (&ends.old, &ends.new) {
             (Ok(found), None) => self.has_room_at(ask, found),

@@ -1,14 +1,11 @@
-//! Which causes hold at the places that the paths of a request lead to.
+//! Causes at the places that the paths of requests lead to.
 ghost use Rattle.std.specs.Prelude.{◌≡◌, Bool};
-ghost use Rattle.sftp_tree.specs.Asks.{asked};
 ghost use Rattle.sftp_tree.specs.Refusals.{in_set};
 ghost use Rattle.sftp_tree.specs.PlaceCauses as place_causes;
 ghost use Rattle.sftp_tree.specs.Tree as tree;
 ghost use Rattle.sftp_tree.specs.Tree.{Names as table};
 ghost use Rattle.sftp_tree.specs.Found.{node_of, IsThere};
-ghost use Rattle.sftp_tree.specs.Requests as requests;
 
-use crate::asks::PathAsk;
 use crate::causes::{Cause, Causes};
 use crate::entries::is_below;
 use crate::flags::{creates, excludes};
@@ -18,83 +15,8 @@ use sftp_path::Place;
 use sftp_wire::Attrs;
 
 impl Tree {
-    /// The causes at the place that the path, or the first of two, leads to.
-    pub(crate) fn causes_at(&self, ask: PathAsk<'_>, found: &Found<'_>) -> Causes
-        requires { IsThere self.now.names found.now }
-        ensures { in_set result ≡ requests.causes_at self.now (asked ask.entry) found.now.place }
-    {
-        match ask {
-            PathAsk::Mkdir { .. } => making(found),
-            PathAsk::Rmdir { .. } => self.removing(found),
-            PathAsk::Remove { .. } => unlinking(found),
-            PathAsk::Setstat { attrs, .. } => setting(attrs, found),
-            PathAsk::Stat { .. } => needing(found),
-            PathAsk::Lstat { .. } => needing(found),
-            PathAsk::Realpath { .. } => Causes::none(),
-            PathAsk::Readlink { .. } => reading(found),
-            PathAsk::Symlink { .. } => making(found),
-            PathAsk::Rename { .. } => self.leaving(found),
-            PathAsk::PosixRename { .. } => self.leaving(found),
-            PathAsk::Hardlink { .. } => naming(found),
-            PathAsk::Open { flags, .. } => opening(flags, found),
-            PathAsk::Opendir { .. } => listing(found),
-        }
-    }
-
-    /// The causes at the place that the second path leads to.
-    pub(crate) fn new_causes_at(&self, ask: PathAsk<'_>, found: &Found<'_>) -> Causes
-        requires { IsThere self.now.names found.now }
-        ensures { in_set result ≡ requests.new_causes_at self.now (asked ask.entry) found.now.place }
-    {
-        match ask {
-            PathAsk::Rename { .. } => making(found),
-            PathAsk::PosixRename { .. } => giving(&found.place),
-            PathAsk::Hardlink { .. } => making(found),
-            PathAsk::Mkdir { .. } => Causes::none(),
-            PathAsk::Rmdir { .. } => Causes::none(),
-            PathAsk::Remove { .. } => Causes::none(),
-            PathAsk::Setstat { .. } => Causes::none(),
-            PathAsk::Stat { .. } => Causes::none(),
-            PathAsk::Lstat { .. } => Causes::none(),
-            PathAsk::Realpath { .. } => Causes::none(),
-            PathAsk::Readlink { .. } => Causes::none(),
-            PathAsk::Symlink { .. } => Causes::none(),
-            PathAsk::Open { .. } => Causes::none(),
-            PathAsk::Opendir { .. } => Causes::none(),
-        }
-    }
-
-    /// The causes of two places.
-    pub(crate) fn causes_between(
-        &self,
-        ask: PathAsk<'_>,
-        old: &Found<'_>,
-        new: &Found<'_>,
-    ) -> Causes
-        requires old { IsThere self.now.names old.now }
-        requires new { IsThere self.now.names new.now }
-        ensures { in_set result ≡ requests.causes_between self.now (asked ask.entry) old.now.place new.now.place }
-    {
-        match ask {
-            PathAsk::Rename { .. } => self.moving(old, &new.place),
-            PathAsk::PosixRename { .. } => self.exchanging(old, new),
-            PathAsk::Hardlink { .. } => Causes::none(),
-            PathAsk::Mkdir { .. } => Causes::none(),
-            PathAsk::Rmdir { .. } => Causes::none(),
-            PathAsk::Remove { .. } => Causes::none(),
-            PathAsk::Setstat { .. } => Causes::none(),
-            PathAsk::Stat { .. } => Causes::none(),
-            PathAsk::Lstat { .. } => Causes::none(),
-            PathAsk::Realpath { .. } => Causes::none(),
-            PathAsk::Readlink { .. } => Causes::none(),
-            PathAsk::Symlink { .. } => Causes::none(),
-            PathAsk::Open { .. } => Causes::none(),
-            PathAsk::Opendir { .. } => Causes::none(),
-        }
-    }
-
     /// The causes of a directory that is to be removed.
-    fn removing(&self, found: &Found<'_>) -> Causes
+    pub(crate) fn removing(&self, found: &Found<'_>) -> Causes
         requires { IsThere self.now.names found.now }
         ensures { in_set result ≡ place_causes.removing_causes self.now.names found.now.place }
     {
@@ -105,7 +27,7 @@ impl Tree {
     }
 
     /// The causes of a node that is to move to another place.
-    fn leaving(&self, found: &Found<'_>) -> Causes
+    pub(crate) fn leaving(&self, found: &Found<'_>) -> Causes
         requires { IsThere self.now.names found.now }
         ensures { in_set result ≡ place_causes.leaving_causes self.now.names found.now.place }
     {
@@ -121,7 +43,7 @@ impl Tree {
     }
 
     /// The causes of a move to a free place.
-    fn moving(&self, old: &Found<'_>, new: &Place) -> Causes
+    pub(crate) fn moving(&self, old: &Found<'_>, new: &Place) -> Causes
         requires { IsThere self.now.names old.now }
         ensures { in_set result ≡ place_causes.moving_causes self.now.names old.now.place new.now }
     {
@@ -130,7 +52,7 @@ impl Tree {
 
     /// The causes of a move that replaces the node at the new place, if there is one. Nothing moves if both are the
     /// same place, or names of one file.
-    fn exchanging(&self, old: &Found<'_>, new: &Found<'_>) -> Causes
+    pub(crate) fn exchanging(&self, old: &Found<'_>, new: &Found<'_>) -> Causes
         requires old { IsThere self.now.names old.now }
         requires new { IsThere self.now.names new.now }
         ensures { in_set result ≡ place_causes.exchanging_causes self.now.names old.now.place new.now.place }
@@ -143,35 +65,35 @@ impl Tree {
 }
 
 /// The causes of a node that is to be made.
-fn making(found: &Found<'_>) -> Causes
+pub(crate) fn making(found: &Found<'_>) -> Causes
     ensures { in_set result ≡ place_causes.making_causes (node_of found.now) }
 {
     Causes::none().when(Cause::Exists, found.is_taken())
 }
 
 /// The causes of a node that must exist.
-fn needing(found: &Found<'_>) -> Causes
+pub(crate) fn needing(found: &Found<'_>) -> Causes
     ensures { in_set result ≡ place_causes.needing_causes (node_of found.now) }
 {
     Causes::none().when(Cause::NoEntry, !found.is_taken())
 }
 
 /// The causes of a node that must be a link.
-fn reading(found: &Found<'_>) -> Causes
+pub(crate) fn reading(found: &Found<'_>) -> Causes
     ensures { in_set result ≡ place_causes.link_causes (node_of found.now) }
 {
     needing(found).when(Cause::NotLink, found.is_taken() && !found.is_link())
 }
 
 /// The causes of a node that must be a name of a file.
-fn naming(found: &Found<'_>) -> Causes
+pub(crate) fn naming(found: &Found<'_>) -> Causes
     ensures { in_set result ≡ place_causes.file_causes (node_of found.now) }
 {
     needing(found).when(Cause::NotFile, found.is_taken() && !found.is_file())
 }
 
 /// The causes of a node that is to get attributes: only a file has a size that can be set.
-fn setting(attrs: &Attrs, found: &Found<'_>) -> Causes
+pub(crate) fn setting(attrs: &Attrs, found: &Found<'_>) -> Causes
     ensures { in_set result ≡ place_causes.setting_causes attrs.now (node_of found.now) }
 {
     let sized = attrs.size.is_some() && (found.is_taken() && !found.is_file());
@@ -179,14 +101,14 @@ fn setting(attrs: &Attrs, found: &Found<'_>) -> Causes
 }
 
 /// The causes of a name that is to be removed, and must not be a directory.
-fn unlinking(found: &Found<'_>) -> Causes
+pub(crate) fn unlinking(found: &Found<'_>) -> Causes
     ensures { in_set result ≡ place_causes.unlinking_causes (node_of found.now) }
 {
     needing(found).when(Cause::IsDir, found.is_directory())
 }
 
 /// The causes of a node that is to be opened as a file.
-fn opening(flags: u32, found: &Found<'_>) -> Causes
+pub(crate) fn opening(flags: u32, found: &Found<'_>) -> Causes
     ensures { in_set result ≡ place_causes.opening_causes flags (node_of found.now) }
 {
     let new = excludes(flags);
@@ -197,14 +119,14 @@ fn opening(flags: u32, found: &Found<'_>) -> Causes
 }
 
 /// The causes of a node that must be a directory.
-fn listing(found: &Found<'_>) -> Causes
+pub(crate) fn listing(found: &Found<'_>) -> Causes
     ensures { in_set result ≡ place_causes.directory_causes (node_of found.now) }
 {
     needing(found).when(Cause::NotDir, found.is_taken() && !found.is_directory())
 }
 
 /// The causes of a place that is to get another node.
-fn giving(place: &Place) -> Causes
+pub(crate) fn giving(place: &Place) -> Causes
     ensures { in_set result ≡ place_causes.giving_causes place.now }
 {
     Causes::none().when(Cause::Root, is_root(place))

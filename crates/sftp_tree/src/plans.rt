@@ -8,7 +8,7 @@ ghost use Rattle.sftp_tree.specs.Changes as changes;
 ghost use Rattle.sftp_tree.specs.Requests as requests;
 ghost use Rattle.sftp_tree.specs.Asks.{asked};
 ghost use Rattle.sftp_tree.specs.Seen.{node_seen};
-ghost use Rattle.sftp_tree.specs.Found.{node_of, IsThere, IsFoundIn};
+ghost use Rattle.sftp_tree.specs.Found.{node_of};
 ghost use Rattle.sftp_tree.specs.Ends.{LeadTo, AreWell};
 ghost use Rattle.sftp_tree.specs.Refusals.{IsFree, IsRefusal};
 ghost use Rattle.sftp_tree.specs.Plans as spec;
@@ -90,41 +90,9 @@ impl Tree {
         }
     }
 
-    /// The plan of a request at the place that its path leads to.
-    ///
-    /// # Errors
-    ///
-    /// `NoMemory` if memory runs out.
-    // Slow to prove: the place is dropped on each way that does nothing.
-    fn plan_at<'a>(&self, ask: PathAsk<'a>, found: Found<'_>) -> Result<Plan<'a>, NoMemory>
-        requires { IsFoundIn self.now found }
-        ensures plan { IfOk result (spec.IsPlanAt self.now (asked ask.entry) found.entry.place) }
-        ensures node { IfOk result (λ plan. spec.HasNode self.now (asked ask.entry)) }
-    {
-        let Found { place, node } = found;
-        Ok(match ask {
-            PathAsk::Mkdir { attrs, .. } => {
-                Plan::Put(place, Node::Dir(self.directory_owner(attrs)))
-            }
-            PathAsk::Rmdir { .. } => Plan::Remove(place),
-            PathAsk::Remove { .. } => Plan::Remove(place),
-            PathAsk::Setstat { attrs, .. } => self.setting(place, &node, attrs),
-            PathAsk::Symlink { target, .. } => Plan::Put(place, self.link_to(target)?),
-            PathAsk::Stat { .. } => Plan::Nothing,
-            PathAsk::Lstat { .. } => Plan::Nothing,
-            PathAsk::Realpath { .. } => Plan::Nothing,
-            PathAsk::Readlink { .. } => Plan::Nothing,
-            PathAsk::Rename { .. } => Plan::Nothing,
-            PathAsk::PosixRename { .. } => Plan::Nothing,
-            PathAsk::Hardlink { .. } => Plan::Nothing,
-            PathAsk::Open { flags, attrs, .. } => self.plan_to_open(flags, attrs, place, &node),
-            PathAsk::Opendir { .. } => Plan::Nothing,
-        })
-    }
-
     /// What is to be done to open what was found: a free place gets a new file, and a file that exists is truncated if
     /// the flags say so.
-    fn plan_to_open<'a>(
+    pub(crate) fn plan_to_open<'a>(
         &self,
         flags: u32,
         attrs: &Attrs,
@@ -164,39 +132,13 @@ impl Tree {
         }
     }
 
-    /// The plan of a request at the two places that its paths lead to.
-    fn plan_between<'a>(&self, ask: PathAsk<'a>, old: Found<'_>, new: Found<'_>) -> Plan<'a>
-        requires old { IsThere self.now.names old }
-        requires new { IsThere self.now.names new }
-        requires file { spec.IsFileAt self.now (asked ask) old.place }
-        ensures { spec.IsPlanBetween self.now (asked ask.entry) old.entry.place new.entry.place result }
-    {
-        match ask {
-            PathAsk::Rename { .. } => Plan::Move(old.place, new.place),
-            PathAsk::PosixRename { .. } => {
-                if self.are_one(&old, &new) {
-                    Plan::Nothing
-                } else {
-                    Plan::Move(old.place, new.place)
-                }
-            }
-            PathAsk::Hardlink { .. } => Plan::Put(new.place, Node::File(file_of(&old))),
-            PathAsk::Mkdir { .. }
-            | PathAsk::Rmdir { .. }
-            | PathAsk::Remove { .. }
-            | PathAsk::Setstat { .. }
-            | PathAsk::Stat { .. }
-            | PathAsk::Lstat { .. }
-            | PathAsk::Realpath { .. }
-            | PathAsk::Readlink { .. }
-            | PathAsk::Symlink { .. }
-            | PathAsk::Open { .. }
-            | PathAsk::Opendir { .. } => Plan::Nothing,
-        }
-    }
-
     /// What is to be done to set the attributes of what was found.
-    fn setting<'a>(&self, place: Place, node: &Option<Seen<'_>>, attrs: &'a Attrs) -> Plan<'a>
+    pub(crate) fn setting<'a>(
+        &self,
+        place: Place,
+        node: &Option<Seen<'_>>,
+        attrs: &'a Attrs,
+    ) -> Plan<'a>
         requires kept { tree.IsKept self.now }
         requires there { option_map node_seen node.now ≡ tree.node_at self.now.names place }
         ensures { spec.IsSetting (tree.node_at self.now.names place) place attrs.now result }
@@ -245,7 +187,7 @@ impl Tree {
     /// # Errors
     ///
     /// `NoMemory` if memory runs out.
-    fn link_to(&self, target: &[u8]) -> Result<Node, NoMemory>
+    pub(crate) fn link_to(&self, target: &[u8]) -> Result<Node, NoMemory>
         ensures node { IfOk result (λ node. node ≡ Link target.now) }
         ensures bytes { OnOk result (IsTrue (are_bytes target.now)) }
     {
@@ -279,7 +221,7 @@ impl Tree {
 }
 
 /// The number of the file that was found.
-fn file_of(found: &Found<'_>) -> FileNo
+pub(crate) fn file_of(found: &Found<'_>) -> FileNo
     requires { IsTrue (tree.is_file (node_of found.now)) }
     ensures { node_of found.now ≡ Some (File result) }
 {

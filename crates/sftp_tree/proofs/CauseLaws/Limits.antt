@@ -1,27 +1,20 @@
 -- The numbers say whether what a request asks for keeps to the limits.
-use Rattle.sftp_tree.proofs.Imports.{◌≡◌, ℕ, ◌-◌, Bool, true, false, ◌&&◌, ◌||◌, not, List, length, take, replicate}
-use Rattle.sftp_tree.proofs.Imports.{refl, sym, ◌∙◌, ap, arith, Option, Some, None, IsTrue, nat_le, unwrap_or}
-use Rattle.sftp_tree.proofs.Imports.{if◌then◌else◌, Result, Ok, Err, list_any, not-false, or_parts, length-append}
-use Rattle.sftp_tree.proofs.Imports.{length-take, length-replicate, and-true, Attrs, Ask, Setstat, Remove, Mkdir, Rmdir}
-use Rattle.sftp_tree.proofs.Imports.{Rename, Symlink, PosixRename, Hardlink, Open, Place, TreeLimits, is_root}
-use Rattle.sftp_tree.proofs.Imports.{same_place, is_target, Content, Node, Dir, File, Link, Cause, BadPath, NoEntry}
-use Rattle.sftp_tree.proofs.Imports.{Exists, IsDir, NotLink, NotFile, NotEmpty, Root, Inside, NoRoom, NotDir, Tree}
-use Rattle.sftp_tree.proofs.Imports.{WellFormed, IsKept, limits, fits, node_at, content_at, is_taken, is_directory}
-use Rattle.sftp_tree.proofs.Imports.{is_link, has_entries, directory_owner, changed_owner, changed_content, resized}
-use Rattle.sftp_tree.proofs.Imports.{CauseSet, every_cause, is_none, no_causes, when, making_causes, needing_causes}
-use Rattle.sftp_tree.proofs.Imports.{link_causes, file_causes, unlinking_causes, leaving_causes, giving_causes}
-use Rattle.sftp_tree.proofs.Imports.{moving_causes, clashing_causes, replacing_causes, exchanging_causes, goes_inside}
-use Rattle.sftp_tree.proofs.Imports.{are_one, are_one_file, directory_causes, with_changed_file, with_attributes}
-use Rattle.sftp_tree.proofs.Imports.{with_further_name, put_in_its_stead, new_content, with_emptied_file, with_opened}
-use Rattle.sftp_tree.proofs.Imports.{truncates, has_room, size_fits, size_fits_at, move_fits, has_room_at}
-use Rattle.sftp_tree.proofs.Imports.{has_room_between, has_room_for, has_room_to_open, nat_tests}
+use Rattle.sftp_tree.proofs.Imports.{◌≡◌, ℕ, ◌-◌, Bool, true, false, ◌||◌, not, List, length, take, replicate, refl}
+use Rattle.sftp_tree.proofs.Imports.{sym, ◌∙◌, ap, arith, Option, Some, None, IsTrue, nat_le, unwrap_or, if◌then◌else◌}
+use Rattle.sftp_tree.proofs.Imports.{not-false, or_parts, length-append, length-take, length-replicate, Attrs, Place}
+use Rattle.sftp_tree.proofs.Imports.{TreeLimits, is_root, same_place, Content, Node, Dir, File, Link, Cause, NoEntry}
+use Rattle.sftp_tree.proofs.Imports.{Exists, IsDir, NotLink, NotFile, NotEmpty, Root, Inside, NotDir, Tree, WellFormed}
+use Rattle.sftp_tree.proofs.Imports.{IsKept, limits, fits, node_at, content_at, is_taken, is_directory, is_link}
+use Rattle.sftp_tree.proofs.Imports.{has_entries, changed_owner, changed_content, resized, no_causes, when}
+use Rattle.sftp_tree.proofs.Imports.{making_causes, needing_causes, link_causes, file_causes, unlinking_causes}
+use Rattle.sftp_tree.proofs.Imports.{leaving_causes, giving_causes, moving_causes, clashing_causes, replacing_causes}
+use Rattle.sftp_tree.proofs.Imports.{exchanging_causes, goes_inside, are_one, are_one_file, directory_causes}
+use Rattle.sftp_tree.proofs.Imports.{with_changed_file, with_attributes, put_in_its_stead, new_content}
+use Rattle.sftp_tree.proofs.Imports.{with_emptied_file, with_opened, truncates, size_fits, move_fits, nat_tests}
+use Rattle.sftp_tree.specs.Room.{size_fits_at, has_room_to_open}
 use Rattle.std.specs.Option.{is_some, option_map}
-use Rattle.sftp_tree.specs.Requests.{led, new_led, causes, causes_at, new_causes_at, causes_between, own_causes}
-use Rattle.sftp_tree.specs.Requests.{outcome_at, outcome_between, outcome_led, plain_of}
-use Rattle.sftp_tree.proofs.CauseLaws.Places.{plain-parts, lost-first, causes-are}
-use Rattle.sftp_tree.proofs.CauseLaws.Sets.{none-each}
-use Rattle.sftp_tree.proofs.Limits.Entries.{fits-put, fits-without, fits-again, fits-content, content-fits}
-use Rattle.sftp_tree.proofs.Limits.Moves.{fits-moved, fits-put_in_stead, nothing-from}
+use Rattle.sftp_tree.proofs.Limits.Entries.{fits-again, fits-content, content-fits}
+use Rattle.sftp_tree.proofs.Limits.Moves.{fits-put_in_stead}
 use Rattle.sftp_tree.proofs.FileCounts.Moves as left
 use Rattle.sftp_tree.proofs.KeptTrees.NewFiles.{fits-new, no_bytes, emptied-is}
 use Rattle.sftp_tree.proofs.KeptTrees.Files.{not-given}
@@ -133,7 +126,7 @@ changed-room t attrs number kept (Some content) is there =
     fits-content t number (changed_content attrs content) kept.within_limits
     ∙ changed-fits (limits t) attrs.size content.bytes (content-fits t number content kept.within_limits is)
 
-set-room : (t : Tree) (attrs : Attrs) (place : Place) (found : Option Node) → IsKept t → node_at t.names place ≡ found → size_fits_at (limits t) attrs.size found ≡ fits (with_attributes t attrs place found)
+pub set-room : (t : Tree) (attrs : Attrs) (place : Place) (found : Option Node) → IsKept t → node_at t.names place ≡ found → size_fits_at (limits t) attrs.size found ≡ fits (with_attributes t attrs place found)
 set-room t attrs place None kept is = sym kept.within_limits
 set-room t attrs place (Some (Dir owner)) kept is = sym (fits-again t place (Dir owner) (Dir (changed_owner attrs owner)) kept.within_limits kept.well_formed.ordered is refl)
 set-room t attrs place (Some (File number)) kept is = sym (changed-room t attrs number kept (content_at t.files number) refl (node-kept t place (File number) kept is))
@@ -151,7 +144,7 @@ truncated-room t number true kept there =
     ∙ short-enough (limits t).file_bytes)
 truncated-room t number false kept there = sym kept.within_limits
 
-open-room : (t : Tree) (flags : ℕ) (attrs : Attrs) (place : Place) (found : Option Node) → IsKept t
+pub open-room : (t : Tree) (flags : ℕ) (attrs : Attrs) (place : Place) (found : Option Node) → IsKept t
     → node_at t.names place ≡ found → has_room_to_open t place found ≡ fits (with_opened t flags attrs place found)
 open-room t flags attrs place None kept is =
     sym (fits-new t place (new_content t attrs) kept.within_limits is (not-given t t.made kept.well_formed (omega arith)) (short-enough (limits t).file_bytes))
@@ -160,71 +153,16 @@ open-room t flags attrs place (Some (File number)) kept is =
     truncated-room t number (truncates flags) kept (node-kept t place (File number) kept is)
 open-room t flags attrs place (Some (Link goal)) kept is = sym kept.within_limits
 
--- ---- at the place that a path leads to
-
-good-target : (target link : List ℕ) → ((c : Cause) → own_causes (Symlink target link) c ≡ false) → is_target target ≡ true
-unfolding when no_causes
-good-target target link none = not-false (is_target target) (or_parts (not (is_target target)) false (none BadPath)).0
-
-room-at : (t : Tree) (ask : Ask) (place : Place) → IsKept t → ((c : Cause) → own_causes ask c ≡ false) → ((c : Cause) → causes_at t ask place c ≡ false) → has_room_at t ask place ≡ fits (outcome_at t ask place)
-room-at t (Mkdir path attrs) place kept own none =
-    sym (fits-put t place (Dir (directory_owner t attrs)) kept.within_limits (free-place (node_at t.names place) none) ∙ and-true (has_room t place))
-room-at t (Symlink target link) place kept own none =
-    sym (fits-put t place (Link target) kept.within_limits (free-place (node_at t.names place) none) ∙ ap (λ b. has_room t place && b) (good-target target link own) ∙ and-true (has_room t place))
-room-at t (Rmdir path) place kept own none = sym (fits-without t place kept.within_limits)
-room-at t (Remove path) place kept own none = sym (fits-without t place kept.within_limits)
-room-at t (Setstat path attrs) place kept own none = set-room t attrs place (node_at t.names place) kept refl
-room-at t (Open path flags attrs) place kept own none = open-room t flags attrs place (node_at t.names place) kept refl
-room-at t other place kept own none = sym kept.within_limits
-
--- ---- with the two places that both paths lead to
+-- ---- what moves
 
 -- nothing is at a free place, nor below it
 pub free-alone : (t : Tree) (place : Place) → IsKept t → node_at t.names place ≡ None → has_entries t.names place ≡ false
 free-alone t place kept free =
     nothing-below t.names place kept.well_formed.ordered kept.well_formed.parents (ap is_directory free)
 
-replace-room : (t : Tree) (old new : Place) (one : Bool) → are_one t.names old new ≡ one → IsKept t → MayLeave t old → ((c : Cause) → exchanging_causes t.names old new c ≡ false) → (one || move_fits t.names old new) ≡ fits (if one then t else put_in_its_stead t old new)
+pub replace-room : (t : Tree) (old new : Place) (one : Bool) → are_one t.names old new ≡ one → IsKept t → MayLeave t old → ((c : Cause) → exchanging_causes t.names old new c ≡ false) → (one || move_fits t.names old new) ≡ fits (if one then t else put_in_its_stead t old new)
 replace-room t old new true is kept leave none = sym kept.within_limits
 replace-room t old new false is kept leave none =
     let may = may-replace t old new kept.well_formed leave none is in
     sym (fits-put_in_stead t old new kept leave.taken (left.nothing-from t.names new kept.well_formed.ordered (alone-there t.names new may.alone))
     (λ there. apart-from t.names old new kept.well_formed.parents may.outside may.elsewhere (kept.well_formed.parents new there)))
-
-room-between : (t : Tree) (ask : Ask) (old new : Place) → IsKept t → ((c : Cause) → causes_at t ask old c ≡ false) → ((c : Cause) → new_causes_at t ask new c ≡ false) → ((c : Cause) → causes_between t ask old new c ≡ false) → has_room_between t ask old new ≡ fits (outcome_between t ask old new)
-room-between t (Rename oldpath newpath) old new kept here there both =
-    let free = free-place (node_at t.names new) there in
-    sym (fits-moved t old new kept (may-leave t old here).taken (nothing-from t.names new free (alone-there t.names new (free-alone t new kept free))))
-room-between t (PosixRename oldpath newpath) old new kept here there both = replace-room t old new (are_one t.names old new) refl kept (may-leave t old here) both
-room-between t (Hardlink oldpath newpath) old new kept here there both =
-    let file = file-place (node_at t.names old) here in
-    sym (ap (λ found. fits (with_further_name t found new)) file.1 ∙ fits-put t new (File file.0) kept.within_limits (free-place (node_at t.names new) there) ∙ and-true (has_room t new))
-room-between t other old new kept here there both = sym kept.within_limits
-
--- ---- by where the paths lead
-
-pub room-for : (t : Tree) (ask : Ask) (end : Result Place Cause) (new : Option (Result Place Cause)) → ((place : Place) → end ≡ Ok place → IsKept t) → ((c : Cause) → plain_of t ask (Some end) new c ≡ false) → has_room_for t ask end new ≡ fits (outcome_led t ask (Some end) new)
-room-for t ask (Ok place) None keeps none =
-    let parts = plain-parts t ask (Some (Ok place)) None none in
-    room-at t ask place (keeps place refl) parts.own parts.here
-room-for t ask (Ok old) (Some (Ok new)) keeps none =
-    let parts = plain-parts t ask (Some (Ok old)) (Some (Ok new)) none in
-    room-between t ask old new (keeps old refl) parts.here parts.there parts.both
-room-for t ask (Ok old) (Some (Err cause)) keeps none = sym (keeps old refl).within_limits
-room-for t ask (Err cause) new keeps none =
-    let holds = lost-first t ask cause new in
-    let not_so = none cause in
-    absurd cc
-
--- a set with `NoRoom`, as the code finds it, is the request's
-pub judged : (t : Tree) (ask : Ask) (end : Result Place Cause) (new : Option (Result Place Cause)) (plain : CauseSet) (lacks : Bool) → led t ask ≡ Some end → new_led t ask ≡ new → ((place : Place) → end ≡ Ok place → IsKept t) → plain ≡ plain_of t ask (Some end) new → lacks ≡ (not (list_any plain every_cause) && not (has_room_for t ask end new)) → when plain NoRoom lacks ≡ causes t ask
-judged t ask end new plain lacks one two keeps same is =
-    let all = plain_of t ask (Some end) new in
-    (λ i. when (same i) NoRoom (lack (is_none all) refl i)) ∙ sym (causes-are t ask (Some end) new one two)
-  where
-    both : (b : Bool) → is_none (plain_of t ask (Some end) new) ≡ b → (b && not (has_room_for t ask end new)) ≡ (b && not (fits (outcome_led t ask (Some end) new)))
-    both true none = ap not (room-for t ask end new keeps (none-each (plain_of t ask (Some end) new) none))
-    both false none = refl
-
-    lack : (b : Bool) → is_none (plain_of t ask (Some end) new) ≡ b → lacks ≡ (is_none (plain_of t ask (Some end) new) && not (fits (outcome_led t ask (Some end) new)))
-    lack b none = is ∙ ap (λ s. is_none s && not (has_room_for t ask end new)) same ∙ both (is_none (plain_of t ask (Some end) new)) refl

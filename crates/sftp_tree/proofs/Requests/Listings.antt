@@ -1,9 +1,8 @@
--- Listings: that what is right below a place is shown, and what a reply to OPENDIR says.
-use Rattle.sftp_tree.proofs.Imports.{◌≡◌, ℕ, List, [], ◌∷◌, ◌++◌, map, filter_map, option_map, sym, ◌∙◌, ap, Option}
-use Rattle.sftp_tree.proofs.Imports.{Some, None, Ok, cons_option, AllByRecursion, append_assoc, map-append, Attrs}
-use Rattle.sftp_tree.proofs.Imports.{Opendir, Name, Place, Table, Node, Names, Files, Tree, IsNode, listing_to, Item}
-use Rattle.sftp_tree.proofs.Imports.{entry_of, name_below, child_below, children, listing, shown_child}
-use Rattle.sftp_tree.specs.Requests.{led, led_to}
+-- Listings: that what is right below a place is shown.
+use Rattle.sftp_tree.proofs.Imports.{◌≡◌, List, [], ◌∷◌, ◌++◌, map, filter_map, option_map, sym, ◌∙◌, ap, Option, Some}
+use Rattle.sftp_tree.proofs.Imports.{None, cons_option, AllByRecursion, append_assoc, map-append, Attrs, Name, Place}
+use Rattle.sftp_tree.proofs.Imports.{Table, Node, Names, Files, Tree, IsNode, Item, entry_of, name_below, child_below}
+use Rattle.sftp_tree.proofs.Imports.{children, listing, shown_child}
 
 -- ---- each node right below a place is a node of the tree
 
@@ -37,11 +36,3 @@ listed-on t items after it e rest whole is shows so_far =
     ∙ ap (λ xs. xs ++ filter_map (shown_child t) rest) (map-append entry_of items (it ∷ []))
     ∙ append_assoc (map entry_of items) (entry_of it ∷ []) (filter_map (shown_child t) rest)
     ∙ ap (λ o. map entry_of items ++ cons_option o (filter_map (shown_child t) rest)) (sym shows) ∙ so_far
-
--- ---- the reply
-
-pub listing-told : (t : Tree) (path : List ℕ) (place : Place) (items : Table Name Attrs)
-    → led t (Opendir path) ≡ Some (Ok place) → items ≡ listing t place → listing_to t (Opendir path) ≡ Some items
-unfolding listing_to
-listing-told t path place items leads is = ap (λ o. led_to None o (λ place. Some (listing t place))) leads
-    ∙ ap Some (sym is)

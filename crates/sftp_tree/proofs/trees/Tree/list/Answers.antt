@@ -1,7 +1,6 @@
 use Rattle.sftp_tree.proofs.Imports.{◌≡◌, ◌∙◌, ap, subst, map, IfOk, entry_of, listing}
 use Rattle.std.specs.Result.{result_from_control_flow}
-use Rattle.sftp_tree.proofs.Requests.Listings.{listing-told}
-use Rattle.sftp_tree.proofs.Requests.Plans.{listed-directory}
+use Rattle.sftp_tree.proofs.Requests.Rows.{listed-directory, listing-told}
 use Rattle.sftp_tree.proofs.trees.Tree.list.Goals as goal
 
 pub returns-clause-listed : goal.returns-clause-listed

@@ -1,4 +1,4 @@
-use Rattle.sftp_tree.proofs.Requests.Plans.{number-there, number-told}
+use Rattle.sftp_tree.proofs.Requests.Rows.{number-there, number-told}
 use Rattle.sftp_tree.proofs.trees.Tree.open_file.Goals as goal
 
 pub number_at-number-requires-clause-file : goal.number_at-number-requires-clause-file

@@ -1,7 +1,7 @@
 use Rattle.sftp_tree.proofs.Imports.{◌≡◌, sym, ◌∙◌, ap, subst, IfOk, is_link}
 use Rattle.std.specs.Result.{result_from_control_flow}
 use Rattle.sftp_tree.specs.Requests.{target_of}
-use Rattle.sftp_tree.proofs.Requests.Plans.{read-link, link-told}
+use Rattle.sftp_tree.proofs.Requests.Rows.{read-link, link-told}
 use Rattle.sftp_tree.proofs.trees.Tree.read_link.Goals as goal
 
 pub target_of-requires : goal.target_of-requires

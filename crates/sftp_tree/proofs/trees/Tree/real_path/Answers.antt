@@ -1,6 +1,6 @@
 use Rattle.sftp_tree.proofs.Imports.{◌≡◌, ◌∙◌, ap, subst, IfOk, absolute}
 use Rattle.std.specs.Result.{result_from_control_flow}
-use Rattle.sftp_tree.proofs.Requests.Plans.{path-told}
+use Rattle.sftp_tree.proofs.Requests.Rows.{path-told}
 use Rattle.sftp_tree.proofs.trees.Tree.real_path.Goals as goal
 
 pub returns-clause-text : goal.returns-clause-text

@@ -1,5 +1,5 @@
 use Rattle.sftp_tree.proofs.Imports.{◌≡◌, sym, ◌∙◌, ap, asked, stat_ask}
-use Rattle.sftp_tree.proofs.Requests.Plans.{stat-taken, stat-shown}
+use Rattle.sftp_tree.proofs.Requests.Rows.{stat-taken, stat-shown}
 use Rattle.sftp_tree.proofs.trees.Tree.stat.Goals as goal
 use Rattle.sftp_tree.proofs.trees.Tree.stat.Goals.{then-follow, else-follow}
 
