@@ -13,8 +13,8 @@ use Rattle.sftp_text.specs.Digits.{number, is_digit}
 use Rattle.sftp_text.specs.Fields.{fields_text, tail_text}
 use Rattle.sftp_text.specs.Layouts.{Row, row, every_packet, same_side, id_text, body_text, packet_text, up_to_space, behind_space, name_in, may_have, layout_of_bytes, layout_of_text}
 use Rattle.sftp_text.specs.Lines.{is_printable}
-use Rattle.sftp_text.specs.declared.layouts.PacketType.{PacketType}
-use Rattle.sftp_text.specs.declared.layouts.PacketType.TheVariants as packets
+use Rattle.sftp_text.specs.declared.table.PacketType.{PacketType}
+use Rattle.sftp_text.specs.declared.table.PacketType.TheVariants as packets
 use Rattle.sftp_text.proofs.Exact.{some-inj, none-some, IsExact, IsExact-weaken, then-exact, mark-exact, nothing-exact, Behind}
 use Rattle.sftp_text.proofs.Numerals.{NumberFront, number-exact, is_digit-from_value}
 use Rattle.sftp_text.proofs.Repeats.{IsEnd}

@@ -23,8 +23,8 @@ use Rattle.sftp_text.specs.Digits as digits
 use Rattle.sftp_text.specs.Fields.{field_text, tail_text, fields_text}
 use Rattle.sftp_text.specs.Layouts.{Row, row, every_packet, id_text, body_text, packet_text, starts, layout_of_bytes}
 use Rattle.sftp_text.specs.Lines.{side_letter, whole, show_whole, show_packet, named_line}
-use Rattle.sftp_text.specs.declared.layouts.PacketType.{PacketType}
-use Rattle.sftp_text.specs.declared.layouts.PacketType.TheVariants as packets
+use Rattle.sftp_text.specs.declared.table.PacketType.{PacketType}
+use Rattle.sftp_text.specs.declared.table.PacketType.TheVariants as packets
 use Rattle.sftp_text.specs.declared.layouts.Field.{Field}
 use Rattle.sftp_text.specs.declared.layouts.Field.TheVariants.{Number, Long, Flags, Text}
 use Rattle.sftp_text.specs.declared.layouts.Tail.{Tail}

@@ -14,7 +14,7 @@ use Rattle.sftp_text.specs.Formats.{front_uint32, if_found}
 use Rattle.sftp_text.specs.Layouts.{row, packet_text, layout_of_bytes, layout_of_text}
 use Rattle.sftp_text.specs.Lines.{is_printable, whole, digits_text, raw_text, digits_read, raw_read, side_letter, show_whole, show_packet, named_line, line_of}
 use Rattle.sftp_text.specs.Lines.{side_of_letter, with_length, read_packet, bytes_of_text, line_read}
-use Rattle.sftp_text.specs.declared.layouts.PacketType.{PacketType}
+use Rattle.sftp_text.specs.declared.table.PacketType.{PacketType}
 use Rattle.sftp_text.proofs.Exact.{some-inj, none-some, AreBytes-behind, printable-append, front_number-some}
 use Rattle.sftp_text.proofs.Strings.{hex_onto-text, hex_text-printable}
 use Rattle.sftp_text.proofs.Bodies.{packet_text-exact, layout-side, layout_of_text-named, no_raw}
