@@ -4,8 +4,9 @@ use Rattle.std.proofs.Common.{Option, Some, None, refl, sym, ap, subst, ◌∙�
 use Rattle.std.specs.Prelude.{IsTrue, IsFalse, ◌==◌, codes, decimal, bytes_eq, find}
 use Rattle.std.specs.List.{list_all}
 use Rattle.std.specs.Str.Parse.{IsNumeral, AllDigits}
-use Rattle.std.proofs.lemmas.Bool.{cond-true, cond-false, cases_Bool, eqb-true, and_parts}
+use Rattle.std.proofs.lemmas.Bool.{cond-true, cond-false, cases_Bool, eqb-true, and_parts, and_from}
 use Rattle.std.proofs.lemmas.Fmt.{decimal_is_IsNumeral}
+use Rattle.std.proofs.lemmas.Slice.Eq.{bytes_eq-Decides}
 use Rattle.sftp_packets.specs.declared.packets.Side.{Side}
 use Rattle.sftp_packets.specs.declared.packets.Side.TheVariants.{Client, Server}
 use Rattle.sftp_text.specs.Formats.{Format, nothing, ◌then◌, word, mark}
@@ -13,8 +14,7 @@ use Rattle.sftp_text.specs.Digits.{number, is_digit}
 use Rattle.sftp_text.specs.Fields.{fields_text, tail_text}
 use Rattle.sftp_text.specs.Layouts.{Row, row, every_packet, same_side, id_text, body_text, packet_text, up_to_space, behind_space, name_in, may_have, layout_of_bytes, layout_of_text}
 use Rattle.sftp_text.specs.Lines.{is_printable}
-use Rattle.sftp_text.specs.declared.layouts.PacketType.{PacketType}
-use Rattle.sftp_text.specs.declared.layouts.PacketType.TheVariants as packets
+use Rattle.sftp_text.specs.declared.table.PacketType.{PacketType}
 use Rattle.sftp_text.proofs.Exact.{some-inj, none-some, IsExact, IsExact-weaken, then-exact, mark-exact, nothing-exact, Behind}
 use Rattle.sftp_text.proofs.Numerals.{NumberFront, number-exact, is_digit-from_value}
 use Rattle.sftp_text.proofs.Repeats.{IsEnd}
@@ -34,40 +34,6 @@ begins_with_digit (c ∷ text) = is_digit 10 c
 abbrev is_name : List ℕ → Bool
 is_name name = list_all is_printable name && list_all is_not_space name && not (begins_with_digit name)
 
-each_is_name : (packet : PacketType) → is_name (row packet).name ≡ true
-unfolding row
-each_is_name packets.Init = refl
-each_is_name packets.Version = refl
-each_is_name packets.Open = refl
-each_is_name packets.Close = refl
-each_is_name packets.Read = refl
-each_is_name packets.Write = refl
-each_is_name packets.Lstat = refl
-each_is_name packets.Fstat = refl
-each_is_name packets.Setstat = refl
-each_is_name packets.Fsetstat = refl
-each_is_name packets.Opendir = refl
-each_is_name packets.Readdir = refl
-each_is_name packets.Remove = refl
-each_is_name packets.Mkdir = refl
-each_is_name packets.Rmdir = refl
-each_is_name packets.Realpath = refl
-each_is_name packets.Stat = refl
-each_is_name packets.Rename = refl
-each_is_name packets.Readlink = refl
-each_is_name packets.Symlink = refl
-each_is_name packets.PosixRename = refl
-each_is_name packets.Hardlink = refl
-each_is_name packets.Fsync = refl
-each_is_name packets.Limits = refl
-each_is_name packets.Extended = refl
-each_is_name packets.Status = refl
-each_is_name packets.Handle = refl
-each_is_name packets.Data = refl
-each_is_name packets.Name = refl
-each_is_name packets.Attrs = refl
-each_is_name packets.ExtendedReply = refl
-
 record IsName (name : List ℕ) : Type 0 where
   pub printable : IsTrue (list_all is_printable name)
   pub spaceless : IsTrue (list_all is_not_space name)
@@ -77,9 +43,9 @@ not-true : (b : Bool) → not b ≡ true → b ≡ false
 not-true true h = cc
 not-true false h = refl
 
-row-IsName : (packet : PacketType) → IsName (row packet).name
-row-IsName packet =
-    let both = and_parts _ _ (each_is_name packet) in
+IsName-from : (name : List ℕ) → is_name name ≡ true → IsName name
+IsName-from name passes =
+    let both = and_parts _ _ passes in
     let first = and_parts _ _ both.0 in
     record { printable = first.0; spaceless = first.1; letter = not-true _ both.1 }
 
@@ -170,23 +136,19 @@ body_text-exact r is = go r.has_id
         (λ l e. e)
         (then-exact (word (codes " ") then number) (named r) (Behind (codes " ") D) N IsEnd id (named-exact r is))
 
-pub packet_text-exact : (packet : PacketType)
-    → IsExact (packet_text (row packet)) (NameFront (row packet).name) IsEnd
-packet_text-exact packet =
-    let r = row packet in
-    then-exact (mark (r.kind ∷ [])) (body_text r) (NameFront r.name) (NameFront r.name) IsEnd
-    (mark-exact (r.kind ∷ []) (NameFront r.name)) (body_text-exact r (row-IsName packet))
-
 -- ---- which layout
 
-pub find-passes : {A : Type 0} (p : A → Bool) (xs : List A) (x : A) → find p xs ≡ Some x → p x ≡ true
-find-passes p [] x e = none-some x e
-find-passes p (y ∷ xs) x e =
+-- what is found passes the test, and each that all pass
+find-passes : {A : Type 0} (p q : A → Bool) (xs : List A) (x : A) → find p xs ≡ Some x → list_all q xs ≡ true
+    → (p x ≡ true) × (q x ≡ true)
+find-passes p q [] x e all = none-some x e
+find-passes p q (y ∷ xs) x e all =
+    let parts = and_parts _ _ all in
     elim (cases_Bool (p y)) [
       | inl passes ↦
           let same = some-inj y x (sym (cond-true (p y) (Some y) (find p xs) passes) ∙ e) in
-          subst (λ z. p z ≡ true) same passes
-      | inr fails ↦ find-passes p xs x (sym (cond-false (p y) (Some y) (find p xs) fails) ∙ e)
+          subst (λ z. (p z ≡ true) × (q z ≡ true)) same (passes, parts.0)
+      | inr fails ↦ find-passes p q xs x (sym (cond-false (p y) (Some y) (find p xs) fails) ∙ e) parts.1
     ]
 
 same_side-true : (a b : Side) → same_side a b ≡ true → a ≡ b
@@ -195,58 +157,80 @@ same_side-true Client Server e = cc
 same_side-true Server Client e = cc
 same_side-true Server Server e = refl
 
--- the layout of a record's bytes is of the record's side
-pub layout-side : (side : Side) (bytes : List ℕ) (packet : PacketType) → layout_of_bytes side bytes ≡ Some packet
-    → (row packet).side ≡ side
-unfolding layout_of_bytes
-layout-side side bytes packet e =
-    let passes = find-passes (λ p. may_have side bytes (row p)) every_packet packet e in
-    same_side-true _ _ (and_parts _ _ (and_parts _ _ passes).0).0
+same_side-self : (side : Side) → same_side side side ≡ true
+same_side-self Client = refl
+same_side-self Server = refl
+
+-- whether a packet has this side and this name
+abbrev is_named : Side → List ℕ → PacketType → Bool
+is_named side name packet = same_side (row packet).side side && bytes_eq (row packet).name name
+
+-- whether no two packets have one side and one name
+abbrev are_distinct : List PacketType → Bool
+are_distinct [] = true
+are_distinct (x ∷ xs) = list_all (λ y. not (is_named (row y).side (row y).name x)) xs && are_distinct xs
+
+-- what is found among distinct packets is found by its side and its name
+find-named : (p : PacketType → Bool) (xs : List PacketType) (x : PacketType) → are_distinct xs ≡ true
+    → find p xs ≡ Some x → find (is_named (row x).side (row x).name) xs ≡ Some x
+find-named p [] x distinct e = none-some x e
+find-named p (y ∷ xs) x distinct e =
+    let parts = and_parts _ _ distinct in
+    let named : PacketType → PacketType → Bool = λ z. is_named (row z).side (row z).name in
+    elim (cases_Bool (p y)) [
+      | inl passes ↦
+          let same = some-inj y x (sym (cond-true (p y) (Some y) (find p xs) passes) ∙ e) in
+          let own = and_from _ _ (same_side-self (row y).side) ((bytes_eq-Decides (row y).name (row y).name).1 refl) in
+          subst (λ z. find (named z) (y ∷ xs) ≡ Some z) same (cond-true (named y y) (Some y) (find (named y) xs) own)
+      | inr fails ↦
+          let later = sym (cond-false (p y) (Some y) (find p xs) fails) ∙ e in
+          let other = not-true _ (find-passes p (λ z. not (named z y)) xs x later parts.0).1 in
+          cond-false (named x y) (Some y) (find (named x) xs) other ∙ find-named p xs x parts.1 later
+    ]
 
 -- the packet of a side and a name
-abbrev pub named_packet : Side → List ℕ → Option PacketType
-named_packet side name = find (λ packet. same_side (row packet).side side && bytes_eq (row packet).name name) every_packet
+abbrev named_packet : Side → List ℕ → Option PacketType
+named_packet side name = find (is_named side name) every_packet
 
-each_is_found : (packet : PacketType) → named_packet (row packet).side (row packet).name ≡ Some packet
+-- the names in the table are names
+all_are_names : list_all (λ packet. is_name (row packet).name) every_packet ≡ true
 unfolding row every_packet
-each_is_found packets.Init = refl
-each_is_found packets.Version = refl
-each_is_found packets.Open = refl
-each_is_found packets.Close = refl
-each_is_found packets.Read = refl
-each_is_found packets.Write = refl
-each_is_found packets.Lstat = refl
-each_is_found packets.Fstat = refl
-each_is_found packets.Setstat = refl
-each_is_found packets.Fsetstat = refl
-each_is_found packets.Opendir = refl
-each_is_found packets.Readdir = refl
-each_is_found packets.Remove = refl
-each_is_found packets.Mkdir = refl
-each_is_found packets.Rmdir = refl
-each_is_found packets.Realpath = refl
-each_is_found packets.Stat = refl
-each_is_found packets.Rename = refl
-each_is_found packets.Readlink = refl
-each_is_found packets.Symlink = refl
-each_is_found packets.PosixRename = refl
-each_is_found packets.Hardlink = refl
-each_is_found packets.Fsync = refl
-each_is_found packets.Limits = refl
-each_is_found packets.Extended = refl
-each_is_found packets.Status = refl
-each_is_found packets.Handle = refl
-each_is_found packets.Data = refl
-each_is_found packets.Name = refl
-each_is_found packets.Attrs = refl
-each_is_found packets.ExtendedReply = refl
+all_are_names = refl
 
--- a line that begins with the name of a packet of its side is read in that packet's layout
-pub layout_of_text-named : (side : Side) (text : List ℕ) (packet : PacketType) → (row packet).side ≡ side
-    → NameFront (row packet).name text → layout_of_text side text ≡ Some packet
-unfolding layout_of_text
-layout_of_text-named side text packet side_is name_is =
-    ap (named_packet side) name_is ∙ ap (λ s. named_packet s (row packet).name) (sym side_is) ∙ each_is_found packet
+-- and no two are one name of one side
+all_are_distinct : are_distinct every_packet ≡ true
+unfolding row every_packet
+all_are_distinct = refl
+
+-- a layout that is found is one that the bytes may have, and its name is a name
+layout-found : (side : Side) (bytes : List ℕ) (packet : PacketType) → layout_of_bytes side bytes ≡ Some packet
+    → (may_have side bytes (row packet) ≡ true) × (is_name (row packet).name ≡ true)
+unfolding layout_of_bytes
+layout-found side bytes packet found =
+    find-passes _ (λ packet. is_name (row packet).name) every_packet packet found all_are_names
+
+-- it is of the side of the bytes
+layout-side : (side : Side) (bytes : List ℕ) (packet : PacketType) → layout_of_bytes side bytes ≡ Some packet
+    → (row packet).side ≡ side
+layout-side side bytes packet found =
+    same_side-true _ _ (and_parts _ _ (and_parts _ _ (layout-found side bytes packet found).0).0).0
+
+-- the text of a packet whose layout is found is read back
+pub packet_text-exact : (side : Side) (bytes : List ℕ) (packet : PacketType) → layout_of_bytes side bytes ≡ Some packet
+    → IsExact (packet_text (row packet)) (NameFront (row packet).name) IsEnd
+packet_text-exact side bytes packet found =
+    let r = row packet in
+    then-exact (mark (r.kind ∷ [])) (body_text r) (NameFront r.name) (NameFront r.name) IsEnd
+    (mark-exact (r.kind ∷ []) (NameFront r.name)) (body_text-exact r (IsName-from r.name (layout-found side bytes packet found).1))
+
+-- a line that begins with the name of a packet whose layout was found is read in that packet's layout
+pub layout_of_text-named : (side : Side) (bytes text : List ℕ) (packet : PacketType)
+    → layout_of_bytes side bytes ≡ Some packet → NameFront (row packet).name text → layout_of_text side text ≡ Some packet
+unfolding layout_of_bytes layout_of_text
+layout_of_text-named side bytes text packet found name_is =
+    ap (named_packet side) name_is
+    ∙ ap (λ s. named_packet s (row packet).name) (sym (layout-side side bytes packet found))
+    ∙ find-named _ every_packet packet all_are_distinct found
 
 -- no packet has the name `raw`
 pub no_raw : (side : Side) → named_packet side (codes "raw") ≡ None

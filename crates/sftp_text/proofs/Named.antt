@@ -1,9 +1,10 @@
 -- Each packet that has a spelling is shown by its name.
 use Rattle.std.proofs.Common.{◌≡◌, ℕ, ◌^◌, ◌<◌, ◌≤◌, true, false, List, [], ◌∷◌, ◌++◌, length, drop, take}
 use Rattle.std.proofs.Common.{Option, Some, None, refl, sym, ap, subst, ◌∙◌, arith, cond, inl, inr}
-use Rattle.std.specs.Prelude.{IsSome, option_and_then, bytes_eq, ◌==◌, codes}
+use Rattle.std.specs.Prelude.{IsSome, option_and_then, bytes_eq, ◌==◌, codes, nat_lt}
+use Rattle.std.specs.List.{list_all, list_any, AllByRecursion}
 use Rattle.std.specs.Int.{w32, from_be_bytes}
-use Rattle.std.proofs.lemmas.Bool.{cond-true, cases_Bool, or_parts, eq-eqb, true≢false}
+use Rattle.std.proofs.lemmas.Bool.{cond-true, cases_Bool, and_parts, or_parts, eq-eqb, ltb-true, true≢false}
 use Rattle.std.proofs.lemmas.List.{append-nil, length-append, take_at}
 use Rattle.std.proofs.lemmas.Slice.Eq.{bytes_eq-Decides}
 use Rattle.sftp_packets.specs.declared.packets.Ask.{Ask}
@@ -13,18 +14,17 @@ use Rattle.sftp_packets.specs.declared.packets.Answer.TheVariants as answers
 use Rattle.sftp_packets.specs.declared.packets.Packet.{Packet}
 use Rattle.sftp_packets.specs.declared.packets.Packet.TheVariants.{Init, Version, Request, Reply}
 use Rattle.sftp_packets.specs.declared.packets.Side.{Side}
-use Rattle.sftp_packets.specs.declared.packets.Side.TheVariants.{Client, Server}
 use Rattle.sftp_packets.specs.declared.attributes.Attrs.{Attrs as WireAttrs}
 use Rattle.sftp_packets.specs.declared.names.NameItem.{NameItem}
 use Rattle.sftp_packets.specs.Spelling as wire
 use Rattle.sftp_packets.proofs.Bytes.Numbers.{wide32}
-use Rattle.sftp_text.specs.Formats.{nothing, ◌then◌, word, mark, strip, if_found}
+use Rattle.sftp_text.specs.Formats.{nothing as no_text, ◌then◌, word, mark, strip, if_found}
 use Rattle.sftp_text.specs.Digits as digits
 use Rattle.sftp_text.specs.Fields.{field_text, tail_text, fields_text}
 use Rattle.sftp_text.specs.Layouts.{Row, row, every_packet, id_text, body_text, packet_text, starts, layout_of_bytes}
 use Rattle.sftp_text.specs.Lines.{side_letter, whole, show_whole, show_packet, named_line}
-use Rattle.sftp_text.specs.declared.layouts.PacketType.{PacketType}
-use Rattle.sftp_text.specs.declared.layouts.PacketType.TheVariants as packets
+use Rattle.sftp_text.specs.declared.table.PacketType.{PacketType}
+use Rattle.sftp_text.specs.declared.table.PacketType.TheVariants as packets
 use Rattle.sftp_text.specs.declared.layouts.Field.{Field}
 use Rattle.sftp_text.specs.declared.layouts.Field.TheVariants.{Number, Long, Flags, Text}
 use Rattle.sftp_text.specs.declared.layouts.Tail.{Tail}
@@ -36,85 +36,99 @@ use Rattle.sftp_text.proofs.Shows.{number-takes, long-takes, flags-takes, string
 -- ---- fields and what comes after them
 
 -- these fields and this tail take the bytes
-abbrev Fielded : List Field → Tail → List ℕ → Type 0
-Fielded fields tail bytes = TakesAll (fields_text fields then tail_text tail).show bytes
+record Fielded (fields : List Field) (tail : Tail) (bytes : List ℕ) : Type 0 where
+  pub takes : TakesAll (fields_text fields then tail_text tail).show bytes
 
 no_field : (tail : Tail) (bytes : List ℕ) → TakesAll (tail_text tail).show bytes → Fielded [] tail bytes
-no_field tail bytes takes text = let goes = takes text in record { more = goes.more; is = goes.is }
+no_field tail bytes takes = record {
+  takes = λ text. let goes = takes text in record { more = goes.more; is = goes.is };
+}
 
-one_field : (field : Field) (fields : List Field) (tail : Tail) (bytes others : List ℕ)
+one_field : (field : Field) {fields : List Field} {tail : Tail} (bytes : List ℕ) {others : List ℕ}
     → Takes (field_text field).show bytes → Fielded fields tail others → Fielded (field ∷ fields) tail (bytes ++ others)
-one_field field fields tail bytes others one more text =
-    let first = word_then-takes (codes " ") (field_text field) bytes one text others in
-    let rest = more first.more in
+one_field field {fields} {tail} bytes {others} one more =
     let next : List ℕ × List ℕ → Option (List ℕ × List ℕ) = λ m. (fields_text fields).show m.0 m.1 in
     let last : List ℕ × List ℕ → Option (List ℕ × List ℕ) = λ m. (tail_text tail).show m.0 m.1 in
     record {
-      more = rest.more;
-      is = ap (λ o. option_and_then last (option_and_then next o)) first.is ∙ rest.is;
+      takes = λ text.
+          let first = word_then-takes (codes " ") (field_text field) bytes one text others in
+          let rest = more.takes first.more in
+          record {
+            more = rest.more;
+            is = ap (λ o. option_and_then last (option_and_then next o)) first.is ∙ rest.is;
+          };
     }
 
-nothing_all : TakesAll (tail_text Nothing).show []
+nothing : Fielded [] Nothing []
 unfolding tail_text
-nothing_all text = record { more = text; is = refl }
+nothing = no_field Nothing [] (λ text. record { more = text; is = refl })
 
 only_field : (field : Field) (bytes : List ℕ) → Takes (field_text field).show bytes → Fielded (field ∷ []) Nothing bytes
-only_field field bytes one text =
-    let goes = one_field field [] Nothing bytes [] one (no_field Nothing [] nothing_all) text in
-    record {
-      more = goes.more;
-      is = ap ((fields_text (field ∷ []) then tail_text Nothing).show text) (sym (append-nil bytes)) ∙ goes.is;
-    }
+only_field field bytes one =
+    subst (Fielded (field ∷ []) Nothing) (append-nil bytes) (one_field field bytes one nothing)
 
-text : (bytes : List ℕ) → wire.FitsString bytes → Takes (field_text Text).show (wire.string bytes)
+-- each field, and then the others
+text : {fields : List Field} {tail : Tail} {others : List ℕ} (bytes : List ℕ) → wire.FitsString bytes
+    → Fielded fields tail others → Fielded (Text ∷ fields) tail (wire.string bytes ++ others)
 unfolding field_text
-text bytes fits = string_text-takes bytes fits
+text bytes fits more = one_field Text (wire.string bytes) (string_text-takes bytes fits) more
 
-number : (n : ℕ) → n < 2 ^ 32 → Takes (field_text Number).show (wire.uint32 n)
+number : {fields : List Field} {tail : Tail} {others : List ℕ} (n : ℕ) → n < 2 ^ 32
+    → Fielded fields tail others → Fielded (Number ∷ fields) tail (wire.uint32 n ++ others)
 unfolding field_text
-number n lt = number-takes n lt
+number n lt more = one_field Number (wire.uint32 n) (number-takes n lt) more
 
-long : (n : ℕ) → n < 2 ^ 64 → Takes (field_text Long).show (wire.uint64 n)
+long : {fields : List Field} {tail : Tail} {others : List ℕ} (n : ℕ) → n < 2 ^ 64
+    → Fielded fields tail others → Fielded (Long ∷ fields) tail (wire.uint64 n ++ others)
 unfolding field_text
-long n lt = long-takes n lt
+long n lt more = one_field Long (wire.uint64 n) (long-takes n lt) more
 
-flags : (n : ℕ) → n < 2 ^ 32 → Takes (field_text Flags).show (wire.uint32 n)
+flags : {fields : List Field} {tail : Tail} {others : List ℕ} (n : ℕ) → n < 2 ^ 32
+    → Fielded fields tail others → Fielded (Flags ∷ fields) tail (wire.uint32 n ++ others)
 unfolding field_text
-flags n lt = flags-takes n lt
+flags n lt more = one_field Flags (wire.uint32 n) (flags-takes n lt) more
 
-attrs_all : (a : WireAttrs) → wire.FitsAttrs a → TakesAll (tail_text Attrs).show (wire.attributes a)
-unfolding tail_text
-attrs_all a fits = all_from_front _ (wire.attributes a) (attributes-takes a fits)
+-- what comes last
+last_text : (bytes : List ℕ) → wire.FitsString bytes → Fielded (Text ∷ []) Nothing (wire.string bytes)
+unfolding field_text
+last_text bytes fits = only_field Text (wire.string bytes) (string_text-takes bytes fits)
 
-names_all : (ns : List NameItem) → wire.FitsNames ns → TakesAll (tail_text Names).show (wire.names ns)
-unfolding tail_text
-names_all ns fits = all_from_front _ (wire.names ns) (names-takes ns fits)
+last_number : (n : ℕ) → n < 2 ^ 32 → Fielded (Number ∷ []) Nothing (wire.uint32 n)
+unfolding field_text
+last_number n lt = only_field Number (wire.uint32 n) (number-takes n lt)
 
-pairs_all : (ps : List (List ℕ × List ℕ)) → wire.FitsPairs ps → TakesAll (tail_text Pairs).show (wire.pairs ps)
+attributes : (a : WireAttrs) → wire.FitsAttrs a → Fielded [] Attrs (wire.attributes a)
 unfolding tail_text
-pairs_all ps fits = pairs-all ps fits
+attributes a fits = no_field Attrs (wire.attributes a) (all_from_front _ (wire.attributes a) (attributes-takes a fits))
 
-message_all : (m l : List ℕ) → wire.FitsString m → wire.FitsString l
-    → TakesAll (tail_text Message).show (wire.string m ++ wire.string l)
+names : (ns : List NameItem) → wire.FitsNames ns → Fielded [] Names (wire.names ns)
 unfolding tail_text
-message_all m l fits_m fits_l = message-all m l fits_m fits_l
+names ns fits = no_field Names (wire.names ns) (all_from_front _ (wire.names ns) (names-takes ns fits))
 
-rest_all : (bytes : List ℕ) → TakesAll (tail_text Rest).show bytes
+pairs : (ps : List (List ℕ × List ℕ)) → wire.FitsPairs ps → Fielded [] Pairs (wire.pairs ps)
 unfolding tail_text
-rest_all bytes = rest-all bytes
+pairs ps fits = no_field Pairs (wire.pairs ps) (pairs-all ps fits)
+
+message : (m l : List ℕ) → wire.FitsString m → wire.FitsString l → Fielded [] Message (wire.string m ++ wire.string l)
+unfolding tail_text
+message m l fits_m fits_l = no_field Message (wire.string m ++ wire.string l) (message-all m l fits_m fits_l)
+
+rest : (bytes : List ℕ) → Fielded [] Rest bytes
+unfolding tail_text
+rest bytes = no_field Rest bytes (rest-all bytes)
 
 -- ---- packets after their length
 
 -- a packet with an id: its type, the id, what stands in the bytes alone, and its fields
 with_id-shown : (r : Row) (id : ℕ) (bytes : List ℕ) → r.has_id ≡ true → id < 2 ^ 32 → Fielded r.fields r.tail bytes
     → TakesAll (packet_text r).show (r.kind ∷ (wire.uint32 id ++ (r.mark ++ bytes)))
-with_id-shown r id bytes has lt fields =
+with_id-shown r id bytes has lt fielded =
     let named = word (32 ∷ r.name) then mark r.mark then fields_text r.fields then tail_text r.tail in
     let marked : TakesAll named.show (r.mark ++ bytes) =
     λ text.
     let goes =
     after-all (mark r.mark).show (fields_text r.fields then tail_text r.tail).show r.mark bytes (mark-takes r.mark)
-    fields (text ++ (32 ∷ r.name))
+    fielded.takes (text ++ (32 ∷ r.name))
     in
     record { more = goes.more; is = goes.is }
     in
@@ -131,17 +145,17 @@ with_id-shown r id bytes has lt fields =
 -- a packet without one
 without_id-shown : (r : Row) (bytes : List ℕ) → r.has_id ≡ false → r.mark ≡ [] → Fielded r.fields r.tail bytes
     → TakesAll (packet_text r).show (r.kind ∷ bytes)
-without_id-shown r bytes has none fields =
+without_id-shown r bytes has none fielded =
     let named = word (32 ∷ r.name) then mark r.mark then fields_text r.fields then tail_text r.tail in
     let marked : TakesAll named.show bytes =
     λ text.
     let goes =
     after-all (mark r.mark).show (fields_text r.fields then tail_text r.tail).show r.mark bytes (mark-takes r.mark)
-    fields (text ++ (32 ∷ r.name))
+    fielded.takes (text ++ (32 ∷ r.name))
     in
     record { more = goes.more; is = ap (λ l. named.show text (l ++ bytes)) (sym none) ∙ goes.is }
     in
-    let plain : TakesAll (nothing then named).show bytes = λ text. let goes = marked text in record { more = goes.more; is = goes.is } in
+    let plain : TakesAll (no_text then named).show bytes = λ text. let goes = marked text in record { more = goes.more; is = goes.is } in
     let body : TakesAll (id_text r.has_id then named).show bytes =
     subst (λ has. TakesAll (id_text has then named).show bytes) (sym has) plain
     in
@@ -164,6 +178,33 @@ shown_by_name side packet contents lt found takes =
     ∙ ap whole goes.is
     in
     subst (λ o. IsSome o) (sym is) refl
+
+-- what is to be shown of a packet whose length is a uint32
+abbrev IsNamed : Packet → Type 0
+IsNamed packet =
+    length (wire.contents packet) < 2 ^ 32 → IsSome (named_line (wire.side_of packet) (wire.string (wire.contents packet)))
+
+-- the bytes after the length of a packet with an id
+abbrev with_id_bytes : Row → ℕ → List ℕ → List ℕ
+with_id_bytes r id bytes = r.kind ∷ (wire.uint32 id ++ (r.mark ++ bytes))
+
+with_id : (packet : PacketType) {id : ℕ} {bytes : List ℕ}
+    → layout_of_bytes (row packet).side (wire.string (with_id_bytes (row packet) id bytes)) ≡ Some packet
+    → (row packet).has_id ≡ true → Fielded (row packet).fields (row packet).tail bytes
+    → id < 2 ^ 32 → length (with_id_bytes (row packet) id bytes) < 2 ^ 32
+    → IsSome (named_line (row packet).side (wire.string (with_id_bytes (row packet) id bytes)))
+with_id packet {id} {bytes} found has fielded lt small =
+    shown_by_name (row packet).side packet (with_id_bytes (row packet) id bytes) small found
+    (with_id-shown (row packet) id bytes has lt fielded)
+
+without_id : (packet : PacketType) {bytes : List ℕ}
+    → layout_of_bytes (row packet).side (wire.string ((row packet).kind ∷ bytes)) ≡ Some packet
+    → (row packet).has_id ≡ false → (row packet).mark ≡ [] → Fielded (row packet).fields (row packet).tail bytes
+    → length ((row packet).kind ∷ bytes) < 2 ^ 32
+    → IsSome (named_line (row packet).side (wire.string ((row packet).kind ∷ bytes)))
+without_id packet {bytes} found has none fielded small =
+    shown_by_name (row packet).side packet ((row packet).kind ∷ bytes) small found
+    (without_id-shown (row packet) bytes has none fielded)
 
 -- ---- unknown extensions
 
@@ -192,102 +233,71 @@ not_started a name rest short_a short other =
       | inr it_does_not ↦ it_does_not
     ]
 
+-- the name of an unknown extension is not one of the known
+all_not_started : (name rest : List ℕ) → length name < 2 ^ 32 → (known : List (List ℕ))
+    → list_all (λ k. nat_lt (length k) (2 ^ 32)) known ≡ true → list_any (bytes_eq name) known ≡ false
+    → AllByRecursion (λ k. starts (wire.string k) (wire.string name ++ rest) ≡ false) known
+all_not_started name rest lt [] short unknown = tt
+all_not_started name rest lt (k ∷ known) short unknown =
+    let fits = and_parts _ _ short in
+    let others = or_parts _ _ unknown in
+    (not_started k name rest (ltb-true (length k) (2 ^ 32) fits.0) lt others.0, all_not_started name rest lt known fits.1 others.1)
+
 -- ---- requests
 
-ask-shown : (id : ℕ) (ask : Ask) → id < 2 ^ 32 → wire.FitsAsk ask → wire.asks_known ask ≡ false
-    → length (wire.contents (Request (record { id = id; ask = ask }))) < 2 ^ 32
-    → IsSome (named_line Client (wire.string (wire.contents (Request (record { id = id; ask = ask })))))
+asked : (id : ℕ) (ask : Ask) → wire.FitsAsk ask → wire.asks_known ask ≡ false → id < 2 ^ 32
+    → IsNamed (Request (record { id = id; ask = ask }))
 unfolding row layout_of_bytes every_packet
-ask-shown id (asks.Open path pflags attrs) lt f known small =
-    shown_by_name Client packets.Open _ small refl (with_id-shown (row packets.Open) id _ refl lt (one_field Text (Flags ∷ []) Attrs (wire.string path) (wire.uint32 pflags ++ (wire.attributes attrs)) (text path f.0) (one_field Flags ([]) Attrs (wire.uint32 pflags) (wire.attributes attrs) (flags pflags f.1) (no_field Attrs (wire.attributes attrs) (attrs_all attrs f.2)))))
-ask-shown id (asks.Close handle) lt f known small =
-    shown_by_name Client packets.Close _ small refl (with_id-shown (row packets.Close) id _ refl lt (only_field Text (wire.string handle) (text handle f)))
-ask-shown id (asks.Read handle offset len) lt f known small =
-    shown_by_name Client packets.Read _ small refl (with_id-shown (row packets.Read) id _ refl lt (one_field Text (Long ∷ Number ∷ []) Nothing (wire.string handle) (wire.uint64 offset ++ (wire.uint32 len)) (text handle f.0) (one_field Long (Number ∷ []) Nothing (wire.uint64 offset) (wire.uint32 len) (long offset f.1) (only_field Number (wire.uint32 len) (number len f.2)))))
-ask-shown id (asks.Write handle offset bytes) lt f known small =
-    shown_by_name Client packets.Write _ small refl (with_id-shown (row packets.Write) id _ refl lt (one_field Text (Long ∷ Text ∷ []) Nothing (wire.string handle) (wire.uint64 offset ++ (wire.string bytes)) (text handle f.0) (one_field Long (Text ∷ []) Nothing (wire.uint64 offset) (wire.string bytes) (long offset f.1) (only_field Text (wire.string bytes) (text bytes f.2)))))
-ask-shown id (asks.Lstat path) lt f known small =
-    shown_by_name Client packets.Lstat _ small refl (with_id-shown (row packets.Lstat) id _ refl lt (only_field Text (wire.string path) (text path f)))
-ask-shown id (asks.Fstat handle) lt f known small =
-    shown_by_name Client packets.Fstat _ small refl (with_id-shown (row packets.Fstat) id _ refl lt (only_field Text (wire.string handle) (text handle f)))
-ask-shown id (asks.Setstat path attrs) lt f known small =
-    shown_by_name Client packets.Setstat _ small refl (with_id-shown (row packets.Setstat) id _ refl lt (one_field Text ([]) Attrs (wire.string path) (wire.attributes attrs) (text path f.0) (no_field Attrs (wire.attributes attrs) (attrs_all attrs f.1))))
-ask-shown id (asks.Fsetstat handle attrs) lt f known small =
-    shown_by_name Client packets.Fsetstat _ small refl (with_id-shown (row packets.Fsetstat) id _ refl lt (one_field Text ([]) Attrs (wire.string handle) (wire.attributes attrs) (text handle f.0) (no_field Attrs (wire.attributes attrs) (attrs_all attrs f.1))))
-ask-shown id (asks.Opendir path) lt f known small =
-    shown_by_name Client packets.Opendir _ small refl (with_id-shown (row packets.Opendir) id _ refl lt (only_field Text (wire.string path) (text path f)))
-ask-shown id (asks.Readdir handle) lt f known small =
-    shown_by_name Client packets.Readdir _ small refl (with_id-shown (row packets.Readdir) id _ refl lt (only_field Text (wire.string handle) (text handle f)))
-ask-shown id (asks.Remove path) lt f known small =
-    shown_by_name Client packets.Remove _ small refl (with_id-shown (row packets.Remove) id _ refl lt (only_field Text (wire.string path) (text path f)))
-ask-shown id (asks.Mkdir path attrs) lt f known small =
-    shown_by_name Client packets.Mkdir _ small refl (with_id-shown (row packets.Mkdir) id _ refl lt (one_field Text ([]) Attrs (wire.string path) (wire.attributes attrs) (text path f.0) (no_field Attrs (wire.attributes attrs) (attrs_all attrs f.1))))
-ask-shown id (asks.Rmdir path) lt f known small =
-    shown_by_name Client packets.Rmdir _ small refl (with_id-shown (row packets.Rmdir) id _ refl lt (only_field Text (wire.string path) (text path f)))
-ask-shown id (asks.Realpath path) lt f known small =
-    shown_by_name Client packets.Realpath _ small refl (with_id-shown (row packets.Realpath) id _ refl lt (only_field Text (wire.string path) (text path f)))
-ask-shown id (asks.Stat path) lt f known small =
-    shown_by_name Client packets.Stat _ small refl (with_id-shown (row packets.Stat) id _ refl lt (only_field Text (wire.string path) (text path f)))
-ask-shown id (asks.Rename oldpath newpath) lt f known small =
-    shown_by_name Client packets.Rename _ small refl (with_id-shown (row packets.Rename) id _ refl lt (one_field Text (Text ∷ []) Nothing (wire.string oldpath) (wire.string newpath) (text oldpath f.0) (only_field Text (wire.string newpath) (text newpath f.1))))
-ask-shown id (asks.Readlink path) lt f known small =
-    shown_by_name Client packets.Readlink _ small refl (with_id-shown (row packets.Readlink) id _ refl lt (only_field Text (wire.string path) (text path f)))
-ask-shown id (asks.Symlink targetpath linkpath) lt f known small =
-    shown_by_name Client packets.Symlink _ small refl (with_id-shown (row packets.Symlink) id _ refl lt (one_field Text (Text ∷ []) Nothing (wire.string targetpath) (wire.string linkpath) (text targetpath f.0) (only_field Text (wire.string linkpath) (text linkpath f.1))))
-ask-shown id (asks.PosixRename oldpath newpath) lt f known small =
-    shown_by_name Client packets.PosixRename _ small refl (with_id-shown (row packets.PosixRename) id _ refl lt (one_field Text (Text ∷ []) Nothing (wire.string oldpath) (wire.string newpath) (text oldpath f.0) (only_field Text (wire.string newpath) (text newpath f.1))))
-ask-shown id (asks.Hardlink oldpath newpath) lt f known small =
-    shown_by_name Client packets.Hardlink _ small refl (with_id-shown (row packets.Hardlink) id _ refl lt (one_field Text (Text ∷ []) Nothing (wire.string oldpath) (wire.string newpath) (text oldpath f.0) (only_field Text (wire.string newpath) (text newpath f.1))))
-ask-shown id (asks.Fsync handle) lt f known small =
-    shown_by_name Client packets.Fsync _ small refl (with_id-shown (row packets.Fsync) id _ refl lt (only_field Text (wire.string handle) (text handle f)))
-ask-shown id asks.Limits lt f known small =
-    shown_by_name Client packets.Limits _ small refl (with_id-shown (row packets.Limits) id _ refl lt (no_field Nothing [] nothing_all))
-ask-shown id (asks.Unknown name rest) lt f known small =
-    let first = or_parts (bytes_eq name wire.posix_rename_name) _ known in
-    let second = or_parts (bytes_eq name wire.hardlink_name) _ first.1 in
-    let third = or_parts (bytes_eq name wire.fsync_name) _ second.1 in
-    let fourth = or_parts (bytes_eq name wire.limits_name) false third.1 in
-    let no_posix = not_started wire.posix_rename_name name rest (omega arith) f.0.length_fits first.0 in
-    let no_hard = not_started wire.hardlink_name name rest (omega arith) f.0.length_fits second.0 in
-    let no_sync = not_started wire.fsync_name name rest (omega arith) f.0.length_fits third.0 in
-    let no_limits = not_started wire.limits_name name rest (omega arith) f.0.length_fits fourth.0 in
-    shown_by_name Client packets.Extended _ small (rw (no_posix, no_hard, no_sync, no_limits) refl) (with_id-shown (row packets.Extended) id _ refl lt (one_field Text ([]) Rest (wire.string name) (rest) (text name f.0) (no_field Rest (rest) (rest_all rest))))
+asked id (asks.Open path pflags attrs) f _ = with_id packets.Open refl refl (text path f.0 (flags pflags f.1.0 (attributes attrs f.1.1)))
+asked id (asks.Close handle) f _ = with_id packets.Close refl refl (last_text handle f)
+asked id (asks.Read handle offset len) f _ = with_id packets.Read refl refl (text handle f.0 (long offset f.1.0 (last_number len f.1.1)))
+asked id (asks.Write handle offset bytes) f _ = with_id packets.Write refl refl (text handle f.0 (long offset f.1.0 (last_text bytes f.1.1)))
+asked id (asks.Lstat path) f _ = with_id packets.Lstat refl refl (last_text path f)
+asked id (asks.Fstat handle) f _ = with_id packets.Fstat refl refl (last_text handle f)
+asked id (asks.Setstat path attrs) f _ = with_id packets.Setstat refl refl (text path f.0 (attributes attrs f.1))
+asked id (asks.Fsetstat handle attrs) f _ = with_id packets.Fsetstat refl refl (text handle f.0 (attributes attrs f.1))
+asked id (asks.Opendir path) f _ = with_id packets.Opendir refl refl (last_text path f)
+asked id (asks.Readdir handle) f _ = with_id packets.Readdir refl refl (last_text handle f)
+asked id (asks.Remove path) f _ = with_id packets.Remove refl refl (last_text path f)
+asked id (asks.Mkdir path attrs) f _ = with_id packets.Mkdir refl refl (text path f.0 (attributes attrs f.1))
+asked id (asks.Rmdir path) f _ = with_id packets.Rmdir refl refl (last_text path f)
+asked id (asks.Realpath path) f _ = with_id packets.Realpath refl refl (last_text path f)
+asked id (asks.Stat path) f _ = with_id packets.Stat refl refl (last_text path f)
+asked id (asks.Rename old new) f _ = with_id packets.Rename refl refl (text old f.0 (last_text new f.1))
+asked id (asks.Readlink path) f _ = with_id packets.Readlink refl refl (last_text path f)
+asked id (asks.Symlink target link) f _ = with_id packets.Symlink refl refl (text target f.0 (last_text link f.1))
+asked id (asks.PosixRename old new) f _ = with_id packets.PosixRename refl refl (text old f.0 (last_text new f.1))
+asked id (asks.Hardlink old new) f _ = with_id packets.Hardlink refl refl (text old f.0 (last_text new f.1))
+asked id (asks.Fsync handle) f _ = with_id packets.Fsync refl refl (last_text handle f)
+asked id asks.Limits f _ = with_id packets.Limits refl refl nothing
+asked id (asks.Unknown name bytes) f unknown =
+    let no = all_not_started name bytes f.0.length_fits wire.known_extensions refl unknown in
+    with_id packets.Extended (rw (no.0, no.1.0, no.1.1.0, no.1.1.1.0) refl) refl (text name f.0 (rest bytes))
 
 -- ---- replies
 
-answer-shown : (id : ℕ) (answer : Answer) → id < 2 ^ 32 → wire.FitsAnswer answer
-    → length (wire.contents (Reply (record { id = id; answer = answer }))) < 2 ^ 32
-    → IsSome (named_line Server (wire.string (wire.contents (Reply (record { id = id; answer = answer })))))
+answered : (id : ℕ) (answer : Answer) → wire.FitsAnswer answer → id < 2 ^ 32
+    → IsNamed (Reply (record { id = id; answer = answer }))
 unfolding row layout_of_bytes every_packet
-answer-shown id (answers.Status code message language) lt f small =
-    shown_by_name Server packets.Status _ small refl (with_id-shown (row packets.Status) id _ refl lt (one_field Number ([]) Message (wire.uint32 code) (wire.string message ++ wire.string language) (number code f.0) (no_field Message (wire.string message ++ wire.string language) (message_all message language f.1 f.2))))
-answer-shown id (answers.Handle handle) lt f small =
-    shown_by_name Server packets.Handle _ small refl (with_id-shown (row packets.Handle) id _ refl lt (only_field Text (wire.string handle) (text handle f)))
-answer-shown id (answers.Data bytes) lt f small =
-    shown_by_name Server packets.Data _ small refl (with_id-shown (row packets.Data) id _ refl lt (only_field Text (wire.string bytes) (text bytes f)))
-answer-shown id (answers.Name items) lt f small =
-    shown_by_name Server packets.Name _ small refl (with_id-shown (row packets.Name) id _ refl lt (no_field Names (wire.names items) (names_all items f)))
-answer-shown id (answers.Attrs attrs) lt f small =
-    shown_by_name Server packets.Attrs _ small refl (with_id-shown (row packets.Attrs) id _ refl lt (no_field Attrs (wire.attributes attrs) (attrs_all attrs f)))
-answer-shown id (answers.Extended bytes) lt f small =
-    shown_by_name Server packets.ExtendedReply _ small refl (with_id-shown (row packets.ExtendedReply) id _ refl lt (no_field Rest (bytes) (rest_all bytes)))
+answered id (answers.Status code words language) f = with_id packets.Status refl refl (number code f.0 (message words language f.1.0 f.1.1))
+answered id (answers.Handle handle) f = with_id packets.Handle refl refl (last_text handle f)
+answered id (answers.Data bytes) f = with_id packets.Data refl refl (last_text bytes f)
+answered id (answers.Name items) f = with_id packets.Name refl refl (names items f)
+answered id (answers.Attrs attrs) f = with_id packets.Attrs refl refl (attributes attrs f)
+answered id (answers.Extended bytes) f = with_id packets.ExtendedReply refl refl (rest bytes)
 
 -- ---- every packet
 
 short : (contents : List ℕ) → length (wire.string contents) ≤ wire.packet_limit → length contents < 2 ^ 32
 short contents fits = omega (arith, fits, length-append (wire.uint32 (length contents)) contents)
 
+named : (packet : Packet) → wire.FitsFields packet → wire.hides_extension packet ≡ false → IsNamed packet
+unfolding row layout_of_bytes every_packet
+named (Init version extensions) f _ = without_id packets.Init refl refl refl (number version f.0 (pairs extensions f.1))
+named (Version version extensions) f _ = without_id packets.Version refl refl refl (number version f.0 (pairs extensions f.1))
+named (Request request) f unknown = asked request.id request.ask f.1 unknown f.0
+named (Reply reply) f _ = answered reply.id reply.answer f.1 f.0
+
 pub packet-shown : (packet : Packet) → wire.HasSpelling packet → IsSome (named_line (wire.side_of packet) (wire.spelling packet))
-unfolding wire.spelling row layout_of_bytes every_packet
-packet-shown (Init version extensions) has =
-    let small : length (wire.contents (Init version extensions)) < 2 ^ 32 = short (wire.contents (Init version extensions)) has.whole in
-    shown_by_name Client packets.Init _ small refl (without_id-shown (row packets.Init) _ refl refl
-    (one_field Number [] Pairs (wire.uint32 version) (wire.pairs extensions) (number version has.fields.0) (no_field Pairs (wire.pairs extensions) (pairs_all extensions has.fields.1))))
-packet-shown (Version version extensions) has =
-    let small : length (wire.contents (Version version extensions)) < 2 ^ 32 = short (wire.contents (Version version extensions)) has.whole in
-    shown_by_name Server packets.Version _ small refl (without_id-shown (row packets.Version) _ refl refl
-    (one_field Number [] Pairs (wire.uint32 version) (wire.pairs extensions) (number version has.fields.0) (no_field Pairs (wire.pairs extensions) (pairs_all extensions has.fields.1))))
-packet-shown (Request request) has =
-    ask-shown request.id request.ask has.fields.0 has.fields.1 has.canonical (short (wire.contents (Request request)) has.whole)
-packet-shown (Reply reply) has =
-    answer-shown reply.id reply.answer has.fields.0 has.fields.1 (short (wire.contents (Reply reply)) has.whole)
+unfolding wire.spelling
+packet-shown packet has = named packet has.fields has.canonical (short (wire.contents packet) has.whole)

@@ -14,10 +14,10 @@ use Rattle.sftp_text.specs.Formats.{front_uint32, if_found}
 use Rattle.sftp_text.specs.Layouts.{row, packet_text, layout_of_bytes, layout_of_text}
 use Rattle.sftp_text.specs.Lines.{is_printable, whole, digits_text, raw_text, digits_read, raw_read, side_letter, show_whole, show_packet, named_line, line_of}
 use Rattle.sftp_text.specs.Lines.{side_of_letter, with_length, read_packet, bytes_of_text, line_read}
-use Rattle.sftp_text.specs.declared.layouts.PacketType.{PacketType}
+use Rattle.sftp_text.specs.declared.table.PacketType.{PacketType}
 use Rattle.sftp_text.proofs.Exact.{some-inj, none-some, AreBytes-behind, printable-append, front_number-some}
 use Rattle.sftp_text.proofs.Strings.{hex_onto-text, hex_text-printable}
-use Rattle.sftp_text.proofs.Bodies.{packet_text-exact, layout-side, layout_of_text-named, no_raw}
+use Rattle.sftp_text.proofs.Bodies.{packet_text-exact, layout_of_text-named, no_raw}
 
 -- what is known of the line of a record
 pub record IsLine (side : Side) (bytes line : List ℕ) : Type 0 where
@@ -97,14 +97,14 @@ named-line side bytes line packet are layout_is shows = framed (front_uint32 byt
         → show_whole side (packet_text (row packet)) body ≡ Some line → IsLine side bytes line
     exact n body fits parts fit len e =
         let s =
-        (packet_text-exact packet).exact (side_letter side ∷ []) body line [] fit
+        (packet_text-exact side bytes packet layout_is).exact (side_letter side ∷ []) body line [] fit
         (whole-some ((packet_text (row packet)).show (side_letter side ∷ []) body) line e)
         in
         let alone : s.shown ++ [] ≡ s.shown = append-nil s.shown in
         let taken_is : s.taken ≡ body = sym (s.bytes_are ∙ append-nil s.taken) in
         let named =
         ap (layout_of_text side) (sym alone)
-        ∙ layout_of_text-named side (s.shown ++ []) packet (layout-side side bytes packet layout_is) (s.front [] refl)
+        ∙ layout_of_text-named side bytes (s.shown ++ []) packet layout_is (s.front [] refl)
         in
         let back =
         ap ((packet_text (row packet)).read []) (sym alone) ∙ s.back [] [] refl ∙ ap (λ l. Some (l, [])) taken_is

@@ -9,8 +9,8 @@ use Rattle.sftp_packets.specs.Spelling.{string, posix_rename_name, hardlink_name
 use Rattle.sftp_text.specs.Formats.{Format, nothing, ◌then◌, word, mark, if_found, strip}
 use Rattle.sftp_text.specs.Digits.{number, is_digit}
 use Rattle.sftp_text.specs.Fields.{fields_text, tail_text}
-use Rattle.sftp_text.specs.declared.layouts.PacketType.{PacketType}
-use Rattle.sftp_text.specs.declared.layouts.PacketType.TheVariants as packets
+use Rattle.sftp_text.specs.declared.table.PacketType.{PacketType}
+use Rattle.sftp_text.specs.declared.table.PacketType.TheVariants as packets
 use Rattle.sftp_text.specs.declared.layouts.Field.{Field}
 use Rattle.sftp_text.specs.declared.layouts.Field.TheVariants.{Number, Long, Flags, Text}
 use Rattle.sftp_text.specs.declared.layouts.Tail.{Tail}

@@ -60,8 +60,7 @@ fn put_named_flags(n: u32, text: &mut Vec<u8>) -> Result<(), AllocError>
     ensures { OnOk result (text.new.items ≡ text.old.items ++ (lower_flags n ++ higher_flags n)) }
 {
     put_lower_flags(n, text)?;
-    put_higher_flags(n, text)?;
-    Ok(())
+    put_higher_flags(n, text)
 }
 
 /// Writes flags.

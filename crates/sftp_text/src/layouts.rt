@@ -1,42 +1,6 @@
-//! What packets are, and what they consist of.
+//! What packets consist of.
 
 use sftp_wire::Side;
-
-/// What a packet is, by its type and, for an extension with a layout of its own, by the extension's name.
-#[derive(Clone, Copy)]
-pub enum PacketType {
-    Init,
-    Version,
-    Open,
-    Close,
-    Read,
-    Write,
-    Lstat,
-    Fstat,
-    Setstat,
-    Fsetstat,
-    Opendir,
-    Readdir,
-    Remove,
-    Mkdir,
-    Rmdir,
-    Realpath,
-    Stat,
-    Rename,
-    Readlink,
-    Symlink,
-    PosixRename,
-    Hardlink,
-    Fsync,
-    Limits,
-    Extended,
-    Status,
-    Handle,
-    Data,
-    Name,
-    Attrs,
-    ExtendedReply,
-}
 
 /// A field; in the line a space comes before it.
 #[derive(Clone, Copy)]

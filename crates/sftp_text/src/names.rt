@@ -4,9 +4,9 @@ ghost use Rattle.sftp_text.specs.Layouts as table;
 ghost use Rattle.sftp_text.specs.Layouts.{row, layout_of_bytes, layout_of_text, same_side, element_is, name_in};
 ghost use Rattle.sftp_text.specs.Seen.{seen};
 
-use crate::layouts::{Layout, PacketType};
+use crate::layouts::Layout;
 use crate::numbers::digit_of;
-use crate::table::{every_packet, layout_of};
+use crate::table::{PacketType, every_packet, layout_of};
 use crate::words::after_word;
 use sftp_wire::Side;
 

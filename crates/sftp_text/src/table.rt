@@ -1,11 +1,47 @@
-//! The layouts of packets (draft, sections 3 to 8; OpenSSH's PROTOCOL, section 4): one table for both ways.
+//! The packets and their layouts (draft, sections 3 to 8; OpenSSH's PROTOCOL, section 4): one table for both ways.
 ghost use Rattle.std.specs.Prelude.{◌≡◌};
 ghost use Rattle.sftp_text.specs.Layouts as table;
 ghost use Rattle.sftp_text.specs.Layouts.{row};
 ghost use Rattle.sftp_text.specs.Seen.{seen};
 
-use crate::layouts::{Field, Layout, PacketType, Tail};
+use crate::layouts::{Field, Layout, Tail};
 use sftp_wire::Side;
+
+/// What a packet is, by its type and, for an extension with a layout of its own, by the extension's name.
+#[derive(Clone, Copy)]
+pub enum PacketType {
+    Init,
+    Version,
+    Open,
+    Close,
+    Read,
+    Write,
+    Lstat,
+    Fstat,
+    Setstat,
+    Fsetstat,
+    Opendir,
+    Readdir,
+    Remove,
+    Mkdir,
+    Rmdir,
+    Realpath,
+    Stat,
+    Rename,
+    Readlink,
+    Symlink,
+    PosixRename,
+    Hardlink,
+    Fsync,
+    Limits,
+    Extended,
+    Status,
+    Handle,
+    Data,
+    Name,
+    Attrs,
+    ExtendedReply,
+}
 
 /// Every layout's packet type. Those of the known extensions come before `Extended`, which has any name.
 #[tactic(auto, unfolding(crate::specs::Layouts::every_packet))]
