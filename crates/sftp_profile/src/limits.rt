@@ -2,7 +2,7 @@
 ghost use Rattle.std.specs.Prelude.{◌≡◌, ◌+◌, ◌^◌, nat_le, option_copied};
 ghost use Rattle.sftp_profile.specs.Limits as spec;
 
-use crate::paths::{new_path_of, path_of};
+use sftp_tree::{new_path_of, path_of};
 use sftp_wire::Ask;
 
 /// The fewest bytes of a path that a file system may find too long.

@@ -1,9 +1,9 @@
 //! The paths that a request walks, and which of them end loosely (draft, section 6.2).
-ghost use Rattle.std.specs.Prelude.{◌≡◌, option_copied};
-ghost use Rattle.sftp_tree.specs.Requests as requests;
+ghost use Rattle.std.specs.Prelude.{◌≡◌};
 ghost use Rattle.sftp_profile.specs.Paths as spec;
 
 use sftp_path::{Parts, is_dot, is_dot_dot};
+use sftp_tree::{new_path_of, path_of};
 use sftp_wire::Ask;
 
 /// Whether a path that the request walks ends loosely.
@@ -32,47 +32,4 @@ fn ends_in_dots(path: &[u8]) -> bool
     ensures { result ≡ spec.ends_in_dots path.now }
 {
     is_dot(path) || is_dot_dot(path) || path.ends_with(b"/.") || path.ends_with(b"/..")
-}
-
-/// The path that a request walks, or the first of two.
-pub(crate) fn path_of(ask: &Ask) -> Option<&[u8]>
-    ensures { option_copied result ≡ requests.path_of ask.now }
-{
-    match ask {
-        Ask::Open { path, .. }
-        | Ask::Lstat { path }
-        | Ask::Setstat { path, .. }
-        | Ask::Opendir { path }
-        | Ask::Remove { path }
-        | Ask::Mkdir { path, .. }
-        | Ask::Rmdir { path }
-        | Ask::Realpath { path }
-        | Ask::Stat { path }
-        | Ask::Readlink { path }
-        | Ask::Symlink { linkpath: path, .. }
-        | Ask::Rename { oldpath: path, .. }
-        | Ask::PosixRename { oldpath: path, .. }
-        | Ask::Hardlink { oldpath: path, .. } => Some(path.as_slice()),
-        Ask::Close { .. }
-        | Ask::Read { .. }
-        | Ask::Write { .. }
-        | Ask::Fstat { .. }
-        | Ask::Fsetstat { .. }
-        | Ask::Readdir { .. }
-        | Ask::Fsync { .. }
-        | Ask::Limits
-        | Ask::Unknown { .. } => None,
-    }
-}
-
-/// The second path of a request, a new name.
-pub(crate) fn new_path_of(ask: &Ask) -> Option<&[u8]>
-    ensures { option_copied result ≡ requests.new_path_of ask.now }
-{
-    match ask {
-        Ask::Rename { newpath, .. }
-        | Ask::PosixRename { newpath, .. }
-        | Ask::Hardlink { newpath, .. } => Some(newpath.as_slice()),
-        _ => None,
-    }
 }

@@ -3,7 +3,6 @@
 ghost use Rattle.std.specs.Prelude.{◌≡◌, ◌&&◌, if◌then◌else◌, Some, None, IfOk, option_copied};
 ghost use Rattle.sftp_handles.specs.Replies.{has_code};
 ghost use Rattle.std.specs.Option.{option_map};
-ghost use Rattle.sftp_packets.specs.Spelling.{asked_handle};
 ghost use Rattle.sftp_packets.specs.declared.packets.Ask.TheVariants as asks;
 ghost use Rattle.sftp_profile.specs.Refusals.{is_handle};
 ghost use Rattle.sftp_profile.specs.Through as spec;
@@ -16,24 +15,8 @@ use crate::tellings::{DIRECTORY, is_type};
 use sftp_path::absolute;
 use sftp_tree::NoMemory;
 use sftp_wire::status::{EOF, FAILURE, NO_SUCH_FILE, OK};
-use sftp_wire::{Answer, Ask, Attrs, ByteString};
+use sftp_wire::{Answer, Ask, Attrs, ByteString, asked_handle};
 use std::alloc::Global;
-
-/// The handle that a request names.
-fn asked_handle(ask: &Ask) -> Option<&[u8]>
-    ensures { option_copied result ≡ asked_handle ask.now }
-{
-    match ask {
-        Ask::Close { handle }
-        | Ask::Read { handle, .. }
-        | Ask::Write { handle, .. }
-        | Ask::Fstat { handle }
-        | Ask::Fsetstat { handle, .. }
-        | Ask::Readdir { handle }
-        | Ask::Fsync { handle } => Some(handle.as_slice()),
-        _ => None,
-    }
-}
 
 /// The directory that is open under the handle of a request.
 pub(crate) fn directory_of<'a>(directories: &'a [Directory], ask: &Ask) -> Option<&'a Directory>

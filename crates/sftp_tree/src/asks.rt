@@ -150,6 +150,26 @@ pub(crate) fn path_ask(ask: &Ask) -> Option<PathAsk<'_>>
     }
 }
 
+/// The path that a request walks, or the first of two; `None` if it names no path.
+pub fn path_of(ask: &Ask) -> Option<&[u8]>
+    ensures { option_copied result ≡ requests.path_of ask.now }
+{
+    match path_ask(ask) {
+        Some(it) => Some(it.path()),
+        None => None,
+    }
+}
+
+/// The second path of a request that has two: a new name.
+pub fn new_path_of(ask: &Ask) -> Option<&[u8]>
+    ensures { option_copied result ≡ requests.new_path_of ask.now }
+{
+    match path_ask(ask) {
+        Some(it) => it.new_path(),
+        None => None,
+    }
+}
+
 impl<'a> PathAsk<'a> {
     /// The path that it walks, or the first of two.
     pub(crate) fn path(self) -> &'a [u8]

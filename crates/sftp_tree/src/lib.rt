@@ -34,6 +34,7 @@ mod trees;
 pub mod walk_examples;
 mod walking;
 
+pub use asks::{new_path_of, path_of};
 pub use causes::{Cause, Causes, EVERY_CAUSE, Refused};
 pub use file_numbers::FileNo;
 pub use listings::Item;
