@@ -14,6 +14,7 @@ pub(crate) fn name(packet: &Packet) -> &'static str {
     }
 }
 
+/// The extensions have one type.
 fn ask_name(ask: &Ask) -> &'static str {
     match ask {
         Ask::Open { .. } => "OPEN",
@@ -34,11 +35,7 @@ fn ask_name(ask: &Ask) -> &'static str {
         Ask::Rename { .. } => "RENAME",
         Ask::Readlink { .. } => "READLINK",
         Ask::Symlink { .. } => "SYMLINK",
-        Ask::PosixRename { .. }
-        | Ask::Hardlink { .. }
-        | Ask::Fsync { .. }
-        | Ask::Limits
-        | Ask::Unknown { .. } => "EXTENDED",
+        _ => "EXTENDED",
     }
 }
 
@@ -78,11 +75,7 @@ pub(crate) fn put_details<W: fmt::Write>(
 fn put_code<W: fmt::Write>(answer: &Answer, f: &mut fmt::Formatter<W>) -> fmt::Result {
     match answer {
         Answer::Status { code, .. } => write!(f, " code {code}"),
-        Answer::Handle(_)
-        | Answer::Data(_)
-        | Answer::Name(_)
-        | Answer::Attrs(_)
-        | Answer::Extended(_) => Ok(()),
+        _ => Ok(()),
     }
 }
 
@@ -105,15 +98,7 @@ fn put_paths<W: fmt::Write>(ask: &Ask, f: &mut fmt::Formatter<W>) -> fmt::Result
             targetpath,
             linkpath,
         } => put_two_paths(targetpath, linkpath, f),
-        Ask::Close { .. }
-        | Ask::Read { .. }
-        | Ask::Write { .. }
-        | Ask::Fstat { .. }
-        | Ask::Fsetstat { .. }
-        | Ask::Readdir { .. }
-        | Ask::Fsync { .. }
-        | Ask::Limits
-        | Ask::Unknown { .. } => Ok(()),
+        _ => Ok(()),
     }
 }
 
