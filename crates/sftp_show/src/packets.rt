@@ -1,7 +1,8 @@
 //! What a line says of a packet: its name, its id or version, and its paths (draft, sections 3 to 8).
 
 use crate::quoted::Quoted;
-use sftp_wire::{Answer, Ask, ByteString, Packet};
+use sftp_tree::{new_path_of, path_of};
+use sftp_wire::{Answer, Ask, Packet};
 use std::fmt;
 
 /// The name of a packet's type (draft, section 3).
@@ -78,55 +79,24 @@ pub(crate) fn put_details<W: fmt::Write>(
 fn put_code<W: fmt::Write>(answer: &Answer, f: &mut fmt::Formatter<W>) -> fmt::Result {
     match answer {
         Answer::Status { code, .. } => write!(f, " code {code}"),
-        Answer::Handle(_)
-        | Answer::Data(_)
-        | Answer::Name(_)
-        | Answer::Attrs(_)
-        | Answer::Extended(_) => Ok(()),
+        _ => Ok(()),
     }
 }
 
+/// The paths in the order in which they are sent: those that are walked, and before them the target of a new link.
 fn put_paths<W: fmt::Write>(ask: &Ask, f: &mut fmt::Formatter<W>) -> fmt::Result {
-    match ask {
-        Ask::Open { path, .. }
-        | Ask::Lstat { path }
-        | Ask::Setstat { path, .. }
-        | Ask::Opendir { path }
-        | Ask::Remove { path }
-        | Ask::Mkdir { path, .. }
-        | Ask::Rmdir { path }
-        | Ask::Realpath { path }
-        | Ask::Stat { path }
-        | Ask::Readlink { path } => put_path(path, f),
-        Ask::Rename { oldpath, newpath }
-        | Ask::PosixRename { oldpath, newpath }
-        | Ask::Hardlink { oldpath, newpath } => put_two_paths(oldpath, newpath, f),
-        Ask::Symlink {
-            targetpath,
-            linkpath,
-        } => put_two_paths(targetpath, linkpath, f),
-        Ask::Close { .. }
-        | Ask::Read { .. }
-        | Ask::Write { .. }
-        | Ask::Fstat { .. }
-        | Ask::Fsetstat { .. }
-        | Ask::Readdir { .. }
-        | Ask::Fsync { .. }
-        | Ask::Limits
-        | Ask::Unknown { .. } => Ok(()),
+    if let Ask::Symlink { targetpath, .. } = ask {
+        put_path(targetpath.as_slice(), f)?;
     }
+    for path in [path_of(ask), new_path_of(ask)] {
+        if let Some(path) = path {
+            put_path(path, f)?;
+        }
+    }
+    Ok(())
 }
 
-fn put_path<W: fmt::Write>(path: &ByteString, f: &mut fmt::Formatter<W>) -> fmt::Result {
-    let path = Quoted(path.as_slice());
+fn put_path<W: fmt::Write>(path: &[u8], f: &mut fmt::Formatter<W>) -> fmt::Result {
+    let path = Quoted(path);
     write!(f, " {path}")
-}
-
-fn put_two_paths<W: fmt::Write>(
-    first: &ByteString,
-    second: &ByteString,
-    f: &mut fmt::Formatter<W>,
-) -> fmt::Result {
-    put_path(first, f)?;
-    put_path(second, f)
 }
