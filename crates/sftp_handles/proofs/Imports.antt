@@ -85,9 +85,7 @@ pub use Rattle.sftp_packets.specs.declared.open_flags.OpenFlags.{OpenFlags}
 pub use Rattle.sftp_packets.specs.declared.packets.Answer.{Answer}
 pub use Rattle.sftp_packets.specs.declared.packets.Answer.TheVariants.{Data, Status, Handle}
 pub use Rattle.sftp_packets.specs.declared.packets.Ask.{Ask}
-pub use Rattle.sftp_packets.specs.declared.packets.Ask.TheVariants.{Limits, Readdir, Read, Write, Fsetstat, Close}
-pub use Rattle.sftp_packets.specs.declared.packets.Ask.TheVariants.{Fsync}
-pub use Rattle.sftp_packets.specs.declared.packets.Ask.TheVariants.{Stat, Lstat, Realpath, Readlink, Fstat}
+pub use Rattle.sftp_packets.specs.declared.packets.Ask.TheVariants.{Readdir}
 pub use Rattle.sftp_packets.specs.declared.packets.Packet.TheVariants.{Reply as reply_packet, Request as request_packet}
 pub use Rattle.sftp_packets.specs.declared.packets.Reply.{Reply}
 pub use Rattle.sftp_packets.specs.declared.packets.Request.{Request}
