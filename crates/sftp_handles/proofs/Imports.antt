@@ -84,9 +84,7 @@ pub use Rattle.sftp_packets.specs.declared.open_flags.OpenFlags.{OpenFlags}
 pub use Rattle.sftp_packets.specs.declared.packets.Answer.{Answer}
 pub use Rattle.sftp_packets.specs.declared.packets.Answer.TheVariants.{Data, Status, Handle}
 pub use Rattle.sftp_packets.specs.declared.packets.Ask.{Ask}
-pub use Rattle.sftp_packets.specs.declared.packets.Ask.TheVariants.{Limits, Readdir, Read, Write, Fsetstat, Close}
-pub use Rattle.sftp_packets.specs.declared.packets.Ask.TheVariants.{Fsync}
-pub use Rattle.sftp_packets.specs.declared.packets.Ask.TheVariants.{Stat, Lstat, Realpath, Readlink, Fstat}
+pub use Rattle.sftp_packets.specs.declared.packets.Ask.TheVariants.{Readdir}
 pub use Rattle.sftp_packets.specs.declared.packets.Packet.TheVariants.{Reply as reply_packet, Request as request_packet}
 pub use Rattle.sftp_packets.specs.declared.packets.Reply.{Reply}
 pub use Rattle.sftp_packets.specs.declared.packets.Request.{Request}
@@ -94,7 +92,7 @@ pub use Rattle.sftp_handles.specs.Allowed.{Does, Allowed, stepped, Refuses}
 unfoldable pub use Rattle.sftp_handles.specs.Allowed.{step}
 pub use Rattle.sftp_handles.specs.Answered.{IsSpelledAnswer, IsReplyOf, status_of, only_name, IsAnswered}
 pub use Rattle.sftp_handles.specs.Clash.{Touched, untouched, everything, share, is_barrier, touched_through, touched_by}
-pub use Rattle.sftp_handles.specs.Clash.{ComesFirst, reads_file, writes_file, takes_names, may_change}
+pub use Rattle.sftp_handles.specs.Clash.{ComesFirst, reads_file, writes_file, takes_names, may_change, bars, bars_by}
 unfoldable pub use Rattle.sftp_handles.specs.Clash.{touched, clash}
 pub use Rattle.sftp_handles.specs.FirstNames.{item_of, first_items, names_in_reply, AreFirst, AreFirstNames}
 pub use Rattle.sftp_handles.specs.Fitting.{FitsSaid, FitsTwice, FitsData}
@@ -103,7 +101,8 @@ pub use Rattle.sftp_handles.specs.Given.{named, handles_in}
 pub use Rattle.sftp_handles.specs.Giving.{IsListing, gives_names, with_struck}
 pub use Rattle.sftp_handles.specs.HandleRequests.{row_of, Row, causes_of, said_of, Change, nothing, rewrites, leaves}
 pub use Rattle.sftp_handles.specs.HandleRequests.{closes, change_of, change_file, with_file_room, start_of, may_write}
-pub use Rattle.sftp_handles.specs.HandleRequests.{unless_open_for, goes_to_end, read_from}
+pub use Rattle.sftp_handles.specs.HandleRequests.{unless_open_for, goes_to_end, read_from, with_handle_room, said_by}
+unfoldable pub use Rattle.sftp_handles.specs.HandleRequests.{limits_data}
 pub use Rattle.sftp_handles.specs.Handles.{Left, Handles, open_at, is_open, with_open, kept_flags, without_open}
 pub use Rattle.sftp_handles.specs.Handles.{opens_file, times_open}
 unfoldable pub use Rattle.sftp_handles.specs.Handles.{pins_of}
@@ -114,9 +113,9 @@ pub use Rattle.sftp_handles.specs.Payloads.{Carries, said_in}
 pub use Rattle.sftp_handles.specs.Replies.{shows, names, gives, ended, extends, names_in, refuses, are_some_left, opens}
 pub use Rattle.sftp_handles.specs.Replies.{is_new_handle, says, struck, names_given, is_among, gives_some, has_code}
 pub use Rattle.sftp_handles.specs.Replies.{Said, ok, same_attributes, has_attributes, is_left, lists}
-pub use Rattle.sftp_handles.specs.Requests.{with_handle_room, causes_by, said_to, after_by, changed, said_by, flags_of}
-pub use Rattle.sftp_handles.specs.Requests.{opened_by, with_new, path_causes, path_said, seen_by}
-unfoldable pub use Rattle.sftp_handles.specs.Requests.{causes, after, told_to, limits_data, answers}
+pub use Rattle.sftp_handles.specs.Requests.{causes_by, said_to, after_by, changed, flags_of, opened_by}
+pub use Rattle.sftp_handles.specs.Requests.{with_new, path_causes, path_said, seen_by}
+unfoldable pub use Rattle.sftp_handles.specs.Requests.{causes, after, told_to, answers}
 pub use Rattle.sftp_handles.specs.Seen.{a_file, a_listing, Needed, anything, Seen, seen_file, seen_among, file}
 unfoldable pub use Rattle.sftp_handles.specs.Seen.{seen}
 pub use Rattle.sftp_handles.specs.Slots.{handles_from, slab_handles, serial_before}

@@ -54,16 +54,19 @@ touched_by s ask None = everything
 touched_by s ask (Some handle) =
     touched_through (row_of ask).needed (may_change ask) handle (open_at s.handles handle)
 
--- whether a request touches everything in every state: all do but those that need a file or a listing under their
--- handle
+-- whether a request through a handle that needs this there touches everything in every state
+abbrev pub bars : Needed → Bool
+bars anything = true
+bars other = false
+
+-- whether a request does that names this handle, if any
+abbrev pub bars_by : Option (List ℕ) → Needed → Bool
+bars_by None needed = true
+bars_by (Some handle) needed = bars needed
+
+-- all do but those that need a file or a listing under their handle
 abbrev pub is_barrier : Ask → Bool
-is_barrier (asks.Read handle offset len) = false
-is_barrier (asks.Write handle offset bytes) = false
-is_barrier (asks.Fstat handle) = false
-is_barrier (asks.Fsetstat handle attrs) = false
-is_barrier (asks.Fsync handle) = false
-is_barrier (asks.Readdir handle) = false
-is_barrier other = true
+is_barrier ask = bars_by (asked_handle ask) (row_of ask).needed
 
 -- what a request touches in a state
 unfoldable pub touched : State → Ask → Touched

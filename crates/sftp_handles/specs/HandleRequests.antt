@@ -1,24 +1,29 @@
--- The requests through handles: by what each sees of its handle and by the limits alone, the causes that hold, what its
--- reply says, and what it changes (draft-ietf-secsh-filexfer-02, sections 6.3, 6.4 and 6.7 to 6.9; OpenSSH's PROTOCOL,
--- section 4.6 for fsync). The causes are this profile's own.
-use Rattle.std.specs.Prelude.{◌&&◌, not, nat_lt, ℕ, Bool, true, if◌then◌else◌, [], ◌∷◌, length, Option, Some}
-use Rattle.std.specs.Prelude.{None, is_some}
+-- The table of requests, and what follows from it for those through handles: by what each sees of its handle and by the
+-- limits alone, the causes that hold, what its reply says, and what it changes (draft-ietf-secsh-filexfer-02, sections
+-- 6.3, 6.4 and 6.7 to 6.9; OpenSSH's PROTOCOL, section 4.6 for fsync). The causes are this profile's own. That an
+-- unknown extension is always refused is the draft's, section 8.
+use Rattle.std.specs.Prelude.{◌&&◌, not, nat_lt, ℕ, Bool, true, if◌then◌else◌, List, [], ◌∷◌, ◌++◌, length, Option}
+use Rattle.std.specs.Prelude.{Some, None, is_some}
 use Rattle.sftp_packets.specs.declared.open_flags.OpenFlags.{OpenFlags}
 use Rattle.sftp_packets.specs.declared.packets.Ask.{Ask}
 use Rattle.sftp_packets.specs.declared.packets.Ask.TheVariants as asks
 use Rattle.sftp_packets.specs.declared.packets.Answer.{Answer}
+use Rattle.sftp_packets.specs.Spelling.{uint64, packet_limit}
 use Rattle.sftp_treefile.specs.declared.limits.TreeLimits.{TreeLimits}
-use Rattle.sftp_tree.specs.declared.causes.Cause.TheVariants.{BadHandle, WrongKind, NotOpenFor, NoRoom}
+use Rattle.sftp_tree.specs.declared.causes.Cause.TheVariants.{BadHandle, WrongKind, NotOpenFor, NoRoom, Unknown}
 use Rattle.sftp_tree.specs.declared.file_contents.Content.{Content}
-use Rattle.sftp_tree.specs.Tree.{content_fits}
+use Rattle.sftp_tree.specs.Tree.{limits, content_fits}
 use Rattle.sftp_tree.specs.Attributes.{changed_content, shown_content}
 use Rattle.sftp_tree.specs.OpenFlags.{reads, writes, appends}
 use Rattle.sftp_tree.specs.FileChanges.{bytes_at, written_content}
 use Rattle.sftp_tree.specs.Causes.{CauseSet, no_causes, when, is_none}
-use Rattle.sftp_handles.specs.Handles.{Left}
+use Rattle.sftp_tree.specs.Requests as paths
+use Rattle.sftp_handles.specs.Handles.{Left, Handles}
+use Rattle.sftp_handles.specs.State.{State, has_handle_left}
 use Rattle.sftp_handles.specs.Seen.{Needed, anything, a_file, a_listing, Seen, absent, other_kind, something, file}
 use Rattle.sftp_handles.specs.Seen.{listing}
-use Rattle.sftp_handles.specs.Replies.{Said, ok, shows, gives, ended, lists, struck, names_given}
+use Rattle.sftp_handles.specs.Replies.{Said, ok, shows, names, gives, ended, lists, opens, extends}
+use Rattle.sftp_handles.specs.Replies.{struck, names_given}
 
 -- ---- how the file was opened (draft, section 6.3)
 
@@ -32,11 +37,35 @@ may_write flags = writes flags.0
 abbrev pub goes_to_end : OpenFlags → Bool
 goes_to_end flags = appends flags.0
 
+-- ---- requests that name no handle
+
+-- a request that opens something has `NoRoom` too if no other cause holds and there are too many handles already
+abbrev pub with_handle_room : State → CauseSet → CauseSet
+with_handle_room s set = when set NoRoom (is_none set && not (has_handle_left s))
+
+-- a request that opens something is answered by a new handle
+abbrev pub said_by : Handles → paths.Told → Said
+said_by handles paths.done = ok
+said_by handles (paths.attributes shown) = shows shown
+said_by handles (paths.name text) = names text
+said_by handles (paths.file number) = opens handles
+said_by handles (paths.listed left) = opens handles
+
+-- what the reply to a request for the limits has: the most bytes of a packet, of what a READ gives and, as told but not
+-- enforced, of what a WRITE has, and the most handles. This profile's own.
+unfoldable pub limits_data : TreeLimits → List ℕ
+limits_data bounds =
+    uint64 packet_limit ++ (uint64 bounds.read_bytes ++ (uint64 bounds.read_bytes ++ uint64 bounds.open_handles))
+
 -- ---- the table of requests
 
--- what there is to say of a request through a handle
+-- what there is to say of a request
 pub record Row : Type 0 where
-  -- what must be open
+  -- the causes if it names no handle, from those that the tree has
+  pub causes : State → CauseSet → CauseSet
+  -- what its reply says then, from what the tree tells
+  pub said : State → paths.Told → Said
+  -- what must be open under its handle, if it names one
   pub needed : Needed
   -- the causes by how the file was opened
   pub refused : OpenFlags → CauseSet
@@ -45,14 +74,20 @@ pub record Row : Type 0 where
   -- what its reply says of the file
   pub told : TreeLimits → Content → Said
 
--- of a request on either kind that changes no content
+-- of a request on paths alone, or on a handle of either kind that changes no content
 abbrev pub plain_row : Row
 plain_row = record {
+  causes = λ s set. set;
+  said = λ s told. said_by s.handles told;
   needed = anything;
   refused = λ flags. no_causes;
   content = λ flags before. None;
   told = λ bounds before. ok;
 }
+
+-- of a request that opens something
+abbrev pub opening_row : Row
+opening_row = record plain_row { causes = with_handle_room }
 
 -- of a request on a file
 abbrev pub file_row : Row
@@ -88,9 +123,14 @@ row_of (asks.Fsetstat handle attrs) = record file_row {
 row_of (asks.Fsync handle) = file_row
 row_of (asks.Readdir handle) = record plain_row { needed = a_listing }
 row_of (asks.Close handle) = plain_row
--- the others name no handle, and their rows are not asked for; they are named so that a new request needs a row
-row_of (asks.Open path pflags attrs) = plain_row
-row_of (asks.Opendir path) = plain_row
+row_of (asks.Open path pflags attrs) = opening_row
+row_of (asks.Opendir path) = opening_row
+row_of asks.Limits = record plain_row {
+  causes = λ s set. no_causes;
+  said = λ s told. extends (limits_data (limits s.tree));
+}
+row_of (asks.Unknown extension rest) = record plain_row { causes = λ s set. when no_causes Unknown true }
+-- the tree has the rows of these; they are named so that a new request needs a row
 row_of (asks.Stat path) = plain_row
 row_of (asks.Lstat path) = plain_row
 row_of (asks.Setstat path attrs) = plain_row
@@ -103,10 +143,8 @@ row_of (asks.Remove path) = plain_row
 row_of (asks.Rename oldpath newpath) = plain_row
 row_of (asks.PosixRename oldpath newpath) = plain_row
 row_of (asks.Hardlink oldpath newpath) = plain_row
-row_of asks.Limits = plain_row
-row_of (asks.Unknown extension rest) = plain_row
 
--- ---- the causes
+-- ---- the causes of a request through a handle
 
 -- `NoRoom` holds if no other cause holds and the file would have too many bytes
 abbrev pub with_file_room : TreeLimits → CauseSet → Option Content → CauseSet

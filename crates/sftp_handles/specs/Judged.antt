@@ -2,15 +2,18 @@
 use Rattle.std.specs.Prelude.{◌≡◌, ℕ, nat_lt, Bool, true, false, if◌then◌else◌, List, Option, Some, None, Result}
 use Rattle.std.specs.Prelude.{Ok, Err, IsTrue}
 use Rattle.sftp_packets.specs.declared.packets.Ask.{Ask}
-use Rattle.sftp_packets.specs.declared.packets.Ask.TheVariants as asks
 use Rattle.sftp_packets.specs.declared.packets.Answer.{Answer}
 use Rattle.sftp_packets.specs.declared.packets.Answer.TheVariants as replies
+use Rattle.sftp_packets.specs.Spelling.{asked_handle}
 use Rattle.sftp_path.specs.declared.errors.NoMemory.{NoMemory}
 use Rattle.sftp_tree.specs.declared.causes.Refused.{Refused}
 use Rattle.sftp_tree.specs.declared.causes.Refused.TheVariants as refusals
+use Rattle.sftp_handles.specs.declared.requests.Kind.{Kind}
+use Rattle.sftp_handles.specs.declared.requests.Kind.TheVariants.{Change}
 use Rattle.sftp_handles.specs.State.{State}
 use Rattle.sftp_handles.specs.Requests.{causes}
 use Rattle.sftp_handles.specs.Allowed.{Does, step}
+use Rattle.sftp_handles.specs.Kinds.{kind_of}
 
 -- the code of a status that says neither OK nor that the end was reached
 abbrev pub refusal_code : Answer → Option ℕ
@@ -42,14 +45,10 @@ is_done (Ok value) = Ok true
 is_done (Err (refusals.Cause cause)) = Ok false
 is_done (Err refusals.NoMemory) = Err (record {})
 
--- whether a request changes the tree, and opens nothing, by its paths alone
+-- whether a request of this kind that names this handle, if any, changes the tree by its paths alone
+abbrev pub changes_by : Kind → Option (List ℕ) → Bool
+changes_by Change None = true
+changes_by _ _ = false
+
 abbrev pub changes_tree : Ask → Bool
-changes_tree (asks.Mkdir path attrs) = true
-changes_tree (asks.Rmdir path) = true
-changes_tree (asks.Remove path) = true
-changes_tree (asks.Setstat path attrs) = true
-changes_tree (asks.Rename oldpath newpath) = true
-changes_tree (asks.PosixRename oldpath newpath) = true
-changes_tree (asks.Hardlink oldpath newpath) = true
-changes_tree (asks.Symlink targetpath linkpath) = true
-changes_tree other = false
+changes_tree ask = changes_by (kind_of ask) (asked_handle ask)

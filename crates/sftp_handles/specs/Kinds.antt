@@ -1,8 +1,8 @@
 -- The kinds of requests, by what their replies say where no cause refuses them. Words of private contracts.
 use Rattle.sftp_packets.specs.declared.packets.Ask.{Ask}
 use Rattle.sftp_packets.specs.declared.packets.Ask.TheVariants as asks
-use Rattle.sftp_handles.specs.declared.kinds.Kind.{Kind}
-use Rattle.sftp_handles.specs.declared.kinds.Kind.TheVariants.{Change, Open, List, Query, Unknown}
+use Rattle.sftp_handles.specs.declared.requests.Kind.{Kind}
+use Rattle.sftp_handles.specs.declared.requests.Kind.TheVariants.{Change, Open, List, Query, Unknown}
 
 abbrev pub kind_of : Ask → Kind
 kind_of (asks.Open path pflags attrs) = Open
@@ -15,16 +15,5 @@ kind_of (asks.Fstat handle) = Query
 kind_of (asks.Realpath path) = Query
 kind_of (asks.Readlink path) = Query
 kind_of asks.Limits = Query
-kind_of (asks.Close handle) = Change
-kind_of (asks.Write handle offset bytes) = Change
-kind_of (asks.Setstat path attrs) = Change
-kind_of (asks.Fsetstat handle attrs) = Change
-kind_of (asks.Remove path) = Change
-kind_of (asks.Mkdir path attrs) = Change
-kind_of (asks.Rmdir path) = Change
-kind_of (asks.Rename oldpath newpath) = Change
-kind_of (asks.Symlink targetpath linkpath) = Change
-kind_of (asks.PosixRename oldpath newpath) = Change
-kind_of (asks.Hardlink oldpath newpath) = Change
-kind_of (asks.Fsync handle) = Change
 kind_of (asks.Unknown name rest) = Unknown
+kind_of other = Change

@@ -1,7 +1,7 @@
 -- How requests use what is open under their handles, as the code has it. Words of private contracts.
-use Rattle.std.specs.Prelude.{ℕ, Bool, true, false, List, Option, Some, None}
-use Rattle.sftp_handles.specs.declared.handle_uses.Use.{Use}
-use Rattle.sftp_handles.specs.declared.handle_uses.Use.TheVariants.{Close, ReadFile, WriteFile, TakeNames}
+use Rattle.std.specs.Prelude.{Bool, true, false}
+use Rattle.sftp_handles.specs.declared.requests.Use.{Use}
+use Rattle.sftp_handles.specs.declared.requests.Use.TheVariants.{Close, ReadFile, WriteFile, TakeNames}
 use Rattle.sftp_handles.specs.Seen.{Needed, anything, a_file, a_listing}
 
 -- what must be open for it
@@ -15,13 +15,3 @@ needed_for TakeNames = a_listing
 abbrev pub writes : Use → Bool
 writes WriteFile = true
 writes other = false
-
--- whether a request through a handle that needs this there touches everything
-abbrev pub bars : Needed → Bool
-bars anything = true
-bars other = false
-
--- whether a request does that names this handle, if any
-abbrev pub bars_by : Option (List ℕ) → Needed → Bool
-bars_by None needed = true
-bars_by (Some handle) needed = bars needed

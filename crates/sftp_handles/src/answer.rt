@@ -2,7 +2,7 @@
 ghost use Rattle.std.specs.Prelude.{◌≡◌, ◌^◌, ◌<◌, false, Some, IfOk, IfErr, OnErr};
 ghost use Rattle.sftp_packets.specs.declared.packets.Packet.TheVariants.{Reply as reply_packet};
 ghost use Rattle.sftp_packets.specs.Spelling.{HasSpelling};
-ghost use Rattle.sftp_handles.specs.declared.kinds.Kind.TheVariants.{Change};
+ghost use Rattle.sftp_handles.specs.declared.requests.Kind.TheVariants.{Change};
 ghost use Rattle.sftp_handles.specs.Kinds as kinds;
 ghost use Rattle.sftp_handles.specs.Allowed.{Allowed, step};
 ghost use Rattle.sftp_handles.specs.Judged.{IsRefusal};
@@ -12,7 +12,7 @@ pub(crate) mod forms;
 mod names;
 
 use crate::answer::forms::status;
-use crate::kinds::{Kind, kind_of};
+use crate::requests::{Kind, kind_of};
 use crate::sessions::Session;
 use crate::slab_table::SlabTable;
 use crate::tables::HandleTable;

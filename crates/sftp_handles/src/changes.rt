@@ -1,6 +1,6 @@
 //! Requests whose reply says OK.
 ghost use Rattle.std.specs.Prelude.{◌≡◌, None, IsTrue, IfOk, IfErr, OnOk, OnErr};
-ghost use Rattle.sftp_handles.specs.declared.kinds.Kind.TheVariants.{Change};
+ghost use Rattle.sftp_handles.specs.declared.requests.Kind.TheVariants.{Change};
 ghost use Rattle.sftp_handles.specs.Kinds as kinds;
 ghost use Rattle.sftp_handles.specs.Judged.{IsJudged, IsDone, IsRefusal, changes_tree, is_done, refusal_code};
 

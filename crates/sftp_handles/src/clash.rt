@@ -9,8 +9,8 @@ ghost use Rattle.sftp_handles.specs.Clash.{share, touched, touched_through};
 ghost use Rattle.sftp_handles.specs.Touch.{handle_in, touched_as};
 ghost use Rattle.sftp_handles.specs.Uses as uses;
 
-use crate::handle_uses::{Use, through};
 use crate::opens::Open;
+use crate::requests::{Use, through};
 use crate::sessions::Session;
 use crate::tables::HandleTable;
 use crate::touch::Touch;

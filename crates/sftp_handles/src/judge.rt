@@ -1,7 +1,7 @@
 //! Which replies of another server a session allows (draft, sections 6 and 7).
 ghost use Rattle.std.specs.Prelude.{◌≡◌, false, None, IsTrue, IfOk, OnErr};
 ghost use Rattle.sftp_packets.specs.declared.packets.Ask.TheVariants.{Readdir};
-ghost use Rattle.sftp_handles.specs.declared.kinds.Kind.TheVariants as variants;
+ghost use Rattle.sftp_handles.specs.declared.requests.Kind.TheVariants as variants;
 ghost use Rattle.sftp_handles.specs.Kinds as kinds;
 ghost use Rattle.sftp_handles.specs.State as state;
 ghost use Rattle.sftp_handles.specs.Allowed.{Allowed};
@@ -9,7 +9,7 @@ ghost use Rattle.sftp_handles.specs.Judged.{IsJudged, refusal_code};
 
 use crate::answer::forms::has_code;
 use crate::given_table::GivenTable;
-use crate::kinds::{Kind, kind_of};
+use crate::requests::{Kind, kind_of};
 use crate::sessions::Session;
 use crate::tables::HandleTable;
 use sftp_tree::{NoMemory, Refused};

@@ -6,7 +6,7 @@ ghost use Rattle.sftp_packets.specs.declared.packets.Ask.TheVariants as asks;
 ghost use Rattle.sftp_packets.specs.declared.packets.Answer.TheVariants as replies;
 ghost use Rattle.sftp_handles.specs.declared.not_opened.NotOpened.TheVariants as failures;
 ghost use Rattle.sftp_handles.specs.declared.opens.Open.TheVariants as opens;
-ghost use Rattle.sftp_handles.specs.declared.kinds.Kind.TheVariants as variants;
+ghost use Rattle.sftp_handles.specs.declared.requests.Kind.TheVariants as variants;
 ghost use Rattle.sftp_handles.specs.Kinds as kinds;
 ghost use Rattle.sftp_handles.specs.Handles as handles;
 ghost use Rattle.sftp_handles.specs.State.{IsLeft, has_handle_left};

@@ -2,15 +2,15 @@
 ghost use Rattle.std.specs.Prelude.{◌≡◌, IfOk, IfErr, IfSome};
 ghost use Rattle.sftp_packets.specs.declared.packets.Ask.TheVariants.{Fstat, Limits, Read, Readlink, Realpath};
 ghost use Rattle.sftp_tree.specs.Refusals.{stat_ask};
-ghost use Rattle.sftp_handles.specs.declared.kinds.Kind.TheVariants.{Query};
+ghost use Rattle.sftp_handles.specs.declared.requests.Kind.TheVariants.{Query};
 ghost use Rattle.sftp_handles.specs.Kinds as kinds;
 ghost use Rattle.sftp_handles.specs.Judged.{IsRefusal};
 ghost use Rattle.sftp_handles.specs.Payloads.{Carries, said_in};
 ghost use Rattle.sftp_handles.specs.Answered.{IsAnswered};
 
-use crate::kinds::{Kind, kind_of};
 use crate::limits::limits_data;
 use crate::payloads::Payload;
+use crate::requests::{Kind, kind_of};
 use crate::sessions::Session;
 use crate::tables::HandleTable;
 use sftp_tree::Refused;

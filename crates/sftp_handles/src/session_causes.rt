@@ -4,6 +4,7 @@ ghost use Rattle.sftp_tree.specs.declared.causes.Cause.{Cause as cause};
 ghost use Rattle.sftp_tree.specs.Refusals.{in_set};
 ghost use Rattle.sftp_handles.specs.State as state;
 ghost use Rattle.sftp_tree.specs.Requests as tree_requests;
+ghost use Rattle.sftp_handles.specs.HandleRequests.{with_handle_room};
 ghost use Rattle.sftp_handles.specs.Requests as requests;
 
 use crate::handle_requests::only;
@@ -54,7 +55,7 @@ impl<T: HandleTable> Session<T> {
     /// `NoMemory` if memory runs out.
     fn opening_causes(&self, ask: &Ask) -> Result<Causes, NoMemory>
         ensures { IfOk result (λ set. in_set set
-            ≡ requests.with_handle_room self.now (tree_requests.causes self.now.tree ask.now)) }
+            ≡ with_handle_room self.now (tree_requests.causes self.now.tree ask.now)) }
     {
         let refused = self.tree.causes(ask)?;
         Ok(self.with_handle_room(refused))
@@ -62,7 +63,7 @@ impl<T: HandleTable> Session<T> {
 
     /// The causes, and `NoRoom` if there is none of them and no more handles may be opened.
     fn with_handle_room(&self, refused: Causes) -> Causes
-        ensures { in_set result ≡ requests.with_handle_room self.now (in_set refused) }
+        ensures { in_set result ≡ with_handle_room self.now (in_set refused) }
     {
         let lacks = !refused.has_any() && !self.has_handle_left();
         refused.when(Cause::NoRoom, lacks)

@@ -8,7 +8,7 @@ use Rattle.sftp_packets.specs.declared.packets.Ask.TheVariants.{Open, Opendir}
 use Rattle.sftp_packets.specs.declared.packets.Answer.TheVariants as replies
 use Rattle.sftp_tree.specs.Requests as paths
 use Rattle.sftp_tree.specs.Refusals as refusals_of
-use Rattle.sftp_handles.specs.declared.kinds.Kind.TheVariants as kinds
+use Rattle.sftp_handles.specs.declared.requests.Kind.TheVariants as kinds
 use Rattle.sftp_handles.proofs.Judged.HandleReplies.{opens-said}
 use Rattle.sftp_handles.proofs.Judged.Judgements.{answers-said}
 use Rattle.sftp_handles.proofs.OpenFiles.Opened.{refused-file, refused-listing}

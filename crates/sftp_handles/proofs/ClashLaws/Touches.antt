@@ -2,14 +2,15 @@
 use Rattle.sftp_handles.proofs.Imports.{◌≡◌, ◌≢◌, ◌==◌, ℕ, Bool, true, false, List, Option, Some, None, cond, refl, sym}
 use Rattle.sftp_handles.proofs.Imports.{ap, subst, ◌∙◌, nat_cmp, is_eq, IsTotalOrder, nat_cmp_total, nat_eq_equiv}
 use Rattle.sftp_handles.proofs.Imports.{Equal-is, Ordering, Equal, nat_list_cmp_total, nat_list_eq_equiv, bytes_decides}
-use Rattle.sftp_handles.proofs.Imports.{IsAntisymmetric, nat_cmp-IsAntisymmetric, eq-eqb, OpenFlags, Ask, Write}
-use Rattle.sftp_handles.proofs.Imports.{Fsetstat, Answer, asked_handle, bytes_cmp, same_bytes, Table, InOrder, get, put}
+use Rattle.sftp_handles.proofs.Imports.{IsAntisymmetric, nat_cmp-IsAntisymmetric, eq-eqb, OpenFlags, Ask}
+use Rattle.sftp_handles.proofs.Imports.{Answer, asked_handle, bytes_cmp, same_bytes, Table, InOrder, get, put}
 use Rattle.sftp_handles.proofs.Imports.{bytes_cmp-same, get-put, get-put_here, InOrder-put, same_table, Content, Files}
 use Rattle.sftp_handles.proofs.Imports.{content_at, with_content, Open, File, Listing, Left, Handles, open_at}
 use Rattle.sftp_handles.proofs.Imports.{with_open, State, Needed, anything, a_file, a_listing, seen_file, seen_among}
 use Rattle.sftp_handles.proofs.Imports.{seen, row_of, Change, nothing, rewrites, leaves, closes, change_of, change_file}
 use Rattle.sftp_handles.proofs.Imports.{changed, Touched, untouched, reads_file, writes_file, takes_names, everything}
 use Rattle.sftp_handles.proofs.Imports.{share, may_change, touched_through, touched_by, touched}
+use Rattle.sftp_packets.specs.declared.packets.Ask.TheVariants as asks
 use Rattle.sftp_path.proofs.Table.Laws.{get-put_elsewhere}
 
 -- ---- what is changed
@@ -33,8 +34,8 @@ IsChangeTo s handle at closes = at ≡ everything
 -- only a request that may change its file gives it another content
 may-change : (ask : Ask) (flags : OpenFlags) (before next : Content) → (row_of ask).content flags before ≡ Some next
     → may_change ask ≡ true
-may-change (Write handle offset bytes) flags before next is = refl
-may-change (Fsetstat handle attrs) flags before next is = refl
+may-change (asks.Write handle offset bytes) flags before next is = refl
+may-change (asks.Fsetstat handle attrs) flags before next is = refl
 may-change other flags before next is = absurd cc
 
 module _ (s : State) (ask : Ask) (handle : List ℕ) (answer : Answer) where

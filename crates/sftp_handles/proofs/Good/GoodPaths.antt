@@ -10,11 +10,12 @@ use Rattle.sftp_handles.proofs.Imports.{truncates, no_causes, is_none, when, Tol
 use Rattle.sftp_handles.proofs.Imports.{IsFree, each-get, each-put, pins-stay, limits-stay, Stands, outcome-is}
 use Rattle.sftp_handles.proofs.Imports.{none-each, PathsLeadWell, outcome-stands, Opened, File, Listing, Left, open_at}
 use Rattle.sftp_handles.proofs.Imports.{with_open, is_open, pins_of, kept_flags, State, Good, settled, IsOpen, IsHandle}
-use Rattle.sftp_handles.proofs.Imports.{IsLeft, has_handle_left, is_new_handle, says, causes, answers, after}
-use Rattle.sftp_handles.proofs.Imports.{with_handle_room, told_to, said_by, flags_of, opened_by, with_new}
+use Rattle.sftp_handles.proofs.Imports.{IsLeft, has_handle_left, is_new_handle, says, causes, answers, after, asked_handle}
+use Rattle.sftp_handles.proofs.Imports.{with_handle_room, told_to, said_by, said_to, flags_of, opened_by, with_new, after_by, causes_by}
+use Rattle.sftp_handles.proofs.Imports.{path_causes, path_said}
+use Rattle.sftp_packets.specs.declared.packets.Ask.TheVariants as asks
 use Rattle.sftp_packets.specs.declared.packets.Ask.TheVariants.{Open, Opendir}
 use Rattle.sftp_packets.specs.declared.packets.Answer.TheVariants as replies
-use Rattle.sftp_packets.specs.declared.packets.Ask.TheVariants as asks
 use Rattle.sftp_tree.specs.declared.nodes.Node.TheVariants as nodes
 use Rattle.sftp_tree.specs.Changes.{with_opened, with_emptied_file}
 use Rattle.sftp_tree.specs.Requests.{file, number_at}
@@ -225,31 +226,26 @@ good-other paths-lead s ask answer good fit free none =
     (opens-none (flags_of ask) (told_at s.tree ask) none (led s.tree ask))))
     (good-plain paths-lead s ask good fit free)
 
+module _ (paths-lead : PathsLeadWell) (s : State) (answer : Answer) (lists : ListingsFit s.tree) (good : Good s) where
+  good-path : (ask : Ask) → IsAsk ask → is_none (path_causes s ask) ≡ true → says (path_said s ask) answer ≡ true
+      → Good (after_by s ask answer None)
+  unfolding after
+  good-path (Open path pflags attrs) fit free answered =
+      good-open paths-lead s path pflags attrs good fit free answer answered
+  good-path (Opendir path) fit free answered = good-list paths-lead s lists path good fit free answer answered
+  good-path (asks.Unknown extension rest) fit free answered =
+      absurd (let one = none-each (when no_causes Unknown true) free Unknown in unknown one)
+  good-path asks.Limits fit free answered = subst Good (sym (limits-still s answer good)) good
+  good-path other fit free answered = good-other paths-lead s other answer good fit free (λ place. refl)
+
+  good-by-handle : (ask : Ask) (named : Option (List ℕ)) → IsAsk ask → is_none (causes_by s ask named) ≡ true
+      → says (said_to s ask named) answer ≡ true → Good (after_by s ask answer named)
+  good-by-handle ask None fit free answered = good-path ask fit free answered
+  good-by-handle ask (Some handle) fit free answered = good-through s ask handle answer good fit free
+
 pub good-after : PathsLeadWell → (s : State) (ask : Ask) (answer : Answer)
     → ListingsFit s.tree → Good s → IsAsk ask
     → is_none (causes s ask) ≡ true → answers s ask answer ≡ true → Good (after s ask answer)
 unfolding causes answers after
-good-after paths-lead s (Open path pflags attrs) answer lists good fit free answered =
-    good-open paths-lead s path pflags attrs good fit free answer answered
-good-after paths-lead s (Opendir path) answer lists good fit free answered =
-    good-list paths-lead s lists path good fit free answer answered
-good-after paths-lead s (asks.Unknown extension rest) answer lists good fit free answered =
-    absurd (let one = none-each (when no_causes Unknown true) free Unknown in unknown one)
-good-after paths-lead s asks.Limits answer lists good fit free answered =
-    subst Good (sym (limits-still s answer good)) good
-good-after paths-lead s (asks.Close handle) answer lists good fit free answered =
-    good-through s (asks.Close handle) handle answer good fit free
-good-after paths-lead s (asks.Read handle offset len) answer lists good fit free answered =
-    good-through s (asks.Read handle offset len) handle answer good fit free
-good-after paths-lead s (asks.Write handle offset bytes) answer lists good fit free answered =
-    good-through s (asks.Write handle offset bytes) handle answer good fit free
-good-after paths-lead s (asks.Fstat handle) answer lists good fit free answered =
-    good-through s (asks.Fstat handle) handle answer good fit free
-good-after paths-lead s (asks.Fsetstat handle attrs) answer lists good fit free answered =
-    good-through s (asks.Fsetstat handle attrs) handle answer good fit free
-good-after paths-lead s (asks.Readdir handle) answer lists good fit free answered =
-    good-through s (asks.Readdir handle) handle answer good fit free
-good-after paths-lead s (asks.Fsync handle) answer lists good fit free answered =
-    good-through s (asks.Fsync handle) handle answer good fit free
-good-after paths-lead s other answer lists good fit free answered =
-    good-other paths-lead s other answer good fit free (λ place. refl)
+good-after paths-lead s ask answer lists good fit free answered =
+    good-by-handle paths-lead s answer lists good ask (asked_handle ask) fit free answered

@@ -1,7 +1,7 @@
 -- Good states: that each request leaves a good state good.
 use Rattle.sftp_handles.proofs.Imports.{◌≡◌, ◌==◌, ◌&&◌, ◌||◌, not, nat_lt, ℕ, zero, suc, ◌+◌, Bool, true, false}
 use Rattle.sftp_handles.proofs.Imports.{if◌then◌else◌, List, [], ◌∷◌, ◌++◌, length, drop, Option, Some, None, refl}
-use Rattle.sftp_handles.proofs.Imports.{subst, IsTrue, and_parts, and_from, same_Some, OpenFlags, Ask, Write, Fsetstat}
+use Rattle.sftp_handles.proofs.Imports.{subst, IsTrue, and_parts, and_from, same_Some, OpenFlags, Ask}
 use Rattle.sftp_handles.proofs.Imports.{Answer, IsAsk, bytes_cmp, bytes_cmp-same, TreeLimits, are_bytes, NoRoom}
 use Rattle.sftp_handles.proofs.Imports.{Content, IsContent, content_at, content_fits, limits, changed_content, resized}
 use Rattle.sftp_handles.proofs.Imports.{overwritten, written_content, CauseSet, is_none, when, none-each, each-none}
@@ -9,6 +9,7 @@ use Rattle.sftp_handles.proofs.Imports.{fewer, each-get, bytes-fit, nat_cmp, nat
 use Rattle.sftp_handles.proofs.Imports.{Listing, open_at, State, Good, IsHandle, Needed, anything, a_file, a_listing}
 use Rattle.sftp_handles.proofs.Imports.{seen_file, seen_among, seen, struck, names_given, row_of, start_of}
 use Rattle.sftp_handles.proofs.Imports.{with_file_room, causes_of, change_of, change_file, changed}
+use Rattle.sftp_packets.specs.declared.packets.Ask.TheVariants as asks
 use Rattle.sftp_tree.proofs.WellFormedTrees.Fields.{sized-bytes, changed-content-fits}
 use Rattle.sftp_handles.proofs.Good.GoodStates.{good-again, good-rewritten, good-listing, good-closed, left-struck}
 
@@ -37,13 +38,13 @@ written-bytes false offset new bytes fit h =
 -- what comes after a request is the content of a file
 pub next-content : (ask : Ask) (flags : OpenFlags) (before next : Content) → IsAsk ask → IsContent before
     → (row_of ask).content flags before ≡ Some next → IsContent next
-next-content (Write handle offset bytes) flags before next fit is e =
+next-content (asks.Write handle offset bytes) flags before next fit is e =
     subst IsContent (same_Some (written_content (start_of flags offset before) bytes before) next e) (
       is.0,
       written-bytes (length bytes == 0) (start_of flags offset before) bytes before.bytes
           (bytes-fit bytes fit.1.1) is.1,
     )
-next-content (Fsetstat handle attrs) flags before next fit is e =
+next-content (asks.Fsetstat handle attrs) flags before next fit is e =
     subst IsContent (same_Some (changed_content attrs before) next e) (changed-content-fits attrs before fit.1 is)
 next-content other flags before next fit is e = absurd cc
 

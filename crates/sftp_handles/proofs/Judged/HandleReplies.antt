@@ -8,7 +8,7 @@ use Rattle.sftp_handles.proofs.Imports.{said_by, told_to, Does, IsJudged, refusa
 use Rattle.sftp_packets.specs.declared.packets.Ask.TheVariants as asks
 use Rattle.sftp_tree.specs.declared.causes.Refused.TheVariants as refusals
 use Rattle.sftp_tree.specs.Requests as paths
-use Rattle.sftp_handles.specs.declared.kinds.Kind.TheVariants as kinds
+use Rattle.sftp_handles.specs.declared.requests.Kind.TheVariants as kinds
 use Rattle.sftp_handles.specs.declared.not_opened.NotOpened.{NotOpened}
 use Rattle.sftp_handles.specs.declared.not_opened.NotOpened.TheVariants.{Taken, Refused}
 use Rattle.sftp_handles.specs.Opening.{IsNotOpened, not_opened}

@@ -1,10 +1,10 @@
 -- Replies that say OK: which requests are done, and which have another answer.
-use Rattle.sftp_handles.proofs.Imports.{◌≡◌, nat_le, ℕ, true, false, Option, Some, None, Result, Ok, Err, IsTrue, refl}
+use Rattle.sftp_handles.proofs.Imports.{◌≡◌, ◌≢◌, nat_le, ℕ, true, false, List, Option, Some, None, Result, Ok, Err, IsTrue, refl}
 use Rattle.sftp_handles.proofs.Imports.{sym, ap, subst, ◌∙◌, IfOk, IfErr, OnOk, OnErr, OpenFlags, Ask, Answer, Status}
 use Rattle.sftp_handles.proofs.Imports.{asked_handle, Place, size, TreeLimits, Cause, Refused, Content, Tree, Files}
 use Rattle.sftp_handles.proofs.Imports.{IsKept, content_at, limits, is_none, Told, done, led, led_to}
 use Rattle.sftp_handles.proofs.Imports.{told_at, has_step, outcome, IsFree, pins-stay, limits-stay, Open, File, Listing}
-use Rattle.sftp_handles.proofs.Imports.{open_at, State, Good, settled, anything, a_file, seen}
+use Rattle.sftp_handles.proofs.Imports.{open_at, State, Good, settled, Needed, anything, a_file, a_listing, seen}
 use Rattle.sftp_handles.proofs.Imports.{seen_among, seen_file, ok, has_code, Row, row_of, said_of, causes, path_causes}
 use Rattle.sftp_handles.proofs.Imports.{path_said, causes_by, after, after_by, told_to, said_to, said_by, with_new}
 use Rattle.sftp_handles.proofs.Imports.{flags_of, opened_by, IsJudged, IsDone, IsRefusal, refusal_code, kind_of}
@@ -12,8 +12,8 @@ use Rattle.sftp_packets.specs.declared.packets.Ask.TheVariants as asks
 use Rattle.sftp_tree.specs.declared.causes.Refused.TheVariants as refusals
 use Rattle.sftp_tree.specs.Requests as paths
 use Rattle.sftp_tree.specs.Refusals as of_tree
-use Rattle.sftp_handles.specs.declared.kinds.Kind.TheVariants.{Change}
-use Rattle.sftp_handles.specs.Judged.{is_done, changes_tree}
+use Rattle.sftp_handles.specs.declared.requests.Kind.TheVariants.{Change}
+use Rattle.sftp_handles.specs.Judged.{is_done, changes_by, changes_tree}
 use Rattle.sftp_handles.proofs.Good.NewStates.{state_of, settled-pinned}
 use Rattle.sftp_handles.proofs.Judged.Judgements.{not-answered, answers-said, unlike, judged-none, judged-ok}
 use Rattle.sftp_handles.proofs.Judged.Judgements.{judged-not_ok, judged-coded}
@@ -41,23 +41,9 @@ record IsChange (s : State) (ask : Ask) : Type 0 where
   pub says_done : (place : Place) → told_at s.tree ask place ≡ done
 
 is-change : (s : State) (ask : Ask) → IsTrue (changes_tree ask) → IsChange s ask
-is-change s (asks.Mkdir path attrs) is =
-    record { on_paths = refl; no_handle = refl; same_causes = refl; same_said = refl; says_done = λ place. refl }
-is-change s (asks.Rmdir path) is =
-    record { on_paths = refl; no_handle = refl; same_causes = refl; same_said = refl; says_done = λ place. refl }
-is-change s (asks.Remove path) is =
-    record { on_paths = refl; no_handle = refl; same_causes = refl; same_said = refl; says_done = λ place. refl }
-is-change s (asks.Setstat path attrs) is =
-    record { on_paths = refl; no_handle = refl; same_causes = refl; same_said = refl; says_done = λ place. refl }
-is-change s (asks.Rename oldpath newpath) is =
-    record { on_paths = refl; no_handle = refl; same_causes = refl; same_said = refl; says_done = λ place. refl }
-is-change s (asks.PosixRename oldpath newpath) is =
-    record { on_paths = refl; no_handle = refl; same_causes = refl; same_said = refl; says_done = λ place. refl }
-is-change s (asks.Hardlink oldpath newpath) is =
-    record { on_paths = refl; no_handle = refl; same_causes = refl; same_said = refl; says_done = λ place. refl }
-is-change s (asks.Symlink targetpath linkpath) is =
-    record { on_paths = refl; no_handle = refl; same_causes = refl; same_said = refl; says_done = λ place. refl }
-is-change s other is = absurd cc
+is-change s (asks.Close handle) is = absurd cc
+is-change s other is =
+    record { on_paths = cc; no_handle = cc; same_causes = cc; same_said = cc; says_done = λ place. cc }
 
 pub change-on_paths : (s : State) (ask : Ask) → IsTrue (changes_tree ask) → IsTrue (has_step ask)
 change-on_paths s ask is = (is-change s ask is).on_paths
@@ -82,10 +68,8 @@ told-done : (s : State) (ask : Ask) → IsTrue (changes_tree ask) → told_to s.
 unfolding told_to
 told-done s ask is = led_to-done (led s.tree ask) (told_at s.tree ask) (is-change s ask is).says_done
 
-path-ok : (s : State) (ask : Ask) → IsTrue (changes_tree ask) → said_to s ask (asked_handle ask) ≡ ok
-path-ok s ask is =
-    ap (said_to s ask) (is-change s ask is).no_handle
-    ∙ ((is-change s ask is).same_said ∙ ap (said_by s.handles) (told-done s ask is))
+path-ok : (s : State) (ask : Ask) → IsTrue (changes_tree ask) → path_said s ask ≡ ok
+path-ok s ask is = (is-change s ask is).same_said ∙ ap (said_by s.handles) (told-done s ask is)
 
 change-after : (s : State) (ask : Ask) (answer : Answer) → IsTrue (changes_tree ask)
     → after s ask answer ≡ settled (outcome s.tree ask) s.handles
@@ -100,7 +84,9 @@ module _ (s : State) (ask : Ask) (t : Tree) (good : Good s) (changes : IsTrue (c
   pub change-done : IsFree s.tree ask → IsDone s ask (state_of t s.handles)
   change-done free message language = record {
     free = ap is_none (change-causes s ask changes) ∙ free;
-    answered = answers-said s ask ok (Status 0 message language) (path-ok s ask changes);
+    answered =
+        answers-said s ask ok (Status 0 message language)
+        (ap (said_to s ask) (is-change s ask changes).no_handle ∙ path-ok s ask changes);
     changed =
         ap (λ t. state_of t s.handles) is
         ∙ sym
@@ -121,47 +107,39 @@ module _ (s : State) (ask : Ask) (t : Tree) (good : Good s) (changes : IsTrue (c
 
 -- ---- what the reply to a change says
 
-content-ok : (bounds : TreeLimits) (row : Row) (number : ℕ) (flags : OpenFlags) (content : Option Content)
-    → ((before : Content) → row.told bounds before ≡ ok) → said_of bounds row (seen_file number flags content) ≡ ok
-content-ok bounds row number flags None told = refl
-content-ok bounds row number flags (Some before) told = told before
+-- through a handle
+record IsOk (ask : Ask) : Type 0 where
+  pub no_listing : (row_of ask).needed ≢ a_listing
+  pub told : (bounds : TreeLimits) (before : Content) → (row_of ask).told bounds before ≡ ok
 
-file-ok : (bounds : TreeLimits) (row : Row) (files : Files) (found : Option Open)
-    → ((before : Content) → row.told bounds before ≡ ok) → said_of bounds row (seen_among files a_file found) ≡ ok
-file-ok bounds row files None told = refl
-file-ok bounds row files (Some (File number flags)) told =
-    content-ok bounds row number flags (content_at files number) told
-file-ok bounds row files (Some (Listing left)) told = refl
+is-ok : (ask : Ask) → kind_of ask ≡ Change → IsOk ask
+is-ok (asks.Close handle) is = record { no_listing = λ needs. cc; told = λ bounds before. refl }
+is-ok other is = record { no_listing = λ needs. cc; told = λ bounds before. cc }
 
-any-ok : (bounds : TreeLimits) (row : Row) (files : Files) (found : Option Open)
-    → said_of bounds row (seen_among files anything found) ≡ ok
-any-ok bounds row files None = refl
-any-ok bounds row files (Some it) = refl
+module _ (bounds : TreeLimits) (row : Row) (told : (before : Content) → row.told bounds before ≡ ok) where
+  content-ok : (number : ℕ) (flags : OpenFlags) (content : Option Content)
+      → said_of bounds row (seen_file number flags content) ≡ ok
+  content-ok number flags None = refl
+  content-ok number flags (Some before) = told before
 
-pub change-said : (s : State) (ask : Ask) → kind_of ask ≡ Change → said_to s ask (asked_handle ask) ≡ ok
-unfolding seen
-change-said s (asks.Close handle) is =
-    any-ok (limits s.tree) (row_of (asks.Close handle)) s.tree.files (open_at s.handles handle)
-change-said s (asks.Write handle offset bytes) is =
-    file-ok (limits s.tree) (row_of (asks.Write handle offset bytes)) s.tree.files (open_at s.handles handle)
-    (λ before. refl)
-change-said s (asks.Fsetstat handle attrs) is =
-    file-ok (limits s.tree) (row_of (asks.Fsetstat handle attrs)) s.tree.files (open_at s.handles handle)
-    (λ before. refl)
-change-said s (asks.Fsync handle) is =
-    file-ok (limits s.tree) (row_of (asks.Fsync handle)) s.tree.files (open_at s.handles handle) (λ before. refl)
-change-said s (asks.Open path pflags attrs) is = absurd cc
-change-said s (asks.Opendir path) is = absurd cc
-change-said s (asks.Read handle offset len) is = absurd cc
-change-said s (asks.Readdir handle) is = absurd cc
-change-said s (asks.Stat path) is = absurd cc
-change-said s (asks.Lstat path) is = absurd cc
-change-said s (asks.Fstat handle) is = absurd cc
-change-said s (asks.Realpath path) is = absurd cc
-change-said s (asks.Readlink path) is = absurd cc
-change-said s asks.Limits is = absurd cc
-change-said s (asks.Unknown name rest) is = absurd cc
-change-said s other is = path-ok s other refl
+  seen-ok : (files : Files) (needed : Needed) (found : Option Open) → needed ≢ a_listing
+      → said_of bounds row (seen_among files needed found) ≡ ok
+  seen-ok files needed None other = refl
+  seen-ok files anything (Some it) other = refl
+  seen-ok files a_file (Some (File number flags)) other = content-ok number flags (content_at files number)
+  seen-ok files a_file (Some (Listing left)) other = refl
+  seen-ok files a_listing (Some it) other = absurd (other refl)
+
+module _ (s : State) (ask : Ask) (is : kind_of ask ≡ Change) where
+  said-ok : (named : Option (List ℕ)) → asked_handle ask ≡ named → said_to s ask named ≡ ok
+  unfolding seen
+  said-ok None asked = path-ok s ask (λ i. changes_by (is i) (asked i))
+  said-ok (Some handle) asked =
+      seen-ok (limits s.tree) (row_of ask) ((is-ok ask is).told (limits s.tree)) s.tree.files (row_of ask).needed
+      (open_at s.handles handle) (is-ok ask is).no_listing
+
+  pub change-said : said_to s ask (asked_handle ask) ≡ ok
+  change-said = said-ok (asked_handle ask) refl
 
 -- an answer that does not say OK
 pub judged-other_answer : (s : State) (ask : Ask) (answer : Answer) → kind_of ask ≡ Change

@@ -14,7 +14,7 @@ use Rattle.sftp_tree.specs.Requests as paths
 use Rattle.sftp_tree.specs.Requests.{target_of}
 use Rattle.sftp_tree.specs.Told.{shown_to, text_to}
 use Rattle.sftp_tree.specs.Refusals as of_tree
-use Rattle.sftp_handles.specs.declared.kinds.Kind.TheVariants.{Query}
+use Rattle.sftp_handles.specs.declared.requests.Kind.TheVariants.{Query}
 use Rattle.sftp_handles.proofs.Good.GoodStates.{good-settled}
 use Rattle.sftp_handles.proofs.Judged.Judgements.{answers-said, unlike, judged-still}
 use Rattle.sftp_handles.proofs.Answered.LimitsAnswers.{limits-still}
@@ -41,18 +41,12 @@ path-causes : (s : State) (ask : Ask) → kind_of ask ≡ Query → asked_handle
     → causes s ask ≡ paths.causes s.tree ask
 unfolding causes
 path-causes s (asks.Stat path) is asked on = refl
-path-causes s (asks.Lstat path) is asked on = refl
-path-causes s (asks.Realpath path) is asked on = refl
-path-causes s (asks.Readlink path) is asked on = refl
-path-causes s other is asked on = absurd cc
+path-causes s other is asked on = cc
 
 path-said : (s : State) (ask : Ask) → kind_of ask ≡ Query → asked_handle ask ≡ None → IsTrue (has_step ask)
     → path_said s ask ≡ said_by s.handles (told_to s.tree ask)
 path-said s (asks.Stat path) is asked on = refl
-path-said s (asks.Lstat path) is asked on = refl
-path-said s (asks.Realpath path) is asked on = refl
-path-said s (asks.Readlink path) is asked on = refl
-path-said s other is asked on = absurd cc
+path-said s other is asked on = cc
 
 -- it opens nothing
 opens-none : (pflags : ℕ) (end : Option (Result Place Cause)) (at : Place → Told)

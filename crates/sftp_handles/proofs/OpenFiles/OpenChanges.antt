@@ -1,7 +1,7 @@
 -- Requests that change what is open: CLOSE, and those that give an open file another content.
 use Rattle.sftp_handles.proofs.Imports.{◌≡◌, ℕ, Bool, true, List, Option, Some, None, Ok, Err, Result, is_some}
 use Rattle.sftp_handles.proofs.Imports.{option_map, refl, sym, ap, subst, ◌∙◌, IsTrue, IfErr, OnOk, both_ways}
-use Rattle.sftp_handles.proofs.Imports.{same_Some, Attrs, OpenFlags, Ask, Close, Write, Fsetstat, Fsync, Answer, Status}
+use Rattle.sftp_handles.proofs.Imports.{same_Some, Attrs, OpenFlags, Ask, Answer, Status}
 use Rattle.sftp_handles.proofs.Imports.{asked_handle, bytes_cmp, without-absent, BadHandle, Refused, Content}
 use Rattle.sftp_handles.proofs.Imports.{Tree, Pins, IsKept, HasFile, content_at, with_content, limits, trim}
 use Rattle.sftp_handles.proofs.Imports.{without_pin, changed_content, is_none, no_causes, written_content, after_write}
@@ -10,12 +10,13 @@ use Rattle.sftp_handles.proofs.Imports.{open_at, without_open, State, settled, G
 use Rattle.sftp_handles.proofs.Imports.{seen, seen_among, seen_file, ok, says, row_of, causes_of, said_of, change_of}
 use Rattle.sftp_handles.proofs.Imports.{change_file, start_of, causes, said_to, answers, changed, after, after_by}
 use Rattle.sftp_handles.proofs.Imports.{found_file, IsWritable, IsDone, IsRefusal}
+use Rattle.sftp_packets.specs.declared.packets.Ask.TheVariants as asks
 use Rattle.sftp_tree.specs.declared.causes.Refused.TheVariants as refusals
 use Rattle.sftp_tree.specs.Changes.{with_changed_file}
 use Rattle.sftp_tree.specs.FileChanges.{with_written_file, after_unpin}
 use Rattle.sftp_handles.proofs.Good.Pins.{pins-close_file, pins-close_listing}
 use Rattle.sftp_handles.proofs.Good.NewStates.{state_of, settled-already}
-use Rattle.sftp_handles.proofs.Good.GoodStates.{good-settled, good-closed}
+use Rattle.sftp_handles.proofs.Good.GoodStates.{good-closed}
 use Rattle.sftp_handles.proofs.OpenFiles.SeenCauses.{seen-found}
 use Rattle.sftp_handles.proofs.OpenFiles.SeenAnswers.{none-free, none-holds, cause-holds}
 
@@ -64,7 +65,7 @@ module _ (s : State) (ask : Ask) (handle : List ℕ) (asked : asked_handle ask �
       ∙ ap (λ x. changed s handle (change_of (row_of ask) x answer)) seen-is
 
   -- where no cause holds, it is done with OK
-  done-file : (end : State) → (row_of ask).told (limits s.tree) before ≡ ok → causes s ask ≡ no_causes
+  pub done-file : (end : State) → (row_of ask).told (limits s.tree) before ≡ ok → causes s ask ≡ no_causes
       → end ≡ changed s handle (change_file f.0 ((row_of ask).content f.1 before)) → IsDone s ask end
   done-file end told free is_end message language = record {
     free = none-holds s ask free;
@@ -83,54 +84,45 @@ module _ (s : State) (ask : Ask) (handle : List ℕ) (asked : asked_handle ask �
       ∙ (ap (λ t. settled t s.handles) same
       ∙ ap (λ o. changed s handle (change_file f.0 o)) (sym gets)))
 
--- ---- fsync
-
-pub synced : (s : State) (handle : List ℕ) (f : ℕ × OpenFlags) (content : Option Content) → Good s
-    → found_file (open_at s.handles handle) ≡ Ok f → content_at s.tree.files f.0 ≡ content → IsTrue (is_some content)
-    → causes s (Fsync handle) ≡ no_causes → IsDone s (Fsync handle) s
-synced s handle f None good is there some free = absurd cc
-synced s handle f (Some before) good is there some free =
-    done-file s (Fsync handle) handle refl refl f before is there s refl free (sym (good-settled s good))
-
 -- ---- WRITE
 
 module _ (s : State) (handle : List ℕ) (offset : ℕ) (new : List ℕ) (it : ℕ × ℕ) (good : Good s)
-    (free : causes s (Write handle offset new) ≡ no_causes) (is : IsWritable s handle offset new it) where
+    (free : causes s (asks.Write handle offset new) ≡ no_causes) (is : IsWritable s handle offset new it) where
   write-done : (t : Tree) (content : Option Content) → content_at s.tree.files it.0 ≡ content
       → option_map (start_of is.flags offset) content ≡ Some it.1 → IsKept t
-      → t ≡ with_written_file s.tree it.1 new it.0 content → IsDone s (Write handle offset new) (state_of t s.handles)
+      → t ≡ with_written_file s.tree it.1 new it.0 content → IsDone s (asks.Write handle offset new) (state_of t s.handles)
   write-done t None there starts kept same = absurd cc
   write-done t (Some before) there starts kept same =
       let from = same_Some (start_of is.flags offset before) it.1 starts in
-      done-rewritten s (Write handle offset new) handle refl refl (it.0, is.flags) before is.found there
+      done-rewritten s (asks.Write handle offset new) handle refl refl (it.0, is.flags) before is.found there
       (written_content (start_of is.flags offset before) new before) t good kept refl free refl
       (same ∙ ap (λ n. with_written_file s.tree n new it.0 (Some before)) (sym from))
 
   pub write-ends : (result : Result Unit Refused) (t : Tree) (end : State) → OnOk result (IsKept t)
       → OnOk result (t ≡ after_write s.tree it.0 it.1 new) → end ≡ state_of t s.handles
-      → OnOk result (IsDone s (Write handle offset new) end)
+      → OnOk result (IsDone s (asks.Write handle offset new) end)
   write-ends result t end =
-      call-done s (Write handle offset new) t (after_write s.tree it.0 it.1 new) end result
+      call-done s (asks.Write handle offset new) t (after_write s.tree it.0 it.1 new) end result
       (write-done t (content_at s.tree.files it.0) refl is.starts)
 
 -- ---- FSETSTAT
 
 module _ (s : State) (handle : List ℕ) (attrs : Attrs) (f : ℕ × OpenFlags) (good : Good s)
-    (free : causes s (Fsetstat handle attrs) ≡ no_causes) (is : found_file (open_at s.handles handle) ≡ Ok f)
+    (free : causes s (asks.Fsetstat handle attrs) ≡ no_causes) (is : found_file (open_at s.handles handle) ≡ Ok f)
     (there : HasFile s.tree.files f.0) where
   set-done : (t : Tree) (content : Option Content) → content_at s.tree.files f.0 ≡ content → IsTrue (is_some content)
       → IsKept t → t ≡ with_changed_file s.tree attrs f.0 content
-      → IsDone s (Fsetstat handle attrs) (state_of t s.handles)
+      → IsDone s (asks.Fsetstat handle attrs) (state_of t s.handles)
   set-done t None at some kept same = absurd cc
   set-done t (Some before) at some kept same =
-      done-rewritten s (Fsetstat handle attrs) handle refl refl f before is at (changed_content attrs before) t good
+      done-rewritten s (asks.Fsetstat handle attrs) handle refl refl f before is at (changed_content attrs before) t good
       kept refl free refl same
 
   pub set-ends : (result : Result Unit Refused) (t : Tree) (end : State) → OnOk result (IsKept t)
       → OnOk result (t ≡ after_set s.tree f.0 attrs) → end ≡ state_of t s.handles
-      → OnOk result (IsDone s (Fsetstat handle attrs) end)
+      → OnOk result (IsDone s (asks.Fsetstat handle attrs) end)
   set-ends result t end =
-      call-done s (Fsetstat handle attrs) t (after_set s.tree f.0 attrs) end result
+      call-done s (asks.Fsetstat handle attrs) t (after_set s.tree f.0 attrs) end result
       (set-done t (content_at s.tree.files f.0) refl there)
 
 -- ---- CLOSE
@@ -182,25 +174,25 @@ module _ (s : State) (handle : List ℕ) where
   unfolding seen
   seen-closing found is = ap (seen_among s.tree.files anything) is
 
-  pub close-lost : open_at s.handles handle ≡ None → IsTrue (causes s (Close handle) BadHandle)
+  pub close-lost : open_at s.handles handle ≡ None → IsTrue (causes s (asks.Close handle) BadHandle)
   unfolding causes
   close-lost absent =
-      ap (λ x. causes_of (limits s.tree) (row_of (Close handle)) x BadHandle) (seen-closing None absent)
+      ap (λ x. causes_of (limits s.tree) (row_of (asks.Close handle)) x BadHandle) (seen-closing None absent)
       ∙ cause-holds BadHandle
 
   pub close-done : (it : Open) (end : State) → open_at s.handles handle ≡ Some it
-      → end ≡ settled s.tree (without_open s.handles handle) → IsDone s (Close handle) end
+      → end ≡ settled s.tree (without_open s.handles handle) → IsDone s (asks.Close handle) end
   unfolding causes answers after
   close-done it end there is_end message language = record {
     free =
-        ap (λ x. is_none (causes_of (limits s.tree) (row_of (Close handle)) x)) (seen-closing (Some it) there)
+        ap (λ x. is_none (causes_of (limits s.tree) (row_of (asks.Close handle)) x)) (seen-closing (Some it) there)
         ∙ none-free;
     answered =
-        ap (λ x. says (said_of (limits s.tree) (row_of (Close handle)) x) (Status 0 message language))
+        ap (λ x. says (said_of (limits s.tree) (row_of (asks.Close handle)) x) (Status 0 message language))
         (seen-closing (Some it) there);
     changed =
         is_end
         ∙ sym
-        (ap (λ x. changed s handle (change_of (row_of (Close handle)) x (Status 0 message language)))
+        (ap (λ x. changed s handle (change_of (row_of (asks.Close handle)) x (Status 0 message language)))
         (seen-closing (Some it) there));
   }

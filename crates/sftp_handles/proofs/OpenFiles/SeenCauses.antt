@@ -7,8 +7,9 @@ use Rattle.sftp_handles.proofs.Imports.{content_fits, limits, size_fits, changed
 use Rattle.sftp_handles.proofs.Imports.{Attrs, same_Some, CauseSet, row, no_causes, when, Open, File, Listing, open_at}
 use Rattle.sftp_handles.proofs.Imports.{opens_file, times_open, pins_of, State, Good, a_file, seen, seen_among}
 use Rattle.sftp_handles.proofs.Imports.{seen_file, Row, row_of, causes_of, with_file_room, start_of, may_write}
-use Rattle.sftp_handles.proofs.Imports.{unless_open_for, causes, causes_by, asked_handle, Write, Fsetstat, BadHandle}
+use Rattle.sftp_handles.proofs.Imports.{unless_open_for, causes, causes_by, asked_handle, BadHandle}
 use Rattle.sftp_handles.proofs.Imports.{NotOpenFor, NoRoom, found_file, with_room, refusing, granted}
+use Rattle.sftp_packets.specs.declared.packets.Ask.TheVariants as asks
 use Rattle.sftp_tree.proofs.OpenFiles.Written.{size-written}
 use Rattle.sftp_tree.proofs.CauseLaws.Limits.{changed-fits}
 use Rattle.sftp_tree.proofs.Limits.Entries.{content-fits}
@@ -147,22 +148,22 @@ module _ (s : State) (handle : List ℕ) where
       → found_file (open_at s.handles handle) ≡ Ok f
       → option_map (λ before. content_fits (limits s.tree) (written_content (start_of f.1 offset before) new before))
       (content_at s.tree.files f.0) ≡ Some fits
-      → causes s (Write handle offset new) ≡ with_room (unless_open_for (may_write f.1)) fits
+      → causes s (asks.Write handle offset new) ≡ with_room (unless_open_for (may_write f.1)) fits
   unfolding causes seen
   write-found offset new f fits is there =
-      ap (causes_of (limits s.tree) (row_of (Write handle offset new))) (seen-found s.tree.files (open_at s.handles handle) f is)
-      ∙ room-causes (limits s.tree) (row_of (Write handle offset new)) f.0 f.1 (content_at s.tree.files f.0) fits
+      ap (causes_of (limits s.tree) (row_of (asks.Write handle offset new))) (seen-found s.tree.files (open_at s.handles handle) f is)
+      ∙ room-causes (limits s.tree) (row_of (asks.Write handle offset new)) f.0 f.1 (content_at s.tree.files f.0) fits
       (λ before. written_content (start_of f.1 offset before) new before) (λ before. refl) there
 
   pub set-found : (attrs : Attrs) (f : ℕ × OpenFlags) (fits : Bool)
       → found_file (open_at s.handles handle) ≡ Ok f
       → option_map (λ before. content_fits (limits s.tree) (changed_content attrs before))
       (content_at s.tree.files f.0) ≡ Some fits
-      → causes s (Fsetstat handle attrs) ≡ with_room (when no_causes NotOpenFor (is_some attrs.size && not (may_write f.1))) fits
+      → causes s (asks.Fsetstat handle attrs) ≡ with_room (when no_causes NotOpenFor (is_some attrs.size && not (may_write f.1))) fits
   unfolding causes seen
   set-found attrs f fits is there =
-      ap (causes_of (limits s.tree) (row_of (Fsetstat handle attrs))) (seen-found s.tree.files (open_at s.handles handle) f is)
-      ∙ room-causes (limits s.tree) (row_of (Fsetstat handle attrs)) f.0 f.1 (content_at s.tree.files f.0) fits
+      ap (causes_of (limits s.tree) (row_of (asks.Fsetstat handle attrs))) (seen-found s.tree.files (open_at s.handles handle) f is)
+      ∙ room-causes (limits s.tree) (row_of (asks.Fsetstat handle attrs)) f.0 f.1 (content_at s.tree.files f.0) fits
       (changed_content attrs) (λ before. refl) there
 
 -- of a request on a file

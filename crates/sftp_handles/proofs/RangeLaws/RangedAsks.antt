@@ -1,10 +1,11 @@
 -- What a request sees that keeps to a range of a file, and when it keeps to one.
 use Rattle.sftp_handles.proofs.Imports.{◌≡◌, nat_le, ℕ, ◌≤◌, Bool, true, false, List, length, Option, Some, None, Ok}
 use Rattle.sftp_handles.proofs.Imports.{Err, option_map, refl, sym, ap, subst, ◌∙◌, le-leb, leb-true, same_Some}
-use Rattle.sftp_handles.proofs.Imports.{OpenFlags, Ask, Read, Write, asked_handle, TreeLimits, Cause, Content}
+use Rattle.sftp_handles.proofs.Imports.{OpenFlags, Ask, asked_handle, TreeLimits, Cause, Content}
 use Rattle.sftp_handles.proofs.Imports.{content_at, limits, ByteRange, Open, File, Listing, open_at, State, Needed}
 use Rattle.sftp_handles.proofs.Imports.{anything, a_file, a_listing, Seen, file, seen_file, seen_among, seen}
 use Rattle.sftp_handles.proofs.Imports.{goes_to_end, row_of, found_file}
+use Rattle.sftp_packets.specs.declared.packets.Ask.TheVariants as asks
 use Rattle.sftp_handles.specs.Ranges.{written_span, span, range_from, range_if, range_within, range_of, range_by, range}
 
 -- ---- what is seen
@@ -144,7 +145,7 @@ range-refused s ask handle cause needed is =
 
 unwritten-by : (s : State) (handle : List ℕ) (offset : ℕ) (bytes : List ℕ) (number : ℕ) (flags : OpenFlags)
     (content : Option Content) → goes_to_end flags ≡ true
-    → range_of (limits s.tree) (Write handle offset bytes) (seen_file number flags content) ≡ None
+    → range_of (limits s.tree) (asks.Write handle offset bytes) (seen_file number flags content) ≡ None
 unwritten-by s handle offset bytes number flags None to_end = refl
 unwritten-by s handle offset bytes number flags (Some before) to_end =
     ap (λ b. range_within number (length before.bytes) (written_span b offset (length bytes))) to_end
@@ -152,10 +153,10 @@ unwritten-by s handle offset bytes number flags (Some before) to_end =
 -- a WRITE that goes to the end
 pub range-unwritten : (s : State) (handle : List ℕ) (offset : ℕ) (bytes : List ℕ) (number : ℕ) (flags : OpenFlags)
     → found_file (open_at s.handles handle) ≡ Ok (number, flags) → goes_to_end flags ≡ true
-    → range_by s (Write handle offset bytes) (Some handle) ≡ None
+    → range_by s (asks.Write handle offset bytes) (Some handle) ≡ None
 unfolding seen
 range-unwritten s handle offset bytes number flags found to_end =
-    by-found s (Write handle offset bytes) number flags (open_at s.handles handle) refl found
+    by-found s (asks.Write handle offset bytes) number flags (open_at s.handles handle) refl found
     ∙ unwritten-by s handle offset bytes number flags (content_at s.tree.files number) to_end
 
 -- ---- of other requests
@@ -171,9 +172,9 @@ by-unspanned s ask None none = refl
 by-unspanned s ask (Some handle) none = unspanned (limits s.tree) ask (seen s (row_of ask).needed handle) none
 
 -- only READ and WRITE keep to a range
-pub range-other : (s : State) (ask : Ask) → ((handle : List ℕ) (offset len : ℕ) → ask ≡ Read handle offset len → ⊥)
-    → ((handle : List ℕ) (offset : ℕ) (bytes : List ℕ) → ask ≡ Write handle offset bytes → ⊥) → range s ask ≡ None
+pub range-other : (s : State) (ask : Ask) → ((handle : List ℕ) (offset len : ℕ) → ask ≡ asks.Read handle offset len → ⊥)
+    → ((handle : List ℕ) (offset : ℕ) (bytes : List ℕ) → ask ≡ asks.Write handle offset bytes → ⊥) → range s ask ≡ None
 unfolding range
-range-other s (Read handle offset len) read write = absurd (read handle offset len refl)
-range-other s (Write handle offset bytes) read write = absurd (write handle offset bytes refl)
+range-other s (asks.Read handle offset len) read write = absurd (read handle offset len refl)
+range-other s (asks.Write handle offset bytes) read write = absurd (write handle offset bytes refl)
 range-other s other read write = by-unspanned s other (asked_handle other) (λ flags. refl)

@@ -4,11 +4,12 @@ use Rattle.sftp_handles.proofs.Imports.{◌≡◌, ◌&&◌, not, nat_lt, nat_le
 use Rattle.sftp_handles.proofs.Imports.{if◌then◌else◌, List, [], length, take, drop, cond, Option, Some, None}
 use Rattle.sftp_handles.proofs.Imports.{unwrap_or, option_map, refl, sym, ap, subst, ◌∙◌, arith, nat_cmp, is_eq}
 use Rattle.sftp_handles.proofs.Imports.{IsTotalOrder, nat_cmp_total, Equal-is, IsAntisymmetric, nat_cmp-IsAntisymmetric}
-use Rattle.sftp_handles.proofs.Imports.{Ordering, same_Some, OpenFlags, Ask, Read, Write, Answer, asked_handle, Table}
+use Rattle.sftp_handles.proofs.Imports.{Ordering, same_Some, OpenFlags, Ask, Answer, asked_handle, Table}
 use Rattle.sftp_handles.proofs.Imports.{InOrder, get, put, get-put, InOrder-put, same_table, TreeLimits, IsAsk, Content}
 use Rattle.sftp_handles.proofs.Imports.{content_at, content_fits, with_content, limits, written_content, is_none, when}
 use Rattle.sftp_handles.proofs.Imports.{State, Good, file, seen, NoRoom, refuses, says, gives, ended, ok, row_of}
 use Rattle.sftp_handles.proofs.Imports.{goes_to_end, start_of, causes_of, said_of, read_from, change_file, step}
+use Rattle.sftp_packets.specs.declared.packets.Ask.TheVariants as asks
 use Rattle.sftp_handles.specs.Ranges.{written_span, span}
 use Rattle.sftp_handles.proofs.ClashLaws.Touches.{applied}
 use Rattle.sftp_handles.proofs.ClashLaws.Exchanges.{decided, outcome, step-applied}
@@ -113,7 +114,7 @@ module _ (s : State) (ask : Ask) (handle : List ℕ) (number : ℕ) (flags : Ope
 
 -- the bytes that the request writes, by whether it was done
 abbrev pub data_of : Bool → Ask → List ℕ
-data_of true (Write handle offset bytes) = bytes
+data_of true (asks.Write handle offset bytes) = bytes
 data_of done other = []
 
 -- the content with these bytes
@@ -135,16 +136,16 @@ module _ (bounds : TreeLimits) (flags : OpenFlags) (before : Content) (ends : �
   -- what it writes is within its range
   pub data-within : (done : Bool) (ask : Ask) → span bounds ask flags ≡ Some ends
       → ends.0 + length (data_of done ask) ≤ ends.1
-  data-within true (Write handle offset bytes) is =
+  data-within true (asks.Write handle offset bytes) is =
       let e = (written-ends (goes_to_end flags) offset (length bytes) ends is).1 in
       subst (λ (p : ℕ × ℕ). p.0 + length bytes ≤ p.1) (sym e) (omega arith)
-  data-within false (Write handle offset bytes) is =
+  data-within false (asks.Write handle offset bytes) is =
       let e = (written-ends (goes_to_end flags) offset (length bytes) ends is).1 in
       subst (λ (p : ℕ × ℕ). p.0 + length {A = ℕ} [] ≤ p.1) (sym e) (omega arith)
-  data-within true (Read handle offset len) is =
+  data-within true (asks.Read handle offset len) is =
       subst (λ (p : ℕ × ℕ). p.0 + length {A = ℕ} [] ≤ p.1) (same_Some (offset, offset + min len bounds.read_bytes) ends is)
       (omega arith)
-  data-within false (Read handle offset len) is =
+  data-within false (asks.Read handle offset len) is =
       subst (λ (p : ℕ × ℕ). p.0 + length {A = ℕ} [] ≤ p.1) (same_Some (offset, offset + min len bounds.read_bytes) ends is)
       (omega arith)
   data-within done other is = absurd cc
@@ -166,10 +167,10 @@ module _ (bounds : TreeLimits) (flags : OpenFlags) (before : Content) (ends : �
   -- the content after it
   pub effect-over : (done : Bool) (ask : Ask) → span bounds ask flags ≡ Some ends
       → effect done ask flags before ≡ with_bytes before (over ends.0 (data_of done ask) before.bytes)
-  effect-over true (Write handle offset bytes) is = written-there offset bytes is
-  effect-over false (Write handle offset bytes) is = unchanged
-  effect-over true (Read handle offset len) is = unchanged
-  effect-over false (Read handle offset len) is = unchanged
+  effect-over true (asks.Write handle offset bytes) is = written-there offset bytes is
+  effect-over false (asks.Write handle offset bytes) is = unchanged
+  effect-over true (asks.Read handle offset len) is = unchanged
+  effect-over false (asks.Read handle offset len) is = unchanged
   effect-over done other is = absurd cc
 
 -- of two contents: the same length, and the same bytes from the start on, up to the end
@@ -211,17 +212,17 @@ module _ (bounds : TreeLimits) (number : ℕ) (flags : OpenFlags) (before after 
 
   pub judged-alike : (ask : Ask) → span bounds ask flags ≡ Some ends
       → judged bounds ask number flags after answer ≡ judged bounds ask number flags before answer
-  judged-alike (Read handle offset len) is =
+  judged-alike (asks.Read handle offset len) is =
       ap
       (λ said.
-      verdict (refuses (causes_of bounds (row_of (Read handle offset len)) (file number flags before)) answer)
-      (is_none (causes_of bounds (row_of (Read handle offset len)) (file number flags before)) && says said answer))
+      verdict (refuses (causes_of bounds (row_of (asks.Read handle offset len)) (file number flags before)) answer)
+      (is_none (causes_of bounds (row_of (asks.Read handle offset len)) (file number flags before)) && says said answer))
       (read-alike offset len (same_Some (offset, offset + min len bounds.read_bytes) ends is))
-  judged-alike (Write handle offset bytes) is =
+  judged-alike (asks.Write handle offset bytes) is =
       ap
       (λ fits.
-      let set = when ((row_of (Write handle offset bytes)).refused flags) NoRoom
-      (is_none ((row_of (Write handle offset bytes)).refused flags) && not fits) in
+      let set = when ((row_of (asks.Write handle offset bytes)).refused flags) NoRoom
+      (is_none ((row_of (asks.Write handle offset bytes)).refused flags) && not fits) in
       verdict (refuses set answer) (is_none set && says ok answer))
       (written-alike offset bytes is)
   judged-alike other is = absurd cc

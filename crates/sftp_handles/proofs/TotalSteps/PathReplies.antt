@@ -1,12 +1,13 @@
 -- What the replies to requests on paths say fits a reply.
 use Rattle.sftp_handles.proofs.Imports.{◌≡◌, ℕ, ◌+◌, true, false, List, length, Option, Some, None, Result, Ok, Err}
-use Rattle.sftp_handles.proofs.Imports.{is_some, refl, sym, subst, arith, IsTrue, leb-true, same_Some, Attrs, Ask, Stat}
-use Rattle.sftp_handles.proofs.Imports.{Lstat, Realpath, Readlink, Place, place_cmp, size, place_cmp-same, are_bytes}
+use Rattle.sftp_handles.proofs.Imports.{is_some, refl, sym, subst, arith, IsTrue, leb-true, same_Some, Attrs, Ask}
+use Rattle.sftp_handles.proofs.Imports.{Place, place_cmp, size, place_cmp-same, are_bytes}
 use Rattle.sftp_handles.proofs.Imports.{Cause, NoEntry, NotLink, Content, Node, Tree, IsKept, IsNode, node_at}
 use Rattle.sftp_handles.proofs.Imports.{content_at, link_fits, limits, reached, said, shown, shown_content, no_causes}
 use Rattle.sftp_handles.proofs.Imports.{when, needing_causes, link_causes, done, led, led_to, told_at, shown_at, IsFree}
 use Rattle.sftp_handles.proofs.Imports.{each-get, each-all, fits-parts, free-at, PathsLeadWell, State, Good}
 use Rattle.sftp_handles.proofs.Imports.{has_handle_left, shows, names, opens, FitsSaid, said_by, told_to}
+use Rattle.sftp_packets.specs.declared.packets.Ask.TheVariants as asks
 use Rattle.std.specs.Option.{option_map}
 use Rattle.sftp_tree.specs.declared.nodes.Node.TheVariants.{Dir, File, Link}
 use Rattle.sftp_tree.specs.Requests.{target_of}
@@ -84,15 +85,15 @@ module _ (s : State) (good : Good s) where
       subst (λ o. FitsSaid (shows (shown_at s.tree o))) (sym found.1) (node-fits found.0 kept.0 kept.1)
 
   -- a request for attributes
-  pub stat-fits : (path : List ℕ) (place : Place) → IsFree s.tree (Stat path)
-      → led s.tree (Stat path) ≡ Some (Ok place) → FitsAt (Stat path) place
+  pub stat-fits : (path : List ℕ) (place : Place) → IsFree s.tree (asks.Stat path)
+      → led s.tree (asks.Stat path) ≡ Some (Ok place) → FitsAt (asks.Stat path) place
   stat-fits path place free leads =
-      shown-fits place ((free-at s.tree (Stat path) place free leads refl).none NoEntry)
+      shown-fits place ((free-at s.tree (asks.Stat path) place free leads refl).none NoEntry)
 
-  pub lstat-fits : (path : List ℕ) (place : Place) → IsFree s.tree (Lstat path)
-      → led s.tree (Lstat path) ≡ Some (Ok place) → FitsAt (Lstat path) place
+  pub lstat-fits : (path : List ℕ) (place : Place) → IsFree s.tree (asks.Lstat path)
+      → led s.tree (asks.Lstat path) ≡ Some (Ok place) → FitsAt (asks.Lstat path) place
   lstat-fits path place free leads =
-      shown-fits place ((free-at s.tree (Lstat path) place free leads refl).none NoEntry)
+      shown-fits place ((free-at s.tree (asks.Lstat path) place free leads refl).none NoEntry)
 
   -- ---- names
 
@@ -105,21 +106,21 @@ module _ (s : State) (good : Good s) where
         short = omega (arith, short);
       }
 
-  pub target-fits : (path : List ℕ) (place : Place) → IsFree s.tree (Readlink path)
-      → led s.tree (Readlink path) ≡ Some (Ok place) → FitsAt (Readlink path) place
+  pub target-fits : (path : List ℕ) (place : Place) → IsFree s.tree (asks.Readlink path)
+      → led s.tree (asks.Readlink path) ≡ Some (Ok place) → FitsAt (asks.Readlink path) place
   target-fits path place free leads =
-      let none = (free-at s.tree (Readlink path) place free leads refl).none in
+      let none = (free-at s.tree (asks.Readlink path) place free leads refl).none in
       let found = link-there (node_at s.tree.names place) (none NoEntry) (none NotLink) in
       let kept = node-kept s.tree good.tree place (Link found.0) found.1 in
       subst (λ o. FitsSaid (names (target_of o))) (sym found.1) (names-target found.0 kept.0 kept.1)
 
-  leads-to : (path : List ℕ) (place : Place) → led s.tree (Realpath path) ≡ Some (Ok place)
+  leads-to : (path : List ℕ) (place : Place) → led s.tree (asks.Realpath path) ≡ Some (Ok place)
       → reached s.tree true path ≡ Ok place
   unfolding led
   leads-to path place leads = same_Some (reached s.tree true path) (Ok place) leads
 
   pub place-fits : PathsLeadWell → (path : List ℕ) (place : Place) → IsTrue (are_bytes path)
-      → led s.tree (Realpath path) ≡ Some (Ok place) → FitsAt (Realpath path) place
+      → led s.tree (asks.Realpath path) ≡ Some (Ok place) → FitsAt (asks.Realpath path) place
   place-fits paths-lead path place bytes leads =
       let well = paths-lead s.tree good.tree true path place bytes (leads-to path place leads) in
       let fits = text-fits s.tree place good.tree well.named well.above in

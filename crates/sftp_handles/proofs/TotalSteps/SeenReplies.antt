@@ -1,11 +1,12 @@
 -- What the replies to requests through handles say fits a reply.
 use Rattle.sftp_handles.proofs.Imports.{◌≡◌, nat_lt, ℕ, zero, suc, ◌≤◌, Bool, true, false, if◌then◌else◌, min, List, []}
 use Rattle.sftp_handles.proofs.Imports.{◌∷◌, length, take, drop, Option, Some, None, refl, IsTrue, arith, nat_cmp}
-use Rattle.sftp_handles.proofs.Imports.{nat_cmp-IsAntisymmetric, length-take, OpenFlags, Ask, Read, Fstat, AreBytes}
+use Rattle.sftp_handles.proofs.Imports.{nat_cmp-IsAntisymmetric, length-take, OpenFlags, Ask, AreBytes}
 use Rattle.sftp_handles.proofs.Imports.{bytes_cmp, bytes_cmp-same, are_bytes, Content, IsContent, content_at, limits}
 use Rattle.sftp_handles.proofs.Imports.{bytes_at, each-get, bytes-dropped, Open, File, Listing, Left, open_at, State}
 use Rattle.sftp_handles.proofs.Imports.{Good, IsHandle, IsLeft, Needed, anything, a_file, a_listing, seen, seen_among}
 use Rattle.sftp_handles.proofs.Imports.{seen_file, gives, ended, FitsData, FitsSaid, row_of, said_of, seen_by}
+use Rattle.sftp_packets.specs.declared.packets.Ask.TheVariants as asks
 use Rattle.sftp_treefile.specs.Limits.{highest_limits}
 use Rattle.sftp_handles.specs.HandleRequests.{listed}
 use Rattle.sftp_listing.proofs.FirstListings.{content-shown}
@@ -49,11 +50,11 @@ module _ (s : State) (good : Good s) where
   -- what is said of a file
   told-fits : (ask : Ask) (number : ℕ) (content : Content) → content_at s.tree.files number ≡ Some content
       → FitsSaid ((row_of ask).told (limits s.tree) content)
-  told-fits (Read handle offset len) number content there =
+  told-fits (asks.Read handle offset len) number content there =
       let is = each-get nat_cmp nat_cmp-IsAntisymmetric (λ e. IsContent e.1) s.tree.files number content
       good.tree.well_formed.contents there in
       read-fits offset len content.bytes is.1 (nat_lt offset (length content.bytes))
-  told-fits (Fstat handle) number content there = content-shown s.tree number content good.tree there
+  told-fits (asks.Fstat handle) number content there = content-shown s.tree number content good.tree there
   told-fits other number content there = tt
 
   left-fits : (left : Left) → IsLeft left → FitsSaid (listed left)

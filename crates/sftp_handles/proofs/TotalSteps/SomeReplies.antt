@@ -1,9 +1,9 @@
 -- Some reply to each request is allowed, and can be encoded.
-use Rattle.sftp_handles.proofs.Imports.{◌≡◌, ◌&&◌, ◌||◌, ℕ, ◌^◌, ◌<◌, Bool, true, false, not, List, [], ◌∷◌, refl, ap}
-use Rattle.sftp_handles.proofs.Imports.{inl, inr, IsTrue, IfSome, lit<, list_any, Ask, Request, asked_handle, are_bytes}
+use Rattle.sftp_handles.proofs.Imports.{◌≡◌, ◌&&◌, ◌||◌, ℕ, ◌^◌, ◌<◌, Bool, true, false, not, List, [], ◌∷◌, Option, Some}
+use Rattle.sftp_handles.proofs.Imports.{None, refl, ap, inl, inr, IsTrue, IfSome, lit<, list_any, Ask, Request, asked_handle, are_bytes}
 use Rattle.sftp_handles.proofs.Imports.{Cause, NoEntry, NotDir, Loop, Unknown, limits, CauseSet, every_cause, allows}
 use Rattle.sftp_handles.proofs.Imports.{is_none, path_of, PathsLeadWell, State, Good, has_handle_left, causes, answers}
-use Rattle.sftp_handles.proofs.Imports.{after, said_to, FitsSaid, IsAskable, IsAnswerable}
+use Rattle.sftp_handles.proofs.Imports.{after, said_to, causes_by, path_causes, path_said, FitsSaid, IsAskable, IsAnswerable}
 use Rattle.sftp_packets.specs.declared.packets.Ask.TheVariants as asks
 use Rattle.sftp_tree.specs.Requests as paths
 use Rattle.sftp_handles.proofs.Good.GoodSteps.{room-of}
@@ -86,36 +86,35 @@ answered s id ask small free fits =
     }
 
 -- what the reply to a request says fits one
-said-fits : PathsLeadWell → (s : State) (ask : Ask) → Good s
-    → IfSome (path_of ask) (λ path. IsTrue (are_bytes path)) → is_none (causes s ask) ≡ true
-    → FitsSaid (said_to s ask (asked_handle ask))
-unfolding causes
-said-fits paths-lead s (asks.Close handle) good bytes free = seen-fits s good (asks.Close handle) handle
-said-fits paths-lead s (asks.Read handle offset len) good bytes free =
-    seen-fits s good (asks.Read handle offset len) handle
-said-fits paths-lead s (asks.Write handle offset data_bytes) good bytes free =
-    seen-fits s good (asks.Write handle offset data_bytes) handle
-said-fits paths-lead s (asks.Fstat handle) good bytes free = seen-fits s good (asks.Fstat handle) handle
-said-fits paths-lead s (asks.Fsetstat handle attrs) good bytes free =
-    seen-fits s good (asks.Fsetstat handle attrs) handle
-said-fits paths-lead s (asks.Readdir handle) good bytes free = seen-fits s good (asks.Readdir handle) handle
-said-fits paths-lead s (asks.Fsync handle) good bytes free = seen-fits s good (asks.Fsync handle) handle
-said-fits paths-lead s (asks.Open path pflags attrs) good bytes free =
-    let left = (room-of (paths.causes s.tree (asks.Open path pflags attrs)) (has_handle_left s) free).1 in
-    path-fits s good (asks.Open path pflags attrs) (λ place leads. handles-fit s good left)
-said-fits paths-lead s (asks.Opendir path) good bytes free =
-    let left = (room-of (paths.causes s.tree (asks.Opendir path)) (has_handle_left s) free).1 in
-    path-fits s good (asks.Opendir path) (λ place leads. handles-fit s good left)
-said-fits paths-lead s (asks.Stat path) good bytes free =
-    path-fits s good (asks.Stat path) (λ place. stat-fits s good path place free)
-said-fits paths-lead s (asks.Lstat path) good bytes free =
-    path-fits s good (asks.Lstat path) (λ place. lstat-fits s good path place free)
-said-fits paths-lead s (asks.Readlink path) good bytes free =
-    path-fits s good (asks.Readlink path) (λ place. target-fits s good path place free)
-said-fits paths-lead s (asks.Realpath path) good bytes free =
-    path-fits s good (asks.Realpath path) (λ place. place-fits s good paths-lead path place bytes)
-said-fits paths-lead s asks.Limits good bytes free = limits-fit (limits s.tree)
-said-fits paths-lead s other good bytes free = path-fits s good other (λ place leads. tt)
+module _ (paths-lead : PathsLeadWell) (s : State) (good : Good s) where
+  path-said-fits : (ask : Ask) → IfSome (path_of ask) (λ path. IsTrue (are_bytes path))
+      → is_none (path_causes s ask) ≡ true → FitsSaid (path_said s ask)
+  path-said-fits (asks.Open path pflags attrs) bytes free =
+      let left = (room-of (paths.causes s.tree (asks.Open path pflags attrs)) (has_handle_left s) free).1 in
+      path-fits s good (asks.Open path pflags attrs) (λ place leads. handles-fit s good left)
+  path-said-fits (asks.Opendir path) bytes free =
+      let left = (room-of (paths.causes s.tree (asks.Opendir path)) (has_handle_left s) free).1 in
+      path-fits s good (asks.Opendir path) (λ place leads. handles-fit s good left)
+  path-said-fits (asks.Stat path) bytes free =
+      path-fits s good (asks.Stat path) (λ place. stat-fits s good path place free)
+  path-said-fits (asks.Lstat path) bytes free =
+      path-fits s good (asks.Lstat path) (λ place. lstat-fits s good path place free)
+  path-said-fits (asks.Readlink path) bytes free =
+      path-fits s good (asks.Readlink path) (λ place. target-fits s good path place free)
+  path-said-fits (asks.Realpath path) bytes free =
+      path-fits s good (asks.Realpath path) (λ place. place-fits s good paths-lead path place bytes)
+  path-said-fits asks.Limits bytes free = limits-fit (limits s.tree)
+  path-said-fits other bytes free = path-fits s good other (λ place leads. tt)
+
+  said-fits : (ask : Ask) (named : Option (List ℕ)) → IfSome (path_of ask) (λ path. IsTrue (are_bytes path))
+      → is_none (causes_by s ask named) ≡ true → FitsSaid (said_to s ask named)
+  said-fits ask None bytes free = path-said-fits ask bytes free
+  said-fits ask (Some handle) bytes free = seen-fits s good ask handle
+
+  fits-free : (ask : Ask) → IfSome (path_of ask) (λ path. IsTrue (are_bytes path)) → is_none (causes s ask) ≡ true
+      → FitsSaid (said_to s ask (asked_handle ask))
+  unfolding causes
+  fits-free ask = said-fits ask (asked_handle ask)
 
 pub some-allowed : PathsLeadWell → (s : State) (request : Request) → Good s → IsAskable request
     → IsAnswerable s request
@@ -125,4 +124,4 @@ some-allowed paths-lead s request good askable = by (list_any (causes s request.
     by true one = refused s request.id request.ask askable.id one
     by false none =
         answered s request.id request.ask askable.id (ap not none)
-        (said-fits paths-lead s request.ask good askable.path (ap not none))
+        (fits-free paths-lead s good request.ask askable.path (ap not none))

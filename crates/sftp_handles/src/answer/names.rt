@@ -3,7 +3,7 @@ ghost use Rattle.std.specs.Prelude.{◌≡◌, false, IfOk, IfErr, OnOk, OnErr, 
 ghost use Rattle.sftp_packets.specs.declared.packets.Ask.TheVariants as asks;
 ghost use Rattle.sftp_handles.specs.Handles.{open_at};
 ghost use Rattle.sftp_handles.specs.State as state;
-ghost use Rattle.sftp_handles.specs.declared.kinds.Kind.TheVariants as variants;
+ghost use Rattle.sftp_handles.specs.declared.requests.Kind.TheVariants as variants;
 ghost use Rattle.sftp_handles.specs.Kinds as kinds;
 ghost use Rattle.sftp_handles.specs.FirstNames.{AreFirstNames};
 ghost use Rattle.sftp_handles.specs.Judged.{IsRefusal};

@@ -1,5 +1,6 @@
-use Rattle.sftp_handles.proofs.Imports.{IsTrue, Some, sym, ap, subst, ◌∙◌, Close, BadHandle, is_pinned, Open, State}
+use Rattle.sftp_handles.proofs.Imports.{IsTrue, Some, sym, ap, subst, ◌∙◌, BadHandle, is_pinned, Open, State}
 use Rattle.sftp_handles.proofs.Imports.{Good, IsDone, causes}
+use Rattle.sftp_packets.specs.declared.packets.Ask.TheVariants as asks
 use Rattle.sftp_handles.proofs.Good.NewStates.{state_of}
 use Rattle.sftp_handles.proofs.OpenFiles.SeenCauses.{open-pinned}
 use Rattle.sftp_handles.proofs.OpenFiles.OpenChanges.{it-closed, good-it_closed, nothing-closed, close-lost, close-done}
@@ -30,7 +31,7 @@ pub returns-in-Some-clause-done : goal.returns-in-Some-clause-done
 returns-in-Some-clause-done g c =
     let s = state_of c.self.inside.tree (g.T.HandleTable.handles c.self.inside.table) in
     let end = state_of c.unpin_closed.new.tree (g.T.HandleTable.handles c.take.new.self) in
-    subst (λ (s : State). IsDone s (Close c.args.handle.now) end) c.self.view_is
+    subst (λ (s : State). IsDone s (asks.Close c.args.handle.now) end) c.self.view_is
     (close-done s c.args.handle.now c.in-Some.it end (sym c.in-Some.ensures.before)
     (it-closed s c.args.handle.now (g.T.HandleTable.handles c.take.new.self) c.take.ensures.closed c.self.invariant
     c.in-Some.it c.unpin_closed.new.tree (sym c.in-Some.ensures.before) c.unpin_closed.ensures.file
@@ -39,7 +40,7 @@ returns-in-Some-clause-done g c =
 pub returns-in-None-clause-refused : goal.returns-in-None-clause-refused
 returns-in-None-clause-refused g c =
     let s = state_of c.self.inside.tree (g.T.HandleTable.handles c.self.inside.table) in
-    subst (λ (s : State). IsTrue (causes s (Close c.args.handle.now) BadHandle)) c.self.view_is
+    subst (λ (s : State). IsTrue (causes s (asks.Close c.args.handle.now) BadHandle)) c.self.view_is
     (close-lost s c.args.handle.now (sym c.in-None.ensures.before))
 
 pub returns-in-None-clause-kept : goal.returns-in-None-clause-kept

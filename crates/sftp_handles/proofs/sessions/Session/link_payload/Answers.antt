@@ -1,5 +1,6 @@
-use Rattle.sftp_handles.proofs.Imports.{◌≡◌, ℕ, List, Some, refl, sym, subst, Readlink, IsFree, State, Good, names}
+use Rattle.sftp_handles.proofs.Imports.{◌≡◌, ℕ, List, Some, refl, sym, subst, IsFree, State, Good, names}
 use Rattle.sftp_handles.proofs.Imports.{Carries}
+use Rattle.sftp_packets.specs.declared.packets.Ask.TheVariants as asks
 use Rattle.sftp_tree.specs.Told as told
 use Rattle.sftp_tree.specs.Refusals as of_tree
 use Rattle.sftp_handles.proofs.Judged.QueryReplies.{carries-target, path-refusal}
@@ -8,7 +9,7 @@ use Rattle.sftp_handles.proofs.sessions.Session.link_payload.Goals as goal
 pub returns-in-Ok-clause-carried : goal.returns-in-Ok-clause-carried
 returns-in-Ok-clause-carried g c =
     let s = c.args.self.now in
-    let ask = Readlink c.args.path.now in
+    let ask = asks.Readlink c.args.path.now in
     let target = c.in-Ok.target.items in
     subst (λ (x : List ℕ). Carries s ask (names (Some x))) (sym c.new.ensures)
     (carries-target s c.args.path.now target (subst Good c.self.view_is c.self.invariant)
@@ -17,6 +18,6 @@ returns-in-Ok-clause-carried g c =
 
 pub returns-in-Err-clause-refused : goal.returns-in-Err-clause-refused
 returns-in-Err-clause-refused g c =
-    let ask = Readlink c.args.path.now in
+    let ask = asks.Readlink c.args.path.now in
     path-refusal c.args.self.now ask refl refl refl c.in-Err.refused
     (subst (λ (s : State). of_tree.IsRefusal s.tree ask c.in-Err.refused) c.self.view_is c.in-Err.ensures.refused)

@@ -1,5 +1,6 @@
-use Rattle.sftp_handles.proofs.Imports.{◌≡◌, ℕ, List, Some, sym, subst, Realpath, IsFree, State, Good, names, Carries}
+use Rattle.sftp_handles.proofs.Imports.{◌≡◌, ℕ, List, Some, sym, subst, IsFree, State, Good, names, Carries}
 use Rattle.sftp_handles.proofs.Imports.{refl}
+use Rattle.sftp_packets.specs.declared.packets.Ask.TheVariants as asks
 use Rattle.sftp_path.proofs.PathTexts.GoodPaths.{list_all-octets}
 use Rattle.sftp_tree.specs.Told as told
 use Rattle.sftp_tree.proofs.Walks.Places.{path-found}
@@ -10,7 +11,7 @@ use Rattle.sftp_handles.proofs.sessions.Session.place_payload.Goals as goal
 pub returns-in-Ok-clause-carried : goal.returns-in-Ok-clause-carried
 returns-in-Ok-clause-carried g c =
     let s = c.args.self.now in
-    let ask = Realpath c.args.path.now in
+    let ask = asks.Realpath c.args.path.now in
     let text = c.in-Ok.text.items in
     subst (λ (x : List ℕ). Carries s ask (names (Some x))) (sym c.new.ensures)
     (carries-place (λ t kept follow path place bytes is. record {
@@ -23,6 +24,6 @@ returns-in-Ok-clause-carried g c =
 
 pub returns-in-Err-clause-refused : goal.returns-in-Err-clause-refused
 returns-in-Err-clause-refused g c =
-    let ask = Realpath c.args.path.now in
+    let ask = asks.Realpath c.args.path.now in
     path-refusal c.args.self.now ask refl refl refl c.in-Err.refused
     (subst (λ (s : State). of_tree.IsRefusal s.tree ask c.in-Err.refused) c.self.view_is c.in-Err.ensures.refused)

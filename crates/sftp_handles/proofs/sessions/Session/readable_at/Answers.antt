@@ -1,11 +1,12 @@
-use Rattle.sftp_handles.proofs.Imports.{Ok, refl, sym, ap, ◌≡◌, ◌∙◌, true, not, Read, NotOpenFor, no_causes, when}
+use Rattle.sftp_handles.proofs.Imports.{Ok, refl, sym, ap, ◌≡◌, ◌∙◌, true, not, NotOpenFor, no_causes, when}
 use Rattle.sftp_handles.proofs.Imports.{HasFile, open_at, Good, found_file, refusing}
+use Rattle.sftp_packets.specs.declared.packets.Ask.TheVariants as asks
 use Rattle.sftp_handles.proofs.OpenFiles.SeenCauses.{plain-found, lost, granted-read, granted-has}
 use Rattle.sftp_handles.proofs.sessions.Session.readable_at.Goals as goal
 
 pub returns-in-Ok-clause-causes : goal.returns-in-Ok-clause-causes
 returns-in-Ok-clause-causes g c offset len =
-    plain-found c.args.self.now (Read c.args.handle.now offset len) c.args.handle.now refl refl (λ flags before. refl)
+    plain-found c.args.self.now (asks.Read c.args.handle.now offset len) c.args.handle.now refl refl (λ flags before. refl)
     c.in-Ok.found (sym c.in-Ok.ensures.found) c.in-Ok.ensures.there
     ∙ (ap (λ b. when no_causes NotOpenFor (not b)) (sym c.may_read.ensures)
     ∙ (granted-read c.in-Ok.found (not c.may_read.result) ∙ ap refusing (sym c.grant.ensures)))
@@ -27,5 +28,5 @@ returns-in-Ok-clause-kept g c =
 
 pub returns-in-Err-clause-causes : goal.returns-in-Err-clause-causes
 returns-in-Err-clause-causes g c offset len =
-    lost c.args.self.now (Read c.args.handle.now offset len) c.args.handle.now refl refl c.in-Err.cause
+    lost c.args.self.now (asks.Read c.args.handle.now offset len) c.args.handle.now refl refl c.in-Err.cause
     (sym c.in-Err.ensures.found)

@@ -1,6 +1,7 @@
-use Rattle.sftp_handles.proofs.Imports.{◌≡◌, Ok, refl, subst, sym, ap, ◌∙◌, IsTrue, Fsetstat, NotOpenFor, no_causes}
+use Rattle.sftp_handles.proofs.Imports.{◌≡◌, Ok, refl, subst, sym, ap, ◌∙◌, IsTrue, NotOpenFor, no_causes}
 use Rattle.sftp_handles.proofs.Imports.{when, size_fits, IsKept, HasFile, content_at, limits, open_at, State}
 use Rattle.sftp_handles.proofs.Imports.{found_file, with_room, refusing}
+use Rattle.sftp_packets.specs.declared.packets.Ask.TheVariants as asks
 use Rattle.sftp_handles.proofs.OpenFiles.SeenCauses.{set-found, set-room, lost, granted-room, granted-has}
 use Rattle.sftp_handles.proofs.sessions.Session.resizable_at.Goals as goal
 
@@ -35,5 +36,5 @@ returns-in-Ok-clause-fits g c =
 
 pub returns-in-Err-clause-causes : goal.returns-in-Err-clause-causes
 returns-in-Err-clause-causes g c =
-    lost c.args.self.now (Fsetstat c.args.handle.now c.args.attrs.now) c.args.handle.now refl refl c.in-Err.cause
+    lost c.args.self.now (asks.Fsetstat c.args.handle.now c.args.attrs.now) c.args.handle.now refl refl c.in-Err.cause
     (sym c.in-Err.ensures.found)

@@ -1,5 +1,6 @@
-use Rattle.sftp_handles.proofs.Imports.{◌≡◌, subst, ap, IfErr, OnOk, Fsetstat, limits, size_fits, after_set}
+use Rattle.sftp_handles.proofs.Imports.{◌≡◌, subst, ap, IfErr, OnOk, limits, size_fits, after_set}
 use Rattle.sftp_handles.proofs.Imports.{IsRoomRefusal, State, Good}
+use Rattle.sftp_packets.specs.declared.packets.Ask.TheVariants as asks
 use Rattle.sftp_handles.proofs.Good.NewStates.{state_of}
 use Rattle.sftp_handles.proofs.OpenFiles.SeenAnswers.{only-holds}
 use Rattle.sftp_handles.proofs.OpenFiles.OpenChanges.{set-ends, call-refused}
@@ -19,7 +20,7 @@ returns-in-Ok-clause-done g c =
 pub returns-in-Ok-clause-refused : goal.returns-in-Ok-clause-refused
 returns-in-Ok-clause-refused g c =
     let s = c.args.self.now in
-    call-refused s (Fsetstat c.args.handle.now c.args.attrs.now) (size_fits (limits s.tree) c.args.attrs.now.size)
+    call-refused s (asks.Fsetstat c.args.handle.now c.args.attrs.now) (size_fits (limits s.tree) c.args.attrs.now.size)
     c.set_file.result c.in-Ok.ensures.fits
     (subst
     (λ (s : State). IfErr c.set_file.result (IsRoomRefusal (size_fits (limits s.tree) c.args.attrs.now.size)))
@@ -27,4 +28,4 @@ returns-in-Ok-clause-refused g c =
 
 pub returns-in-Err-clause-refused : goal.returns-in-Err-clause-refused
 returns-in-Err-clause-refused g c =
-    only-holds c.args.self.now (Fsetstat c.args.handle.now c.args.attrs.now) c.in-Err.cause c.in-Err.ensures.causes
+    only-holds c.args.self.now (asks.Fsetstat c.args.handle.now c.args.attrs.now) c.in-Err.cause c.in-Err.ensures.causes

@@ -1,5 +1,6 @@
-use Rattle.sftp_handles.proofs.Imports.{refl, subst, sym, ap, ◌∙◌, not, Write, NotOpenFor, no_causes, when, write_fits}
+use Rattle.sftp_handles.proofs.Imports.{refl, subst, sym, ap, ◌∙◌, not, NotOpenFor, no_causes, when, write_fits}
 use Rattle.sftp_handles.proofs.Imports.{IsKept, HasFile, content_at, limits, State, with_room, refusing, IsWritable}
+use Rattle.sftp_packets.specs.declared.packets.Ask.TheVariants as asks
 use Rattle.sftp_handles.proofs.OpenFiles.SeenCauses.{write-found, write-room, lost, granted-room, granted-has}
 use Rattle.sftp_handles.proofs.sessions.Session.writable_at.Goals as goal
 
@@ -39,5 +40,5 @@ returns-in-Ok-clause-there g c =
 
 pub returns-in-Err-clause-causes : goal.returns-in-Err-clause-causes
 returns-in-Err-clause-causes g c =
-    lost c.args.self.now (Write c.args.handle.now c.args.offset c.args.bytes.now) c.args.handle.now refl refl
+    lost c.args.self.now (asks.Write c.args.handle.now c.args.offset c.args.bytes.now) c.args.handle.now refl refl
     c.in-Err.cause (sym c.in-Err.ensures.found)

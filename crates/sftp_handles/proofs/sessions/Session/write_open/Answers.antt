@@ -1,5 +1,6 @@
-use Rattle.sftp_handles.proofs.Imports.{◌≡◌, subst, ap, IfErr, OnOk, Write, limits, write_fits, after_write}
+use Rattle.sftp_handles.proofs.Imports.{◌≡◌, subst, ap, IfErr, OnOk, limits, write_fits, after_write}
 use Rattle.sftp_handles.proofs.Imports.{IsRoomRefusal, State, Good}
+use Rattle.sftp_packets.specs.declared.packets.Ask.TheVariants as asks
 use Rattle.sftp_handles.proofs.Good.NewStates.{state_of}
 use Rattle.sftp_handles.proofs.OpenFiles.SeenAnswers.{only-holds}
 use Rattle.sftp_handles.proofs.OpenFiles.OpenChanges.{write-ends, call-refused}
@@ -20,7 +21,7 @@ returns-in-Ok-clause-done g c =
 pub returns-in-Ok-clause-refused : goal.returns-in-Ok-clause-refused
 returns-in-Ok-clause-refused g c =
     let s = c.args.self.now in
-    call-refused s (Write c.args.handle.now c.args.offset c.args.bytes.now)
+    call-refused s (asks.Write c.args.handle.now c.args.offset c.args.bytes.now)
     (write_fits (limits s.tree) c.in-Ok.found.1 c.args.bytes.now) c.write_at.result c.in-Ok.ensures.found.fits
     (subst
     (λ (s : State).
@@ -29,5 +30,5 @@ returns-in-Ok-clause-refused g c =
 
 pub returns-in-Err-clause-refused : goal.returns-in-Err-clause-refused
 returns-in-Err-clause-refused g c =
-    only-holds c.args.self.now (Write c.args.handle.now c.args.offset c.args.bytes.now) c.in-Err.cause
+    only-holds c.args.self.now (asks.Write c.args.handle.now c.args.offset c.args.bytes.now) c.in-Err.cause
     c.in-Err.ensures.causes

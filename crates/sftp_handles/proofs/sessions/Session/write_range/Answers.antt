@@ -1,4 +1,5 @@
-use Rattle.sftp_handles.proofs.Imports.{length, option_map, refl, sym, ap, ◌∙◌, Write, content_at}
+use Rattle.sftp_handles.proofs.Imports.{length, option_map, refl, sym, ap, ◌∙◌, content_at}
+use Rattle.sftp_packets.specs.declared.packets.Ask.TheVariants as asks
 use Rattle.sftp_handles.specs.Ranges.{written_span, range_within}
 use Rattle.sftp_handles.proofs.RangeLaws.RangedAsks.{range-found, range-unwritten, range-refused}
 use Rattle.sftp_handles.proofs.sessions.Session.write_range.Goals as goal
@@ -11,7 +12,7 @@ returns-then-goes_to_end g c =
 
 pub returns-else-goes_to_end : goal.returns-else-goes_to_end
 returns-else-goes_to_end g c =
-    range-found c.args.self.now (Write c.args.handle.now c.args.offset c.args.bytes.now) c.args.handle.now
+    range-found c.args.self.now (asks.Write c.args.handle.now c.args.offset c.args.bytes.now) c.args.handle.now
     c.in-Ok.found.0 c.in-Ok.found.1 c.range_in.result refl (sym c.in-Ok.ensures.found)
     (ap
     (λ b.
@@ -26,5 +27,5 @@ returns-else-goes_to_end g c =
 pub returns-in-Err : goal.returns-in-Err
 returns-in-Err g c =
     sym
-    (range-refused c.args.self.now (Write c.args.handle.now c.args.offset c.args.bytes.now) c.args.handle.now
+    (range-refused c.args.self.now (asks.Write c.args.handle.now c.args.offset c.args.bytes.now) c.args.handle.now
     c.in-Err.field-0 refl (sym c.in-Err.ensures.found))

@@ -1,11 +1,27 @@
-//! The requests through handles, and how each uses what is open under its handle.
+//! What the code knows of each request: its kind, and how it uses what is open under its handle.
 ghost use Rattle.std.specs.Prelude.{◌≡◌, Some, None, IfNone, IfSome};
 ghost use Rattle.sftp_packets.specs.Spelling.{asked_handle};
-ghost use Rattle.sftp_handles.specs.Clash.{may_change};
+ghost use Rattle.sftp_handles.specs.Clash.{bars, may_change};
 ghost use Rattle.sftp_handles.specs.HandleRequests.{row_of};
+ghost use Rattle.sftp_handles.specs.Kinds as kinds;
 ghost use Rattle.sftp_handles.specs.Uses as uses;
 
 use sftp_wire::Ask;
+
+/// The kind of a request, by what its reply says where no cause refuses it.
+#[derive(Clone, Copy)]
+pub(crate) enum Kind {
+    /// A change, done or not: the reply says OK.
+    Change,
+    /// Something is opened: the reply gives a new handle.
+    Open,
+    /// Names of a listing are taken: the reply gives them, or says that there are no more.
+    List,
+    /// Nothing changes: the reply gives attributes, a text, bytes or limits, or says that the end was reached.
+    Query,
+    /// A cause refuses the request always.
+    Unknown,
+}
 
 /// How a request uses what is open under its handle.
 #[derive(Clone, Copy)]
@@ -23,7 +39,7 @@ pub(crate) enum Use {
 impl Use {
     /// Whether the request touches everything.
     pub(crate) fn bars(self) -> bool
-        ensures { result ≡ uses.bars (uses.needed_for self) }
+        ensures { result ≡ bars (uses.needed_for self) }
     {
         match self {
             Use::Close => true,
@@ -31,6 +47,36 @@ impl Use {
             Use::WriteFile => false,
             Use::TakeNames => false,
         }
+    }
+}
+
+/// The kind of a request.
+pub(crate) fn kind_of(ask: &Ask) -> Kind
+    ensures { result ≡ kinds.kind_of ask.now }
+{
+    match ask {
+        Ask::Open { .. } | Ask::Opendir { .. } => Kind::Open,
+        Ask::Readdir { .. } => Kind::List,
+        Ask::Read { .. }
+        | Ask::Stat { .. }
+        | Ask::Lstat { .. }
+        | Ask::Fstat { .. }
+        | Ask::Realpath { .. }
+        | Ask::Readlink { .. }
+        | Ask::Limits => Kind::Query,
+        Ask::Close { .. }
+        | Ask::Write { .. }
+        | Ask::Setstat { .. }
+        | Ask::Fsetstat { .. }
+        | Ask::Remove { .. }
+        | Ask::Mkdir { .. }
+        | Ask::Rmdir { .. }
+        | Ask::Rename { .. }
+        | Ask::Symlink { .. }
+        | Ask::PosixRename { .. }
+        | Ask::Hardlink { .. }
+        | Ask::Fsync { .. } => Kind::Change,
+        Ask::Unknown { .. } => Kind::Unknown,
     }
 }
 
