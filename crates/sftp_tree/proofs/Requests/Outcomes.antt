@@ -1,4 +1,4 @@
--- What requests that no cause refuses leave, by where their paths lead.
+-- What follows for every request, by where its paths lead: whether there is room, its plan, and the tree after it.
 use Rattle.sftp_tree.proofs.Imports.{◌≡◌, ℕ, Bool, true, false, ◌&&◌, ◌||◌, not, List, refl, sym, ◌∙◌, ap, arith}
 use Rattle.sftp_tree.proofs.Imports.{Option, Some, None, IsTrue, if◌then◌else◌, Result, Ok, Err, list_any, or_parts}
 use Rattle.sftp_tree.proofs.Imports.{Ask, Place, Content, Cause, NoRoom, Tree, WellFormed, IsKept, fits, content_at}

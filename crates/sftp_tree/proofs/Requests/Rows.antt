@@ -1,4 +1,4 @@
--- What is proved request by request, as the table has them.
+-- What is proved request by request: each lemma has an equation for each request that differs from its last case.
 use Rattle.sftp_tree.proofs.Imports.{◌≡◌, ℕ, Bool, true, false, ◌&&◌, not, List, refl, sym, ◌∙◌, ap, Option, Some, None}
 use Rattle.sftp_tree.proofs.Imports.{IsTrue, if◌then◌else◌, Result, Ok, not-false, or_parts, and-true, Attrs, Ask}
 use Rattle.sftp_tree.proofs.Imports.{Place, is_target, Content, Node, Dir, File, Link, Cause, BadPath, NoEntry, Tree}
