@@ -36,7 +36,7 @@ pub status-spelled : (id code : ℕ) → id < 2 ^ 32 → code < 2 ^ 32
     → HasSpelling (reply_packet (reply_of id (status_of code)))
 unfolding spelling
 status-spelled id code small code_small =
-    record { fields = (small, (code_small, empty, empty)); whole = lit≤ tt; handle = tt; canonical = refl }
+    record { fields = (small, (code_small, (empty, empty))); whole = lit≤ tt; handle = tt; canonical = refl }
 
 ok-sayable : (id : ℕ) → id < 2 ^ 32 → IsSayable id ok
 ok-sayable id small = record { answer = status_of 0; says = refl; spelled = status-spelled id 0 small (lit< tt) }
