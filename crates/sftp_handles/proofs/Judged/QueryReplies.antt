@@ -32,10 +32,7 @@ path-left : (t : Tree) (ask : Ask) → kind_of ask ≡ Query → asked_handle as
     → outcome t ask ≡ t
 unfolding outcome
 path-left t (asks.Stat path) is asked on = led_to-same t (led t (asks.Stat path))
-path-left t (asks.Lstat path) is asked on = led_to-same t (led t (asks.Lstat path))
-path-left t (asks.Realpath path) is asked on = led_to-same t (led t (asks.Realpath path))
-path-left t (asks.Readlink path) is asked on = led_to-same t (led t (asks.Readlink path))
-path-left t other is asked on = absurd cc
+path-left t other is asked on = first_of (cc, search led_to-same)
 
 path-causes : (s : State) (ask : Ask) → kind_of ask ≡ Query → asked_handle ask ≡ None → IsTrue (has_step ask)
     → causes s ask ≡ paths.causes s.tree ask
