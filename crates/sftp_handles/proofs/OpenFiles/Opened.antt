@@ -1,12 +1,12 @@
 -- What is opened under a new handle: the state after it, that it is good, and which steps it makes.
 use Rattle.sftp_handles.proofs.Imports.{◌≡◌, ◌==◌, ◌&&◌, ◌||◌, not, nat_lt, nat_le, ℕ, ◌+◌, ◌<◌, ◌≤◌, ◌^◌, Bool, true}
 use Rattle.sftp_handles.proofs.Imports.{false, cond, List, [], ◌∷◌, length, Option, Some, None, Result, Ok, Err}
-use Rattle.sftp_handles.proofs.Imports.{is_some, refl, sym, ap, subst, ◌∙◌, IfOk, arith, leb-true, is_eq, filter}
+use Rattle.sftp_handles.proofs.Imports.{is_some, refl, sym, ap, subst, ◌∙◌, IfOk, arith, leb-true, filter}
 use Rattle.sftp_handles.proofs.Imports.{nat_list_cmp_total, and-false}
 use Rattle.sftp_handles.proofs.Imports.{and_from, or_right, le-leb, eqb-true, same_Some, Attrs, OpenFlags, Ask}
-use Rattle.sftp_handles.proofs.Imports.{handle_limit, Place, bytes_cmp, place_cmp, InOrder, size, retain}
-use Rattle.sftp_handles.proofs.Imports.{bytes_cmp-same, place_cmp-same, one_if, InOrder-put, get-put}
-use Rattle.sftp_handles.proofs.Imports.{size-put, same_table, TreeLimits, Cause, NoRoom}
+use Rattle.sftp_handles.proofs.Imports.{handle_limit, Place, bytes_cmp, place_cmp, size, retain}
+use Rattle.sftp_handles.proofs.Imports.{bytes_cmp-same, place_cmp-same, one_if, InOrder-put}
+use Rattle.sftp_handles.proofs.Imports.{size-put, TreeLimits, Cause, NoRoom}
 use Rattle.sftp_handles.proofs.Imports.{Refused, Tree, Names, Pins, WellFormed, IsKept, IsNode, HasFile, node_at}
 use Rattle.sftp_handles.proofs.Imports.{limits, trim, is_named, is_pinned, times_pinned, with_pin, after_pin, listing}
 use Rattle.sftp_handles.proofs.Imports.{CauseSet, is_none, when, only, done, led, led_to, told_at, outcome, new_led}
@@ -28,29 +28,6 @@ use Rattle.sftp_handles.proofs.Good.Pins.{pin-times, pins-times, pins-open_file,
 use Rattle.sftp_handles.proofs.Good.NewStates.{state_of}
 use Rattle.sftp_handles.proofs.Good.GoodPaths.{opened-named}
 use Rattle.sftp_listing.proofs.FirstListings.{listing-fits}
-
--- ---- tables of handles
-
-last-choice : (b : Bool) (first second : Open) (found : Option Open)
-    → cond b (Some second) (cond b (Some first) found) ≡ cond b (Some second) found
-last-choice true first second found = refl
-last-choice false first second found = refl
-
--- what is opened again under a handle takes the place of what was open
-pub opened-again : (handles : Handles) (handle : List ℕ) (first second : Open) → InOrder bytes_cmp handles
-    → with_open (with_open handles handle first) handle second ≡ with_open handles handle second
-opened-again handles handle first second order =
-    same_table bytes_cmp nat_list_cmp_total bytes_cmp-same (with_open (with_open handles handle first) handle second)
-    (with_open handles handle second)
-    (InOrder-put bytes_cmp nat_list_cmp_total (with_open handles handle first) handle second
-    (InOrder-put bytes_cmp nat_list_cmp_total handles handle first order))
-    (InOrder-put bytes_cmp nat_list_cmp_total handles handle second order)
-    (λ at.
-    get-put bytes_cmp nat_list_cmp_total (with_open handles handle first) handle second at
-    ∙ (ap (λ o. cond (is_eq (bytes_cmp at handle)) (Some second) o)
-    (get-put bytes_cmp nat_list_cmp_total handles handle first at)
-    ∙ (last-choice (is_eq (bytes_cmp at handle)) first second (open_at handles at)
-    ∙ sym (get-put bytes_cmp nat_list_cmp_total handles handle second at))))
 
 -- ---- a good state with one more handle
 
