@@ -62,10 +62,6 @@ impl HandleTable for GivenTable {
         self.opens.get_mut(name)
     }
 
-    fn swap(&mut self, name: &[u8], it: Open) -> Result<Open, Open> {
-        swap_open(&mut self.opens, name, it)
-    }
-
     fn reserve(&mut self, alloc: Global, want: &[u8]) -> Result<Vec<u8>, PutError> {
         reserve_name(&mut self.opens, alloc, want)
     }
@@ -83,26 +79,6 @@ impl HandleTable for GivenTable {
     }
 
     ghost ordered = { λ table. InOrder-from_entries bytes_cmp nat_list_cmp_total table.entries };
-}
-
-/// Opens something else under a name that is open, and returns what was open before.
-///
-/// # Errors
-///
-/// Returns its argument if the name is not open.
-fn swap_open(opens: &mut IndexMap<Vec<u8>, Open>, name: &[u8], it: Open) -> Result<Open, Open>
-    ensures before { IfOk result (λ before.
-        open_at (handles_in (λ k. k.items) opens.old.entries) name.now ≡ Some before) }
-    ensures swapped { OnOk result (handles_in (λ k. k.items) opens.new.entries
-        ≡ with_open (handles_in (λ k. k.items) opens.old.entries) name.now it) }
-    ensures absent { OnErr result (open_at (handles_in (λ k. k.items) opens.old.entries) name.now ≡ None) }
-    ensures back { IfErr result (λ back. back ≡ it) }
-    ensures err { OnErr result (opens.new.entries ≡ opens.old.entries) }
-{
-    match opens.get_mut(name) {
-        Some(place) => Ok(std::mem::replace(place, it)),
-        None => Err(it),
-    }
 }
 
 /// Makes room for one more name, and returns a copy of the one that is wanted.

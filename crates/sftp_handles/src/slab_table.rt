@@ -19,7 +19,6 @@ use byteorder::{BigEndian, ByteOrder};
 use slab::Slab;
 use std::alloc::Global;
 use std::marker::Model;
-use std::mem;
 
 /// The open handles of a server that chooses their names itself (draft, section 6.3). A name is a slot's number
 /// in 8 bytes and a serial in 4, which keeps the openings of one slot apart: it grows by one with each opening, modulo
@@ -72,18 +71,6 @@ impl HandleTable for SlabTable {
         let number = slot_of(&self.opens, name)?;
         let slot = &mut self.opens[number];
         Some(&mut slot.opened)
-    }
-
-    fn swap(&mut self, name: &[u8], it: Open) -> Result<Open, Open>
-        ensures kept { next_name self.new ≡ next_name self.old }
-        ensures before { IfOk result (λ before. open_at (slab_handles self.old.opens) name.now ≡ Some before) }
-        ensures swapped { OnOk result
-            (slab_handles self.new.opens ≡ with_open (slab_handles self.old.opens) name.now it) }
-        ensures absent { OnErr result (open_at (slab_handles self.old.opens) name.now ≡ None) }
-        ensures back { IfErr result (λ back. back ≡ it) }
-        ensures err { OnErr result (slab_handles self.new.opens ≡ slab_handles self.old.opens) }
-    {
-        swap_open(&mut self.opens, name, it)
     }
 
     fn reserve(&mut self, alloc: Global, want: &[u8]) -> Result<Vec<u8>, PutError>
@@ -220,28 +207,6 @@ fn find_open<'a>(opens: &'a Slab<Slot>, name: &[u8]) -> Option<&'a Open>
 {
     let number = slot_of(opens, name)?;
     Some(&opens[number].opened)
-}
-
-/// Opens something else under a name that is open, and returns what was open before.
-///
-/// # Errors
-///
-/// Returns its argument if the name is not open.
-fn swap_open(opens: &mut Slab<Slot>, name: &[u8], it: Open) -> Result<Open, Open>
-    requires { IsNumbered opens.old }
-    ensures before { IfOk result (λ before. open_at (slab_handles opens.old) name.now ≡ Some before) }
-    ensures swapped { OnOk result (slab_handles opens.new ≡ with_open (slab_handles opens.old) name.now it) }
-    ensures absent { OnErr result (open_at (slab_handles opens.old) name.now ≡ None) }
-    ensures back { IfErr result (λ back. back ≡ it) }
-    ensures err { OnErr result (opens.new ≡ opens.old) }
-    ensures kept { opens.new.vacant_key ≡ opens.old.vacant_key }
-    ensures numbered { IsNumbered opens.new }
-{
-    let Some(number) = slot_of(opens, name) else {
-        return Err(it);
-    };
-    let slot = &mut opens[number];
-    Ok(mem::replace(&mut slot.opened, it))
 }
 
 /// Makes room for one more slot in use, and returns the name of the next opening.

@@ -12,6 +12,7 @@ ghost use Rattle.sftp_handles.specs.Handles.{Handles, open_at, with_open, withou
 
 use crate::opens::Open;
 use std::alloc::Global;
+use std::mem;
 use thiserror::Error;
 
 /// Why nothing was put into a table.
@@ -55,8 +56,9 @@ pub trait HandleTable: Sized + Drop {
     /// Lends what is open under the name, to be changed. Does not allocate.
     fn find_mut(&mut self, name: &[u8]) -> Option<&mut Open>
         ensures* writes_back { sem 𝓛 (LendsSo Self.row the_row self.entry result
-            (λ after it. OnSome result (handles after ≡ with_open (handles self.old) name.now it))
-            (λ after. handles after ≡ handles self.old)) }
+            (λ after it. OnSome result ((handles after ≡ with_open (handles self.old) name.now it)
+            × (name_for after ≡ name_for self.old)))
+            (λ after. (handles after ≡ handles self.old) × (name_for after ≡ name_for self.old))) }
         ensures found { option_copied_mut result ≡ open_at (handles self.old) name.now };
 
     /// Opens something else under a name that is open, and returns what was open before. Does not allocate.
@@ -69,7 +71,14 @@ pub trait HandleTable: Sized + Drop {
         ensures swapped { OnOk result (handles self.new ≡ with_open (handles self.old) name.now it) }
         ensures absent { OnErr result (open_at (handles self.old) name.now ≡ None) }
         ensures back { IfErr result (λ back. back ≡ it) }
-        ensures err { OnErr result (handles self.new ≡ handles self.old) };
+        ensures err { OnErr result (handles self.new ≡ handles self.old) }
+        ensures kept { name_for self.new ≡ name_for self.old }
+    {
+        match self.find_mut(name) {
+            Some(place) => Ok(mem::replace(place, it)),
+            None => Err(it),
+        }
+    }
 
     /// Makes room for one more handle, and returns the name that it will have. A table that gives names of its own
     /// ignores the one that is wanted.

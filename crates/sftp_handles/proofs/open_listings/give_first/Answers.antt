@@ -32,4 +32,4 @@ returns-clause-struck g c =
     (names_in c.take_first.result) left next there
     (first-struck c.take_first.result c.args.longnames.items left next (open_at before c.args.handle.now) there
     c.requires.names c.take_first.ensures.given c.requires.listing c.take_first.ensures.left)
-    (rw c.in-Some.is at (c.find_mut.follows.holds (Listing next)))
+    (rw c.in-Some.is at (c.find_mut.follows.holds (Listing next))).0

@@ -12,11 +12,16 @@ returns c =
         refl,
         (λ it. lent-found c.get_mut.result (lookup (has_bytes (λ k. k.items) name) entries) _ c.get_mut.ensures.value
             (λ is.
-            let updates = (c.get_mut.follows.holds it).3 is in
-            changed-put (λ k. k.items) entries (c.get_mut.follows.lender it).entries name it updates.1 updates.3
-            ∙ ap (λ (t : Given). with_open (from_entries bytes_cmp t.entries) name it) c.self.view_is)),
-        ap (λ m. handles_in (λ k. k.items) m.entries) c.get_mut.follows.holds-at-none
-            ∙ ap (λ (t : Given). from_entries bytes_cmp t.entries) c.self.view_is,
+            let updates = (c.get_mut.follows.holds it).3 is in (
+              changed-put (λ k. k.items) entries (c.get_mut.follows.lender it).entries name it updates.1 updates.3
+                  ∙ ap (λ (t : Given). with_open (from_entries bytes_cmp t.entries) name it) c.self.view_is,
+              refl,
+            ))),
+        (
+          ap (λ m. handles_in (λ k. k.items) m.entries) c.get_mut.follows.holds-at-none
+              ∙ ap (λ (t : Given). from_entries bytes_cmp t.entries) c.self.view_is,
+          refl,
+        ),
       ),
       record {
         writes_back = tt;

@@ -1,5 +1,5 @@
 use Rattle.sftp_handles.proofs.Imports.{◌∙◌, sym, ap, refl, open_at, with_open, slab_handles}
-use Rattle.sftp_handles.specs.Slots.{Slots}
+use Rattle.sftp_handles.specs.Slots.{Slots, next_name}
 use Rattle.sftp_handles.proofs.HandleTables.SlotTables.{open-named, swapped-at}
 use Rattle.sftp_handles.proofs.slab_table.SlabTableHandleTable.find_mut.Goals as goal
 
@@ -12,9 +12,12 @@ returns c =
     let found = c.in_ok-number.ensures.found in (
       (
         refl,
-        (λ it. swapped-at opens name number slot it c.self.invariant c.index_mut-slot.ensures.value found
-            ∙ ap (λ (t : Slots). with_open (slab_handles t.opens) name it) c.self.view_is),
-        refl,
+        (λ it. (
+          swapped-at opens name number slot it c.self.invariant c.index_mut-slot.ensures.value found
+              ∙ ap (λ (t : Slots). with_open (slab_handles t.opens) name it) c.self.view_is,
+          λ i want. next_name (c.self.view_is i),
+        )),
+        (refl, refl),
       ),
       record {
         writes_back = tt;
