@@ -1,5 +1,5 @@
 //! A table of the handles whose names another server gave.
-ghost use Rattle.std.specs.Prelude.{◌≡◌, ◌<◌, true, None, Some, IsTrue, IfOk, IfErr, OnOk, OnErr, option_copied};
+ghost use Rattle.std.specs.Prelude.{◌≡◌, ◌<◌, true, None, IsTrue, IfOk, IfErr, OnOk, option_copied};
 ghost use Rattle.std.specs.Cmp.Lexicographic.{nat_list_cmp_total};
 ghost use Rattle.indexmap.specs.IndexMap.{spare};
 ghost use Rattle.sftp_packets.specs.Spelling.{AreBytes};

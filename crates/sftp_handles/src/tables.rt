@@ -98,7 +98,8 @@ pub trait HandleTable: Sized + Drop {
             IsTrue takes_want × IsTrue (is_open (handles self.old) want.now)) }
         ensures refused { IfErr result (λ e. e ≡ NoMemory → IsTrue takes_want →
             open_at (handles self.old) want.now ≡ None) }
-        ensures kept { handles self.new ≡ handles self.old };
+        ensures kept { handles self.new ≡ handles self.old }
+        ensures next { name_for self.new ≡ name_for self.old };
 
     /// Opens something under the name that `reserve` returned for the one that is wanted. Does not allocate.
     fn put_reserved(&mut self, it: Open, want: Vec<u8>)

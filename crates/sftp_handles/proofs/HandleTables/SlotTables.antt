@@ -328,13 +328,6 @@ changed-without old new number slot was found updates =
 
 -- ---- calls
 
--- something is open in a slot that was free
-pub opened-put : (old new : Slab Slot) (number : ℕ) (slot : Slot) → IsNumbered old → number < 2 ^ 64
-    → get old number ≡ None → Updates old new number (Some slot)
-    → slab_handles new ≡ with_open (slab_handles old) (slot_name number slot.serial) slot.opened
-opened-put old new number slot was fits free updates =
-    changed-put old new number slot was fits updates (λ other found. absurd cc)
-
 -- nothing was open under the name of a free slot
 pub closed-put : (old ready : Slab Slot) (number serial : ℕ) (name : List ℕ) → IsNumbered old
     → ready.slots ≡ old.slots → number < 2 ^ 64 → get ready number ≡ None → name ≡ slot_name number serial
