@@ -12,3 +12,8 @@ named bytes_of entries = map (λ e. (bytes_of e.0, e.1)) entries
 -- the table of these entries
 abbrev pub handles_in : {K : Type 0} → (K → List ℕ) → List (K × Open) → Handles
 handles_in bytes_of entries = from_entries bytes_cmp (named bytes_of entries)
+
+-- the entries, and how many more take no memory
+pub record Given : Type 0 where
+  pub entries : List (List ℕ × Open)
+  pub room : ℕ

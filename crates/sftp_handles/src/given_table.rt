@@ -1,6 +1,7 @@
 //! A table of the handles whose names another server gave.
-ghost use Rattle.std.specs.Prelude.{◌≡◌, true, None, Some, IsTrue, IfOk, IfErr, OnOk, OnErr, option_copied};
+ghost use Rattle.std.specs.Prelude.{◌≡◌, ◌<◌, true, None, IsTrue, IfOk, IfErr, OnOk, option_copied};
 ghost use Rattle.std.specs.Cmp.Lexicographic.{nat_list_cmp_total};
+ghost use Rattle.indexmap.specs.IndexMap.{spare};
 ghost use Rattle.sftp_packets.specs.Spelling.{AreBytes};
 ghost use Rattle.sftp_path.specs.Place.{bytes_cmp};
 ghost use Rattle.sftp_path.specs.Table.{from_entries, size};
@@ -22,19 +23,26 @@ pub struct GivenTable {
 }
 
 impl Model for GivenTable {
-    ghost use Rattle.std.specs.Prelude.{List, ℕ};
-    ghost use Rattle.sftp_handles.specs.declared.opens.Open.{Open};
-    ghost use Rattle.sftp_handles.specs.Given.{named};
+    ghost use Rattle.indexmap.specs.IndexMap.{spare};
+    ghost use Rattle.sftp_packets.specs.Spelling.{AreBytes};
+    ghost use Rattle.sftp_handles.specs.Given.{Given, named};
 
-    ghost Value = { List (List ℕ × Open) };
+    ghost Value = { Given };
 
-    ghost view = { λ t. named (λ name. name.items) t.opens.entries };
+    ghost view = { λ t. record {
+      entries = named (λ name. name.items) t.opens.entries;
+      room = spare t.opens;
+    } };
 }
 
 impl HandleTable for GivenTable {
-    ghost handles = { λ table. from_entries bytes_cmp table };
+    ghost handles = { λ table. from_entries bytes_cmp table.entries };
 
     ghost takes_want = { true };
+
+    ghost name_for = { λ table want. want };
+
+    ghost has_room = { λ table. 0 < table.room };
 
     fn empty(alloc: Global) -> GivenTable {
         GivenTable {
@@ -50,11 +58,15 @@ impl HandleTable for GivenTable {
         find_open(&self.opens, name)
     }
 
-    fn swap(&mut self, name: &[u8], it: Open) -> Result<Open, Open> {
-        swap_open(&mut self.opens, name, it)
+    fn find_mut(&mut self, name: &[u8]) -> Option<&mut Open> {
+        self.opens.get_mut(name)
     }
 
-    fn put(&mut self, it: Open, want: Vec<u8>) -> Result<Vec<u8>, (Open, PutError)> {
+    fn reserve(&mut self, alloc: Global, want: &[u8]) -> Result<Vec<u8>, PutError> {
+        reserve_name(&mut self.opens, alloc, want)
+    }
+
+    fn put_reserved(&mut self, it: Open, want: Vec<u8>) {
         put_open(&mut self.opens, it, want)
     }
 
@@ -66,66 +78,50 @@ impl HandleTable for GivenTable {
         take_open(&mut self.opens, name)
     }
 
-    ghost ordered = { λ table. InOrder-from_entries bytes_cmp nat_list_cmp_total table };
+    ghost ordered = { λ table. InOrder-from_entries bytes_cmp nat_list_cmp_total table.entries };
 }
 
-/// Opens something else under a name that is open, and returns what was open before.
+/// Makes room for one more name, and returns a copy of the one that is wanted.
 ///
 /// # Errors
 ///
-/// Returns its argument if the name is not open.
-fn swap_open(opens: &mut IndexMap<Vec<u8>, Open>, name: &[u8], it: Open) -> Result<Open, Open>
-    ensures before { IfOk result (λ before.
-        open_at (handles_in (λ k. k.items) opens.old.entries) name.now ≡ Some before) }
-    ensures swapped { OnOk result (handles_in (λ k. k.items) opens.new.entries
-        ≡ with_open (handles_in (λ k. k.items) opens.old.entries) name.now it) }
-    ensures absent { OnErr result (open_at (handles_in (λ k. k.items) opens.old.entries) name.now ≡ None) }
-    ensures back { IfErr result (λ back. back ≡ it) }
-    ensures err { OnErr result (opens.new.entries ≡ opens.old.entries) }
-{
-    match opens.get_mut(name) {
-        Some(place) => Ok(std::mem::replace(place, it)),
-        None => Err(it),
-    }
-}
-
-/// Opens something under a name that is not open, and returns a copy of the name.
-///
-/// # Errors
-///
-/// `Taken` if the name is open, `NoMemory` if memory runs out; what was to be opened comes back.
-fn put_open(
+/// `Taken` if the name is open, `NoMemory` if memory runs out.
+fn reserve_name(
     opens: &mut IndexMap<Vec<u8>, Open>,
-    it: Open,
-    want: Vec<u8>,
-) -> Result<Vec<u8>, (Open, PutError)>
+    alloc: Global,
+    want: &[u8],
+) -> Result<Vec<u8>, PutError>
+    ensures room { OnOk result (0 < spare opens.new) }
     ensures closed { IfOk result (λ name. open_at (handles_in (λ k. k.items) opens.old.entries) name.items ≡ None) }
-    ensures opened { OnOk result (handles_in (λ k. k.items) opens.new.entries
-        ≡ with_open (handles_in (λ k. k.items) opens.old.entries) want.items it) }
-    ensures wanted { IfOk result (λ name. name.items ≡ want.items) }
+    ensures wanted { IfOk result (λ name. name.items ≡ want.now) }
     ensures bytes { IfOk result (λ name. AreBytes name.items) }
-    ensures taken { IfErr result (λ e. e.1 ≡ Taken →
-        IsTrue (is_open (handles_in (λ k. k.items) opens.old.entries) want.items)) }
-    ensures refused { IfErr result (λ e. e.1 ≡ NoMemory →
-        open_at (handles_in (λ k. k.items) opens.old.entries) want.items ≡ None) }
-    ensures back { IfErr result (λ e. e.0 ≡ it) }
-    ensures err { OnErr result (opens.new.entries ≡ opens.old.entries) }
+    ensures taken { IfErr result (λ e. e ≡ Taken →
+        IsTrue (is_open (handles_in (λ k. k.items) opens.old.entries) want.now)) }
+    ensures refused { IfErr result (λ e. e ≡ NoMemory →
+        open_at (handles_in (λ k. k.items) opens.old.entries) want.now ≡ None) }
+    ensures kept { opens.new.entries ≡ opens.old.entries }
 {
-    if opens.contains_key(want.as_slice()) {
-        return Err((it, PutError::Taken));
+    if opens.contains_key(want) {
+        return Err(PutError::Taken);
     }
-    let Ok(name) = Vec::from_slice(*want.allocator(), want.as_slice()) else {
-        return Err((it, PutError::NoMemory));
-    };
-    match opens.insert(want, it) {
-        Ok(before) => {
-            drop(before);
-            Ok(name)
-        }
-        Err(failed) => {
-            let (_, it) = failed.value;
-            Err((it, PutError::NoMemory))
-        }
+    if opens.reserve(1).is_err() {
+        return Err(PutError::NoMemory);
+    }
+    match Vec::from_slice(alloc, want) {
+        Ok(name) => Ok(name),
+        Err(_) => Err(PutError::NoMemory),
+    }
+}
+
+/// Opens something under a name, where there is room for one more.
+fn put_open(opens: &mut IndexMap<Vec<u8>, Open>, it: Open, name: Vec<u8>)
+    requires { 0 < spare opens.old }
+    ensures { handles_in (λ k. k.items) opens.new.entries
+        ≡ with_open (handles_in (λ k. k.items) opens.old.entries) name.items it }
+{
+    match opens.insert(name, it) {
+        Ok(before) => drop(before),
+        Err(_) => unreachable!(),
     }
 }
 

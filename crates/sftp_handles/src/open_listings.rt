@@ -1,11 +1,14 @@
 //! READDIR: the names that a listing gives, and its end (draft, section 6.7).
-ghost use Rattle.std.specs.Prelude.{◌≡◌, ◌≤◌, [], Some, is_some, length, IsTrue, IfOk, IfSome, OnErr};
+ghost use Rattle.std.specs.Prelude.{◌≡◌, ◌≤◌, [], Some, is_some, length, IfOk, IfSome, OnErr};
+ghost use Rattle.std.specs.Borrow.{Lends, sem};
 ghost use Rattle.std.specs.Vec.{vec_capacity};
 ghost use Rattle.sftp_packets.specs.declared.packets.Ask.TheVariants.{Readdir};
 ghost use Rattle.sftp_packets.specs.declared.packets.Answer.TheVariants as replies;
+ghost use Rattle.sftp_listing.specs.contracts.Listing.{the_row};
 ghost use Rattle.sftp_handles.specs.declared.opens.Open.TheVariants as opens;
+ghost use Rattle.sftp_handles.specs.contracts.opens.Open as lender;
 ghost use Rattle.sftp_handles.specs.FirstNames.{AreFirst, AreFirstNames};
-ghost use Rattle.sftp_handles.specs.Handles.{open_at, is_open, with_open};
+ghost use Rattle.sftp_handles.specs.Handles.{open_at};
 ghost use Rattle.sftp_handles.specs.Replies.{names_in};
 ghost use Rattle.sftp_handles.specs.Giving.{IsListing, gives_names, with_struck};
 ghost use Rattle.sftp_handles.specs.Judged.{IsJudged, IsJudgedCode};
@@ -17,7 +20,6 @@ use sftp_listing::Listing;
 use sftp_path::Name;
 use sftp_tree::NoMemory;
 use sftp_wire::{ByteString, NameItem, Names};
-use std::alloc::Global;
 
 impl<T: HandleTable> Session<T> {
     /// READDIR: whether names are remaining entries of the listing, each once and with its attributes.
@@ -33,8 +35,7 @@ impl<T: HandleTable> Session<T> {
     {
         match self.names_to_give(handle, names)? {
             Some(given) => {
-                let alloc = self.tree.allocator();
-                strike_names(&mut self.table, alloc, handle, given.as_slice());
+                strike_names(&mut self.table, handle, given.as_slice());
                 Ok(true)
             }
             None => Ok(false),
@@ -69,27 +70,25 @@ impl<T: HandleTable> Session<T> {
 }
 
 /// Strikes names from the listing that is open under a handle. It takes memory for hints, if there is some.
-pub(crate) fn strike_names<T: HandleTable>(
-    table: &mut T,
-    alloc: Global,
-    handle: &[u8],
-    given: &[Name],
-)
+pub(crate) fn strike_names<T: HandleTable>(table: &mut T, handle: &[u8], given: &[Name])
     requires { IsListing (open_at (T.handles table.old) handle.now) }
     ensures { T.handles table.new
         ≡ with_struck (T.handles table.old) handle.now given.now (open_at (T.handles table.old) handle.now) }
 {
-    let mut left = take_listing(table, alloc, handle);
-    left.make_hints();
-    left.strike_all(given);
-    put_listing(table, handle, left);
+    match table.find_mut(handle) {
+        Some(it) => {
+            let left = listing_of(it);
+            left.make_hints();
+            left.strike_all(given);
+        }
+        None => unreachable!(),
+    }
 }
 
 /// Takes the first names, of which these are copies, from the listing that is open under a handle, as the items of a
 /// reply. The copies become the long names. `room` has no items yet. Does not allocate.
 pub(crate) fn give_first<T: HandleTable>(
     table: &mut T,
-    alloc: Global,
     handle: &[u8],
     longnames: Vec<ByteString>,
     room: Vec<NameItem>,
@@ -103,32 +102,20 @@ pub(crate) fn give_first<T: HandleTable>(
     ensures struck { T.handles table.new
         ≡ with_struck (T.handles table.old) handle.now (names_in result) (open_at (T.handles table.old) handle.now) }
 {
-    let mut left = take_listing(table, alloc, handle);
-    let names = left.take_first(longnames, room);
-    put_listing(table, handle, left);
-    names
-}
-
-/// Takes the listing that is open under a handle out of its table. An empty one is then open in its place.
-fn take_listing<T: HandleTable>(table: &mut T, alloc: Global, handle: &[u8]) -> Listing
-    requires { IsListing (open_at (T.handles table.old) handle.now) }
-    ensures taken { open_at (T.handles table.old) handle.now ≡ Some (opens.Listing result) }
-    ensures empty { T.handles table.new ≡ with_open (T.handles table.old) handle.now (opens.Listing []) }
-{
-    let empty = Open::Listing {
-        left: Listing::empty(alloc),
-    };
-    match table.swap(handle, empty) {
-        Ok(Open::Listing { left }) => left,
-        Ok(Open::File { .. }) => unreachable!(),
-        Err(_) => unreachable!(),
+    match table.find_mut(handle) {
+        Some(it) => listing_of(it).take_first(longnames, room),
+        None => unreachable!(),
     }
 }
 
-/// Opens a listing under a handle in place of what is open under it.
-fn put_listing<T: HandleTable>(table: &mut T, handle: &[u8], left: Listing)
-    requires { IsTrue (is_open (T.handles table.old) handle.now) }
-    ensures { T.handles table.new ≡ with_open (T.handles table.old) handle.now (opens.Listing left) }
+/// Lends the listing that is open.
+fn listing_of(it: &mut Open) -> &mut Listing
+    requires { IsListing (Some it.old) }
+    ensures* writes_back { sem 𝓛 (Lends lender.the_row the_row it.entry result opens.Listing) }
+    ensures found { it.old ≡ opens.Listing result.now }
 {
-    drop(table.swap(handle, Open::Listing { left }));
+    match it {
+        Open::Listing { left } => left,
+        Open::File { .. } => unreachable!(),
+    }
 }

@@ -20,7 +20,7 @@ use crate::sessions::Session;
 use crate::tables::{HandleTable, PutError};
 use bitflags::Flags;
 use sftp_listing::Listing;
-use sftp_tree::{FileNo, NoMemory, Refused};
+use sftp_tree::{NoMemory, Refused};
 use sftp_wire::{Ask, Attrs, HANDLE_LIMIT, OpenFlags};
 
 impl<T: HandleTable> Session<T> {
@@ -76,17 +76,18 @@ impl<T: HandleTable> Session<T> {
         ensures kept { OnErr result (self.new ≡ self.old) }
     {
         let alloc = self.tree.allocator();
-        let name = self.open_listing(Listing::empty(alloc), want)?;
-        match self.tree.open_file(path, pflags, attrs) {
-            Ok(file) => {
-                self.tree.pin(file);
-                put_file(&mut self.table, name.as_slice(), file, kept_flags(pflags));
-                Ok(name)
-            }
-            Err(refused) => {
-                give_back(&mut self.table, name.as_slice());
-                Err(NotOpened::Refused(refused))
-            }
+        match self.table.reserve(alloc, want.as_slice()) {
+            Ok(name) => match self.tree.open_file(path, pflags, attrs) {
+                Ok(file) => {
+                    let flags = kept_flags(pflags);
+                    self.tree.pin(file);
+                    self.table.put_reserved(Open::File { file, flags }, want);
+                    Ok(name)
+                }
+                Err(refused) => Err(NotOpened::Refused(refused)),
+            },
+            Err(PutError::Taken) => Err(NotOpened::Taken),
+            Err(PutError::NoMemory) => Err(NotOpened::Refused(Refused::NoMemory)),
         }
     }
 
@@ -188,21 +189,6 @@ fn not_opened(failed: NotOpened) -> Result<bool, NoMemory>
         NotOpened::Refused(Refused::Cause(_)) => Ok(false),
         NotOpened::Refused(Refused::NoMemory) => Err(NoMemory),
     }
-}
-
-/// Opens a file under a handle in place of what is open under it.
-fn put_file<T: HandleTable>(table: &mut T, handle: &[u8], file: FileNo, flags: OpenFlags)
-    requires { IsTrue (handles.is_open (T.handles table.old) handle.now) }
-    ensures { T.handles table.new ≡ handles.with_open (T.handles table.old) handle.now (opens.File file flags) }
-{
-    drop(table.swap(handle, Open::File { file, flags }));
-}
-
-/// Closes the newest handle, as if it had not been opened.
-fn give_back<T: HandleTable>(table: &mut T, handle: &[u8])
-    ensures { T.handles table.new ≡ handles.without_open (T.handles table.old) handle.now }
-{
-    drop(table.give_back(handle));
 }
 
 /// What an open file keeps of the flags of its OPEN: READ, WRITE and APPEND.

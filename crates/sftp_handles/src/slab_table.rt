@@ -2,7 +2,7 @@
 ghost use Rattle.std.specs.Prelude.{◌≡◌, ◌<◌, ◌≤◌, ◌^◌, ◌==◌, [], false, if◌then◌else◌, map, None, Some};
 ghost use Rattle.std.specs.Prelude.{IfOk, IfErr, IfSome, OnSome, OnOk, OnErr, IfNone, length, option_copied};
 ghost use Rattle.std.specs.Cmp.Lexicographic.{nat_list_cmp_total};
-ghost use Rattle.slab.specs.Slab.{entries};
+ghost use Rattle.slab.specs.Slab.{entries, HasRoomFor};
 ghost use Rattle.sftp_packets.specs.Spelling.{AreBytes, handle_limit};
 ghost use Rattle.sftp_path.specs.Place.{bytes_cmp};
 ghost use Rattle.sftp_path.specs.Table.{size};
@@ -19,7 +19,6 @@ use byteorder::{BigEndian, ByteOrder};
 use slab::Slab;
 use std::alloc::Global;
 use std::marker::Model;
-use std::mem;
 
 /// The open handles of a server that chooses their names itself (draft, section 6.3). A name is a slot's number
 /// in 8 bytes and a serial in 4, which keeps the openings of one slot apart: it grows by one with each opening, modulo
@@ -46,6 +45,10 @@ impl HandleTable for SlabTable {
 
     ghost takes_want = { false };
 
+    ghost name_for = { λ table want. next_name table };
+
+    ghost has_room = { λ table. HasRoomFor table.opens 1 };
+
     fn empty(alloc: Global) -> SlabTable
         ensures empty { slab_handles result.opens ≡ [] }
         ensures first { next_name result ≡ slot_name 0 0 }
@@ -64,16 +67,36 @@ impl HandleTable for SlabTable {
         find_open(&self.opens, name)
     }
 
-    fn swap(&mut self, name: &[u8], it: Open) -> Result<Open, Open>
-        ensures kept { next_name self.new ≡ next_name self.old }
-        ensures before { IfOk result (λ before. open_at (slab_handles self.old.opens) name.now ≡ Some before) }
-        ensures swapped { OnOk result
-            (slab_handles self.new.opens ≡ with_open (slab_handles self.old.opens) name.now it) }
-        ensures absent { OnErr result (open_at (slab_handles self.old.opens) name.now ≡ None) }
-        ensures back { IfErr result (λ back. back ≡ it) }
-        ensures err { OnErr result (slab_handles self.new.opens ≡ slab_handles self.old.opens) }
+    fn find_mut(&mut self, name: &[u8]) -> Option<&mut Open> {
+        let number = slot_of(&self.opens, name)?;
+        let slot = &mut self.opens[number];
+        Some(&mut slot.opened)
+    }
+
+    fn reserve(&mut self, alloc: Global, want: &[u8]) -> Result<Vec<u8>, PutError>
+        ensures next { next_name self.new ≡ next_name self.old }
+        ensures serial { self.new.serial ≡ self.old.serial }
+        ensures room { OnOk result (HasRoomFor self.new.opens 1) }
+        ensures named { IfOk result (λ name. name.items ≡ next_name self.new) }
+        ensures closed { IfOk result (λ name. open_at (slab_handles self.old.opens) name.items ≡ None) }
+        ensures short { IfOk result (λ name. length name.items ≤ handle_limit) }
+        ensures bytes { IfOk result (λ name. AreBytes name.items) }
+        ensures refused { IfErr result (λ e. e ≡ NoMemory) }
+        ensures kept { slab_handles self.new.opens ≡ slab_handles self.old.opens }
     {
-        swap_open(&mut self.opens, name, it)
+        let _ignored = want;
+        reserve_open(&mut self.opens, alloc, self.serial)
+    }
+
+    fn put_reserved(&mut self, it: Open, want: Vec<u8>)
+        requires { HasRoomFor self.old.opens 1 }
+        ensures counted { self.new.serial ≡ serial_after self.old.serial }
+        ensures opened { slab_handles self.new.opens
+            ≡ with_open (slab_handles self.old.opens) (next_name self.old) it }
+    {
+        drop(want);
+        put_open(&mut self.opens, self.serial, it);
+        self.serial = self.serial.wrapping_add(1);
     }
 
     fn put(&mut self, it: Open, want: Vec<u8>) -> Result<Vec<u8>, (Open, PutError)>
@@ -89,9 +112,13 @@ impl HandleTable for SlabTable {
         ensures back { IfErr result (λ e. e.0 ≡ it) }
         ensures err { OnErr result (slab_handles self.new.opens ≡ slab_handles self.old.opens) }
     {
-        let name = put_open(&mut self.opens, self.serial, it, want)?;
-        self.serial = self.serial.wrapping_add(1);
-        Ok(name)
+        match self.reserve(*want.allocator(), want.as_slice()) {
+            Ok(name) => {
+                self.put_reserved(it, want);
+                Ok(name)
+            }
+            Err(error) => Err((it, error)),
+        }
     }
 
     fn take(&mut self, name: &[u8]) -> Option<Open>
@@ -182,60 +209,40 @@ fn find_open<'a>(opens: &'a Slab<Slot>, name: &[u8]) -> Option<&'a Open>
     Some(&opens[number].opened)
 }
 
-/// Opens something else under a name that is open, and returns what was open before.
+/// Makes room for one more slot in use, and returns the name of the next opening.
 ///
 /// # Errors
 ///
-/// Returns its argument if the name is not open.
-fn swap_open(opens: &mut Slab<Slot>, name: &[u8], it: Open) -> Result<Open, Open>
+/// `NoMemory` if memory runs out.
+fn reserve_open(opens: &mut Slab<Slot>, alloc: Global, serial: u32) -> Result<Vec<u8>, PutError>
     requires { IsNumbered opens.old }
-    ensures before { IfOk result (λ before. open_at (slab_handles opens.old) name.now ≡ Some before) }
-    ensures swapped { OnOk result (slab_handles opens.new ≡ with_open (slab_handles opens.old) name.now it) }
-    ensures absent { OnErr result (open_at (slab_handles opens.old) name.now ≡ None) }
-    ensures back { IfErr result (λ back. back ≡ it) }
-    ensures err { OnErr result (opens.new ≡ opens.old) }
-    ensures kept { opens.new.vacant_key ≡ opens.old.vacant_key }
-    ensures numbered { IsNumbered opens.new }
-{
-    let Some(number) = slot_of(opens, name) else {
-        return Err(it);
-    };
-    let slot = &mut opens[number];
-    Ok(mem::replace(&mut slot.opened, it))
-}
-
-/// Opens something in a free slot, and returns its name.
-///
-/// # Errors
-///
-/// `NoMemory` if memory runs out; what was to be opened comes back.
-fn put_open(
-    opens: &mut Slab<Slot>,
-    serial: u32,
-    it: Open,
-    want: Vec<u8>,
-) -> Result<Vec<u8>, (Open, PutError)>
-    requires { IsNumbered opens.old }
+    ensures room { OnOk result (HasRoomFor opens.new 1) }
+    ensures named { IfOk result (λ name. name.items ≡ slot_name opens.new.vacant_key serial) }
     ensures closed { IfOk result (λ name. open_at (slab_handles opens.old) name.items ≡ None) }
-    ensures opened { IfOk result (λ name. slab_handles opens.new ≡ with_open (slab_handles opens.old) name.items it) }
-    ensures named { IfOk result (λ name. name.items ≡ slot_name opens.old.vacant_key serial) }
     ensures short { IfOk result (λ name. length name.items ≤ handle_limit) }
     ensures bytes { IfOk result (λ name. AreBytes name.items) }
-    ensures refused { IfErr result (λ e. e.1 ≡ NoMemory) }
-    ensures back { IfErr result (λ e. e.0 ≡ it) }
-    ensures err { OnErr result (opens.new.slots ≡ opens.old.slots) }
-    ensures kept { OnErr result (opens.new.vacant_key ≡ opens.old.vacant_key) }
-    ensures numbered { IsNumbered opens.new }
+    ensures refused { IfErr result (λ e. e ≡ NoMemory) }
+    ensures kept { opens.new ≡ record opens.old { capacity = opens.new.capacity } }
 {
     if opens.reserve(1).is_err() {
-        return Err((it, PutError::NoMemory));
+        return Err(PutError::NoMemory);
     }
     let spelled = name_of(opens.vacant_key(), serial);
-    let Ok(name) = Vec::from_slice(*want.allocator(), spelled.as_slice()) else {
-        return Err((it, PutError::NoMemory));
-    };
+    match Vec::from_slice(alloc, spelled.as_slice()) {
+        Ok(name) => Ok(name),
+        Err(_) => Err(PutError::NoMemory),
+    }
+}
+
+/// Opens something in the next slot.
+fn put_open(opens: &mut Slab<Slot>, serial: u32, it: Open)
+    requires numbered { IsNumbered opens.old }
+    requires room { HasRoomFor opens.old 1 }
+    ensures opened { slab_handles opens.new
+        ≡ with_open (slab_handles opens.old) (slot_name opens.old.vacant_key serial) it }
+    ensures numbered { IsNumbered opens.new }
+{
     opens.insert_reserved(Slot { serial, opened: it });
-    Ok(name)
 }
 
 /// Frees the slot of a name, and returns what was in it.

@@ -6,8 +6,16 @@ use Rattle.sftp_handles.proofs.Imports.{is_eq-slice_cmp, bytes_eq-Decides, bytes
 use Rattle.sftp_handles.proofs.Imports.{bytes_cmp-same, get-empty, get-cons, get-put, get-without, get-from_entries}
 use Rattle.sftp_handles.proofs.Imports.{InOrder-from_entries, InOrder-put, InOrder-without, size-put, same_table, Open}
 use Rattle.sftp_handles.proofs.Imports.{open_at, with_open, without_open, named, handles_in}
+use Rattle.std.specs.Borrow.{MutBor}
 use Rattle.std.specs.List.{IsDistinct}
 use Rattle.std.specs.Map.{KeepsOthers}
+use Rattle.std.specs.Option.{OnSome, option_copied_mut}
+
+-- what is lent is there
+pub lent-found : (lent : Option (MutBor Open)) (found : Option Open) (P : Type 0) → option_copied_mut lent ≡ found
+    → (is_some found ≡ true → P) → OnSome lent P
+lent-found None found P is then = tt
+lent-found (Some it) found P is then = then (ap is_some (sym is))
 
 nothing : (o : Option Open) → is_some o ≡ false → o ≡ None
 nothing None is = refl
@@ -36,12 +44,10 @@ module _ {K : Type 0} (f : K → List ℕ) where
   open-found name es = get-from_entries bytes_cmp nat_list_cmp_total (named f es) name ∙ named-found name es
 
   -- nothing is open under a name that the map does not contain
-  pub not-open : (name asked : List ℕ) (es : List (K × Open)) (contains : Bool) → asked ≡ name
-      → contains ≡ is_some (lookup (has_bytes asked) es) → contains ≡ false → open_at (handles_in f es) name ≡ None
-  not-open name asked es contains same found missing =
-      open-found name es
-      ∙ nothing (lookup (has_bytes name) es)
-      (ap (λ n. is_some (lookup (has_bytes n) es)) (sym same) ∙ (sym found ∙ missing))
+  pub not-open : (name : List ℕ) (es : List (K × Open)) (contains : Bool)
+      → contains ≡ is_some (lookup (has_bytes name) es) → contains ≡ false → open_at (handles_in f es) name ≡ None
+  not-open name es contains found missing =
+      open-found name es ∙ nothing (lookup (has_bytes name) es) (sym found ∙ missing)
 
   module _ (old new : List (K × Open)) (name : List ℕ) (w : Option Open)
       (here : lookup (has_bytes name) new ≡ w)

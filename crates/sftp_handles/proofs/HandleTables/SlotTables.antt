@@ -328,17 +328,6 @@ changed-without old new number slot was found updates =
 
 -- ---- calls
 
--- something is open in a slot that was free
-pub opened-put : (old ready new : Slab Slot) (number : ℕ) (slot : Slot) (name : List ℕ) → IsNumbered old
-    → ready.slots ≡ old.slots → number < 2 ^ 64 → get ready number ≡ None → Updates ready new number (Some slot)
-    → name ≡ slot_name number slot.serial → slab_handles new ≡ with_open (slab_handles old) name slot.opened
-opened-put old ready new number slot name was kept fits free updates named =
-    let numbered : IsNumbered ready =
-    λ at in_use. was at (ap (λ slots. is_some (get_or slots at None)) (sym kept) ∙ in_use) in
-    changed-put ready new number slot numbered fits updates (λ other found. absurd cc)
-    ∙ (ap (λ slots. with_open (handles_from 0 slots) (slot_name number slot.serial) slot.opened) kept
-    ∙ ap (λ n. with_open (slab_handles old) n slot.opened) (sym named))
-
 -- nothing was open under the name of a free slot
 pub closed-put : (old ready : Slab Slot) (number serial : ℕ) (name : List ℕ) → IsNumbered old
     → ready.slots ≡ old.slots → number < 2 ^ 64 → get ready number ≡ None → name ≡ slot_name number serial

@@ -1,12 +1,13 @@
--- What is open under a handle, exchanged twice and put back.
-use Rattle.sftp_handles.proofs.Imports.{◌≡◌, Bool, true, false, cond, List, ℕ, drop, length, Option, Some, is_some, refl}
+-- What is open under a handle, put back, and a listing of which names were struck.
+use Rattle.sftp_handles.proofs.Imports.{◌≡◌, Bool, true, false, cond, List, ℕ, drop, length, Option, Some, refl}
 use Rattle.sftp_handles.proofs.Imports.{sym, ap, subst, ◌∙◌, is_eq, Equal-is, nat_list_cmp_total, NameItem, Name}
-use Rattle.sftp_handles.proofs.Imports.{bytes_cmp, name_cmp, InOrder, bytes_cmp-same, get-put, get-put_here}
-use Rattle.sftp_handles.proofs.Imports.{InOrder-put, same_table, Open, Listing, Left, Handles, open_at, is_open}
-use Rattle.sftp_handles.proofs.Imports.{with_open, names_in, struck, IsListing, with_struck, first_items}
+use Rattle.sftp_handles.proofs.Imports.{bytes_cmp, InOrder, bytes_cmp-same, get-put}
+use Rattle.sftp_handles.proofs.Imports.{InOrder-put, same_table, Open, Listing, Left, Handles, open_at}
+use Rattle.sftp_handles.proofs.Imports.{with_open, names_in, struck, IsListing, with_struck, first_items, AreFirstNames}
 use Rattle.sftp_handles.proofs.Imports.{names_in_reply, AreFirst}
 use Rattle.sftp_listing.proofs.Strikes.{struck-first_items}
-use Rattle.sftp_handles.proofs.OpenFiles.Opened.{opened-again}
+use Rattle.sftp_handles.specs.FirstNames.{first_names}
+use Rattle.sftp_listing.proofs.FirstNames.{as-many-items, items-counted}
 
 same-there : (handles : Handles) (handle at : List ℕ) (it : Open) (b : Bool) → open_at handles handle ≡ Some it
     → is_eq (bytes_cmp at handle) ≡ b → cond b (Some it) (open_at handles at) ≡ open_at handles at
@@ -24,30 +25,36 @@ opened-back handles handle it order there =
     get-put bytes_cmp nat_list_cmp_total handles handle it at
     ∙ same-there handles handle at it (is_eq (bytes_cmp at handle)) there refl)
 
--- what was opened last is open
-pub opened-open : (before after : Handles) (handle : List ℕ) (it : Open) → after ≡ with_open before handle it
-    → is_open after handle ≡ true
-opened-open before after handle it is =
-    ap (λ handles. is_open handles handle) is
-    ∙ ap is_some (get-put_here bytes_cmp nat_list_cmp_total before handle it)
-
--- a listing was out of its table while names were struck
-pub struck-apart : (before between after : Handles) (handle : List ℕ) (names : List Name) (first : Open)
-    (left next : Left) → InOrder bytes_cmp before → open_at before handle ≡ Some (Listing left)
-    → between ≡ with_open before handle first → next ≡ struck left names
-    → after ≡ with_open between handle (Listing next)
+-- names were struck from a listing that was lent
+pub struck-lent : (before after : Handles) (handle : List ℕ) (names : List Name) (left next : Left)
+    → open_at before handle ≡ Some (Listing left) → next ≡ struck left names
+    → after ≡ with_open before handle (Listing next)
     → after ≡ with_struck before handle names (open_at before handle)
-struck-apart before between after handle names first left next order there taken struck_is back =
-    back
-    ∙ ((λ i. with_open (taken i) handle (Listing (struck_is i)))
-    ∙ (opened-again before handle first (Listing (struck left names)) order
-    ∙ ap (with_struck before handle names) (sym there)))
+struck-lent before after handle names left next there struck_is lent =
+    lent
+    ∙ (ap (λ left. with_open before handle (Listing left)) struck_is
+    ∙ ap (with_struck before handle names) (sym there))
 
--- the names of a reply are struck from a listing: as many entries are dropped
-pub dropped-struck : (items : List NameItem) (left : Left) (found : Option Open) → found ≡ Some (Listing left)
-    → IsListing found → AreFirst found items → drop (length items) left ≡ struck left (names_in items)
-dropped-struck items left found there order first =
-    let ordered : InOrder name_cmp left = subst IsListing there order in
-    let same : items ≡ first_items names_in_reply left = subst (λ o. AreFirst o items) there first in
-    ap (λ xs. drop (length xs) left) same
-    ∙ (sym (struck-first_items names_in_reply left ordered) ∙ ap (λ xs. struck left (names_in xs)) (sym same))
+-- the first names of a listing were taken from it
+module _ (items : List NameItem) (longnames : List Name) (left next : Left) (found : Option Open)
+    (there : found ≡ Some (Listing left)) (first : AreFirstNames found longnames)
+    (given : items ≡ first_items (length longnames) left) where
+  are_names : longnames ≡ first_names names_in_reply left
+  are_names = subst (λ o. AreFirstNames o longnames) there first
+
+  are_items : items ≡ first_items names_in_reply left
+  are_items = given ∙ as-many-items names_in_reply longnames left are_names
+
+  pub first-taken : AreFirst found items
+  first-taken = subst (λ o. AreFirst o items) (sym there) are_items
+
+  pub first-counted : length items ≡ length longnames
+  first-counted = ap length are_items ∙ items-counted names_in_reply longnames left are_names
+
+  -- as many entries are dropped
+  pub first-struck : IsListing found → next ≡ drop (length longnames) left → next ≡ struck left (names_in items)
+  first-struck order dropped =
+      dropped
+      ∙ (ap (λ count. drop count left) (sym first-counted ∙ ap length are_items)
+      ∙ (sym (struck-first_items names_in_reply left (subst IsListing there order))
+      ∙ ap (λ xs. struck left (names_in xs)) (sym are_items)))

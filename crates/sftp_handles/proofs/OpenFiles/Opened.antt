@@ -1,18 +1,18 @@
 -- What is opened under a new handle: the state after it, that it is good, and which steps it makes.
 use Rattle.sftp_handles.proofs.Imports.{◌≡◌, ◌==◌, ◌&&◌, ◌||◌, not, nat_lt, nat_le, ℕ, ◌+◌, ◌<◌, ◌≤◌, ◌^◌, Bool, true}
 use Rattle.sftp_handles.proofs.Imports.{false, cond, List, [], ◌∷◌, length, Option, Some, None, Result, Ok, Err}
-use Rattle.sftp_handles.proofs.Imports.{is_some, refl, sym, ap, subst, ◌∙◌, IfOk, arith, leb-true, is_eq, filter}
-use Rattle.sftp_handles.proofs.Imports.{Equal-is, nat_list_cmp_total, nat_list_eq_equiv, texts_ties, and-false}
+use Rattle.sftp_handles.proofs.Imports.{is_some, refl, sym, ap, subst, ◌∙◌, IfOk, arith, leb-true, filter}
+use Rattle.sftp_handles.proofs.Imports.{nat_list_cmp_total, and-false}
 use Rattle.sftp_handles.proofs.Imports.{and_from, or_right, le-leb, eqb-true, same_Some, Attrs, OpenFlags, Ask}
-use Rattle.sftp_handles.proofs.Imports.{handle_limit, Place, bytes_cmp, place_cmp, InOrder, size, retain}
-use Rattle.sftp_handles.proofs.Imports.{bytes_cmp-same, place_cmp-same, one_if, InOrder-put, InOrder-without, get-put}
-use Rattle.sftp_handles.proofs.Imports.{get-put_here, get-without, size-put, same_table, TreeLimits, Cause, NoRoom}
+use Rattle.sftp_handles.proofs.Imports.{handle_limit, Place, bytes_cmp, place_cmp, size, retain}
+use Rattle.sftp_handles.proofs.Imports.{bytes_cmp-same, place_cmp-same, one_if, InOrder-put}
+use Rattle.sftp_handles.proofs.Imports.{size-put, TreeLimits, Cause, NoRoom}
 use Rattle.sftp_handles.proofs.Imports.{Refused, Tree, Names, Pins, WellFormed, IsKept, IsNode, HasFile, node_at}
 use Rattle.sftp_handles.proofs.Imports.{limits, trim, is_named, is_pinned, times_pinned, with_pin, after_pin, listing}
 use Rattle.sftp_handles.proofs.Imports.{CauseSet, is_none, when, only, done, led, led_to, told_at, outcome, new_led}
 use Rattle.sftp_handles.proofs.Imports.{outcome-is, none-each, each-none, pins-stay, limits-stay, trimmed-already}
 use Rattle.sftp_handles.proofs.Imports.{each-get, each-put, Open, File, Listing, Left, Handles, open_at, with_open}
-use Rattle.sftp_handles.proofs.Imports.{without_open, is_open, pins_of, times_open, opens_file, kept_flags, State, Good}
+use Rattle.sftp_handles.proofs.Imports.{is_open, pins_of, times_open, opens_file, kept_flags, State, Good}
 use Rattle.sftp_handles.proofs.Imports.{settled, IsOpen, IsHandle, IsLeft, has_handle_left, is_new_handle, says, causes}
 use Rattle.sftp_handles.proofs.Imports.{answers, after, said_by, told_to, opened_by, with_new, Does, IsRefusal}
 use Rattle.sftp_packets.specs.declared.packets.Ask.TheVariants as asks
@@ -28,51 +28,6 @@ use Rattle.sftp_handles.proofs.Good.Pins.{pin-times, pins-times, pins-open_file,
 use Rattle.sftp_handles.proofs.Good.NewStates.{state_of}
 use Rattle.sftp_handles.proofs.Good.GoodPaths.{opened-named}
 use Rattle.sftp_listing.proofs.FirstListings.{listing-fits}
-
--- ---- tables of handles
-
-last-choice : (b : Bool) (first second : Open) (found : Option Open)
-    → cond b (Some second) (cond b (Some first) found) ≡ cond b (Some second) found
-last-choice true first second found = refl
-last-choice false first second found = refl
-
--- what is opened again under a handle takes the place of what was open
-pub opened-again : (handles : Handles) (handle : List ℕ) (first second : Open) → InOrder bytes_cmp handles
-    → with_open (with_open handles handle first) handle second ≡ with_open handles handle second
-opened-again handles handle first second order =
-    same_table bytes_cmp nat_list_cmp_total bytes_cmp-same (with_open (with_open handles handle first) handle second)
-    (with_open handles handle second)
-    (InOrder-put bytes_cmp nat_list_cmp_total (with_open handles handle first) handle second
-    (InOrder-put bytes_cmp nat_list_cmp_total handles handle first order))
-    (InOrder-put bytes_cmp nat_list_cmp_total handles handle second order)
-    (λ at.
-    get-put bytes_cmp nat_list_cmp_total (with_open handles handle first) handle second at
-    ∙ (ap (λ o. cond (is_eq (bytes_cmp at handle)) (Some second) o)
-    (get-put bytes_cmp nat_list_cmp_total handles handle first at)
-    ∙ (last-choice (is_eq (bytes_cmp at handle)) first second (open_at handles at)
-    ∙ sym (get-put bytes_cmp nat_list_cmp_total handles handle second at))))
-
-no-choice : (b : Bool) (it : Open) (found : Option Open) → (b ≡ true → found ≡ None)
-    → cond b None (cond b (Some it) found) ≡ found
-no-choice true it found none = sym (none refl)
-no-choice false it found none = refl
-
-tie-turned : (a b : List ℕ) → is_eq (bytes_cmp a b) ≡ is_eq (bytes_cmp b a)
-tie-turned a b = sym (texts_ties a b) ∙ (nat_list_eq_equiv.symm a b ∙ texts_ties b a)
-
--- what is opened under a new handle and closed again is as if it had not been opened
-pub opened-closed : (handles : Handles) (handle : List ℕ) (it : Open) → InOrder bytes_cmp handles
-    → open_at handles handle ≡ None → without_open (with_open handles handle it) handle ≡ handles
-opened-closed handles handle it order absent =
-    let opened = InOrder-put bytes_cmp nat_list_cmp_total handles handle it order in
-    same_table bytes_cmp nat_list_cmp_total bytes_cmp-same (without_open (with_open handles handle it) handle) handles
-    (InOrder-without bytes_cmp (with_open handles handle it) handle opened) order
-    (λ at.
-    get-without bytes_cmp nat_list_cmp_total (with_open handles handle it) handle at opened
-    ∙ (ap (λ b. cond b None (open_at (with_open handles handle it) at)) (tie-turned handle at)
-    ∙ (ap (λ o. cond (is_eq (bytes_cmp at handle)) None o) (get-put bytes_cmp nat_list_cmp_total handles handle it at)
-    ∙ no-choice (is_eq (bytes_cmp at handle)) it (open_at handles at)
-    (λ tie. ap (open_at handles) (bytes_cmp-same at handle ((Equal-is (bytes_cmp at handle)).0 tie)) ∙ absent))))
 
 -- ---- a good state with one more handle
 
@@ -361,66 +316,36 @@ refused-listing s t path (refusals.Cause cause) same holds =
     (ap (λ t. paths.causes t (asks.Opendir path) cause) (sym same) ∙ holds)
 refused-listing s t path refusals.NoMemory same holds = tt
 
--- ---- a file in place of a listing
+-- ---- OPEN, by what its calls returned
 
-module _ (s listed : State) (handle : List ℕ) (left : Left) (good : Good s)
-    (absent : open_at s.handles handle ≡ None)
-    (is : listed ≡ state_of s.tree (with_open s.handles handle (Listing left))) where
-  abbrev tree_is : listed.tree ≡ s.tree
-  tree_is = ap (λ (x : State). x.tree) is
+module _ (s : State) (path : List ℕ) (pflags : ℕ) (attrs : Attrs) (n : ℕ) (opened pinned : Tree)
+    (reserved handles : Handles) (handle name : List ℕ) (flags : OpenFlags) (good : Good s)
+    (short : length handle ≤ handle_limit) (absent : open_at s.handles handle ≡ None)
+    (room : has_handle_left s ≡ true) (number : file_to s.tree (asks.Open path pflags attrs) ≡ Some n)
+    (after_it : opened ≡ paths.after s.tree (asks.Open path pflags attrs)) (pin : pinned ≡ after_pin opened n)
+    (kept : reserved ≡ s.handles) (same : handle ≡ name) (flags_are : flags ≡ kept_flags pflags)
+    (put : handles ≡ with_open reserved name (File n flags)) where
+  end-is : state_of pinned handles
+      ≡ state_of (after_pin (paths.after s.tree (asks.Open path pflags attrs)) n)
+      (with_open s.handles handle (File n (kept_flags pflags)))
+  end-is =
+      let whole : handles ≡ with_open s.handles handle (File n (kept_flags pflags)) =
+      put ∙ (λ i. with_open (kept i) (sym same i) (File n (flags_are i))) in
+      let tree : pinned ≡ after_pin (paths.after s.tree (asks.Open path pflags attrs)) n =
+      pin ∙ ap (λ t. after_pin t n) after_it in
+      λ i. record { tree = tree i; handles = whole i }
 
-  abbrev handles_are : listed.handles ≡ with_open s.handles handle (Listing left)
-  handles_are = ap (λ (x : State). x.handles) is
+  pub good-end : IsKept pinned → Good (state_of pinned handles)
+  good-end is_kept =
+      subst Good (sym end-is)
+      (good-file s path pflags attrs n handle good number short absent room
+      (subst IsKept (ap (λ (x : State). x.tree) end-is) is_kept))
 
-  -- the handle is open
-  pub open-listed : (slice : List ℕ) → slice ≡ handle → is_open listed.handles slice ≡ true
-  open-listed slice same =
-      (λ i. is_open (handles_are i) (same i))
-      ∙ ap is_some (get-put_here bytes_cmp nat_list_cmp_total s.handles handle (Listing left))
-
-  -- given back, it leaves the state as it was
-  pub given-back : (t : Tree) (handles : Handles) (slice : List ℕ) → slice ≡ handle → t ≡ listed.tree
-      → handles ≡ without_open listed.handles slice → state_of t handles ≡ s
-  given-back t handles slice same tree_kept closed =
-      let whole : handles ≡ s.handles =
-      closed
-      ∙ ((λ i. without_open (handles_are i) (same i))
-      ∙ opened-closed s.handles handle (Listing left) good.ordered absent) in
-      λ i. record { tree = (tree_kept ∙ tree_is) i; handles = whole i }
-
-  module _ (path : List ℕ) (pflags : ℕ) (attrs : Attrs) (n : ℕ) (opened pinned : Tree) (handles : Handles)
-      (slice : List ℕ) (flags : OpenFlags) (short : length handle ≤ handle_limit) (room : has_handle_left s ≡ true)
-      (number : file_to listed.tree (asks.Open path pflags attrs) ≡ Some n)
-      (after_it : opened ≡ paths.after listed.tree (asks.Open path pflags attrs)) (pin : pinned ≡ after_pin opened n)
-      (same : slice ≡ handle) (kept : flags ≡ kept_flags pflags)
-      (swapped : handles ≡ with_open listed.handles slice (File n flags)) where
-    end-is : state_of pinned handles
-        ≡ state_of (after_pin (paths.after s.tree (asks.Open path pflags attrs)) n)
-        (with_open s.handles handle (File n (kept_flags pflags)))
-    end-is =
-        let whole : handles ≡ with_open s.handles handle (File n (kept_flags pflags)) =
-        swapped
-        ∙ ((λ i. with_open (handles_are i) (same i) (File n (kept i)))
-        ∙ opened-again s.handles handle (Listing left) (File n (kept_flags pflags)) good.ordered) in
-        let tree : pinned ≡ after_pin (paths.after s.tree (asks.Open path pflags attrs)) n =
-        pin ∙ ap (λ t. after_pin t n) (after_it ∙ ap (λ t. paths.after t (asks.Open path pflags attrs)) tree_is) in
-        λ i. record { tree = tree i; handles = whole i }
-
-    opens : file_to s.tree (asks.Open path pflags attrs) ≡ Some n
-    opens = ap (λ t. file_to t (asks.Open path pflags attrs)) (sym tree_is) ∙ number
-
-    pub good-end : IsKept pinned → Good (state_of pinned handles)
-    good-end is_kept =
-        subst Good (sym end-is)
-        (good-file s path pflags attrs n handle good opens short absent room
-        (subst IsKept (ap (λ (x : State). x.tree) end-is) is_kept))
-
-    pub does-end : is_none (paths.causes listed.tree (asks.Open path pflags attrs)) ≡ true
-        → Does s (asks.Open path pflags attrs) (replies.Handle handle) (state_of pinned handles)
-    does-end free =
-        subst (Does s (asks.Open path pflags attrs) (replies.Handle handle)) (sym end-is)
-        (does-file s path pflags attrs n handle good opens short absent room
-        (ap (λ t. is_none (paths.causes t (asks.Open path pflags attrs))) (sym tree_is) ∙ free))
+  pub does-end : is_none (paths.causes s.tree (asks.Open path pflags attrs)) ≡ true
+      → Does s (asks.Open path pflags attrs) (replies.Handle handle) (state_of pinned handles)
+  does-end free =
+      subst (Does s (asks.Open path pflags attrs) (replies.Handle handle)) (sym end-is)
+      (does-file s path pflags attrs n handle good number short absent room free)
 
 -- ---- OPENDIR, by what opening the listing returned
 

@@ -92,7 +92,7 @@ impl<T: HandleTable> Session<T> {
             return Ok(status(alloc, EOF));
         }
         let room = Vec::with_capacity(alloc, longnames.len())?;
-        let names = give_first(&mut self.table, alloc, handle, longnames, room);
+        let names = give_first(&mut self.table, handle, longnames, room);
         Ok(Answer::Name(names))
     }
 
