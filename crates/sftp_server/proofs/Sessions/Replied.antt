@@ -210,20 +210,9 @@ replied core0 core1 k reply written0 written1 log0 log1 (Ok done) at sent loggin
     sent written logged
 replied core0 core1 k reply written0 written1 log0 log1 (Err stop) at sent logging written logged fails start past left
     ahead fault running =
-    stopped-sending start past left written0 written1 log0 log1 running.init
-    (our_version ∷ map packet_of running.events)
-    (reply_packet reply) ahead.held stop (tree_left core1) logging (running-listed running)
-    (listed-replied running at sent) refl running.passed (leaves running at sent) (leaves-replied running at sent) fails
-
--- ---- call after call
-
-pub sends-more : (core0 core1 core2 : Machine State)
-    (written0 written1 written2 logged0 logged1 logged2 : Option (List ℕ)) (result : Result (Unit {0}) Stop) → SendsOn core0 core1 written0 written1 logged0 logged1 (Ok tt)
-    → SendsOn core1 core2 written1 written2 logged1 logged2 result
-    → SendsOn core0 core2 written0 written2 logged0 logged2 result
-sends-more core0 core1 core2 written0 written1 written2 logged0 logged1 logged2 result first more start past left ahead
-    fault running =
-    more start past left ahead fault (first start past left ahead fault running)
+    stopped-sending start past left written0 written1 log0 log1 running.init (our_version ∷ map packet_of running.events)
+    (reply_packet reply) ahead.held (tree_left core1) logging (running-listed running) (listed-replied running at sent)
+    refl running.passed (leaves running at sent) (leaves-replied running at sent) stop fails
 
 -- ---- what one call does
 
