@@ -39,12 +39,12 @@ pub ready-noted : (s : State) (queue : List Entry) (r : Readiness) (k : ℕ) →
     → ready_in server_clash s (take k queue) (slice_get queue k)
     ≡ ((note_at r.notes.items k).pending && (note_at r.notes.items k).possible)
 ready-noted s queue r k keeps =
-    ready-is s queue r.notes.items r.first_pending r.opened r.writers r.possible keeps.0 keeps.1 k
+    ready-is keeps.0 keeps.1 k
 
 pub count-noted : (machine : Machine State) (r : Readiness) → KeepsNotes machine.state machine.queue r
     → r.possible ≡ length (choices_of server_clash machine)
 count-noted machine r keeps =
-    possible-count machine r.notes.items r.first_pending r.opened r.writers r.possible keeps.0 keeps.1
+    possible-count machine keeps.0 keeps.1
 
 pub choice-noted : (machine : Machine State) (r : Readiness) (number k : ℕ) (pending : Bool)
     → KeepsNotes machine.state machine.queue r → possible_count (take k r.notes.items) ≡ number
@@ -52,8 +52,7 @@ pub choice-noted : (machine : Machine State) (r : Readiness) (number k : ℕ) (p
     → slice_get (choices_of server_clash machine) number ≡ Some (if pending then choices.Work k else choices.Send k)
 choice-noted machine r number k pending keeps count possible is =
     rw is
-    (choice-at machine r.notes.items r.first_pending r.opened r.writers r.possible keeps.0 keeps.1 number k count
-    possible)
+    (choice-at machine keeps.0 keeps.1 number k count possible)
 
 -- ---- a request is done
 
@@ -90,10 +89,9 @@ pub keeps-done : (s end : State) (queue after : List Entry) (old new : Readiness
 keeps-done s end queue after old new k request reply keeps ready pending allowed is marked =
     let both = and_parts (note_at old.notes.items k).pending (note_at old.notes.items k).possible
     (sym (ready-noted s queue old k keeps) ∙ ready) in
-    let before = ready-open s queue old.notes.items old.first_pending old.opened old.writers old.possible k keeps.0
-    both.0 both.1 in
-    let parts = notes-worked s end queue old.notes.items old.first_pending old.opened old.writers old.possible k
-    request reply keeps.0 both.0 both.1 (ask-found (slice_get queue k) request pending) allowed in
+    let before = ready-open k keeps.0 both.0 both.1 in
+    let parts = notes-worked end k request reply keeps.0 both.0 both.1
+    (ask-found (slice_get queue k) request pending) allowed in
     record {
       within = rw marked.size before;
       noted = rw (marked.notes, marked.first_pending, marked.size, marked.writers, marked.possible, is) parts.0;

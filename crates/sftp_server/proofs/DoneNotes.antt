@@ -136,7 +136,8 @@ module _ (queue : List Entry) (notes : List Note) (k : ℕ) (reply : Reply) wher
   other-blocker : (j : ℕ) → (is : IsBlocked queue notes j) → WaitsForOther j → is.blocker ≢ k
   other-blocker j is other = λ same.
       let waiter = done-waiter k in
-      let here : k + (note_at notes j).blocker ≡ j = subst (λ (b : ℕ). b + (note_at notes j).blocker ≡ j) same is.back in
+      let here : k + (note_at notes j).blocker ≡ j =
+      subst (λ (b : ℕ). b + (note_at notes j).blocker ≡ j) same is.back in
       let reached : (note_at notes j).blocker ≤ (note_at notes k).waiter =
       subst (λ (b : ℕ). (note_at notes j).blocker ≤ (note_at notes b).waiter) same is.reached in
       let later : k < j = subst (λ (b : ℕ). b < j) same is.before in
@@ -301,8 +302,8 @@ alone queue notes first opened writers possible k j is ranged within pending rea
 
 -- ---- the request that was done
 
-module _ (s end : State) (queue : List Entry) (notes : List Note) (first opened writers possible k : ℕ) (reply : Reply)
-    (are : AreNotes s queue notes first opened writers possible) (within : k < opened)
+module _ {s : State} {queue : List Entry} {notes : List Note} {first opened writers possible : ℕ} (end : State) (k : ℕ)
+    (reply : Reply) (are : AreNotes s queue notes first opened writers possible) (within : k < opened)
     (pending : (note_at notes k).pending ≡ true) (ready : (note_at notes k).possible ≡ true)
     (step : IsStep s end (ask_at queue k)) where
   free : IsFree queue notes k

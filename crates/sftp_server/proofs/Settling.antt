@@ -267,7 +267,8 @@ module _ {s : State} {queue : List Entry} {before after : List Note} {o g x y do
 module _ {s : State} {queue : List Entry} {notes mid : List Note} {f o w p number q : ℕ}
     (noted : IsNoted queue notes f o w p) (waits : AreNotReadyOn queue notes o number q)
     (marks : IsMarkedBut s queue notes o number q) (before : q < o)
-    (meant : ((note_at notes q).pending && touches_file number (note_at notes q).touch) ≡ true) (is : IsMeasured s queue q notes mid) where
+    (meant : ((note_at notes q).pending && touches_file number (note_at notes q).touch) ≡ true)
+    (is : IsMeasured s queue q notes mid) where
   abbrev own : Option ByteRange
   own = range s (ask_at queue q)
 

@@ -279,12 +279,12 @@ pub version-done : {init : Packet} {past : StreamBytes} {left written0 : Option 
     → MatchResult result
     (λ _. IsRunning start past (stream_bytes left written1 log1.bytes) ahead (at_start (started start) window) None)
     (λ stop. Stops start past (stream_bytes left written1 log1.bytes) stop (first_left start))
-version-done {written0 = written0} {log0 = log0} start written1 log1 (Ok done) good is logging logged written recorded_too
-    fails =
+version-done {written0 = written0} {log0 = log0} start written1 log1 (Ok done) good is logging logged written
+    recorded_too fails =
     version-sent good logged (subst (λ (p : Packet). Appends written0 written1 (spelling p)) is written)
     (subst (λ (p : Packet). Appends log0.bytes log1.bytes (record_text p)) is recorded_too)
-version-done {init} {past} {left} {written0} {log0} {ahead} start written1 log1 (Err stop) good is logging logged written
-    recorded_too fails =
+version-done {init} {past} {left} {written0} {log0} {ahead} start written1 log1 (Err stop) good is logging logged
+    written recorded_too fails =
     stopped-sending start past left written0 written1 log0 log1 init [] our_version ahead.held (first_left start)
     logging logged.greeting (version-listed start init logged.greeting) version-server logged.passed
     (nothing-done start init) (nothing-done start init) stop

@@ -36,7 +36,8 @@ pub returns-clause-running : goal.returns-clause-running
 returns-clause-running g c = λ start past left good unopened.
     let whole = c.requires.whole in
     let now = stream_bytes left (g.W.Sink.written c.args.writer.now) c.log_init.new.log.bytes in
-    version-done start (g.W.Sink.written c.send-sent.new.writer) c.send-sent.new.log c.send-sent.result good c.in_ok-version.ensures.ok c.in_ok-log_init.ensures.logging
+    version-done start (g.W.Sink.written c.send-sent.new.writer) c.send-sent.new.log c.send-sent.result good
+    c.in_ok-version.ensures.ok c.in_ok-log_init.ensures.logging
     (subst (IsInitLogged whole.init past now) (sym c.in_ok-log_init.ensures.taken)
     (init-logged whole unopened
     (c.in_ok-log_init.ensures.logged whole.init (init-client whole.init whole.greeting.0)

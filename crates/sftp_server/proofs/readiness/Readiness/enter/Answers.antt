@@ -28,6 +28,7 @@ returns-clause-notes c =
       blocked = rw (c.place.ensures.size, c.touch.ensures.size) (blocked-placed queue before after k
           (entered-blocked touch own is c.requires.some c.requires.last c.requires.notes.blocked) placed);
       marks = rw (c.place.ensures.size, c.touch.ensures.size) (marks-alike s queue before after (suc k)
-          (entered-marks touch own is c.requires.some c.requires.last c.touch.ensures.notes.1 refl c.requires.notes.marks)
+          (entered-marks touch own is c.requires.some c.requires.last c.touch.ensures.notes.1 refl
+          c.requires.notes.marks)
           placed.alike);
     }
