@@ -1,26 +1,20 @@
 -- What the calls of the notes say of the core.
 use Rattle.sftp_server.proofs.Imports.{◌≡◌, ◌++◌, ◌<◌, ◌≤◌, ◌-◌, ◌&&◌, ℕ, Bool, true, false, List, [], ◌∷◌, Option}
-use Rattle.sftp_server.proofs.Imports.{Some, None, is_some, if◌then◌else◌, length, take, drop, set, slice_get, refl}
-use Rattle.sftp_server.proofs.Imports.{sym, ap, ◌∙◌, arith, none-some, same_Some, or-true, and_parts, Request, Reply}
-use Rattle.sftp_server.proofs.Imports.{State, Allowed, Entry, Pending, Done, Sent, Note, Machine, is_pending, ready_in}
-use Rattle.sftp_server.proofs.Imports.{reply_at, from_unsent, request_in, pending_at, with_progress, choices_of}
-use Rattle.sftp_server.proofs.Imports.{server_clash, blank, note_at, as_count, possible_count, AreNotes, ask_in}
-use Rattle.std.proofs.lemmas.List.Sums.{sum_by_more_le}
+use Rattle.sftp_server.proofs.Imports.{Some, None, if◌then◌else◌, length, take, drop, set, slice_get, refl, sym, ap}
+use Rattle.sftp_server.proofs.Imports.{◌∙◌, arith, none-some, same_Some, and_parts, Request, Reply, State, Allowed}
+use Rattle.sftp_server.proofs.Imports.{Entry, Pending, Done, Sent, Machine, is_pending, ready_in, reply_at, from_unsent}
+use Rattle.sftp_server.proofs.Imports.{request_in, pending_at, with_progress, choices_of, server_clash, blank, note_at}
+use Rattle.sftp_server.proofs.Imports.{possible_count, AreNotes, ask_in}
 use Rattle.sftp_server.specs.Readiness.{CanRefresh, KeepsNotes}
 use Rattle.sftp_server.specs.declared.cores.Choice.TheVariants as choices
 use Rattle.sftp_server.specs.declared.readiness.Readiness.{Readiness}
 use Rattle.sftp_server.proofs.Queues.{length-progress, from_unsent-short}
 use Rattle.sftp_server.proofs.SentNotes.{notes-sent}
 use Rattle.sftp_server.proofs.StillTouched.{ready-open, notes-worked}
-use Rattle.sftp_server.proofs.ReadyLaws.{ready-is, possible-is, possible-count, possible-within, choice-at}
-use Rattle.sftp_server.proofs.NewNotes.{notes-pushed, notes-start}
+use Rattle.sftp_server.proofs.ReadyLaws.{ready-is, possible-count, possible-within, choice-at}
+use Rattle.sftp_server.proofs.NewNotes.{notes-pushed}
 
 -- ---- requests that are taken
-
-pub keeps-start : (s : State) (r : Readiness) → r.notes.items ≡ [] → r.first_pending ≡ 0 → r.opened ≡ 0
-    → r.writers ≡ 0 → r.possible ≡ 0 → KeepsNotes s [] r
-keeps-start s r notes first opened writers possible =
-    rw (notes, first, opened, writers, possible) (notes-start s, λ some. absurd (omega (arith, some)))
 
 -- the notes are the same, but for their room
 pub record AreSameNotes (old new : Readiness) : Type 0 where
@@ -30,11 +24,6 @@ pub record AreSameNotes (old new : Readiness) : Type 0 where
   pub writers : new.writers ≡ old.writers
   pub possible : new.possible ≡ old.possible
 
-pub keeps-same : (s : State) (queue : List Entry) (old new : Readiness) → KeepsNotes s queue old
-    → AreSameNotes old new → KeepsNotes s queue new
-keeps-same s queue old new keeps same =
-    rw (same.notes, same.first_pending, same.size, same.writers, same.possible) keeps
-
 pub keeps-taken : (s : State) (queue after : List Entry) (request : Request) (old new : Readiness)
     → KeepsNotes s queue old → AreSameNotes old new
     → after ≡ queue ++ record { request = request; progress = Pending } ∷ []
@@ -42,7 +31,7 @@ pub keeps-taken : (s : State) (queue after : List Entry) (request : Request) (ol
     new.writers new.possible
 keeps-taken s queue after request old new keeps same pushed =
     rw (same.notes, same.first_pending, same.size, same.writers, same.possible, pushed)
-    (notes-pushed s queue old.notes.items request old.first_pending old.opened old.writers old.possible keeps.0)
+    (notes-pushed request keeps.0)
 
 -- ---- what the notes say
 
@@ -50,12 +39,12 @@ pub ready-noted : (s : State) (queue : List Entry) (r : Readiness) (k : ℕ) →
     → ready_in server_clash s (take k queue) (slice_get queue k)
     ≡ ((note_at r.notes.items k).pending && (note_at r.notes.items k).possible)
 ready-noted s queue r k keeps =
-    ready-is s queue r.notes.items r.first_pending r.opened r.writers r.possible keeps.0 keeps.1 k
+    ready-is keeps.0 keeps.1 k
 
 pub count-noted : (machine : Machine State) (r : Readiness) → KeepsNotes machine.state machine.queue r
     → r.possible ≡ length (choices_of server_clash machine)
 count-noted machine r keeps =
-    possible-count machine r.notes.items r.first_pending r.opened r.writers r.possible keeps.0 keeps.1
+    possible-count machine keeps.0 keeps.1
 
 pub choice-noted : (machine : Machine State) (r : Readiness) (number k : ℕ) (pending : Bool)
     → KeepsNotes machine.state machine.queue r → possible_count (take k r.notes.items) ≡ number
@@ -63,8 +52,7 @@ pub choice-noted : (machine : Machine State) (r : Readiness) (number k : ℕ) (p
     → slice_get (choices_of server_clash machine) number ≡ Some (if pending then choices.Work k else choices.Send k)
 choice-noted machine r number k pending keeps count possible is =
     rw is
-    (choice-at machine r.notes.items r.first_pending r.opened r.writers r.possible keeps.0 keeps.1 number k count
-    possible)
+    (choice-at machine keeps.0 keeps.1 number k count possible)
 
 -- ---- a request is done
 
@@ -101,10 +89,9 @@ pub keeps-done : (s end : State) (queue after : List Entry) (old new : Readiness
 keeps-done s end queue after old new k request reply keeps ready pending allowed is marked =
     let both = and_parts (note_at old.notes.items k).pending (note_at old.notes.items k).possible
     (sym (ready-noted s queue old k keeps) ∙ ready) in
-    let before = ready-open s queue old.notes.items old.first_pending old.opened old.writers old.possible k keeps.0
-    both.0 both.1 in
-    let parts = notes-worked s end queue old.notes.items old.first_pending old.opened old.writers old.possible k
-    request reply keeps.0 both.0 both.1 (ask-found (slice_get queue k) request pending) allowed in
+    let before = ready-open k keeps.0 both.0 both.1 in
+    let parts = notes-worked end k request reply keeps.0 both.0 both.1
+    (ask-found (slice_get queue k) request pending) allowed in
     record {
       within = rw marked.size before;
       noted = rw (marked.notes, marked.first_pending, marked.size, marked.writers, marked.possible, is) parts.0;
@@ -112,28 +99,6 @@ keeps-done s end queue after old new k request reply keeps ready pending allowed
     }
 
 -- ---- a reply is sent
-
-reply-possible : (s : State) (queue : List Entry) (r : Readiness) (k : ℕ) (reply : Reply) → KeepsNotes s queue r
-    → reply_at queue k ≡ Some reply → (note_at r.notes.items k).possible ≡ true
-reply-possible s queue r k reply keeps is =
-    let machine : Machine State = record { state = s; window = 0; queue = queue } in
-    let found : is_some (reply_at queue k) ≡ true = ap is_some is in
-    possible-is machine r.notes.items r.first_pending r.opened r.writers r.possible keeps.0 keeps.1 k
-    ∙ rw found (or-true (ready_in server_clash s (take k queue) (slice_get queue k)))
-
-pub reply-inside : (s : State) (queue : List Entry) (r : Readiness) (k : ℕ) (reply : Reply) → KeepsNotes s queue r
-    → reply_at queue k ≡ Some reply → k < length r.notes.items
-reply-inside s queue r k reply keeps is = possible-within r.notes.items k (reply-possible s queue r k reply keeps is)
-
-pub reply-counted : (s : State) (queue : List Entry) (r : Readiness) (k : ℕ) (reply : Reply) → KeepsNotes s queue r
-    → reply_at queue k ≡ Some reply → 1 ≤ r.possible
-reply-counted s queue r k reply keeps is =
-    let here = reply-possible s queue r k reply keeps is in
-    let one : as_count (note_at r.notes.items k).possible ≡ 1 = ap as_count here in
-    let more = sum_by_more_le (λ (n : Note). as_count n.possible) r.notes.items k blank
-    (possible-within r.notes.items k here) in
-    let count = keeps.0.noted.counted in
-    omega (arith, one, more, count)
 
 -- a reply was sent, and so many requests left the front
 pub record IsMarkedSent (old new : Readiness) (k count : ℕ) : Type 0 where
@@ -159,5 +124,4 @@ keeps-sent s queue after old new k before now reply keeps found is before_is now
     let short = sent-shorter queue after k is in
     let size : length after ≡ length (from_unsent (with_progress queue k Sent)) = ap length is in
     rw (marked.notes, marked.first_pending, marked.size, marked.writers, marked.possible, is)
-    (notes-sent s queue old.notes.items old.first_pending old.opened old.writers old.possible k (before - now) reply
-    keeps.0 keeps.1 found (omega (arith, short, size, before_is, now_is)))
+    (notes-sent k (before - now) reply keeps.0 keeps.1 found (omega (arith, short, size, before_is, now_is)))

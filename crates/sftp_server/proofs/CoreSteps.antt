@@ -1,10 +1,9 @@
 -- What the calls of the queue say of the core.
-use Rattle.sftp_server.proofs.Imports.{◌≡◌, ◌&&◌, ℕ, zero, suc, ◌<◌, ◌≤◌, Bool, true, false, List, [], ◌∷◌, ◌++◌}
-use Rattle.sftp_server.proofs.Imports.{Option, Some, None, length, refl, sym, ap, subst, ◌∙◌, arith, length-append}
-use Rattle.sftp_server.proofs.Imports.{AllByRecursion, IfSome, none-some, same_Some, Request, Reply, reply_packet}
-use Rattle.sftp_server.proofs.Imports.{HasSpelling, full_window, State, Allowed, Entry, Progress, Pending, Done, Sent}
-use Rattle.sftp_server.proofs.Imports.{Machine, is_pending, is_free_of, ready_in, reply_of, reply_at, IsSent, IsWorked}
-use Rattle.sftp_server.proofs.Imports.{from_unsent, is_sent, request_in, pending_at, with_progress, server_clash}
+use Rattle.sftp_server.proofs.Imports.{◌≡◌, ℕ, zero, suc, ◌<◌, Bool, true, false, List, [], ◌∷◌, ◌++◌, Option, Some}
+use Rattle.sftp_server.proofs.Imports.{None, length, refl, sym, ap, subst, ◌∙◌, arith, length-append, AllByRecursion}
+use Rattle.sftp_server.proofs.Imports.{IfSome, none-some, same_Some, Request, Reply, reply_packet, HasSpelling, State}
+use Rattle.sftp_server.proofs.Imports.{Allowed, Entry, Progress, Pending, Done, Sent, Machine, reply_of, reply_at}
+use Rattle.sftp_server.proofs.Imports.{IsSent, IsWorked, from_unsent, is_sent, request_in, pending_at, with_progress}
 use Rattle.sftp_server.proofs.Imports.{HasGoodReply, IsSendable, IsCore, all_both}
 use Rattle.std.specs.Option.{IfNone}
 use Rattle.sftp_server.proofs.Queues.{length-progress, from_unsent-short, from_unsent-pushed, front-done}
@@ -24,28 +23,6 @@ pending-parts entry request is = by entry.progress refl
         (same_Some entry.request request named, at)
     by (Done reply) at = absurd (none-some request (let f : None ≡ Some request = rw at at is in f))
     by Sent at = absurd (none-some request (let f : None ≡ Some request = rw at at is in f))
-
--- one that is pending is ready exactly if it is free of those before it
-pub ready-pending : (s : State) (earlier : List Entry) (found : Option Entry) (request : Request)
-    → request_in found ≡ Some request
-    → ready_in server_clash s earlier found ≡ is_free_of server_clash s earlier request
-ready-pending s earlier None request is = absurd (none-some request is)
-ready-pending s earlier (Some entry) request is =
-    let parts = pending-parts entry request is in
-    rw (parts.1, parts.0) refl
-
--- one that is not pending is not ready
-pub ready-none : (s : State) (earlier : List Entry) (found : Option Entry) → request_in found ≡ None
-    → ready_in server_clash s earlier found ≡ false
-ready-none s earlier None is = refl
-ready-none s earlier (Some entry) is = by entry.progress refl
-  where
-    by : (progress : Progress) → entry.progress ≡ progress
-        → (is_pending entry.progress && is_free_of server_clash s earlier entry.request) ≡ false
-    by Pending at =
-        absurd (none-some entry.request (let f : Some entry.request ≡ None = rw at at is in sym f))
-    by (Done reply) at = rw at refl
-    by Sent at = rw at refl
 
 -- ---- a request at its position
 
@@ -146,11 +123,6 @@ worked-step machine after k request reply pending allowed spelled window queue =
 
 -- ---- what the core keeps
 
-pub core-new : (window : ℕ) → 1 ≤ window → window ≤ full_window → IsCore window []
-unfolding from_unsent
-core-new window some bounded =
-    record { some = some; bounded = bounded; few = omega arith; front = refl; sendable = tt }
-
 pub core-taken : (window : ℕ) (queue : List Entry) (request : Request) → IsCore window queue
     → length queue < window → IsCore window (queue ++ record { request = request; progress = Pending } ∷ [])
 core-taken window queue request is room = record {
@@ -229,16 +201,3 @@ pub spelled-at : (queue : List Entry) (k : ℕ) (reply : Reply) → AllByRecursi
 spelled-at [] k reply all is = absurd (none-some reply is)
 spelled-at (entry ∷ queue) zero reply all is = sendable-done entry.request entry.progress reply is all.0
 spelled-at (entry ∷ queue) (suc k) reply all is = spelled-at queue k reply all.1 is
-
-pub spelled-answers : (queue : List Entry) (k : ℕ) (found : Option Reply) → AllByRecursion IsSendable queue
-    → found ≡ reply_at queue k → IfSome found (λ reply. HasSpelling (reply_packet reply))
-spelled-answers queue k None all is = tt
-spelled-answers queue k (Some reply) all is = spelled-at queue k reply all (sym is)
-
-pub sent-answers : (machine : Machine State) (after : List Entry) (k : ℕ) (found : Option Reply)
-    → found ≡ reply_at machine.queue k
-    → IfSome found (λ reply. after ≡ from_unsent (with_progress machine.queue k Sent))
-    → IfSome found (λ reply. IsSent machine k reply (record machine { queue = after }))
-sent-answers machine after k None is after_is = after_is
-sent-answers machine after k (Some reply) is after_is =
-    sent-step machine (record machine { queue = after }) k reply (sym is) (rw after_is refl)

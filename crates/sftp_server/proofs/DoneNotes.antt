@@ -7,9 +7,9 @@ use Rattle.sftp_server.proofs.Imports.{touched, share, untouched, everything, to
 use Rattle.sftp_server.proofs.Imports.{Entry, Done, Note, is_pending_at, pending_in, reply_at, reply_in, with_progress}
 use Rattle.sftp_server.proofs.Imports.{Portion, portion_in, portions_clash, is_on, IsPortion, resizes, is_behind}
 use Rattle.sftp_server.proofs.Imports.{AreKnown, AreKnownBut, without, blank, note_at, ask_at, touched_at, portion_at}
-use Rattle.sftp_server.proofs.Imports.{portion_now, is_in_way, possible_count, pending_by, is_late, IsNoted, IsDone}
-use Rattle.sftp_server.proofs.Imports.{AreNotes, IsFree, IsBlocked, IsStopped, AreBlockedBut, AreNotReadyOn}
-use Rattle.sftp_server.proofs.Imports.{HaveTheirRanges, IsMarked, AreBlockedButOn, IsMarkedAsked}
+use Rattle.sftp_server.proofs.Imports.{portion_now, is_in_way, pending_by, is_late, IsNoted, IsDone, AreNotes, IsFree}
+use Rattle.sftp_server.proofs.Imports.{IsBlocked, IsStopped, AreBlockedBut, AreNotReadyOn, HaveTheirRanges, IsMarked}
+use Rattle.sftp_server.proofs.Imports.{AreBlockedButOn, IsMarkedAsked}
 use Rattle.sftp_server.specs.Readiness.{IsMarkedBut, is_all, AreBlocked}
 use Rattle.sftp_server.proofs.Queues.{length-progress}
 use Rattle.sftp_server.proofs.RangedNotes.{resizes-on, resizes-one, resizes-clashes, clash-right, all-none, clear-front}
@@ -33,213 +33,239 @@ pub record IsStep (before after : State) (asked : Ask) : Type 0 where
   pub resized : (number : ℕ) → resizes number (portion_in before asked) ≡ true → (ask : Ask)
       → is_on number (touched before ask) ≡ false → range after ask ≡ range before ask
 
--- ---- one note
+module _ (queue : List Entry) (notes : List Note) (k : ℕ) (reply : Reply) where
+  abbrev after : List Entry
+  after = with_progress queue k (Done reply)
 
--- it was pending before, and is not the one that was done
-was-pending : (notes : List Note) (k j : ℕ) → (note_at (done_notes notes k) j).pending ≡ true
-    → (note_at notes j).pending ≡ true
-was-pending notes k j = passed-before (λ (n : Note). n.pending) notes k j (done_note notes k) refl
+  abbrev noted : List Note
+  noted = done_notes notes k
 
-is-other : (notes : List Note) (k j : ℕ) → (note_at (done_notes notes k) j).pending ≡ true → j ≢ k
-is-other notes k j = passes-elsewhere (λ (n : Note). n.pending) notes k j (done_note notes k) refl refl
+  -- ---- one note
 
-done-other : (notes : List Note) (k j : ℕ) → j ≢ k
-    → (note_at (done_notes notes k) j).pending ≡ (note_at notes j).pending
-done-other notes k j other = ap (λ (n : Note). n.pending) (get_or-set_other notes k j (done_note notes k) blank other)
+  -- it was pending before, and is not the one that was done
+  was-pending : (j : ℕ) → (note_at noted j).pending ≡ true → (note_at notes j).pending ≡ true
+  was-pending j = passed-before (λ (n : Note). n.pending) notes k j (done_note notes k) refl
 
-done-here : (notes : List Note) (k : ℕ) → (note_at (done_notes notes k) k).pending ≡ false
-done-here notes k = fails-set (λ (n : Note). n.pending) notes k (done_note notes k) refl refl
+  is-other : (j : ℕ) → (note_at noted j).pending ≡ true → j ≢ k
+  is-other j = passes-elsewhere (λ (n : Note). n.pending) notes k j (done_note notes k) refl refl
 
-done-pending : (notes : List Note) (k j : ℕ) → pending_by (done_notes notes k) j ≡ without (pending_by notes) k j
-done-pending notes k j = by (cases_Bool (j == k))
-  where
-    by : ((j == k) ≡ true) ⊎ ((j == k) ≡ false)
-        → (note_at (done_notes notes k) j).pending ≡ ((note_at notes j).pending && not (j == k))
-    by (inl same) =
-        ap (λ (n : ℕ). (note_at (done_notes notes k) n).pending) (eqb-true j k same)
-        ∙ (done-here notes k ∙ rw same (sym (and-false (note_at notes j).pending)))
-    by (inr other) =
-        done-other notes k j (eqb-false j k other) ∙ rw other (sym (and-true (note_at notes j).pending))
+  done-other : (j : ℕ) → j ≢ k → (note_at noted j).pending ≡ (note_at notes j).pending
+  done-other j other = ap (λ (n : Note). n.pending) (get_or-set_other notes k j (done_note notes k) blank other)
 
-done-touch : (notes : List Note) (k j : ℕ) → (note_at (done_notes notes k) j).touch ≡ (note_at notes j).touch
-done-touch notes k j = part-set (λ (n : Note). n.touch) notes k j (done_note notes k) refl
+  done-here : (note_at noted k).pending ≡ false
+  done-here = fails-set (λ (n : Note). n.pending) notes k (done_note notes k) refl refl
 
-done-possible : (notes : List Note) (k j : ℕ) → (note_at (done_notes notes k) j).possible ≡ (note_at notes j).possible
-done-possible notes k j = part-set (λ (n : Note). n.possible) notes k j (done_note notes k) refl
+  done-pending : (j : ℕ) → pending_by noted j ≡ without (pending_by notes) k j
+  done-pending j = by (cases_Bool (j == k))
+    where
+      by : ((j == k) ≡ true) ⊎ ((j == k) ≡ false)
+          → (note_at noted j).pending ≡ ((note_at notes j).pending && not (j == k))
+      by (inl same) =
+          ap (λ (n : ℕ). (note_at noted n).pending) (eqb-true j k same)
+          ∙ (done-here ∙ rw same (sym (and-false (note_at notes j).pending)))
+      by (inr other) = done-other j (eqb-false j k other) ∙ rw other (sym (and-true (note_at notes j).pending))
 
-done-blocker : (notes : List Note) (k j : ℕ) → (note_at (done_notes notes k) j).blocker ≡ (note_at notes j).blocker
-done-blocker notes k j = part-set (λ (n : Note). n.blocker) notes k j (done_note notes k) refl
+  done-touch : (j : ℕ) → (note_at noted j).touch ≡ (note_at notes j).touch
+  done-touch j = part-set (λ (n : Note). n.touch) notes k j (done_note notes k) refl
 
-done-waiter : (notes : List Note) (k j : ℕ) → (note_at (done_notes notes k) j).waiter ≡ (note_at notes j).waiter
-done-waiter notes k j = part-set (λ (n : Note). n.waiter) notes k j (done_note notes k) refl
+  done-possible : (j : ℕ) → (note_at noted j).possible ≡ (note_at notes j).possible
+  done-possible j = part-set (λ (n : Note). n.possible) notes k j (done_note notes k) refl
 
-done-portion : (queue : List Entry) (notes : List Note) (k j : ℕ) (reply : Reply)
-    → portion_at (with_progress queue k (Done reply)) (done_notes notes k) j ≡ portion_at queue notes j
-done-portion queue notes k j reply = portion-set queue notes k j (Done reply) (done_note notes k) refl refl
+  done-blocker : (j : ℕ) → (note_at noted j).blocker ≡ (note_at notes j).blocker
+  done-blocker j = part-set (λ (n : Note). n.blocker) notes k j (done_note notes k) refl
 
-done-count : (notes : List Note) (k : ℕ) → k < length notes
-    → possible_count (done_notes notes k) ≡ possible_count notes
-done-count notes k within = let sum = count-set notes k (done_note notes k) within in omega (arith, sum)
+  done-waiter : (j : ℕ) → (note_at noted j).waiter ≡ (note_at notes j).waiter
+  done-waiter j = part-set (λ (n : Note). n.waiter) notes k j (done_note notes k) refl
 
--- ---- what all notes keep
+  done-portion : (j : ℕ) → portion_at after noted j ≡ portion_at queue notes j
+  done-portion j = portion-set queue notes k j (Done reply) (done_note notes k) refl refl
 
--- one that is free stays so
-done-free : (queue : List Entry) (notes : List Note) (k j : ℕ) (reply : Reply) → IsFree queue notes j
-    → IsFree (with_progress queue k (Done reply)) (done_notes notes k) j
-done-free queue notes k j reply free = λ i before.
-    ap (is_in_way (with_progress queue k (Done reply)) (done_notes notes k) i) (done-portion queue notes k j reply)
-    ∙ in_way-fewer queue (with_progress queue k (Done reply)) notes (done_notes notes k) i (portion_at queue notes j)
-    (was-pending notes k i) (done-portion queue notes k i reply) (free i before)
+  -- ---- what all notes keep
 
-done-behind : (notes : List Note) (k j : ℕ) → k < j → (note_at notes j).pending ≡ true
-    → (note_at notes j).possible ≡ false
-    → ((note_at (done_notes notes k) j).pending ≡ true) × ((note_at (done_notes notes k) j).possible ≡ false)
-done-behind notes k j after pending possible = (
-  done-other notes k j (λ same. omega (arith, after, same)) ∙ pending,
-  done-possible notes k j ∙ possible,
-)
+  -- one that is free stays so
+  done-free : (j : ℕ) → IsFree queue notes j → IsFree after noted j
+  done-free j free = λ i before.
+      ap (is_in_way after noted i) (done-portion j)
+      ∙ in_way-fewer queue after notes noted i (portion_at queue notes j) (was-pending i) (done-portion i)
+      (free i before)
 
-noted-done : (queue : List Entry) (notes : List Note) (first opened writers possible k : ℕ) (reply : Reply)
-    → IsNoted queue notes first opened writers possible → k < opened
-    → IsNoted (with_progress queue k (Done reply)) (done_notes notes k) first opened writers possible
-noted-done queue notes first opened writers possible k reply is within =
-    let same = length-progress queue k (Done reply) in
-    record {
-      same_length = length-set notes k (done_note notes k) ∙ (is.same_length ∙ sym same);
-      within = rw same is.within;
-      front = rw same is.front;
-      passed = λ j before.
-          fails-still (λ (n : Note). n.pending) notes k j (done_note notes k) refl (is.passed j before);
-      reads = λ j from to pending.
-          rw (done-touch notes k j) (is.reads j from to (was-pending notes k j pending));
-      counted = is.counted ∙ sym (done-count notes k (omega (arith, within, is.within, is.same_length)));
-      last = λ j before pending. rw (done-touch notes k j) (is.last j before (was-pending notes k j pending));
-      behind = λ j from to.
-          let parts = is.behind j from (subst (λ (n : ℕ). j < n) same to) in
-          done-behind notes k j (omega (arith, within, from)) parts.0 parts.1;
-      free = λ j before pending ready.
-          done-free queue notes k j reply (is.free j before (was-pending notes k j pending)
-          (sym (done-possible notes k j) ∙ ready));
-    }
+  noted-done : {first opened writers possible : ℕ} → IsNoted queue notes first opened writers possible → k < opened
+      → IsNoted after noted first opened writers possible
+  noted-done is within =
+      let same = length-progress queue k (Done reply) in
+      let sum = count-set notes k (done_note notes k) (omega (arith, within, is.within, is.same_length)) in
+      record {
+        same_length = length-set notes k (done_note notes k) ∙ (is.same_length ∙ sym same);
+        within = rw same is.within;
+        front = rw same is.front;
+        passed = λ j before.
+            fails-still (λ (n : Note). n.pending) notes k j (done_note notes k) refl (is.passed j before);
+        reads = λ j from to pending. rw (done-touch j) (is.reads j from to (was-pending j pending));
+        counted = let counted = is.counted in omega (arith, sum, counted);
+        last = λ j before pending. rw (done-touch j) (is.last j before (was-pending j pending));
+        behind = λ j from to.
+            let parts = is.behind j from (subst (λ (n : ℕ). j < n) same to) in (
+              done-other j (λ here. omega (arith, within, from, here)) ∙ parts.0,
+              done-possible j ∙ parts.1,
+            );
+        free = λ j before pending ready.
+            done-free j (is.free j before (was-pending j pending) (sym (done-possible j) ∙ ready));
+      }
 
--- ---- what waits
+  -- ---- what waits
 
--- one that did not wait for the request that was done waits as before
-done-blocked : (queue : List Entry) (notes : List Note) (k j : ℕ) (reply : Reply)
-    → (is : IsBlocked queue notes j) → is.blocker ≢ k
-    → IsBlocked (with_progress queue k (Done reply)) (done_notes notes k) j
-done-blocked queue notes k j reply is other = record {
-  blocker = is.blocker;
-  back = rw (done-blocker notes k j) is.back;
-  before = is.before;
-  in_way =
-      ap (is_in_way (with_progress queue k (Done reply)) (done_notes notes k) is.blocker)
-      (done-portion queue notes k j reply)
-      ∙ (in_way-same queue (with_progress queue k (Done reply)) notes (done_notes notes k) is.blocker
-      (portion_at queue notes j) (done-other notes k is.blocker other) (done-portion queue notes k is.blocker reply)
-      ∙ is.in_way);
-  reached = rw (done-blocker notes k j, done-waiter notes k is.blocker) is.reached;
-}
+  -- one that did not wait for the request that was done waits as before
+  done-blocked : (j : ℕ) → (is : IsBlocked queue notes j) → is.blocker ≢ k → IsBlocked after noted j
+  done-blocked j is other = record {
+    blocker = is.blocker;
+    back = rw (done-blocker j) is.back;
+    before = is.before;
+    in_way =
+        ap (is_in_way after noted is.blocker) (done-portion j)
+        ∙ (in_way-same queue after notes noted is.blocker (portion_at queue notes j) (done-other is.blocker other)
+        (done-portion is.blocker)
+        ∙ is.in_way);
+    reached = rw (done-blocker j, done-waiter is.blocker) is.reached;
+  }
 
--- what did not wait for it by its note waited for another one
-other-blocker : (queue : List Entry) (notes : List Note) (k j : ℕ) → (is : IsBlocked queue notes j)
-    → (suc k ≤ j → j ≤ k + (note_at (done_notes notes k) k).waiter
-    → k + (note_at (done_notes notes k) j).blocker ≢ j)
-    → is.blocker ≢ k
-other-blocker queue notes k j is other = λ same.
-    let waiter = done-waiter notes k k in
-    let here : k + (note_at notes j).blocker ≡ j = subst (λ (b : ℕ). b + (note_at notes j).blocker ≡ j) same is.back in
-    let reached : (note_at notes j).blocker ≤ (note_at notes k).waiter =
-    subst (λ (b : ℕ). (note_at notes j).blocker ≤ (note_at notes b).waiter) same is.reached in
-    let after : k < j = subst (λ (b : ℕ). b < j) same is.before in
-    other (omega (arith, after)) (omega (arith, here, reached, waiter))
-    (ap (λ (b : ℕ). k + b) (done-blocker notes k j) ∙ here)
+  -- the one at this position did not wait for it, by its note
+  abbrev WaitsForOther : ℕ → Type 0
+  WaitsForOther j = suc k ≤ j → j ≤ k + (note_at noted k).waiter → k + (note_at noted j).blocker ≢ j
 
--- whether a request is behind one that may change the length of its file is as before, if the one that was done may not
-done-late : (queue : List Entry) (notes : List Note) (k j : ℕ) (reply : Reply)
-    → ((m : ℕ) → is_on m (touched_at queue notes j) ≡ true → resizes m (portion_at queue notes k) ≡ false)
-    → is_late (with_progress queue k (Done reply)) (done_notes notes k) j ≡ is_late queue notes j
-done-late queue notes k j reply keeps =
-    (λ i. is_behind (λ n. done-pending notes k n i) (λ n. done-portion queue notes k n reply i) j)
-    ∙ behind-without (pending_by notes) (portion_at queue notes) k j (touched_at queue notes j) keeps
+  -- so it waited for another one
+  other-blocker : (j : ℕ) → (is : IsBlocked queue notes j) → WaitsForOther j → is.blocker ≢ k
+  other-blocker j is other = λ same.
+      let waiter = done-waiter k in
+      let here : k + (note_at notes j).blocker ≡ j =
+      subst (λ (b : ℕ). b + (note_at notes j).blocker ≡ j) same is.back in
+      let reached : (note_at notes j).blocker ≤ (note_at notes k).waiter =
+      subst (λ (b : ℕ). (note_at notes j).blocker ≤ (note_at notes b).waiter) same is.reached in
+      let later : k < j = subst (λ (b : ℕ). b < j) same is.before in
+      other (omega (arith, later)) (omega (arith, here, reached, waiter))
+      (ap (λ (b : ℕ). k + b) (done-blocker j) ∙ here)
 
-blocked-kept : (queue : List Entry) (notes : List Note) (opened k : ℕ) (reply : Reply)
-    → AreBlocked queue notes opened → ((number : ℕ) → resizes number (portion_at queue notes k) ≡ false)
-    → AreBlockedBut (with_progress queue k (Done reply)) (done_notes notes k) opened k (suc k)
-    (k + (note_at (done_notes notes k) k).waiter)
-blocked-kept queue notes opened k reply are keeps = λ j before pending possible other.
-    by j other (are j before (was-pending notes k j pending) (sym (done-possible notes k j) ∙ possible))
-  where
-    by : (j : ℕ) → (suc k ≤ j → j ≤ k + (note_at (done_notes notes k) k).waiter
-        → k + (note_at (done_notes notes k) j).blocker ≢ j)
-        → IsStopped queue notes j → IsStopped (with_progress queue k (Done reply)) (done_notes notes k) j
-    by j other (inl is) = inl (done-blocked queue notes k j reply is (other-blocker queue notes k j is other))
-    by j other (inr late) = inr (done-late queue notes k j reply (λ m on. keeps m) ∙ late)
+  -- what is behind one that may change the length of its file is as before, if the one that was done may not
+  done-late : (j : ℕ)
+      → ((m : ℕ) → is_on m (touched_at queue notes j) ≡ true → resizes m (portion_at queue notes k) ≡ false)
+      → is_late after noted j ≡ is_late queue notes j
+  done-late j keeps =
+      (λ i. is_behind (λ n. done-pending n i) (λ n. done-portion n i) j)
+      ∙ behind-without (pending_by notes) (portion_at queue notes) k j (touched_at queue notes j) keeps
 
--- a request that may change the length of its file is in the way of all that are on it, and these in its way
-resizing-before : (queue : List Entry) (notes : List Note) (k j number : ℕ)
-    → resizes number (portion_at queue notes k) ≡ true → is_on number (touched_at queue notes j) ≡ true
-    → (note_at notes j).pending ≡ true → IsFree queue notes k → j < k → ⊥
-resizing-before queue notes k j number is on waits free before =
-    let clash = (resizes-clashes number (portion_at queue notes k) (portion_at queue notes j) is on).1 in
-    true≢false (sym (and_from (note_at notes j).pending (portions_clash (portion_at queue notes j)
-    (portion_at queue notes k)) waits clash) ∙ free j before)
+  blocked-kept : (opened : ℕ) → AreBlocked queue notes opened
+      → ((number : ℕ) → resizes number (portion_at queue notes k) ≡ false)
+      → AreBlockedBut after noted opened k (suc k) (k + (note_at noted k).waiter)
+  blocked-kept opened are keeps = λ j before pending possible other.
+      by j other (are j before (was-pending j pending) (sym (done-possible j) ∙ possible))
+    where
+      by : (j : ℕ) → WaitsForOther j → IsStopped queue notes j → IsStopped after noted j
+      by j other (inl is) = inl (done-blocked j is (other-blocker j is other))
+      by j other (inr late) = inr (done-late j (λ m on. keeps m) ∙ late)
 
-resizing-after : (queue : List Entry) (notes : List Note) (k j number : ℕ)
-    → resizes number (portion_at queue notes k) ≡ true → is_on number (touched_at queue notes j) ≡ true
-    → (note_at notes k).pending ≡ true → IsFree queue notes j → k < j → ⊥
-resizing-after queue notes k j number is on waits free after =
-    let clash = (resizes-clashes number (portion_at queue notes k) (portion_at queue notes j) is on).0 in
-    true≢false (sym (and_from (note_at notes k).pending (portions_clash (portion_at queue notes k)
-    (portion_at queue notes j)) waits clash) ∙ free k after)
+  -- a request that may change the length of its file is in the way of all that are on it, and these in its way
+  module _ (number : ℕ) (is : resizes number (portion_at queue notes k) ≡ true) where
+    abbrev IsOn : ℕ → Type 0
+    IsOn j = is_on number (touched_at queue notes j) ≡ true
 
-blocked-resized : (queue : List Entry) (notes : List Note) (opened k number : ℕ) (reply : Reply)
-    → AreBlocked queue notes opened → IsFree queue notes k → resizes number (portion_at queue notes k) ≡ true
-    → AreBlockedButOn (with_progress queue k (Done reply)) (done_notes notes k) opened k
-    (k + (note_at (done_notes notes k) k).waiter) number (suc k)
-blocked-resized queue notes opened k number reply are free is = λ j before pending possible other next.
-    by j (was-pending notes k j pending) (is-other notes k j pending) other
-    (λ on. next (ap (λ (p : Portion). is_on number p.touched) (done-portion queue notes k j reply) ∙ on))
-    (are j before (was-pending notes k j pending) (sym (done-possible notes k j) ∙ possible))
-  where
-    not-on : (j : ℕ) → (note_at notes j).pending ≡ true → j ≢ k
-        → (is_on number (touched_at queue notes j) ≡ true → j < suc k) → (b : Bool)
-        → is_on number (touched_at queue notes j) ≡ b → is_on number (touched_at queue notes j) ≡ false
-    not-on j waits apart next false on = on
-    not-on j waits apart next true on =
-        let less : j < k = let near = next on in omega (arith, near, apart) in
-        absurd (resizing-before queue notes k j number is on waits free less)
+    resizing-before : (j : ℕ) → IsOn j → (note_at notes j).pending ≡ true → IsFree queue notes k → j < k → ⊥
+    resizing-before j on waits free before =
+        let clash = (resizes-clashes number (portion_at queue notes k) (portion_at queue notes j) is on).1 in
+        true≢false (sym (and_from (note_at notes j).pending (portions_clash (portion_at queue notes j)
+        (portion_at queue notes k)) waits clash) ∙ free j before)
 
-    by : (j : ℕ) → (note_at notes j).pending ≡ true → j ≢ k
-        → (suc k ≤ j → j ≤ k + (note_at (done_notes notes k) k).waiter
-        → k + (note_at (done_notes notes k) j).blocker ≢ j)
-        → (is_on number (touched_at queue notes j) ≡ true → j < suc k)
-        → IsStopped queue notes j → IsStopped (with_progress queue k (Done reply)) (done_notes notes k) j
-    by j waits apart other next (inl blocked) =
-        inl (done-blocked queue notes k j reply blocked (other-blocker queue notes k j blocked other))
-    by j waits apart other next (inr late) =
-        let off = not-on j waits apart next (is_on number (touched_at queue notes j)) refl in
-        inr (done-late queue notes k j reply (λ m on.
-        resizes-one number m (touched_at queue notes k) (note_at notes k).range is (λ same.
-        true≢false (sym on ∙ (ap (λ (n : ℕ). is_on n (touched_at queue notes j)) same ∙ off)))) ∙ late)
+    resizing-after : (j : ℕ) → IsOn j → (note_at notes k).pending ≡ true → IsFree queue notes j → k < j → ⊥
+    resizing-after j on waits free later =
+        let clash = (resizes-clashes number (portion_at queue notes k) (portion_at queue notes j) is on).0 in
+        true≢false (sym (and_from (note_at notes k).pending (portions_clash (portion_at queue notes k)
+        (portion_at queue notes j)) waits clash) ∙ free k later)
 
-not-ready : (queue : List Entry) (notes : List Note) (first opened writers possible k number : ℕ) (reply : Reply)
-    → IsNoted queue notes first opened writers possible → (note_at notes k).pending ≡ true
-    → resizes number (portion_at queue notes k) ≡ true
-    → AreNotReadyOn (with_progress queue k (Done reply)) (done_notes notes k) opened number (suc k)
-not-ready queue notes first opened writers possible k number reply noted waits is = λ j from before pending on.
-    by j (omega (arith, from)) before (was-pending notes k j pending)
-    (sym (ap (λ (p : Portion). is_on number p.touched) (done-portion queue notes k j reply)) ∙ on)
-    (note_at notes j).possible refl
-  where
-    by : (j : ℕ) → k < j → j < opened → (note_at notes j).pending ≡ true
-        → is_on number (touched_at queue notes j) ≡ true → (b : Bool) → (note_at notes j).possible ≡ b
-        → (note_at (done_notes notes k) j).possible ≡ false
-    by j after before pending on false ready = done-possible notes k j ∙ ready
-    by j after before pending on true ready =
-        absurd (resizing-after queue notes k j number is on waits (noted.free j before pending ready) after)
+    blocked-resized : (opened : ℕ) → AreBlocked queue notes opened → IsFree queue notes k
+        → AreBlockedButOn after noted opened k (k + (note_at noted k).waiter) number (suc k)
+    blocked-resized opened are free = λ j before pending possible other next.
+        by j (was-pending j pending) (is-other j pending) other
+        (λ on. next (ap (λ (p : Portion). is_on number p.touched) (done-portion j) ∙ on))
+        (are j before (was-pending j pending) (sym (done-possible j) ∙ possible))
+      where
+        not-on : (j : ℕ) → (note_at notes j).pending ≡ true → j ≢ k → (IsOn j → j < suc k) → (b : Bool)
+            → is_on number (touched_at queue notes j) ≡ b → is_on number (touched_at queue notes j) ≡ false
+        not-on j waits apart next false on = on
+        not-on j waits apart next true on =
+            absurd (resizing-before j on waits free (let near = next on in omega (arith, near, apart)))
 
--- ---- what is known
+        by : (j : ℕ) → (note_at notes j).pending ≡ true → j ≢ k → WaitsForOther j → (IsOn j → j < suc k)
+            → IsStopped queue notes j → IsStopped after noted j
+        by j waits apart other next (inl blocked) = inl (done-blocked j blocked (other-blocker j blocked other))
+        by j waits apart other next (inr late) =
+            let off = not-on j waits apart next (is_on number (touched_at queue notes j)) refl in
+            inr (done-late j (λ m on.
+            resizes-one number m (touched_at queue notes k) (note_at notes k).range is (λ same.
+            true≢false (sym on ∙ (ap (λ (n : ℕ). is_on n (touched_at queue notes j)) same ∙ off)))) ∙ late)
+
+    not-ready : {first opened writers possible : ℕ} → IsNoted queue notes first opened writers possible
+        → (note_at notes k).pending ≡ true → AreNotReadyOn after noted opened number (suc k)
+    not-ready {opened = opened} kept waits = λ j from before pending on.
+        by j (omega (arith, from)) before (was-pending j pending)
+        (sym (ap (λ (p : Portion). is_on number p.touched) (done-portion j)) ∙ on) (note_at notes j).possible refl
+      where
+        by : (j : ℕ) → k < j → j < opened → (note_at notes j).pending ≡ true → IsOn j → (b : Bool)
+            → (note_at notes j).possible ≡ b → (note_at noted j).possible ≡ false
+        by j later before pending on false ready = done-possible j ∙ ready
+        by j later before pending on true ready =
+            absurd (resizing-after j on waits (kept.free j before pending ready) later)
+
+  -- ---- what is known
+
+  -- what is known of the notes before is known of the notes after it, as far as the requests' portions
+  pendings : pending_by noted ≡ without (pending_by notes) k
+  pendings = λ i j. done-pending j i
+
+  portions : portion_at after noted ≡ portion_at queue notes
+  portions = λ i j. done-portion j i
+
+  now-done : (s : State) → portion_now s after ≡ portion_now s queue
+  now-done s = λ i j. portion_in s (ask-progress queue k j (Done reply) i)
+
+  known-done : (s : State) (opened : ℕ)
+      → AreKnown (without (pending_by notes) k) (portion_at queue notes) (portion_now s queue) opened
+      → AreKnown (pending_by noted) (portion_at after noted) (portion_now s after) opened
+  known-done s opened known = rw (pendings, portions, now-done s) known
+
+  known-done_but : (s : State) (opened number : ℕ)
+      → AreKnownBut (without (pending_by notes) k) (portion_at queue notes) (portion_now s queue) opened number (suc k)
+      → AreKnownBut (pending_by noted) (portion_at after noted) (portion_now s after) opened number (suc k)
+  known-done_but s opened number known = rw (pendings, portions, now-done s) known
+
+  asked-done : IsMarkedAsked queue notes → k < length queue → (note_at notes k).possible ≡ true
+      → IsMarkedAsked after noted
+  asked-done are size ready = record {
+    marked = λ j. marked-at j (cases_Bool (j == k));
+    replies = λ j worked. replies-at j worked (cases_Bool (j == k));
+  }
+    where
+      marked-at : (j : ℕ) → ((j == k) ≡ true) ⊎ ((j == k) ≡ false) → (note_at noted j).pending ≡ is_pending_at after j
+      marked-at j (inl same) =
+          subst (λ (n : ℕ). (note_at noted n).pending ≡ is_pending_at after n) (sym (eqb-true j k same))
+          (done-here ∙ sym (worked-here queue k (Done reply) refl))
+      marked-at j (inr other) =
+          done-other j (eqb-false j k other) ∙ (are.marked j
+          ∙ sym (ap pending_in (other-progress queue k j (Done reply) (eqb-false j k other))))
+
+      replies-at : (j : ℕ) → (note_at noted j).pending ≡ false → ((j == k) ≡ true) ⊎ ((j == k) ≡ false)
+          → (note_at noted j).possible ≡ is_some (reply_at after j)
+      replies-at j worked (inl same) =
+          subst (λ (n : ℕ). (note_at noted n).possible ≡ is_some (reply_at after n)) (sym (eqb-true j k same))
+          (done-possible k ∙ (ready ∙ sym (ap is_some (reply-here queue k (Done reply) size))))
+      replies-at j worked (inr other) =
+          done-possible j
+          ∙ (are.replies j (sym (done-other j (eqb-false j k other)) ∙ worked)
+          ∙ sym (ap (λ (found : Option Entry). is_some (reply_in found)) (other-progress queue k j (Done reply)
+          (eqb-false j k other))))
+
+  ranged-done : (opened : ℕ) → HaveTheirRanges queue notes opened → HaveTheirRanges after noted opened
+  ranged-done opened ranged = λ j before pending.
+      subst IsPortion (sym (done-portion j)) (ranged j before (was-pending j pending))
+
+-- ---- what touches everything
 
 share-all : (other : Touched) → share other everything ≡ true
 share-all untouched = refl
@@ -274,72 +300,10 @@ alone queue notes first opened writers possible k j is ranged within pending rea
     last-all true less = absurd (true≢false (sym all ∙ is.last k (ltb-true (suc k) opened less) pending))
     last-all false less = let more = ltb-false (suc k) opened less in omega (arith, more, within)
 
--- what is known of the notes before is known of the notes after it, as far as the requests' portions
-known-done : (s : State) (queue : List Entry) (notes : List Note) (opened k : ℕ) (reply : Reply)
-    → AreKnown (without (pending_by notes) k) (portion_at queue notes) (portion_now s queue) opened
-    → AreKnown (pending_by (done_notes notes k)) (portion_at (with_progress queue k (Done reply)) (done_notes notes k))
-    (portion_now s (with_progress queue k (Done reply))) opened
-known-done s queue notes opened k reply known =
-    let pending : pending_by (done_notes notes k) ≡ without (pending_by notes) k = λ i j. done-pending notes k j i in
-    let noted : portion_at (with_progress queue k (Done reply)) (done_notes notes k) ≡ portion_at queue notes =
-    λ i j. done-portion queue notes k j reply i in
-    let now : portion_now s (with_progress queue k (Done reply)) ≡ portion_now s queue =
-    λ i j. portion_in s (ask-progress queue k j (Done reply) i) in
-    rw (pending, noted, now) known
-
-known-done_but : (s : State) (queue : List Entry) (notes : List Note) (opened k number : ℕ) (reply : Reply)
-    → AreKnownBut (without (pending_by notes) k) (portion_at queue notes) (portion_now s queue) opened number (suc k)
-    → AreKnownBut (pending_by (done_notes notes k))
-    (portion_at (with_progress queue k (Done reply)) (done_notes notes k))
-    (portion_now s (with_progress queue k (Done reply))) opened number (suc k)
-known-done_but s queue notes opened k number reply known =
-    let pending : pending_by (done_notes notes k) ≡ without (pending_by notes) k = λ i j. done-pending notes k j i in
-    let noted : portion_at (with_progress queue k (Done reply)) (done_notes notes k) ≡ portion_at queue notes =
-    λ i j. done-portion queue notes k j reply i in
-    let now : portion_now s (with_progress queue k (Done reply)) ≡ portion_now s queue =
-    λ i j. portion_in s (ask-progress queue k j (Done reply) i) in
-    rw (pending, noted, now) known
-
-asked-done : (queue : List Entry) (notes : List Note) (k : ℕ) (reply : Reply) → IsMarkedAsked queue notes
-    → k < length queue → (note_at notes k).possible ≡ true
-    → IsMarkedAsked (with_progress queue k (Done reply)) (done_notes notes k)
-asked-done queue notes k reply are size ready = record {
-  marked = λ j. marked-at j (cases_Bool (j == k));
-  replies = λ j worked. replies-at j worked (cases_Bool (j == k));
-}
-  where
-    marked-at : (j : ℕ) → ((j == k) ≡ true) ⊎ ((j == k) ≡ false)
-        → (note_at (done_notes notes k) j).pending ≡ is_pending_at (with_progress queue k (Done reply)) j
-    marked-at j (inl same) =
-        subst (λ (n : ℕ). (note_at (done_notes notes k) n).pending
-        ≡ is_pending_at (with_progress queue k (Done reply)) n) (sym (eqb-true j k same))
-        (done-here notes k ∙ sym (worked-here queue k (Done reply) refl))
-    marked-at j (inr other) =
-        done-other notes k j (eqb-false j k other) ∙ (are.marked j
-        ∙ sym (ap pending_in (other-progress queue k j (Done reply) (eqb-false j k other))))
-
-    replies-at : (j : ℕ) → (note_at (done_notes notes k) j).pending ≡ false → ((j == k) ≡ true) ⊎ ((j == k) ≡ false)
-        → (note_at (done_notes notes k) j).possible ≡ is_some (reply_at (with_progress queue k (Done reply)) j)
-    replies-at j worked (inl same) =
-        subst (λ (n : ℕ). (note_at (done_notes notes k) n).possible
-        ≡ is_some (reply_at (with_progress queue k (Done reply)) n)) (sym (eqb-true j k same))
-        (done-possible notes k k ∙ (ready ∙ sym (ap is_some (reply-here queue k (Done reply) size))))
-    replies-at j worked (inr other) =
-        done-possible notes k j
-        ∙ (are.replies j (sym (done-other notes k j (eqb-false j k other)) ∙ worked)
-        ∙ sym (ap (λ (found : Option Entry). is_some (reply_in found)) (other-progress queue k j (Done reply)
-        (eqb-false j k other))))
-
-ranged-done : (queue : List Entry) (notes : List Note) (opened k : ℕ) (reply : Reply)
-    → HaveTheirRanges queue notes opened
-    → HaveTheirRanges (with_progress queue k (Done reply)) (done_notes notes k) opened
-ranged-done queue notes opened k reply ranged = λ j before pending.
-    subst IsPortion (sym (done-portion queue notes k j reply)) (ranged j before (was-pending notes k j pending))
-
 -- ---- the request that was done
 
-module _ (s end : State) (queue : List Entry) (notes : List Note) (first opened writers possible k : ℕ) (reply : Reply)
-    (are : AreNotes s queue notes first opened writers possible) (within : k < opened)
+module _ {s : State} {queue : List Entry} {notes : List Note} {first opened writers possible : ℕ} (end : State) (k : ℕ)
+    (reply : Reply) (are : AreNotes s queue notes first opened writers possible) (within : k < opened)
     (pending : (note_at notes k).pending ≡ true) (ready : (note_at notes k).possible ≡ true)
     (step : IsStep s end (ask_at queue k)) where
   free : IsFree queue notes k
@@ -360,9 +324,6 @@ module _ (s end : State) (queue : List Entry) (notes : List Note) (first opened 
   asked : IsMarkedAsked (with_progress queue k (Done reply)) (done_notes notes k)
   asked = asked-done queue notes k reply are.marks.asked (omega (arith, within, are.noted.within)) ready
 
-  ranged : HaveTheirRanges (with_progress queue k (Done reply)) (done_notes notes k) opened
-  ranged = ranged-done queue notes opened k reply are.marks.ranged
-
   kept-by : ((number : ℕ) → resizes number (portion_at queue notes k) ≡ false) → (b : Bool)
       → is_all (note_at notes k).touch ≡ b
       → AreKnown (without (pending_by notes) k) (portion_at queue notes) (portion_now end queue) opened
@@ -373,9 +334,9 @@ module _ (s end : State) (queue : List Entry) (notes : List Note) (first opened 
       step.kept (part is) (λ number. ap (resizes number) (sym own) ∙ keeps number) (ask_at queue j))
   kept-by keeps true all =
       let none : (j : ℕ) → j < opened → without (pending_by notes) k j ≡ true → ⊥ = λ j before waits.
-      let on = done-pending notes k j ∙ waits in
+      let on = done-pending queue notes k reply j ∙ waits in
       alone queue notes first opened writers possible k j are.noted are.marks.ranged within pending ready all before
-      (was-pending notes k j on) (is-other notes k j on) in
+      (was-pending queue notes k reply j on) (is-other queue notes k reply j on) in
       record {
         touches = λ j before waits. absurd (none j before waits);
         ranges = λ j before waits front. absurd (none j before waits);
@@ -385,8 +346,8 @@ module _ (s end : State) (queue : List Entry) (notes : List Note) (first opened 
       → IsMarked end (with_progress queue k (Done reply)) (done_notes notes k) opened
   kept keeps = record {
     asked = asked;
-    ranged = ranged;
-    known = known-done end queue notes opened k reply (kept-by keeps (is_all (note_at notes k).touch) refl);
+    ranged = ranged-done queue notes k reply opened are.marks.ranged;
+    known = known-done queue notes k reply end opened (kept-by keeps (is_all (note_at notes k).touch) refl);
   }
 
   resizing-part : (number : ℕ) → resizes number (portion_at queue notes k) ≡ true
@@ -399,9 +360,9 @@ module _ (s end : State) (queue : List Entry) (notes : List Note) (first opened 
       → IsMarkedBut end (with_progress queue k (Done reply)) (done_notes notes k) opened number (suc k)
   resized number is = record {
     asked = asked;
-    ranged = ranged;
+    ranged = ranged-done queue notes k reply opened are.marks.ranged;
     known =
-        known-done_but end queue notes opened k number reply
+        known-done_but queue notes k reply end opened number
         (known-resized (pending_by notes) (portion_at queue notes) (portion_now s queue) (portion_now end queue) opened
         k are.marks.known number pending free is
         (λ j before waits. step.touches (resizing-part number is) (ask_at queue j))
@@ -413,18 +374,18 @@ module _ (s end : State) (queue : List Entry) (notes : List Note) (first opened 
   pub marked-done : IsNoted (with_progress queue k (Done reply)) (done_notes notes k) first opened writers possible
       × IsDone end (with_progress queue k (Done reply)) (done_notes notes k) opened k
   marked-done = (
-    noted-done queue notes first opened writers possible k reply are.noted within,
+    noted-done queue notes k reply are.noted within,
     record {
       kept = λ keeps.
           let before : (number : ℕ) → resizes number (portion_at queue notes k) ≡ false = λ number.
-          ap (resizes number) (sym (done-portion queue notes k k reply)) ∙ keeps number in
-          (kept before, blocked-kept queue notes opened k reply are.blocked before);
+          ap (resizes number) (sym (done-portion queue notes k reply k)) ∙ keeps number in
+          (kept before, blocked-kept queue notes k reply opened are.blocked before);
       resized = λ number is.
           let before : resizes number (portion_at queue notes k) ≡ true =
-          ap (resizes number) (sym (done-portion queue notes k k reply)) ∙ is in (
+          ap (resizes number) (sym (done-portion queue notes k reply k)) ∙ is in (
             resized number before,
-            blocked-resized queue notes opened k number reply are.blocked free before,
-            not-ready queue notes first opened writers possible k number reply are.noted pending before,
+            blocked-resized queue notes k reply number before opened are.blocked free,
+            not-ready queue notes k reply number before are.noted pending,
           );
     },
   )

@@ -1,12 +1,13 @@
--- The notes of no requests, and what one request more changes.
+-- What one request more changes of the notes.
 use Rattle.sftp_server.proofs.Imports.{◌≡◌, ◌+◌, ◌<◌, ◌≤◌, ◌++◌, nat_lt, ℕ, zero, suc, Bool, true, false, List, [], ◌∷◌}
 use Rattle.sftp_server.proofs.Imports.{Option, is_some, length, slice_get, refl, sym, ap, subst, ◌∙◌, arith}
 use Rattle.sftp_server.proofs.Imports.{length-append, inl, inr, ltb-true, ltb-false, sum_by_push, Request, State, Entry}
 use Rattle.sftp_server.proofs.Imports.{Pending, Note, is_pending_at, reply_at, Portion, portion_in, IsPortion}
 use Rattle.sftp_server.proofs.Imports.{is_behind_by, blank, note_at, portion_at, portion_now, is_in_way, as_count}
-use Rattle.sftp_server.proofs.Imports.{possible_count, pending_by, is_late, IsNoted, AreNotes, get_or_append_left}
-use Rattle.sftp_server.proofs.Imports.{get_or_push, ask_in, IsFree, IsBlocked, IsStopped, IsMarked}
-use Rattle.sftp_server.proofs.NotePlaces.{in_way-same, behind-alike}
+use Rattle.sftp_server.proofs.Imports.{pending_by, is_late, IsNoted, AreNotes, get_or_append_left, get_or_push, ask_in}
+use Rattle.sftp_server.proofs.Imports.{IsFree, IsBlocked, IsStopped, IsMarked}
+use Rattle.sftp_server.proofs.NotePlaces.{in_way-same}
+use Rattle.sftp_server.proofs.RangedNotes.{behind-local}
 
 -- the note of a request that was just taken
 abbrev pub new_note : Note
@@ -61,180 +62,141 @@ pending-new (entry ∷ queue) (first ∷ notes) request zero same marked = marke
 pending-new (entry ∷ queue) (first ∷ notes) request (suc j) same marked =
     pending-new queue notes request j (omega (arith, same)) (λ i. marked (suc i))
 
-portion-new : (queue : List Entry) (notes : List Note) (request : Request) (j : ℕ) → length notes ≡ length queue
-    → j < length queue → portion_at (with_request queue request) (with_new notes) j ≡ portion_at queue notes j
-portion-new queue notes request j same before =
-    rw (note-before notes j (omega (arith, same, before)), get-before queue request j before) refl
-
 -- ---- a request is taken
 
-free-new : (queue : List Entry) (notes : List Note) (request : Request) (j : ℕ) → length notes ≡ length queue
-    → j < length queue → IsFree queue notes j → IsFree (with_request queue request) (with_new notes) j
-free-new queue notes request j same within free = λ i before.
-    let less : i < length queue = omega (arith, before, within) in
-    ap (is_in_way (with_request queue request) (with_new notes) i) (portion-new queue notes request j same within)
-    ∙ (in_way-same queue (with_request queue request) notes (with_new notes) i (portion_at queue notes j)
-    (ap (λ (n : Note). n.pending) (note-before notes i (omega (arith, same, less))))
-    (portion-new queue notes request i same less) ∙ free i before)
+module _ (queue : List Entry) (notes : List Note) (request : Request) (same : length notes ≡ length queue) where
+  abbrev asked : List Entry
+  asked = with_request queue request
 
-new-count : (notes : List Note) → possible_count (with_new notes) ≡ possible_count notes
-new-count notes =
-    let sum = sum_by_push (λ (n : Note). as_count n.possible) notes new_note in
-    omega (arith, sum)
+  abbrev noted : List Note
+  noted = with_new notes
 
-new-behind : (queue : List Entry) (notes : List Note) (first opened writers possible j : ℕ)
-    → IsNoted queue notes first opened writers possible → opened ≤ j → j < length queue + 1
-    → ((note_at (with_new notes) j).pending ≡ true) × ((note_at (with_new notes) j).possible ≡ false)
-new-behind queue notes first opened writers possible j is from to = by (nat_lt j (length queue)) refl
-  where
-    by : (b : Bool) → nat_lt j (length queue) ≡ b
-        → ((note_at (with_new notes) j).pending ≡ true) × ((note_at (with_new notes) j).possible ≡ false)
-    by true less =
-        let before = ltb-true j (length queue) less in
-        rw (note-before notes j (omega (arith, before, is.same_length))) (is.behind j from before)
-    by false less =
-        let after = ltb-false j (length queue) less in
-        let here : length notes ≡ j = omega (arith, after, to, is.same_length) in
-        rw (get_or_push notes new_note blank j here) (refl, refl)
+  portion-new : (j : ℕ) → j < length queue → portion_at asked noted j ≡ portion_at queue notes j
+  portion-new j before =
+      rw (note-before notes j (omega (arith, same, before)), get-before queue request j before) refl
 
-noted-new : (queue : List Entry) (notes : List Note) (request : Request) (first opened writers possible : ℕ)
-    → IsNoted queue notes first opened writers possible
-    → IsNoted (with_request queue request) (with_new notes) first opened writers possible
-noted-new queue notes request first opened writers possible is =
-    let longer = length-append queue (record { request = request; progress = Pending } ∷ []) in
-    let longer_notes = length-append notes (new_note ∷ []) in
-    let size : length (with_request queue request) ≡ length queue + 1 = omega (arith, longer) in
-    let inside : (j : ℕ) → j < opened → j < length notes = λ j before. omega
-    (arith, before, is.within, is.same_length) in
-    record {
-      same_length = omega (arith, longer, longer_notes, is.same_length);
-      within = omega (arith, size, is.within);
-      front = omega (arith, size, is.front);
-      passed = λ j before.
-          rw (note-before notes j (omega (arith, before, is.front, is.same_length))) (is.passed j before);
-      reads = λ j from to pending.
-          rw (note-before notes j (inside j to)) (is.reads j from to
-          (rw (note-before notes j (inside j to)) at pending));
-      counted = is.counted ∙ sym (new-count notes);
-      last = λ j before pending.
-          let here = note-before notes j (inside j (omega (arith, before))) in
-          rw here (is.last j before (rw here at pending));
-      behind = λ j from to.
-          new-behind queue notes first opened writers possible j is from (subst (λ (n : ℕ). j < n) size to);
-      free = λ j before pending ready.
-          let here = note-before notes j (inside j before) in
-          free-new queue notes request j is.same_length (omega (arith, before, is.within)) (is.free j before
-          (rw here at pending) (rw here at ready));
-    }
+  pending-before : (j : ℕ) → j < length queue → (note_at noted j).pending ≡ (note_at notes j).pending
+  pending-before j before = ap (λ (n : Note). n.pending) (note-before notes j (omega (arith, same, before)))
 
-blocked-new : (queue : List Entry) (notes : List Note) (request : Request) (j : ℕ) → length notes ≡ length queue
-    → j < length queue → IsBlocked queue notes j → IsBlocked (with_request queue request) (with_new notes) j
-blocked-new queue notes request j same within is =
-    let before : is.blocker < length queue = let less = is.before in omega (arith, less, within) in
-    let blocker = note-before notes is.blocker (omega (arith, before, same)) in
-    let here = note-before notes j (omega (arith, within, same)) in
-    record {
-      blocker = is.blocker;
-      back = rw here is.back;
-      before = is.before;
-      in_way =
-          ap (is_in_way (with_request queue request) (with_new notes) is.blocker)
-          (portion-new queue notes request j same within)
-          ∙ (in_way-same queue (with_request queue request) notes (with_new notes) is.blocker
-          (portion_at queue notes j) (ap (λ (n : Note). n.pending) blocker)
-          (portion-new queue notes request is.blocker same before) ∙ is.in_way);
-      reached = rw (here, blocker) is.reached;
-    }
+  free-new : (j : ℕ) → j < length queue → IsFree queue notes j → IsFree asked noted j
+  free-new j within free = λ i before.
+      let less : i < length queue = omega (arith, before, within) in
+      ap (is_in_way asked noted i) (portion-new j within)
+      ∙ (in_way-same queue asked notes noted i (portion_at queue notes j) (pending-before i less) (portion-new i less)
+      ∙ free i before)
 
-late-new : (queue : List Entry) (notes : List Note) (request : Request) (j : ℕ) → length notes ≡ length queue
-    → j < length queue → is_late (with_request queue request) (with_new notes) j ≡ is_late queue notes j
-late-new queue notes request j same within =
-    ap (λ (p : Portion). is_behind_by (pending_by (with_new notes)) (portion_at (with_request queue request)
-    (with_new notes)) j p.touched) (portion-new queue notes request j same within)
-    ∙ behind-alike (pending_by notes) (pending_by (with_new notes)) (portion_at queue notes)
-    (portion_at (with_request queue request) (with_new notes)) j (portion_at queue notes j).touched
-    (λ i less. ap (λ (n : Note). n.pending) (note-before notes i (omega (arith, less, within, same))))
-    (λ i less. portion-new queue notes request i same (omega (arith, less, within)))
+  new-behind : {first opened writers possible : ℕ} (j : ℕ) → IsNoted queue notes first opened writers possible
+      → opened ≤ j → j < length queue + 1 → ((note_at noted j).pending ≡ true) × ((note_at noted j).possible ≡ false)
+  new-behind j is from to = by (nat_lt j (length queue)) refl
+    where
+      by : (b : Bool) → nat_lt j (length queue) ≡ b
+          → ((note_at noted j).pending ≡ true) × ((note_at noted j).possible ≡ false)
+      by true less =
+          let before = ltb-true j (length queue) less in
+          rw (note-before notes j (omega (arith, before, same))) (is.behind j from before)
+      by false less =
+          let after = ltb-false j (length queue) less in
+          let here : length notes ≡ j = omega (arith, after, to, same) in
+          rw (get_or_push notes new_note blank j here) (refl, refl)
 
-stopped-new : (queue : List Entry) (notes : List Note) (request : Request) (j : ℕ) → length notes ≡ length queue
-    → j < length queue → IsStopped queue notes j → IsStopped (with_request queue request) (with_new notes) j
-stopped-new queue notes request j same within (inl is) = inl (blocked-new queue notes request j same within is)
-stopped-new queue notes request j same within (inr late) =
-    inr (late-new queue notes request j same within ∙ late)
+  noted-new : {first opened writers possible : ℕ} → IsNoted queue notes first opened writers possible
+      → IsNoted asked noted first opened writers possible
+  noted-new {opened = opened} is =
+      let longer = length-append queue (record { request = request; progress = Pending } ∷ []) in
+      let longer_notes = length-append notes (new_note ∷ []) in
+      let sum = sum_by_push (λ (n : Note). as_count n.possible) notes new_note in
+      let size : length asked ≡ length queue + 1 = omega (arith, longer) in
+      let inside : (j : ℕ) → j < opened → j < length notes = λ j before. omega (arith, before, is.within, same) in
+      record {
+        same_length = omega (arith, longer, longer_notes, same);
+        within = omega (arith, size, is.within);
+        front = omega (arith, size, is.front);
+        passed = λ j before. rw (note-before notes j (omega (arith, before, is.front, same))) (is.passed j before);
+        reads = λ j from to pending.
+            rw (note-before notes j (inside j to)) (is.reads j from to
+            (rw (note-before notes j (inside j to)) at pending));
+        counted = let counted = is.counted in omega (arith, sum, counted);
+        last = λ j before pending.
+            let here = note-before notes j (inside j (omega (arith, before))) in
+            rw here (is.last j before (rw here at pending));
+        behind = λ j from to. new-behind j is from (subst (λ (n : ℕ). j < n) size to);
+        free = λ j before pending ready.
+            let here = note-before notes j (inside j before) in
+            free-new j (omega (arith, before, is.within)) (is.free j before (rw here at pending) (rw here at ready));
+      }
 
-now-new : (s : State) (queue : List Entry) (request : Request) (j : ℕ) → j < length queue
-    → portion_now s (with_request queue request) j ≡ portion_now s queue j
-now-new s queue request j within =
-    ap (λ (found : Option Entry). portion_in s (ask_in found)) (get-before queue request j within)
+  blocked-new : (j : ℕ) → j < length queue → IsBlocked queue notes j → IsBlocked asked noted j
+  blocked-new j within is =
+      let before : is.blocker < length queue = let less = is.before in omega (arith, less, within) in
+      let blocker = note-before notes is.blocker (omega (arith, before, same)) in
+      let here = note-before notes j (omega (arith, within, same)) in
+      record {
+        blocker = is.blocker;
+        back = rw here is.back;
+        before = is.before;
+        in_way =
+            ap (is_in_way asked noted is.blocker) (portion-new j within)
+            ∙ (in_way-same queue asked notes noted is.blocker (portion_at queue notes j)
+            (ap (λ (n : Note). n.pending) blocker) (portion-new is.blocker before) ∙ is.in_way);
+        reached = rw (here, blocker) is.reached;
+      }
 
-marks-new : (s : State) (queue : List Entry) (notes : List Note) (request : Request) (opened : ℕ)
-    → length notes ≡ length queue → opened ≤ length queue → IsMarked s queue notes opened
-    → IsMarked s (with_request queue request) (with_new notes) opened
-marks-new s queue notes request opened same within are =
-    let inside : (j : ℕ) → j < opened → j < length queue = λ j before. omega (arith, before, within) in
-    let waits : (j : ℕ) → j < opened → (note_at (with_new notes) j).pending ≡ (note_at notes j).pending = λ j before.
-    ap (λ (n : Note). n.pending) (note-before notes j (omega (arith, inside j before, same))) in
-    record {
-      asked = record {
-        marked = λ j. pending-new queue notes request j same are.asked.marked;
-        replies = λ j idle.
-            part-new (λ (n : Note). n.possible) notes j refl
-            ∙ (are.asked.replies j (idle-before notes j idle) ∙ ap is_some (sym (reply-new queue request j)));
-      };
-      ranged = λ j before pending.
-          subst IsPortion (sym (portion-new queue notes request j same (inside j before)))
-          (are.ranged j before (sym (waits j before) ∙ pending));
-      known = record {
-        touches = λ j before pending.
-            ap (λ (p : Portion). p.touched) (portion-new queue notes request j same (inside j before))
-            ∙ (are.known.touches j before (sym (waits j before) ∙ pending)
-            ∙ ap (λ (p : Portion). p.touched) (sym (now-new s queue request j (inside j before))));
-        ranges = λ j before pending front.
-            ap (λ (p : Portion). p.range) (portion-new queue notes request j same (inside j before))
-            ∙ (are.known.ranges j before (sym (waits j before) ∙ pending)
-            (sym (late-new queue notes request j same (inside j before)) ∙ front)
-            ∙ ap (λ (p : Portion). p.range) (sym (now-new s queue request j (inside j before))));
-      };
-    }
+  late-new : (j : ℕ) → j < length queue → is_late asked noted j ≡ is_late queue notes j
+  late-new j within =
+      ap (λ (p : Portion). is_behind_by (pending_by noted) (portion_at asked noted) j p.touched) (portion-new j within)
+      ∙ behind-local (pending_by noted) (pending_by notes) (portion_at asked noted) (portion_at queue notes) j
+      (portion_at queue notes j).touched (λ i less. pending-before i (omega (arith, less, within)))
+      (λ i less. portion-new i (omega (arith, less, within)))
+
+  stopped-new : (j : ℕ) → j < length queue → IsStopped queue notes j → IsStopped asked noted j
+  stopped-new j within (inl is) = inl (blocked-new j within is)
+  stopped-new j within (inr late) = inr (late-new j within ∙ late)
+
+  now-new : (s : State) (j : ℕ) → j < length queue → portion_now s asked j ≡ portion_now s queue j
+  now-new s j within = ap (λ (found : Option Entry). portion_in s (ask_in found)) (get-before queue request j within)
+
+  marks-new : (s : State) (opened : ℕ) → opened ≤ length queue → IsMarked s queue notes opened
+      → IsMarked s asked noted opened
+  marks-new s opened within are =
+      let inside : (j : ℕ) → j < opened → j < length queue = λ j before. omega (arith, before, within) in
+      let waits : (j : ℕ) → j < opened → (note_at noted j).pending ≡ (note_at notes j).pending = λ j before.
+      pending-before j (inside j before) in
+      record {
+        asked = record {
+          marked = λ j. pending-new queue notes request j same are.asked.marked;
+          replies = λ j idle.
+              part-new (λ (n : Note). n.possible) notes j refl
+              ∙ (are.asked.replies j (idle-before notes j idle) ∙ ap is_some (sym (reply-new queue request j)));
+        };
+        ranged = λ j before pending.
+            subst IsPortion (sym (portion-new j (inside j before)))
+            (are.ranged j before (sym (waits j before) ∙ pending));
+        known = record {
+          touches = λ j before pending.
+              ap (λ (p : Portion). p.touched) (portion-new j (inside j before))
+              ∙ (are.known.touches j before (sym (waits j before) ∙ pending)
+              ∙ ap (λ (p : Portion). p.touched) (sym (now-new s j (inside j before))));
+          ranges = λ j before pending front.
+              ap (λ (p : Portion). p.range) (portion-new j (inside j before))
+              ∙ (are.known.ranges j before (sym (waits j before) ∙ pending)
+              (sym (late-new j (inside j before)) ∙ front)
+              ∙ ap (λ (p : Portion). p.range) (sym (now-new s j (inside j before))));
+        };
+      }
 
 -- A request was taken, and is pending. Whether it is open is not yet judged.
-pub notes-pushed : (s : State) (queue : List Entry) (notes : List Note) (request : Request)
-    (first opened writers possible : ℕ) → AreNotes s queue notes first opened writers possible
+pub notes-pushed : {s : State} {queue : List Entry} {notes : List Note} {first opened writers possible : ℕ}
+    (request : Request) → AreNotes s queue notes first opened writers possible
     → AreNotes s (queue ++ record { request = request; progress = Pending } ∷ [])
     (notes ++ record blank { pending = true } ∷ []) first opened writers possible
-notes-pushed s queue notes request first opened writers possible are =
+notes-pushed {s} {queue} {notes} {opened = opened} request are =
     let same = are.noted.same_length in
     let inside : (j : ℕ) → j < opened → j < length queue = λ j before. omega (arith, before, are.noted.within) in
     record {
-      noted = noted-new queue notes request first opened writers possible are.noted;
+      noted = noted-new queue notes request same are.noted;
       blocked = λ j before pending waits.
           let here = note-before notes j (omega (arith, inside j before, same)) in
-          stopped-new queue notes request j same (inside j before)
+          stopped-new queue notes request same j (inside j before)
           (are.blocked j before (rw here at pending) (rw here at waits));
-      marks = marks-new s queue notes request opened same are.noted.within are.marks;
+      marks = marks-new queue notes request same s opened are.noted.within are.marks;
     }
-
--- nothing was asked yet
-pub notes-start : (s : State) → AreNotes s [] [] 0 0 0 0
-notes-start s = record {
-  noted = record {
-    same_length = refl;
-    within = omega arith;
-    front = omega arith;
-    passed = λ j before. refl;
-    reads = λ j from to. absurd (omega (arith, to));
-    counted = refl;
-    last = λ j before. absurd (omega (arith, before));
-    behind = λ j from to. absurd (omega (arith, to));
-    free = λ j before. absurd (omega (arith, before));
-  };
-  blocked = λ j before. absurd (omega (arith, before));
-  marks = record {
-    asked = record { marked = λ j. refl; replies = λ j worked. refl };
-    ranged = λ j before. absurd (omega (arith, before));
-    known = record {
-      touches = λ j before. absurd (omega (arith, before));
-      ranges = λ j before. absurd (omega (arith, before));
-    };
-  };
-}

@@ -2,14 +2,13 @@
 use Rattle.sftp_server.proofs.Imports.{◌≡◌, ◌≢◌, ◌+◌, ◌<◌, ◌&&◌, ℕ, zero, suc, Bool, true, false, List, [], ◌∷◌, Option}
 use Rattle.sftp_server.proofs.Imports.{Some, None, is_some, length, set, slice_get, refl, sym, ap, ◌∙◌, ◌||◌, arith}
 use Rattle.sftp_server.proofs.Imports.{◌-◌, take, drop, true≢false, and_left, and_right, none-some, get_or-drop}
-use Rattle.sftp_server.proofs.Imports.{sum_by-set, sum_by-cons, sum_by-take-drop, Reply, Touched, untouched, reads_file}
-use Rattle.sftp_server.proofs.Imports.{writes_file, takes_names, everything, Entry, Progress, Note, Pending, Done, Sent}
-use Rattle.sftp_server.proofs.Imports.{is_pending, is_sent, is_pending_at, pending_in, reply_of, reply_in, reply_at}
-use Rattle.sftp_server.proofs.Imports.{from_unsent, with_progress, sent_in, portion_at, is_late, pending_by, blank}
-use Rattle.sftp_server.proofs.Imports.{note_at, ask_at, is_in_way, as_count, possible_count, Portion, portions_clash}
-use Rattle.sftp_server.proofs.Imports.{resizes, any_below, is_behind_by, AreKnown, ask_in}
+use Rattle.sftp_server.proofs.Imports.{sum_by-set, sum_by-cons, sum_by-take-drop, Reply, Touched, Entry, Progress, Note}
+use Rattle.sftp_server.proofs.Imports.{Pending, Done, Sent, is_pending, is_sent, is_pending_at, pending_in, reply_of}
+use Rattle.sftp_server.proofs.Imports.{reply_in, reply_at, from_unsent, with_progress, sent_in, portion_at, is_late}
+use Rattle.sftp_server.proofs.Imports.{pending_by, blank, note_at, ask_at, is_in_way, as_count, possible_count, Portion}
+use Rattle.sftp_server.proofs.Imports.{portions_clash, resizes, any_below, is_behind_by, ask_in}
 use Rattle.sftp_server.proofs.Queues.{from_unsent-short}
-use Rattle.sftp_server.proofs.RangedNotes.{same-below}
+use Rattle.sftp_server.proofs.RangedNotes.{behind-on, behind-local}
 
 -- ---- one note is replaced
 
@@ -149,20 +148,6 @@ portion-set queue notes k j progress note touch range =
 
 -- ---- what is behind a request that may change the length of its file
 
--- whether one is behind another is as before, if those before it are as pending and their notes say the same
-pub behind-alike : (pending pending' : ℕ → Bool) (noted noted' : ℕ → Portion) (k : ℕ) (at : Touched)
-    → ((j : ℕ) → j < k → pending' j ≡ pending j) → ((j : ℕ) → j < k → noted' j ≡ noted j)
-    → is_behind_by pending' noted' k at ≡ is_behind_by pending noted k at
-behind-alike pending pending' noted noted' k (reads_file m) alike same =
-    same-below k (λ j. pending' j && resizes m (noted' j)) (λ j. pending j && resizes m (noted j))
-    (λ j less i. alike j less i && resizes m (same j less i))
-behind-alike pending pending' noted noted' k (writes_file m) alike same =
-    same-below k (λ j. pending' j && resizes m (noted' j)) (λ j. pending j && resizes m (noted j))
-    (λ j less i. alike j less i && resizes m (same j less i))
-behind-alike pending pending' noted noted' k untouched alike same = refl
-behind-alike pending pending' noted noted' k (takes_names handle) alike same = refl
-behind-alike pending pending' noted noted' k everything alike same = refl
-
 none-below : (n : ℕ) (test : ℕ → Bool) → ((j : ℕ) → j < n → test j ≡ false) → any_below n test ≡ false
 none-below zero test none = refl
 none-below (suc n) test none =
@@ -181,21 +166,10 @@ below-drop n (suc k) test none =
 behind-front : (pending : ℕ → Bool) (noted : ℕ → Portion) (n k : ℕ) (at : Touched)
     → ((j : ℕ) → j < n → pending j ≡ false)
     → is_behind_by pending noted (n + k) at ≡ is_behind_by (λ j. pending (n + j)) (λ j. noted (n + j)) k at
-behind-front pending noted n k (reads_file m) idle =
+behind-front pending noted n k at idle =
+    behind-on pending (λ j. pending (n + j)) noted (λ j. noted (n + j)) (n + k) k at (λ m on.
     below-drop n k (λ j. pending j && resizes m (noted j))
-    (λ j less. and_left (pending j) (resizes m (noted j)) (idle j less))
-behind-front pending noted n k (writes_file m) idle =
-    below-drop n k (λ j. pending j && resizes m (noted j))
-    (λ j less. and_left (pending j) (resizes m (noted j)) (idle j less))
-behind-front pending noted n k untouched idle = refl
-behind-front pending noted n k (takes_names handle) idle = refl
-behind-front pending noted n k everything idle = refl
-
--- what is known stays so
-pub known-alike : (pending pending' : ℕ → Bool) (noted noted' now now' : ℕ → Portion) (opened : ℕ)
-    → pending' ≡ pending → noted' ≡ noted → now' ≡ now → AreKnown pending noted now opened
-    → AreKnown pending' noted' now' opened
-known-alike pending pending' noted noted' now now' opened alike same still known = rw (alike, same, still) known
+    (λ j less. and_left (pending j) (resizes m (noted j)) (idle j less)))
 
 -- ---- requests leave the front
 
@@ -227,8 +201,8 @@ pub late-drop : (n : ℕ) (queue : List Entry) (notes : List Note) (k : ℕ)
 late-drop n queue notes k idle =
     ap (λ (p : Portion). is_behind_by (pending_by (drop n notes)) (portion_at (drop n queue) (drop n notes)) k
     p.touched) (portion-drop n queue notes k)
-    ∙ (behind-alike (λ j. (note_at notes (n + j)).pending) (pending_by (drop n notes))
-    (λ j. portion_at queue notes (n + j)) (portion_at (drop n queue) (drop n notes)) k (portion_at queue notes
+    ∙ (behind-local (pending_by (drop n notes)) (λ j. (note_at notes (n + j)).pending)
+    (portion_at (drop n queue) (drop n notes)) (λ j. portion_at queue notes (n + j)) k (portion_at queue notes
     (n + k)).touched (λ j less. ap (λ (note : Note). note.pending) (note-drop n notes j))
     (λ j less. portion-drop n queue notes j)
     ∙ sym (behind-front (pending_by notes) (portion_at queue notes) n k (portion_at queue notes (n + k)).touched idle))

@@ -1,15 +1,13 @@
 -- What the notes of a queue say, and what stays when one of them changes.
 use Rattle.sftp_server.proofs.Imports.{◌≡◌, ◌≢◌, ◌==◌, ◌&&◌, ◌+◌, ◌-◌, ◌<◌, ◌≤◌, ℕ, suc, Bool, true, false, List, []}
-use Rattle.sftp_server.proofs.Imports.{◌∷◌, not, Option, inl, inr, length, set, max, nat_lt, refl, sym, ap, subst, ◌∙◌}
-use Rattle.sftp_server.proofs.Imports.{arith, true≢false, eqb-true, eqb-false, ltb-true, ltb-false, and_left}
-use Rattle.sftp_server.proofs.Imports.{length-set, get_or-set_same, get_or-set_other, sum_by-set, sum_by-cons}
-use Rattle.sftp_server.proofs.Imports.{slice_get_read, get_or, Ask, ByteRange, Touch, Nothing, touched, share, range}
-use Rattle.sftp_server.proofs.Imports.{are_apart, touched_as, State, Entry, Note, blank, note_at, ask_at, touched_at}
+use Rattle.sftp_server.proofs.Imports.{◌∷◌, Option, inl, inr, length, set, max, refl, sym, ap, subst, ◌∙◌, arith}
+use Rattle.sftp_server.proofs.Imports.{true≢false, eqb-true, eqb-false, length-set, get_or-set_same, get_or-set_other}
+use Rattle.sftp_server.proofs.Imports.{sum_by-set, sum_by-cons, slice_get_read, get_or, ByteRange, Touch, touched}
+use Rattle.sftp_server.proofs.Imports.{range, touched_as, State, Entry, Note, blank, note_at, ask_at, touched_at}
 use Rattle.sftp_server.proofs.Imports.{is_in_way, only_reads, as_count, possible_count, IsNoted, IsPlaced, portion_at}
 use Rattle.sftp_server.proofs.Imports.{pending_by, is_late, portion_now, Portion, portions_clash, IsPortion}
-use Rattle.sftp_server.proofs.Imports.{is_behind_by, is_behind, AreKnown, AreKnownBut, get_or_from_slice_get, ReadsFile}
-use Rattle.sftp_server.proofs.Imports.{IsFree, IsFreeFrom, IsBlocked, AreBlockedBut, IsMarked, AreAlike, IsStopped}
-use Rattle.sftp_server.proofs.Imports.{HaveTheirRanges, IsMarkedAsked}
+use Rattle.sftp_server.proofs.Imports.{is_behind_by, is_behind, get_or_from_slice_get, IsFree, IsBlocked, AreBlockedBut}
+use Rattle.sftp_server.proofs.Imports.{IsMarked, AreAlike, IsStopped, HaveTheirRanges, IsMarkedAsked, IsFreeFrom}
 use Rattle.sftp_server.specs.Readiness.{IsMarkedBut, is_all, IsBlockedBack, AreBlocked, IsShut, held, raised}
 use Rattle.std.proofs.Math.Nat.{le-max_left, le-max_right}
 use Rattle.sftp_server.proofs.RangedNotes.{behind-local}
@@ -56,9 +54,6 @@ set-field f notes k j note inside same =
         (ap f (set-same notes k note inside) ∙ same)
 
 -- ---- notes that are alike
-
-pub alike-self : (notes : List Note) → AreAlike notes notes
-alike-self notes = record { touch = λ k. refl; range = λ k. refl; pending = λ k. refl; replies = λ k is. refl }
 
 pub alike-then : (a b c : List Note) → AreAlike a b → AreAlike b c → AreAlike a c
 alike-then a b c first second = record {
@@ -134,11 +129,7 @@ pub marks-alike : (s : State) (queue : List Entry) (before after : List Note) (o
 marks-alike s queue before after o is alike = record {
   asked = asked-alike queue before after is.asked alike;
   ranged = ranged-alike queue before after o is.ranged alike;
-  known =
-      subst (λ (f : ℕ → Bool). AreKnown f (portion_at queue after) (portion_now s queue) o)
-      (sym (pending-alike before after alike))
-      (subst (λ (g : ℕ → Portion). AreKnown (pending_by before) g (portion_now s queue) o)
-      (sym (portions-alike queue before after alike)) is.known);
+  known = rw (pending-alike before after alike, portions-alike queue before after alike) is.known;
 }
 
 pub marks_but-alike : (s : State) (queue : List Entry) (before after : List Note) (o number next : ℕ)
@@ -146,19 +137,15 @@ pub marks_but-alike : (s : State) (queue : List Entry) (before after : List Note
 marks_but-alike s queue before after o number next is alike = record {
   asked = asked-alike queue before after is.asked alike;
   ranged = ranged-alike queue before after o is.ranged alike;
-  known =
-      subst (λ (f : ℕ → Bool). AreKnownBut f (portion_at queue after) (portion_now s queue) o number next)
-      (sym (pending-alike before after alike))
-      (subst (λ (g : ℕ → Portion). AreKnownBut (pending_by before) g (portion_now s queue) o number next)
-      (sym (portions-alike queue before after alike)) is.known);
+  known = rw (pending-alike before after alike, portions-alike queue before after alike) is.known;
 }
 
-noted-alike : (queue : List Entry) (before after : List Note) (f o w p q : ℕ) → IsNoted queue before f o w p
+noted-alike : {queue : List Entry} {before after : List Note} {f o w p q : ℕ} → IsNoted queue before f o w p
     → AreAlike before after → length after ≡ length before → q ≡ possible_count after
     → ((k : ℕ) → o ≤ k → k < length queue → (note_at after k).possible ≡ false)
     → ((k : ℕ) → k < o → (note_at after k).pending ≡ true → (note_at after k).possible ≡ true → IsFree queue after k)
     → IsNoted queue after f o w q
-noted-alike queue before after f o w p q is alike size counted behind free = record {
+noted-alike is alike size counted behind free = record {
   same_length = size ∙ is.same_length;
   within = is.within;
   front = is.front;
@@ -171,9 +158,9 @@ noted-alike queue before after f o w p q is alike size counted behind free = rec
   free = free;
 }
 
-pub noted-passed : (queue : List Entry) (notes : List Note) (f g o w p : ℕ) → IsNoted queue notes f o w p
+noted-passed : {queue : List Entry} {notes : List Note} {f g o w p : ℕ} → IsNoted queue notes f o w p
     → g ≤ length queue → ((k : ℕ) → k < g → (note_at notes k).pending ≡ false) → IsNoted queue notes g o w p
-noted-passed queue notes f g o w p is front passed = record {
+noted-passed is front passed = record {
   same_length = is.same_length;
   within = is.within;
   front = front;
@@ -186,12 +173,12 @@ noted-passed queue notes f g o w p is front passed = record {
 }
 
 -- those at the front were passed that are not pending
-pub front-passed : (queue : List Entry) (before after : List Note) (f g o w p end_o end_w end_p : ℕ)
+pub front-passed : {queue : List Entry} {before after : List Note} {f g o w p end_o end_w end_p : ℕ}
     → after ≡ before → end_o ≡ o → end_w ≡ w → end_p ≡ p → IsNoted queue before f o w p → g ≤ length after
     → ((k : ℕ) → k < g → (note_at after k).pending ≡ false) → IsNoted queue after g end_o end_w end_p
-front-passed queue before after f g o w p end_o end_w end_p same o_is w_is p_is is front passed =
+front-passed {queue} {g = g} {o} {w} {p} same o_is w_is p_is is front passed =
     rw (o_is, w_is, p_is)
-    (subst (λ (notes : List Note). IsNoted queue notes g o w p) (sym same) (noted-passed queue before f g o w p is
+    (subst (λ (notes : List Note). IsNoted queue notes g o w p) (sym same) (noted-passed is
     (let size = ap length same in let all = is.same_length in omega (arith, front, size, all))
     (λ k lt. ap (λ (notes : List Note). (note_at notes k).pending) (sym same) ∙ passed k lt)))
 
@@ -222,26 +209,25 @@ count-few (note ∷ notes) =
 abbrev allowed : List Note → ℕ → List Note
 allowed notes k = set notes k (record (note_at notes k) { possible = true })
 
-module _ (queue : List Entry) (notes : List Note) (f o w p k : ℕ) (is : IsNoted queue notes f o w p) (lt : k < o)
+module _ {queue : List Entry} {notes : List Note} {f o w p : ℕ} (k : ℕ) (is : IsNoted queue notes f o w p) (lt : k < o)
     (pending : (note_at notes k).pending ≡ true) (waits : (note_at notes k).possible ≡ false) where
+  abbrev ready : Note
+  ready = record (note_at notes k) { possible = true }
+
   inside : k < length notes
   inside = let size = is.same_length in let within = is.within in omega (arith, size, within, lt)
 
   allowed-alike : AreAlike notes (allowed notes k)
   allowed-alike =
-      alike-set notes k (record (note_at notes k) { possible = true }) inside refl refl refl
-      (λ worked. absurd (true≢false (sym pending ∙ worked)))
+      alike-set notes k ready inside refl refl refl (λ worked. absurd (true≢false (sym pending ∙ worked)))
 
   possible-other : (j : ℕ) → j ≢ k → (note_at (allowed notes k) j).possible ≡ (note_at notes j).possible
-  possible-other j apart =
-      ap (λ (n : Note). n.possible) (set-other notes k j (record (note_at notes k) { possible = true }) apart)
+  possible-other j apart = ap (λ (n : Note). n.possible) (set-other notes k j ready apart)
 
   pub allowed-noted : IsFree queue notes k → IsNoted queue (allowed notes k) f o w (suc p)
   allowed-noted free =
-      noted-alike queue notes (allowed notes k) f o w p (suc p) is allowed-alike
-      (length-set notes k (record (note_at notes k) { possible = true }))
-      (let more = sum_by-set (λ (n : Note). as_count n.possible) notes k (record (note_at notes k) { possible = true })
-      blank inside in
+      noted-alike is allowed-alike (length-set notes k ready)
+      (let more = sum_by-set (λ (n : Note). as_count n.possible) notes k ready blank inside in
       let none : as_count (note_at notes k).possible ≡ 0 = ap as_count waits in
       let count = is.counted in
       omega (arith, more, none, count))
@@ -256,18 +242,15 @@ module _ (queue : List Entry) (notes : List Note) (f o w p k : ℕ) (is : IsNote
   allowed-placed = record {
     alike = allowed-alike;
     possible = possible-other;
-    blocker = λ j apart. ap (λ (n : Note). n.blocker)
-        (set-other notes k j (record (note_at notes k) { possible = true }) apart);
-    waiter = λ j. let same = set-field (λ (n : Note). n.waiter) notes k j
-        (record (note_at notes k) { possible = true }) inside refl in omega (arith, same);
-    blocked = λ off. absurd (true≢false (sym (ap (λ (n : Note). n.possible)
-        (set-same notes k (record (note_at notes k) { possible = true }) inside)) ∙ off));
+    blocker = λ j apart. ap (λ (n : Note). n.blocker) (set-other notes k j ready apart);
+    waiter = λ j. let same = set-field (λ (n : Note). n.waiter) notes k j ready inside refl in omega (arith, same);
+    blocked = λ off. absurd (true≢false (sym (ap (λ (n : Note). n.possible) (set-same notes k ready inside)) ∙ off));
   }
 
 -- ---- a request waits
 
-module _ (queue : List Entry) (notes : List Note) (f o w p k back : ℕ) (is : IsNoted queue notes f o w p) (lt : k < o)
-    (found : IsBlockedBack queue notes k back) where
+module _ {queue : List Entry} {notes : List Note} {f o w p : ℕ} (k back : ℕ) (is : IsNoted queue notes f o w p)
+    (lt : k < o) (found : IsBlockedBack queue notes k back) where
   abbrev waits : Note
   waits = record (note_at notes k) { blocker = back }
 
@@ -298,8 +281,7 @@ module _ (queue : List Entry) (notes : List Note) (f o w p k back : ℕ) (is : I
 
   pub held-noted : IsNoted queue (held notes k back) f o w p
   held-noted =
-      noted-alike queue notes (held notes k back) f o w p p is held-alike
-      (length-set once (k - back) grown ∙ length-set notes k waits)
+      noted-alike is held-alike (length-set once (k - back) grown ∙ length-set notes k waits)
       (let first = sum_by-set (λ (n : Note). as_count n.possible) notes k waits blank within-notes in
       let second = sum_by-set (λ (n : Note). as_count n.possible) once (k - back) grown blank within-once in
       let count = is.counted in
@@ -381,6 +363,16 @@ stopped-kept queue before after j k (inl is) placed apart = inl (blocked-kept qu
 stopped-kept queue before after j k (inr late) placed apart =
     inr (late-alike queue before after j placed.alike ∙ late)
 
+-- one was judged, and another waits as before
+pub stopped-placed : {queue : List Entry} {before after : List Note} {k : ℕ} → IsPlaced queue before after k → (j : ℕ)
+    → (note_at after j).possible ≡ false → (j ≢ k → IsStopped queue before j) → IsStopped queue after j
+stopped-placed {queue} {before} {after} {k} placed j off waits =
+    by_place j k (IsStopped queue after j)
+    (λ at.
+    subst (λ (i : ℕ). IsStopped queue after i) (sym at)
+    (inl (placed.blocked (subst (λ (i : ℕ). (note_at after i).possible ≡ false) at off))))
+    (λ apart. stopped-kept queue before after j k (waits apart) placed apart)
+
 -- one was passed that does not wait for the request that is done
 pub but-passed : (queue : List Entry) (notes : List Note) (o done from to : ℕ)
     → AreBlockedBut queue notes o done from to
@@ -403,20 +395,10 @@ pub but-placed : (queue : List Entry) (before after : List Note) (o done from to
     → AreBlockedBut queue before o done from to → IsPlaced queue before after from
     → AreBlockedBut queue after o done (suc from) to
 but-placed queue before after o done from to but placed j lt on off other =
-    by_place j from (IsStopped queue after j) here there
-  where
-    here : j ≡ from → IsStopped queue after j
-    here at =
-        subst (λ (i : ℕ). IsStopped queue after i) (sym at)
-        (inl (placed.blocked (subst (λ (i : ℕ). (note_at after i).possible ≡ false) at off)))
-
-    there : j ≢ from → IsStopped queue after j
-    there apart =
-        stopped-kept queue before after j from
-        (but j lt (sym (placed.alike.pending j) ∙ on) (sym (placed.possible j apart) ∙ off)
-        (λ later within same. other (beyond j from later apart) within
-        (ap (λ (n : ℕ). done + n) (placed.blocker j apart) ∙ same)))
-        placed apart
+    stopped-placed placed j off (λ apart.
+    but j lt (sym (placed.alike.pending j) ∙ on) (sym (placed.possible j apart) ∙ off)
+    (λ later within same. other (beyond j from later apart) within
+    (ap (λ (n : ℕ). done + n) (placed.blocker j apart) ∙ same)))
 
 pub but-passed-at : (queue : List Entry) (notes : List Note) (o done from at next to : ℕ) → at ≡ from
     → next ≡ suc at → AreBlockedBut queue notes o done from to
@@ -447,45 +429,10 @@ but-end queue notes o done from to last but past reached j lt on off =
 pub blocked-placed : (queue : List Entry) (before after : List Note) (k : ℕ) → AreBlocked queue before k
     → IsPlaced queue before after k → AreBlocked queue after (suc k)
 blocked-placed queue before after k blocked placed j lt on off =
-    by_place j k (IsStopped queue after j) here there
-  where
-    here : j ≡ k → IsStopped queue after j
-    here at =
-        subst (λ (i : ℕ). IsStopped queue after i) (sym at)
-        (inl (placed.blocked (subst (λ (i : ℕ). (note_at after i).possible ≡ false) at off)))
-
-    there : j ≢ k → IsStopped queue after j
-    there apart =
-        stopped-kept queue before after j k
-        (blocked j (below j k lt apart) (sym (placed.alike.pending j) ∙ on) (sym (placed.possible j apart) ∙ off))
-        placed apart
+    stopped-placed placed j off (λ apart.
+    blocked j (below j k lt apart) (sym (placed.alike.pending j) ∙ on) (sym (placed.possible j apart) ∙ off))
 
 -- ---- the search for a request that is in the way
-
-reads-apart : (t u : Touch) (a b : Ask) → only_reads t ≡ true → only_reads u ≡ true
-    → share (touched_as t a) (touched_as u b) ≡ false
-reads-apart Nothing Nothing a b t_reads u_reads = refl
-reads-apart Nothing (ReadsFile m) a b t_reads u_reads = refl
-reads-apart (ReadsFile n) Nothing a b t_reads u_reads = refl
-reads-apart (ReadsFile n) (ReadsFile m) a b t_reads u_reads = refl
-reads-apart t u a b t_reads u_reads = absurd cc
-
--- a request that is not pending is in no way
-no_way : (on : Bool) (shares : Bool) → (on ≡ true → shares ≡ false) → (on && shares) ≡ false
-no_way true shares none = none refl
-no_way false shares none = refl
-
-pub start-free : (queue : List Entry) (notes : List Note) (f o w p k from : ℕ) → IsNoted queue notes f o w p → k < o
-    → ((j : ℕ) → from ≤ j → j < k → (w ≤ j) × (only_reads (note_at notes k).touch ≡ true))
-    → IsFreeFrom queue notes k from
-start-free queue notes f o w p k from is within rest j later before =
-    no_way (note_at notes j).pending (portions_clash (portion_at queue notes j) (portion_at queue notes k))
-    (λ on.
-    let both = rest j later before in
-    and_left (share (touched_at queue notes j) (touched_at queue notes k))
-    (not (are_apart (note_at notes j).range (note_at notes k).range))
-    (reads-apart (note_at notes j).touch (note_at notes k).touch (ask_at queue j) (ask_at queue k)
-    (is.reads j both.0 (omega (arith, before, within)) on) both.1))
 
 -- one more is not in the way
 pub free-lower : (queue : List Entry) (notes : List Note) (k from lower : ℕ) → from ≡ suc lower
@@ -495,17 +442,6 @@ free-lower queue notes k from lower is free none j later before =
     by_place j lower (is_in_way queue notes j (portion_at queue notes k) ≡ false)
     (λ at. subst (λ (i : ℕ). is_in_way queue notes i (portion_at queue notes k) ≡ false) (sym at) none)
     (λ apart. free j (let past = beyond j lower later apart in omega (arith, past, is)) before)
-
--- none from the first pending request on is in the way
-pub free-all : (queue : List Entry) (notes : List Note) (f o w p k from : ℕ) → IsNoted queue notes f o w p → from ≤ f
-    → IsFreeFrom queue notes k from → IsFree queue notes k
-free-all queue notes f o w p k from is passed free j before = by (nat_lt j from) refl
-  where
-    by : (b : Bool) → nat_lt j from ≡ b → is_in_way queue notes j (portion_at queue notes k) ≡ false
-    by true lt =
-        and_left (note_at notes j).pending (portions_clash (portion_at queue notes j) (portion_at queue notes k))
-        (is.passed j (let early = ltb-true j from lt in omega (arith, early, passed)))
-    by false later = free j (ltb-false j from later) before
 
 pub shut-at : (notes : List Note) (o : ℕ) (note : Note) → 0 < o → o ≤ length notes
     → note ≡ get_or notes (o - 1) note → note.pending ≡ true → is_all note.touch ≡ true → IsShut notes o
@@ -520,13 +456,16 @@ shut-at notes o note some within is pending all =
 
 -- ---- one request more is opened
 
-module _ (s : State) (queue : List Entry) (notes : List Note) (f k w p : ℕ) (t : Touch) (r : Option ByteRange)
+abbrev pub entered_note : List Note → ℕ → Touch → Option ByteRange → Note
+entered_note notes k t r = record (note_at notes k) { touch = t; range = r }
+
+module _ {queue : List Entry} {notes : List Note} {f k w p : ℕ} (t : Touch) (r : Option ByteRange)
     (is : IsNoted queue notes f k w p) (some : k < length queue)
     (last : (j : ℕ) → suc j ≡ k → (note_at notes j).pending ≡ true → is_all (note_at notes j).touch ≡ false) where
   abbrev opened_note : Note
-  opened_note = record (note_at notes k) { touch = t; range = r }
+  opened_note = entered_note notes k t r
 
-  abbrev pub entered : List Note
+  abbrev entered : List Note
   entered = set notes k opened_note
 
   here-within : k < length notes
@@ -625,12 +564,6 @@ module _ (s : State) (queue : List Entry) (notes : List Note) (f k w p : ℕ) (t
         ∙ is.free j (below j k lt apart) (sym (pending-same j) ∙ on) (sym (possible-same j) ∙ yes) i before);
   }
 
-  pub entered-pending : (note_at entered k).pending ≡ true
-  entered-pending = pending-same k ∙ (is.behind k (omega arith) some).0
-
-  pub entered-waits : (note_at entered k).possible ≡ false
-  entered-waits = possible-same k ∙ (is.behind k (omega arith) some).1
-
   still-blocked : (j : ℕ) → j < k → IsBlocked queue notes j → IsBlocked queue entered j
   still-blocked j lt old = record {
     blocker = old.blocker;
@@ -652,9 +585,9 @@ module _ (s : State) (queue : List Entry) (notes : List Note) (f k w p : ℕ) (t
   entered-blocked blocked j lt on off =
       still-stopped j lt (blocked j lt (sym (pending-same j) ∙ on) (sym (possible-same j) ∙ off))
 
-  pub entered-marks : touched_as t (ask_at queue k) ≡ touched s (ask_at queue k) → r ≡ range s (ask_at queue k)
-      → IsMarked s queue notes k → IsMarked s queue entered (suc k)
-  entered-marks touches ranges marks =
+  pub entered-marks : {s : State} → touched_as t (ask_at queue k) ≡ touched s (ask_at queue k)
+      → r ≡ range s (ask_at queue k) → IsMarked s queue notes k → IsMarked s queue entered (suc k)
+  entered-marks {s} touches ranges marks =
       let whole : portion_at queue entered k ≡ portion_now s queue k =
       portion-here ∙ (λ i. record { touched = touches i; range = ranges i }) in
       record {

@@ -4,10 +4,10 @@ use Rattle.sftp_server.proofs.Imports.{◌≡◌, ◌==◌, ◌<◌, ◌≤◌, 
 use Rattle.sftp_server.proofs.Imports.{Some, None, if◌then◌else◌, refl, sym, ap, ◌∙◌, arith, ◌⊎◌, inl, inr, nat_lt}
 use Rattle.sftp_server.proofs.Imports.{true≢false, cases_Bool, and_parts, and_from, and_left, or_cases, or_left}
 use Rattle.sftp_server.proofs.Imports.{or_right, eqb-true, eqb-false, eq-eqb, ne_eqb, ltb-true, ltb-false, not-true}
-use Rattle.sftp_server.proofs.Imports.{and-false, and-true, ByteRange, Touched, untouched, reads_file, writes_file}
-use Rattle.sftp_server.proofs.Imports.{takes_names, everything, share, are_apart, Portion, portions_clash, is_on}
-use Rattle.sftp_server.proofs.Imports.{HasItsRange, IsPortion, resizes_by, resizes, any_below, is_behind_by, is_behind}
-use Rattle.sftp_server.proofs.Imports.{stands_in_way, IsClear, IsHindered, AreKnown, AreKnownBut, without, looked_at}
+use Rattle.sftp_server.proofs.Imports.{and-false, and-true, ByteRange, Touched, reads_file, writes_file, everything}
+use Rattle.sftp_server.proofs.Imports.{share, are_apart, Portion, portions_clash, is_on, HasItsRange, IsPortion}
+use Rattle.sftp_server.proofs.Imports.{resizes_by, resizes, any_below, is_behind_by, is_behind, stands_in_way, IsClear}
+use Rattle.sftp_server.proofs.Imports.{IsHindered, AreKnown, AreKnownBut, without, looked_at, subst}
 
 -- ---- numbers below
 
@@ -176,19 +176,23 @@ module _ (pending : ℕ → Bool) (noted : ℕ → Portion) where
     | inr front ↦ front
   ]
 
--- whether one is behind such a request depends on those before it alone
+-- whether one is behind such a request depends on those on its file alone
+pub behind-on : (pending other : ℕ → Bool) (noted next : ℕ → Portion) (k j : ℕ) (at : Touched)
+    → ((m : ℕ) → is_on m at ≡ true
+    → any_below k (λ i. pending i && resizes m (noted i)) ≡ any_below j (λ i. other i && resizes m (next i)))
+    → is_behind_by pending noted k at ≡ is_behind_by other next j at
+behind-on pending other noted next k j (reads_file m) same = same m (eq-eqb m m refl)
+behind-on pending other noted next k j (writes_file m) same = same m (eq-eqb m m refl)
+behind-on pending other noted next k j at same = refl
+
+-- and on those before it
 pub behind-local : (pending other : ℕ → Bool) (noted next : ℕ → Portion) (j : ℕ) (at : Touched)
     → ((i : ℕ) → i < j → pending i ≡ other i) → ((i : ℕ) → i < j → noted i ≡ next i)
     → is_behind_by pending noted j at ≡ is_behind_by other next j at
-behind-local pending other noted next j (reads_file m) same alike =
+behind-local pending other noted next j at same alike =
+    behind-on pending other noted next j j at (λ m on.
     same-below j (λ i. pending i && resizes m (noted i)) (λ i. other i && resizes m (next i))
-    (λ i less. λ x. same i less x && resizes m (alike i less x))
-behind-local pending other noted next j (writes_file m) same alike =
-    same-below j (λ i. pending i && resizes m (noted i)) (λ i. other i && resizes m (next i))
-    (λ i less. λ x. same i less x && resizes m (alike i less x))
-behind-local pending other noted next j untouched same alike = refl
-behind-local pending other noted next j (takes_names handle) same alike = refl
-behind-local pending other noted next j everything same alike = refl
+    (λ i less. λ x. same i less x && resizes m (alike i less x)))
 
 -- ---- what the notes say is so
 
@@ -300,15 +304,10 @@ module _ (pending : ℕ → Bool) (noted : ℕ → Portion) (k : ℕ) where
 
   pub behind-without : (j : ℕ) (at : Touched) → ((m : ℕ) → is_on m at ≡ true → resizes m (noted k) ≡ false)
       → is_behind_by (without pending k) noted j at ≡ is_behind_by pending noted j at
-  behind-without j (reads_file m) keeps =
+  behind-without j at keeps =
+      behind-on (without pending k) pending noted noted j j at (λ m on.
       same-below j (λ i. without pending k i && resizes m (noted i)) (λ i. pending i && resizes m (noted i))
-      (λ i less. without-test m i (keeps m (eq-eqb m m refl)))
-  behind-without j (writes_file m) keeps =
-      same-below j (λ i. without pending k i && resizes m (noted i)) (λ i. pending i && resizes m (noted i))
-      (λ i less. without-test m i (keeps m (eq-eqb m m refl)))
-  behind-without j untouched keeps = refl
-  behind-without j (takes_names handle) keeps = refl
-  behind-without j everything keeps = refl
+      (λ i less. without-test m i (keeps m on)))
 
   pub was-pending : (j : ℕ) → without pending k j ≡ true → (pending j ≡ true) × (j ≡ k → ⊥)
   was-pending j is =
@@ -419,9 +418,6 @@ module _ (pending : ℕ → Bool) (noted : ℕ → Portion) (number q : ℕ) (p 
   abbrev after : ℕ → Portion
   after = looked_at noted q p
 
-  pub after-here : after q ≡ p
-  after-here = ap (λ b. if b then p else noted q) (eq-eqb q q refl)
-
   pub after-other : (j : ℕ) → (j ≡ q → ⊥) → after j ≡ noted j
   after-other j apart = ap (λ b. if b then p else noted j) (ne_eqb j q apart)
 
@@ -460,19 +456,13 @@ module _ (pending : ℕ → Bool) (noted : ℕ → Portion) (number q : ℕ) (p 
   -- whether another request is behind some is as before, if it is on another file or before
   pub behind-after : (j : ℕ) (at : Touched) → (is_on number at ≡ true → j ≤ q)
       → is_behind_by pending after j at ≡ is_behind_by pending noted j at
-  behind-after j (reads_file m) before =
+  behind-after j at before =
+      behind-on pending pending after noted j j at (λ m on.
       same-below j (λ i. pending i && resizes m (after i)) (λ i. pending i && resizes m (noted i))
       (λ i less.
       ap (λ b. pending i && b)
-      (after-test m i (λ at is. let most = before (eq-eqb m number is) in omega (arith, less, most, at))))
-  behind-after j (writes_file m) before =
-      same-below j (λ i. pending i && resizes m (after i)) (λ i. pending i && resizes m (noted i))
-      (λ i less.
-      ap (λ b. pending i && b)
-      (after-test m i (λ at is. let most = before (eq-eqb m number is) in omega (arith, less, most, at))))
-  behind-after j untouched before = refl
-  behind-after j (takes_names handle) before = refl
-  behind-after j everything before = refl
+      (after-test m i (λ here is.
+      let most = before (subst (λ n. is_on n at ≡ true) is on) in omega (arith, less, most, here)))))
 
   -- and so is what is in its way
   pub way-after : (i j : ℕ) → i < j → (j ≡ q → ⊥) → (q < j → is_on number (noted j).touched ≡ false)

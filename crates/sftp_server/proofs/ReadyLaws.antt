@@ -87,11 +87,11 @@ stopped-hindered : (queue : List Entry) (notes : List Note) (k : ℕ) → IsStop
 stopped-hindered queue notes k (inl is) = inl (is.blocker, is.before, is.in_way)
 stopped-hindered queue notes k (inr late) = inr late
 
-pub ready-is : (s : State) (queue : List Entry) (notes : List Note) (first opened writers possible : ℕ)
+pub ready-is : {s : State} {queue : List Entry} {notes : List Note} {first opened writers possible : ℕ}
     → AreNotes s queue notes first opened writers possible → IsOpened queue notes opened → (k : ℕ)
     → ready_in range_clash s (take k queue) (slice_get queue k)
     ≡ ((note_at notes k).pending && (note_at notes k).possible)
-ready-is s queue notes first opened writers possible are is_opened k =
+ready-is {s} {queue} {notes} {opened = opened} are is_opened k =
     by (slice_get queue k) refl (are.marks.asked.marked k)
   where
     open-possible : (entry : Entry) → slice_get queue k ≡ Some entry → k < opened
@@ -153,23 +153,6 @@ pending-no_reply (Some entry) pending = by entry.progress pending
     by (Done reply) is = absurd (true≢false (sym is))
     by Sent is = refl
 
-pub possible-is : (machine : Machine State) (notes : List Note) (first opened writers possible : ℕ)
-    → AreNotes machine.state machine.queue notes first opened writers possible → IsOpened machine.queue notes opened
-    → (k : ℕ) → (note_at notes k).possible ≡ (is_ready range_clash machine k || is_some (reply_at machine.queue k))
-possible-is machine notes first opened writers possible are is_opened k = by (note_at notes k).pending refl
-  where
-    by : (b : Bool) → (note_at notes k).pending ≡ b
-        → (note_at notes k).possible ≡ (is_ready range_clash machine k || is_some (reply_at machine.queue k))
-    by true pending =
-        rw (
-          ready-is machine.state machine.queue notes first opened writers possible are is_opened k,
-          pending,
-          pending-no_reply (slice_get machine.queue k) (sym (are.marks.asked.marked k) ∙ pending),
-        ) (sym (or-false (note_at notes k).possible))
-    by false idle =
-        rw (ready-is machine.state machine.queue notes first opened writers possible are is_opened k, idle)
-        (are.marks.asked.replies k idle)
-
 choices-length : {S : Type 0} (clash : ClashOf S) (machine : Machine S) (k : ℕ)
     → length (choices_at clash machine k)
     ≡ as_count (is_ready clash machine k || is_some (reply_at machine.queue k))
@@ -181,35 +164,6 @@ choices-length clash machine k = by (is_ready clash machine k) refl (is_some (re
     by true ready c some = rw ready refl
     by false ready true some = rw (ready, some) refl
     by false ready false some = rw (ready, some) refl
-
--- as many acts are possible at some positions as their notes say
-count-part : (machine : Machine State) (notes : List Note) (first opened writers possible : ℕ)
-    → AreNotes machine.state machine.queue notes first opened writers possible → IsOpened machine.queue notes opened
-    → (k count : ℕ) → k + count ≤ length notes
-    → length (choices_from range_clash machine k count) ≡ possible_count (take count (drop k notes))
-unfolding choices_from
-count-part machine notes first opened writers possible are is_opened k zero within = refl
-count-part machine notes first opened writers possible are is_opened k (suc count) within =
-    let one : k + 1 ≡ suc k = omega arith in
-    let rest = count-part machine notes first opened writers possible are is_opened (suc k) count (omega
-    (arith, within)) in
-    let cut : drop k notes ≡ note_at notes k ∷ drop (suc k) notes =
-    drop_more notes k blank (omega (arith, within)) ∙ ap (λ (n : ℕ). note_at notes k ∷ drop n notes) one in
-    length-append (choices_at range_clash machine k) (choices_from range_clash machine (suc k) count)
-    ∙ (ap₂ (λ (a b : ℕ). a + b) (choices-length range_clash machine k
-    ∙ ap as_count (sym (possible-is machine notes first opened writers possible are is_opened k))) rest
-    ∙ (sym (sum_by-cons (λ (n : Note). as_count n.possible) (note_at notes k) (take count (drop (suc k) notes)))
-    ∙ ap (λ (ns : List Note). possible_count (take (suc count) ns)) (sym cut)))
-
-pub possible-count : (machine : Machine State) (notes : List Note) (first opened writers possible : ℕ)
-    → AreNotes machine.state machine.queue notes first opened writers possible → IsOpened machine.queue notes opened
-    → possible ≡ length (choices_of range_clash machine)
-possible-count machine notes first opened writers possible are is_opened =
-    let same = are.noted.same_length in
-    let count = count-part machine notes first opened writers possible are is_opened 0 (length machine.queue)
-    (omega (arith, same)) in
-    are.noted.counted
-    ∙ (ap possible_count (sym (take_all (length machine.queue) notes (omega (arith, same)))) ∙ sym count)
 
 choices-split : {S : Type 0} (clash : ClashOf S) (machine : Machine S) (k a b : ℕ)
     → choices_from clash machine k (a + b) ≡ choices_from clash machine k a ++ choices_from clash machine (k + a) b
@@ -232,28 +186,6 @@ get-behind [] back n is = rw (← is) refl
 get-behind (x ∷ front) back zero is = absurd (omega (arith, is))
 get-behind (x ∷ front) back (suc n) is = get-behind front back n (omega (arith, is))
 
--- the act at a position where one is possible
-choice-here : (machine : Machine State) (notes : List Note) (first opened writers possible : ℕ)
-    → AreNotes machine.state machine.queue notes first opened writers possible → IsOpened machine.queue notes opened
-    → (k : ℕ) (rest : List Choice) → (note_at notes k).possible ≡ true
-    → slice_get (choices_at range_clash machine k ++ rest) 0
-    ≡ Some (if (note_at notes k).pending then choices.Work k else choices.Send k)
-choice-here machine notes first opened writers possible are is_opened k rest is =
-    by (note_at notes k).pending refl
-  where
-    by : (b : Bool) → (note_at notes k).pending ≡ b
-        → slice_get (choices_at range_clash machine k ++ rest) 0
-        ≡ Some (if (note_at notes k).pending then choices.Work k else choices.Send k)
-    by true pending =
-        rw (ready-is machine.state machine.queue notes first opened writers possible are is_opened k, pending, is) refl
-    by false idle =
-        rw (
-          ready-is machine.state machine.queue notes first opened writers possible are is_opened k,
-          idle,
-          ← are.marks.asked.replies k idle,
-          is,
-        ) refl
-
 pub possible-within : (notes : List Note) (k : ℕ) → (note_at notes k).possible ≡ true → k < length notes
 possible-within notes k is = by (nat_lt k (length notes)) refl
   where
@@ -263,23 +195,71 @@ possible-within notes k is = by (nat_lt k (length notes)) refl
         absurd (true≢false (sym is ∙ ap (λ (n : Note). n.possible)
         (get_or_past notes k blank (ltb-false k (length notes) past))))
 
--- the act of a number is at the position before which so many are possible, and at which one is
-pub choice-at : (machine : Machine State) (notes : List Note) (first opened writers possible : ℕ)
-    → AreNotes machine.state machine.queue notes first opened writers possible → IsOpened machine.queue notes opened
-    → (number k : ℕ) → possible_count (take k notes) ≡ number → (note_at notes k).possible ≡ true
-    → slice_get (choices_of range_clash machine) number
-    ≡ Some (if (note_at notes k).pending then choices.Work k else choices.Send k)
-unfolding choices_from
-choice-at machine notes first opened writers possible are is_opened number k before is =
-    let within = possible-within notes k is in
-    let same = are.noted.same_length in
-    let size : length machine.queue ≡ k + suc (length machine.queue - suc k) = omega (arith, within, same) in
-    let here : 0 + k ≡ k = omega arith in
-    let count = count-part machine notes first opened writers possible are is_opened 0 k (omega (arith, within)) in
-    ap (λ (acts : List Choice). slice_get acts number)
-    (ap (choices_from range_clash machine 0) size
-    ∙ choices-split range_clash machine 0 k (suc (length machine.queue - suc k)))
-    ∙ (get-behind (choices_from range_clash machine 0 k) (choices_from range_clash machine (0 + k) (suc (length
-    machine.queue - suc k))) number (count ∙ before)
-    ∙ rw here (choice-here machine notes first opened writers possible are is_opened k (choices_from range_clash machine
-    (suc k) (length machine.queue - suc k)) is))
+module _ (machine : Machine State) {notes : List Note} {first opened writers possible : ℕ}
+    (are : AreNotes machine.state machine.queue notes first opened writers possible)
+    (is_opened : IsOpened machine.queue notes opened) where
+  possible-is : (k : ℕ)
+      → (note_at notes k).possible ≡ (is_ready range_clash machine k || is_some (reply_at machine.queue k))
+  possible-is k = by (note_at notes k).pending refl
+    where
+      by : (b : Bool) → (note_at notes k).pending ≡ b
+          → (note_at notes k).possible ≡ (is_ready range_clash machine k || is_some (reply_at machine.queue k))
+      by true pending =
+          rw (
+            ready-is are is_opened k,
+            pending,
+            pending-no_reply (slice_get machine.queue k) (sym (are.marks.asked.marked k) ∙ pending),
+          ) (sym (or-false (note_at notes k).possible))
+      by false idle = rw (ready-is are is_opened k, idle) (are.marks.asked.replies k idle)
+
+  -- as many acts are possible at some positions as their notes say
+  count-part : (k count : ℕ) → k + count ≤ length notes
+      → length (choices_from range_clash machine k count) ≡ possible_count (take count (drop k notes))
+  unfolding choices_from
+  count-part k zero within = refl
+  count-part k (suc count) within =
+      let one : k + 1 ≡ suc k = omega arith in
+      let rest = count-part (suc k) count (omega (arith, within)) in
+      let cut : drop k notes ≡ note_at notes k ∷ drop (suc k) notes =
+      drop_more notes k blank (omega (arith, within)) ∙ ap (λ (n : ℕ). note_at notes k ∷ drop n notes) one in
+      length-append (choices_at range_clash machine k) (choices_from range_clash machine (suc k) count)
+      ∙ (ap₂ (λ (a b : ℕ). a + b) (choices-length range_clash machine k ∙ ap as_count (sym (possible-is k))) rest
+      ∙ (sym (sum_by-cons (λ (n : Note). as_count n.possible) (note_at notes k) (take count (drop (suc k) notes)))
+      ∙ ap (λ (ns : List Note). possible_count (take (suc count) ns)) (sym cut)))
+
+  pub possible-count : possible ≡ length (choices_of range_clash machine)
+  possible-count =
+      let same = are.noted.same_length in
+      are.noted.counted
+      ∙ (ap possible_count (sym (take_all (length machine.queue) notes (omega (arith, same))))
+      ∙ sym (count-part 0 (length machine.queue) (omega (arith, same))))
+
+  -- the act at a position where one is possible
+  choice-here : (k : ℕ) (rest : List Choice) → (note_at notes k).possible ≡ true
+      → slice_get (choices_at range_clash machine k ++ rest) 0
+      ≡ Some (if (note_at notes k).pending then choices.Work k else choices.Send k)
+  choice-here k rest is = by (note_at notes k).pending refl
+    where
+      by : (b : Bool) → (note_at notes k).pending ≡ b
+          → slice_get (choices_at range_clash machine k ++ rest) 0
+          ≡ Some (if (note_at notes k).pending then choices.Work k else choices.Send k)
+      by true pending = rw (ready-is are is_opened k, pending, is) refl
+      by false idle = rw (ready-is are is_opened k, idle, ← are.marks.asked.replies k idle, is) refl
+
+  -- the act of a number is at the position before which so many are possible, and at which one is
+  pub choice-at : (number k : ℕ) → possible_count (take k notes) ≡ number → (note_at notes k).possible ≡ true
+      → slice_get (choices_of range_clash machine) number
+      ≡ Some (if (note_at notes k).pending then choices.Work k else choices.Send k)
+  unfolding choices_from
+  choice-at number k before is =
+      let within = possible-within notes k is in
+      let same = are.noted.same_length in
+      let size : length machine.queue ≡ k + suc (length machine.queue - suc k) = omega (arith, within, same) in
+      let here : 0 + k ≡ k = omega arith in
+      let count = count-part 0 k (omega (arith, within)) in
+      ap (λ (acts : List Choice). slice_get acts number)
+      (ap (choices_from range_clash machine 0) size
+      ∙ choices-split range_clash machine 0 k (suc (length machine.queue - suc k)))
+      ∙ (get-behind (choices_from range_clash machine 0 k) (choices_from range_clash machine (0 + k) (suc (length
+      machine.queue - suc k))) number (count ∙ before)
+      ∙ rw here (choice-here k (choices_from range_clash machine (suc k) (length machine.queue - suc k)) is))

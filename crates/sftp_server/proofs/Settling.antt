@@ -5,12 +5,12 @@ use Rattle.sftp_server.proofs.Imports.{inr, arith, true≢false, ltb-true, ltb-f
 use Rattle.sftp_server.proofs.Imports.{eqb-true, eqb-false, same_Some, length-set, sum_by-set, Ask, ByteRange, Touch}
 use Rattle.sftp_server.proofs.Imports.{Nothing, WritesFile, range, touched_as, State, Entry, Note, Portion, is_on}
 use Rattle.sftp_server.proofs.Imports.{IsPortion, resizes_by, resizes, is_behind_by, is_behind, stands_in_way}
-use Rattle.sftp_server.proofs.Imports.{AreKnownBut, looked_at, blank, note_at, ask_at, touched_at, portion_at}
-use Rattle.sftp_server.proofs.Imports.{is_in_way, as_count, only_reads, IsNoted, pending_by, is_late, portion_now}
-use Rattle.sftp_server.proofs.Imports.{IsPlaced, IsSettling, touches_file, IsFree, IsBlocked, IsStopped, AreBlockedBut}
-use Rattle.sftp_server.proofs.Imports.{AreNotReadyOn, HaveTheirRanges, AreBlockedButOn}
+use Rattle.sftp_server.proofs.Imports.{looked_at, blank, note_at, ask_at, touched_at, portion_at, is_in_way, as_count}
+use Rattle.sftp_server.proofs.Imports.{only_reads, IsNoted, pending_by, is_late, portion_now, IsPlaced, IsSettling}
+use Rattle.sftp_server.proofs.Imports.{touches_file, IsFree, IsBlocked, IsStopped, AreBlockedBut, AreNotReadyOn}
+use Rattle.sftp_server.proofs.Imports.{HaveTheirRanges, AreBlockedButOn, and_parts}
 use Rattle.sftp_server.specs.Readiness.{IsMarkedBut, is_all, IsSettled, resized_file, resizes_noted, IsMeasured}
-use Rattle.sftp_server.proofs.Notes.{by_place, below, set-same, set-other, set-field, stopped-kept, marks_but-alike}
+use Rattle.sftp_server.proofs.Notes.{by_place, below, set-same, set-other, set-field, stopped-placed, marks_but-alike}
 use Rattle.sftp_server.proofs.RangedNotes.{some-behind, behind-after, way-after, after-touched, known-passed}
 use Rattle.sftp_server.proofs.RangedNotes.{known-stopped, known-ended, known-looked}
 use Rattle.sftp_server.proofs.StillRanged.{portion-sound}
@@ -226,17 +226,14 @@ module _ (queue : List Entry) (notes : List Note) (number q : ℕ) (r : Option B
               (λ apart.
               subst IsPortion (sym (portion-other j apart)) (marks.ranged j lt (sym (pending-kept j) ∙ pending)));
           known =
-              subst (λ (g : ℕ → Bool). AreKnownBut g (portion_at queue measured) (portion_now s queue) o number (suc q))
-              (sym pendings)
-              (subst (λ (g : ℕ → Portion). AreKnownBut (pending_by notes) g (portion_now s queue) o number (suc q))
-              (sym (portions ∙ ap (looked_at (portion_at queue notes) q) now))
+              rw (pendings, portions ∙ ap (looked_at (portion_at queue notes) q) now)
               (known-looked (pending_by notes) (portion_at queue notes) (portion_now s queue) o number q marks.known
-              before pends on));
+              before pends on);
         }
 
 -- ---- it is judged
 
-module _ (s : State) (queue : List Entry) (before after : List Note) (o g x y done to number q : ℕ)
+module _ {s : State} {queue : List Entry} {before after : List Note} {o g x y done to number q : ℕ}
     (placed : IsPlaced queue before after q) (noted : IsNoted queue after g o x y)
     (blocked : AreBlockedButOn queue before o done to number q) (waits : AreNotReadyOn queue before o number q)
     (marks : IsMarkedBut s queue before o number (suc q)) where
@@ -244,20 +241,11 @@ module _ (s : State) (queue : List Entry) (before after : List Note) (o g x y do
   touched-alike j = ap (λ (t : Touch). touched_as t (ask_at queue j)) (placed.alike.touch j)
 
   judged-blocked : AreBlockedButOn queue after o done to number (suc q)
-  judged-blocked j lt pending off other early = by_place j q (IsStopped queue after j) here there
-    where
-      here : j ≡ q → IsStopped queue after j
-      here at =
-          subst (λ (i : ℕ). IsStopped queue after i) (sym at)
-          (inl (placed.blocked (subst (λ (i : ℕ). (note_at after i).possible ≡ false) at off)))
-
-      there : j ≢ q → IsStopped queue after j
-      there apart =
-          stopped-kept queue before after j q
-          (blocked j lt (sym (placed.alike.pending j) ∙ pending) (sym (placed.possible j apart) ∙ off)
-          (λ from within. λ same. other from within (ap (λ (n : ℕ). done + n) (placed.blocker j apart) ∙ same))
-          (λ it_is. below j q (early (ap (is_on number) (touched-alike j) ∙ it_is)) apart))
-          placed apart
+  judged-blocked j lt pending off other early =
+      stopped-placed placed j off (λ apart.
+      blocked j lt (sym (placed.alike.pending j) ∙ pending) (sym (placed.possible j apart) ∙ off)
+      (λ from within. λ same. other from within (ap (λ (n : ℕ). done + n) (placed.blocker j apart) ∙ same))
+      (λ it_is. below j q (early (ap (is_on number) (touched-alike j) ∙ it_is)) apart))
 
   judged-waits : AreNotReadyOn queue after o number (suc q)
   judged-waits j later lt pending it_is =
@@ -276,10 +264,11 @@ module _ (s : State) (queue : List Entry) (before after : List Note) (o g x y do
 
 -- ---- one is looked at again: it is measured, and then judged
 
-module _ (s : State) (queue : List Entry) (notes mid : List Note) (f o w p number q : ℕ)
+module _ {s : State} {queue : List Entry} {notes mid : List Note} {f o w p number q : ℕ}
     (noted : IsNoted queue notes f o w p) (waits : AreNotReadyOn queue notes o number q)
-    (marks : IsMarkedBut s queue notes o number q) (before : q < o) (pends : (note_at notes q).pending ≡ true)
-    (on_it : touches_file number (note_at notes q).touch ≡ true) (is : IsMeasured s queue q notes mid) where
+    (marks : IsMarkedBut s queue notes o number q) (before : q < o)
+    (meant : ((note_at notes q).pending && touches_file number (note_at notes q).touch) ≡ true)
+    (is : IsMeasured s queue q notes mid) where
   abbrev own : Option ByteRange
   own = range s (ask_at queue q)
 
@@ -289,8 +278,13 @@ module _ (s : State) (queue : List Entry) (notes mid : List Note) (f o w p numbe
   in_notes : q < length notes
   in_notes = let size = noted.same_length in let within = noted.within in omega (arith, size, within, before)
 
+  pends : (note_at notes q).pending ≡ true
+  pends = (and_parts (note_at notes q).pending (touches_file number (note_at notes q).touch) meant).0
+
   touches : is_on number (touched_at queue notes q) ≡ true
-  touches = on-touch number (note_at notes q).touch (ask_at queue q) ∙ on_it
+  touches =
+      on-touch number (note_at notes q).touch (ask_at queue q)
+      ∙ (and_parts (note_at notes q).pending (touches_file number (note_at notes q).touch) meant).1
 
   pub looked-noted : IsNoted queue mid f o w p
   looked-noted =
@@ -307,21 +301,20 @@ module _ (s : State) (queue : List Entry) (notes mid : List Note) (f o w p numbe
       ap (λ (n : List Note). (note_at n q).possible) is
       ∙ (possible-kept queue notes number q own in_notes touches q ∙ waits q (omega arith) before pends touches)
 
-  pub looked-reach : (after : List Note) → IsPlaced queue mid after q → (j : ℕ)
+  pub looked-reach : {after : List Note} → IsPlaced queue mid after q → (j : ℕ)
       → (note_at notes j).waiter ≤ (note_at after j).waiter
-  looked-reach after placed j =
+  looked-reach placed j =
       let same = ap (λ (n : List Note). (note_at n j).waiter) is in
       let kept = waiter-kept queue notes number q own in_notes touches j in
       let grows = placed.waiter j in
       omega (arith, same, kept, grows)
 
-  pub looked-settling : (after : List Note) (g end x y : ℕ) → end ≡ o → IsPlaced queue mid after q
+  pub looked-settling : {after : List Note} {g end x y : ℕ} → end ≡ o → IsPlaced queue mid after q
       → IsNoted queue after g end x y → (done to : ℕ) → AreBlockedButOn queue notes o done to number q
       → IsSettling s queue after g end x y done to number (suc q)
-  looked-settling after g end x y same placed after_noted done to blocked =
+  looked-settling {after} {g} {end} {x} {y} same placed after_noted done to blocked =
       subst (λ (n : ℕ). IsSettling s queue after g n x y done to number (suc q)) (sym same)
-      (judged s queue over after o g x y done to number q
-      (subst (λ (n : List Note). IsPlaced queue n after q) is placed)
+      (judged (subst (λ (n : List Note). IsPlaced queue n after q) is placed)
       (subst (λ (n : ℕ). IsNoted queue after g n x y) same after_noted)
       (measured-blocked queue notes number q own in_notes touches f o w p noted marks.ranged waits before pends done to
       blocked)
@@ -331,7 +324,7 @@ module _ (s : State) (queue : List Entry) (notes mid : List Note) (f o w p numbe
 
 -- ---- one is passed over
 
-module _ (s : State) (queue : List Entry) (notes : List Note) (f o w p done to number q : ℕ)
+module _ {s : State} {queue : List Entry} {notes : List Note} {f o w p done to number q : ℕ}
     (settling : IsSettling s queue notes f o w p done to number q) where
   pub passed-over : ((note_at notes q).pending && is_on number (touched_at queue notes q)) ≡ false
       → IsSettling s queue notes f o w p done to number (suc q)
@@ -356,10 +349,10 @@ module _ (s : State) (queue : List Entry) (notes : List Note) (f o w p done to n
   }
 
 -- at another name of the position
-pub settling-at : (s : State) (queue : List Entry) (notes : List Note) (f o w p done to number next other : ℕ)
+pub settling-at : {s : State} {queue : List Entry} {notes : List Note} {f o w p done to number : ℕ} (next other : ℕ)
     → next ≡ other → IsSettling s queue notes f o w p done to number next
     → IsSettling s queue notes f o w p done to number other
-settling-at s queue notes f o w p done to number next other same =
+settling-at {s} {queue} {notes} {f} {o} {w} {p} {done} {to} {number} next other same =
     subst (λ (n : ℕ). IsSettling s queue notes f o w p done to number n) same
 
 -- those that wait are within a farther bound too
@@ -370,7 +363,7 @@ but-farther queue notes o done from to far more but j lt pending off other =
 
 -- ---- the end
 
-module _ (s : State) (queue : List Entry) (notes : List Note) (f o w p done to number : ℕ) where
+module _ {s : State} {queue : List Entry} {notes : List Note} {f o w p done to number : ℕ} where
   -- at one that may change the length of the file still
   pub settled-stopped : (q : ℕ) → IsSettling s queue notes f o w p done to number (suc q)
       → (note_at notes q).pending ≡ true → resizes number (portion_at queue notes q) ≡ true

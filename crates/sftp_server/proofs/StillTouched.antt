@@ -83,10 +83,10 @@ pending-within (entry ∷ queue) zero is = omega arith
 pending-within (entry ∷ queue) (suc k) is = let rest = pending-within queue k is in omega (arith, rest)
 
 -- what is ready is open
-pub ready-open : (s : State) (queue : List Entry) (notes : List Note) (first opened writers possible k : ℕ)
+pub ready-open : {s : State} {queue : List Entry} {notes : List Note} {first opened writers possible : ℕ} (k : ℕ)
     → AreNotes s queue notes first opened writers possible → (note_at notes k).pending ≡ true
     → (note_at notes k).possible ≡ true → k < opened
-ready-open s queue notes first opened writers possible k are pending ready = by (nat_lt k opened) refl
+ready-open {queue = queue} {notes} {opened = opened} k are pending ready = by (nat_lt k opened) refl
   where
     by : (b : Bool) → nat_lt k opened ≡ b → k < opened
     by true less = ltb-true k opened less
@@ -96,13 +96,12 @@ ready-open s queue notes first opened writers possible k are pending ready = by 
         (pending-within queue k (sym (are.marks.asked.marked k) ∙ pending))).1))
 
 -- A request that was ready was done with this reply: what is known before the notes are looked through again.
-pub notes-worked : (s end : State) (queue : List Entry) (notes : List Note) (first opened writers possible k : ℕ)
-    (request : Request) (reply : Reply) → AreNotes s queue notes first opened writers possible
+pub notes-worked : {s : State} {queue : List Entry} {notes : List Note} {first opened writers possible : ℕ} (end : State)
+    (k : ℕ) (request : Request) (reply : Reply) → AreNotes s queue notes first opened writers possible
     → (note_at notes k).pending ≡ true → (note_at notes k).possible ≡ true → ask_at queue k ≡ request.ask
     → Allowed s request reply end
     → IsNoted (with_progress queue k (Done reply)) (done_notes notes k) first opened writers possible
     × IsDone end (with_progress queue k (Done reply)) (done_notes notes k) opened k
-notes-worked s end queue notes first opened writers possible k request reply are pending ready named allowed =
-    marked-done s end queue notes first opened writers possible k reply are
-    (ready-open s queue notes first opened writers possible k are pending ready) pending ready
+notes-worked {s} {queue} end k request reply are pending ready named allowed =
+    marked-done end k reply are (ready-open k are pending ready) pending ready
     (step-leaves s end request reply (ask_at queue k) named allowed)

@@ -28,6 +28,20 @@ pub record DoneLast {S : Type 0} (step : StepOf S) (s : S) (items : List Item) (
   pub last : step mid request reply end
   pub pairs_are : pairs ≡ others ++ (request, reply) ∷ []
 
+-- so it is behind items that are done before
+last-behind : {S : Type 0} {step : StepOf S} {s start end : S} {items all : List Item} {request : Request}
+    {pairs more : List Pair} (rest : DoneLast step s items request pairs end) (others : List Pair)
+    → Finishes step start all others rest.mid → more ≡ others ++ (request, rest.reply) ∷ []
+    → DoneLast step start all request more end
+last-behind rest others before pairs_are = record {
+  others = others;
+  mid = rest.mid;
+  reply = rest.reply;
+  before = before;
+  last = rest.last;
+  pairs_are = pairs_are;
+}
+
 -- the request is left out, or it is done last
 finishes-asked : {S : Type 0} (step : StepOf S) (s end : S) (items : List Item) (request : Request) (pairs : List Pair)
     → Finishes step s (items ++ (request, pending) ∷ []) pairs end
@@ -44,50 +58,26 @@ finishes-asked step s end [] request pairs (inr f) = inr record {
 finishes-asked step s end ((first, pending) ∷ items) request pairs (inl f) =
     elim (finishes-asked step s end items request pairs f) [
       | inl out ↦ inl (inl out)
-      | inr rest ↦ inr record {
-        others = rest.others;
-        mid = rest.mid;
-        reply = rest.reply;
-        before = inl rest.before;
-        last = rest.last;
-        pairs_are = rest.pairs_are;
-      }
+      | inr rest ↦ inr (last-behind rest rest.others (inl rest.before) rest.pairs_are)
     ]
 finishes-asked step s end ((first, pending) ∷ items) request pairs (inr f) =
     elim (finishes-asked step f.1 end items request f.2 f.4) [
       | inl out ↦ inl (inr (f.0, f.1, f.2, f.3, out, f.5))
-      | inr rest ↦ inr record {
-        others = (first, f.0) ∷ rest.others;
-        mid = rest.mid;
-        reply = rest.reply;
-        before = inr (f.0, f.1, rest.others, f.3, rest.before, refl);
-        last = rest.last;
-        pairs_are = f.5 ∙ ap (λ (ps : List Pair). (first, f.0) ∷ ps) rest.pairs_are;
-      }
+      | inr rest ↦ inr (last-behind rest ((first, f.0) ∷ rest.others)
+          (inr (f.0, f.1, rest.others, f.3, rest.before, refl))
+          (f.5 ∙ ap (λ (ps : List Pair). (first, f.0) ∷ ps) rest.pairs_are))
     ]
 finishes-asked step s end ((first, done reply) ∷ items) request pairs f =
     elim (finishes-asked step s end items request f.0 f.1) [
       | inl out ↦ inl (f.0, out, f.2)
-      | inr rest ↦ inr record {
-        others = (first, reply) ∷ rest.others;
-        mid = rest.mid;
-        reply = rest.reply;
-        before = (rest.others, rest.before, refl);
-        last = rest.last;
-        pairs_are = f.2 ∙ ap (λ (ps : List Pair). (first, reply) ∷ ps) rest.pairs_are;
-      }
+      | inr rest ↦ inr (last-behind rest ((first, reply) ∷ rest.others) (rest.others, rest.before, refl)
+          (f.2 ∙ ap (λ (ps : List Pair). (first, reply) ∷ ps) rest.pairs_are))
     ]
 finishes-asked step s end ((first, sent reply) ∷ items) request pairs f =
     elim (finishes-asked step s end items request f.0 f.1) [
       | inl out ↦ inl (f.0, out, f.2)
-      | inr rest ↦ inr record {
-        others = (first, reply) ∷ rest.others;
-        mid = rest.mid;
-        reply = rest.reply;
-        before = (rest.others, rest.before, refl);
-        last = rest.last;
-        pairs_are = f.2 ∙ ap (λ (ps : List Pair). (first, reply) ∷ ps) rest.pairs_are;
-      }
+      | inr rest ↦ inr (last-behind rest ((first, reply) ∷ rest.others) (rest.others, rest.before, refl)
+          (f.2 ∙ ap (λ (ps : List Pair). (first, reply) ∷ ps) rest.pairs_are))
     ]
 
 -- a run that ends with this request

@@ -20,7 +20,7 @@ use Rattle.sftp_server.specs.declared.refusals.Refuse.TheVariants as refusals
 use Rattle.sftp_server.proofs.Machines.Reached.{reached-taken}
 use Rattle.sftp_server.proofs.Sessions.Lists.{asked-session, session-more}
 use Rattle.sftp_server.proofs.Sessions.Stops.{no-opening, reached-begins, reached-leaves, is-beginning}
-use Rattle.sftp_server.proofs.Sessions.Stops.{stopped-no-memory}
+use Rattle.sftp_server.proofs.Sessions.Stops.{stopped-no-memory, running-on, stops-by, leaves-by}
 
 -- what holds of a request that can be encoded
 pub request-value : (request : Request) → HasSpelling (request_packet request) → IsValue request
@@ -40,16 +40,14 @@ pub breaks : (log0 log1 : Log) (text : List ℕ) (error : TranscriptError) → I
     → FailsToRecord log0 text error log1 → AppendsPart log0.bytes log1.bytes text
 breaks log0 log1 text (Io place) logging (inl broken) = absurd cc
 breaks log0 log1 text (Io place) logging (inr fails) =
-    let same = no-opening log0.records text logging.begun in
-    subst (λ (bytes : List ℕ). AppendsPart log0.bytes log1.bytes bytes) same fails.1.bytes
+    subst (AppendsPart log0.bytes log1.bytes) (no-opening log0.records text logging.begun) fails.1.bytes
 breaks log0 log1 text other logging fails = absurd fails
 
 -- the record was appended, with no opening
 appended : (log0 log1 : Log) (text : List ℕ) → IsLogging log0 → IsAppended log0 text log1
     → Appends log0.bytes log1.bytes text
 appended log0 log1 text logging is =
-    let same = no-opening log0.records text logging.begun in
-    subst (λ (bytes : List ℕ). Appends log0.bytes log1.bytes bytes) same is.bytes
+    subst (Appends log0.bytes log1.bytes) (no-opening log0.records text logging.begun) is.bytes
 
 -- ---- a request
 
@@ -90,7 +88,6 @@ module _ (start : Tree) (past : StreamBytes) (left written : Option (List ℕ)) 
       None
   asked logged =
       let session = asked-session running.init running.events request in
-      let text : List ℕ = record_text (request_packet request) in
       record {
         init = running.init;
         events = events;
@@ -99,12 +96,12 @@ module _ (start : Tree) (past : StreamBytes) (left written : Option (List ℕ)) 
         spelled = spelled-more;
         reached = reached-more;
         passed = record {
-          read = subst (λ (l : List ℕ). Consumes past.left left l) read-more running.passed.read;
-          written = subst (λ (l : List ℕ). Appends past.written written l) (sym session.server) running.passed.written;
+          read = subst (Consumes past.left left) read-more running.passed.read;
+          written = subst (Appends past.written written) (sym session.server) running.passed.written;
           logged =
-              subst (λ (l : List ℕ). Appends past.logged log1.bytes l) (sym session.log)
-              (Appends-trans past.logged log0.bytes log1.bytes (recorded before) text running.passed.logged
-              (appended log0 log1 text logging logged));
+              subst (Appends past.logged log1.bytes) (sym session.log)
+              (Appends-trans past.logged log0.bytes log1.bytes _ _ running.passed.logged
+              (appended log0 log1 (record_text (request_packet request)) logging logged));
         };
         place =
             ap (λ (n : ℕ). place_after n count) running.place
@@ -152,54 +149,10 @@ module _ (start : Tree) (past : StreamBytes) (left written : Option (List ℕ)) 
         (fails.rest, fails.parts),
         refl,
       ) in
-      record {
-        served = record {
-          input = sent_by Client before ++ ahead.held;
-          output = sent_by Server before;
-          log = recorded before ++ fails.part;
-          passed = passed;
-          served = record {
-            packets = after;
-            rest = drop count ahead.held;
-            listed = listed;
-            read = read-more;
-            left = (sym session.server, cut);
-          };
-        };
-        leaves = record {
-          input = sent_by Client before ++ ahead.held;
-          output = sent_by Server before;
-          log = recorded before ++ fails.part;
-          passed = passed;
-          is_left = record {
-            packets = after;
-            rest = drop count ahead.held;
-            listed = listed;
-            read = read-more;
-            written = subst (λ (bytes : List ℕ). IsBeginning (sent_by Server before) bytes) (sym session.server)
-                (is-beginning (sent_by Server before));
-            logged = cut;
-            tree = reached-leaves start running.init events (taken core request) running.good reached-more;
-          };
-        };
-      }
-
--- ---- a fault
-
-pub faulty : (start : Tree) (past now : StreamBytes) (ahead : Ahead) (core : Machine State) (fault : SessionFault)
-    → ((events : List Event) → IsFaultAhead events core.queue ahead.held ahead.place (Some fault))
-    → IsRunning start past now ahead core None → IsRunning start past now ahead core (Some fault)
-faulty start past now ahead core fault found running = record {
-  init = running.init;
-  events = running.events;
-  good = running.good;
-  greeting = running.greeting;
-  spelled = running.spelled;
-  reached = running.reached;
-  passed = running.passed;
-  place = running.place;
-  found = found running.events;
-}
+      stops-by passed after (drop count ahead.held) listed read-more (sym session.server, cut)
+      (leaves-by passed after (drop count ahead.held) listed read-more
+      (subst (IsBeginning (sent_by Server before)) (sym session.server) (is-beginning (sent_by Server before))) cut
+      (reached-leaves start running.init events (taken core request) running.good reached-more))
 
 -- ---- the bytes of a packet in front
 
@@ -230,8 +183,7 @@ pub takes-fault : (ahead : Ahead) (core : Machine State) (logged : Option (List 
     → ((events : List Event) → IsFaultAhead events core.queue ahead.held ahead.place (Some fault))
     → TakesOn ahead ahead core core logged logged (Ok (Fault fault))
 takes-fault ahead core logged fault found =
-    λ start past left written running.
-    faulty start past (stream_bytes left written logged) ahead core fault found running
+    λ start past left written running. running-on running running.passed refl (found running.events)
 
 -- the core refuses the request
 pub takes-refused : (ahead : Ahead) (core : Machine State) (logged : Option (List ℕ)) (request : Request) (count : ℕ)

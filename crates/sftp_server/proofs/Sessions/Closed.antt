@@ -17,9 +17,10 @@ use Rattle.sftp_server.specs.declared.ends.SessionFault.TheVariants as faults
 use Rattle.sftp_server.specs.declared.ends.Stream.TheVariants as streams
 use Rattle.sftp_server.specs.declared.ends.Stop.TheVariants as stops
 use Rattle.sftp_server.proofs.Machines.Laws.{explained}
-use Rattle.sftp_server.proofs.Sessions.Stops.{stays-good, each-answered, running-kept, stopped-reader, stopped-writer}
-use Rattle.sftp_server.proofs.Sessions.Stops.{stopped-log}
-use Rattle.sftp_server.proofs.Sessions.Opened.{unopened-no_memory}
+use Rattle.sftp_server.proofs.Sessions.Stops.{stays-good, each-answered, running-on, running-kept, stopped-reader}
+use Rattle.sftp_server.proofs.Sessions.Stops.{stopped-writer, stopped-log}
+use Rattle.sftp_server.proofs.Sessions.Opened.{unopened-stopped}
+use Rattle.sftp_server.specs.Served.{Served}
 
 -- ---- what streams passed
 
@@ -32,123 +33,80 @@ passed-nothing now = record {
 
 -- ---- a session that runs on
 
--- more was read
-pub running-read : (start : Tree) (past : StreamBytes) (left0 left1 written logged : Option (List ℕ)) (ahead : Ahead)
-    (core : Machine State) (more : List ℕ) → IsRunning start past (stream_bytes left0 written logged) ahead core None
-    → Consumes left0 left1 more
-    → IsRunning start past (stream_bytes left1 written logged)
-    (record { held = ahead.held ++ more; place = ahead.place }) core None
-running-read start past left0 left1 written logged ahead core more running read =
-    let sent = sent_by Client (session_packets running.init running.events) in
-    record {
-      init = running.init;
-      events = running.events;
-      good = running.good;
-      greeting = running.greeting;
-      spelled = running.spelled;
-      reached = running.reached;
-      passed = record {
-        read = subst (Consumes past.left left1) (append_assoc sent ahead.held more)
-            (Consumes-trans past.left left0 left1 (sent ++ ahead.held) more running.passed.read read);
-        written = running.passed.written;
-        logged = running.passed.logged;
-      };
-      place = running.place;
-      found = tt;
-    }
-
 abbrev ahead_of : List ℕ → ℕ → Ahead
 ahead_of held place = record { held = held; place = place }
+
+-- more was read
+pub running-read : {start : Tree} {past : StreamBytes} {left0 left1 written logged : Option (List ℕ)} {ahead : Ahead}
+    {core : Machine State} (more : List ℕ) → IsRunning start past (stream_bytes left0 written logged) ahead core None
+    → Consumes left0 left1 more
+    → IsRunning start past (stream_bytes left1 written logged) (ahead_of (ahead.held ++ more) ahead.place) core None
+running-read {start} {past} {left0} {left1} {written} {logged} {ahead} more running read =
+    let sent = sent_by Client (session_packets running.init running.events) in
+    running-on running (record {
+      read = subst (Consumes past.left left1) (append_assoc sent ahead.held more)
+          (Consumes-trans past.left left0 left1 (sent ++ ahead.held) more running.passed.read read);
+      written = running.passed.written;
+      logged = running.passed.logged;
+    }) refl tt
 
 -- so many bytes were read
 abbrev pub HasRead : Option (List ℕ) → Option (List ℕ) → Ahead → Ahead → ℕ → Type 0
 HasRead left0 left1 ahead0 ahead1 count =
-    (more : List ℕ) × (length more ≡ count) × (ahead1 ≡ record { held = ahead0.held ++ more; place = ahead0.place })
+    (more : List ℕ) × (length more ≡ count) × (ahead1 ≡ ahead_of (ahead0.held ++ more) ahead0.place)
     × Consumes left0 left1 more
 
 no-bytes : (bytes : List ℕ) → length bytes ≡ 0 → bytes ≡ []
 no-bytes [] none = refl
 no-bytes (first ∷ bytes) none = absurd cc
 
-pub nothing-read : (left0 left1 : Option (List ℕ)) (ahead0 ahead1 : Ahead) (count : ℕ)
+pub nothing-read : (left0 left1 : Option (List ℕ)) {ahead0 ahead1 : Ahead} {count : ℕ}
     → HasRead left0 left1 ahead0 ahead1 count → count ≡ 0 → ahead1 ≡ ahead0
-nothing-read left0 left1 ahead0 ahead1 count read none =
+nothing-read left0 left1 {ahead0} read none =
     read.2 ∙ ap (λ (more : List ℕ). ahead_of (ahead0.held ++ more) ahead0.place) (no-bytes read.0 (read.1 ∙ none))
     ∙ ap (λ (held : List ℕ). ahead_of held ahead0.place) (append-nil ahead0.held)
 
--- the writer kept its bytes
-pub running-written : (start : Tree) (past : StreamBytes) (left written0 written1 logged : Option (List ℕ))
-    (ahead : Ahead) (core : Machine State) (fault : Option SessionFault)
-    → IsRunning start past (stream_bytes left written0 logged) ahead core fault → Keeps written0 written1
-    → IsRunning start past (stream_bytes left written1 logged) ahead core fault
-running-written start past left written0 written1 logged ahead core fault running kept =
-    running-kept start past (stream_bytes left written0 logged) (stream_bytes left written1 logged) ahead core fault
-    running (Keeps-refl left) kept (Keeps-refl logged)
+-- a stream kept its bytes, and did not fail, or did
+module _ {start : Tree} {past : StreamBytes} {left written logged : Option (List ℕ)} {ahead : Ahead}
+    {core : Machine State} {fault : Option SessionFault}
+    (running : IsRunning start past (stream_bytes left written logged) ahead core fault) where
+  pub running-written : {later : Option (List ℕ)} → Keeps written later
+      → IsRunning start past (stream_bytes left later logged) ahead core fault
+  running-written kept = running-kept running (Keeps-refl left) kept (Keeps-refl logged)
 
--- the log kept its bytes
-pub running-logged : (start : Tree) (past : StreamBytes) (left written logged0 logged1 : Option (List ℕ))
-    (ahead : Ahead) (core : Machine State) (fault : Option SessionFault)
-    → IsRunning start past (stream_bytes left written logged0) ahead core fault → Keeps logged0 logged1
-    → IsRunning start past (stream_bytes left written logged1) ahead core fault
-running-logged start past left written logged0 logged1 ahead core fault running kept =
-    running-kept start past (stream_bytes left written logged0) (stream_bytes left written logged1) ahead core fault
-    running (Keeps-refl left) (Keeps-refl written) kept
+  pub running-logged : {later : Option (List ℕ)} → Keeps logged later
+      → IsRunning start past (stream_bytes left written later) ahead core fault
+  running-logged kept = running-kept running (Keeps-refl left) (Keeps-refl written) kept
+
+  pub reader-stops : {later : Option (List ℕ)} {stop : Stop} → Keeps left later → stop ≡ stops.Io streams.Reader
+      → Stops start past (stream_bytes later written logged) stop (tree_left core)
+  reader-stops {later} kept is =
+      subst (λ (s : Stop). Stops start past (stream_bytes later written logged) s (tree_left core)) (sym is)
+      (stopped-reader (running-kept running kept (Keeps-refl written) (Keeps-refl logged)))
+
+  pub writer-stops : {later : Option (List ℕ)} {stop : Stop} → Keeps written later → stop ≡ stops.Io streams.Writer
+      → Stops start past (stream_bytes left later logged) stop (tree_left core)
+  writer-stops {later} kept is =
+      subst (λ (s : Stop). Stops start past (stream_bytes left later logged) s (tree_left core)) (sym is)
+      (stopped-writer (running-written kept))
+
+  pub log-stops : {later : Option (List ℕ)} {stop : Stop} → Keeps logged later → stop ≡ stops.Io streams.Log
+      → Stops start past (stream_bytes left written later) stop (tree_left core)
+  log-stops {later} kept is =
+      subst (λ (s : Stop). Stops start past (stream_bytes left written later) s (tree_left core)) (sym is)
+      (stopped-log (running-logged kept))
 
 -- what was written was passed on, and then bytes were read
-pub running-more : (start : Tree) (past : StreamBytes) (left0 left1 written0 written1 logged : Option (List ℕ))
-    (ahead0 ahead1 : Ahead) (core : Machine State) (count : ℕ)
+pub running-more : {start : Tree} {past : StreamBytes} {left0 left1 written0 written1 logged : Option (List ℕ)}
+    {ahead0 ahead1 : Ahead} {core : Machine State} {count : ℕ}
     → IsRunning start past (stream_bytes left0 written0 logged) ahead0 core None → Keeps written0 written1
     → HasRead left0 left1 ahead0 ahead1 count
     → IsRunning start past (stream_bytes left1 written1 logged) ahead1 core None
-running-more start past left0 left1 written0 written1 logged ahead0 ahead1 core count running kept read =
+running-more {start} {past} {left0} {left1} {written0} {written1} {logged} {core = core} running kept read =
     subst (λ (a : Ahead). IsRunning start past (stream_bytes left1 written1 logged) a core None) (sym read.2)
-    (running-read start past left0 left1 written1 logged ahead0 core read.0
-    (running-written start past left0 written0 written1 logged ahead0 core None running kept) read.3)
-
--- ---- a stream fails
-
-pub reader-stops : (start : Tree) (past : StreamBytes) (left0 left1 written logged : Option (List ℕ)) (ahead : Ahead)
-    (core : Machine State) (fault : Option SessionFault) (stop : Stop)
-    → IsRunning start past (stream_bytes left0 written logged) ahead core fault → Keeps left0 left1
-    → stop ≡ stops.Io streams.Reader → Stops start past (stream_bytes left1 written logged) stop (tree_left core)
-reader-stops start past left0 left1 written logged ahead core fault stop running kept is =
-    subst (λ (s : Stop). Stops start past (stream_bytes left1 written logged) s (tree_left core)) (sym is)
-    (stopped-reader
-    (running-kept start past (stream_bytes left0 written logged) (stream_bytes left1 written logged) ahead core fault
-    running kept (Keeps-refl written) (Keeps-refl logged)))
-
-pub writer-stops : (start : Tree) (past : StreamBytes) (left written0 written1 logged : Option (List ℕ)) (ahead : Ahead)
-    (core : Machine State) (fault : Option SessionFault) (stop : Stop)
-    → IsRunning start past (stream_bytes left written0 logged) ahead core fault → Keeps written0 written1
-    → stop ≡ stops.Io streams.Writer → Stops start past (stream_bytes left written1 logged) stop (tree_left core)
-writer-stops start past left written0 written1 logged ahead core fault stop running kept is =
-    subst (λ (s : Stop). Stops start past (stream_bytes left written1 logged) s (tree_left core)) (sym is)
-    (stopped-writer (running-written start past left written0 written1 logged ahead core fault running kept))
-
-pub log-stops : (start : Tree) (past : StreamBytes) (left written logged0 logged1 : Option (List ℕ)) (ahead : Ahead)
-    (core : Machine State) (fault : Option SessionFault) (stop : Stop)
-    → IsRunning start past (stream_bytes left written logged0) ahead core fault → Keeps logged0 logged1
-    → stop ≡ stops.Io streams.Log → Stops start past (stream_bytes left written logged1) stop (tree_left core)
-log-stops start past left written logged0 logged1 ahead core fault stop running kept is =
-    subst (λ (s : Stop). Stops start past (stream_bytes left written logged1) s (tree_left core)) (sym is)
-    (stopped-log (running-logged start past left written logged0 logged1 ahead core fault running kept))
+    (running-read read.0 (running-written running kept) read.3)
 
 -- ---- the end of a session
-
--- a fault was in front, and each request before it is answered
-without-fault : (start : Tree) (past now : StreamBytes) (ahead : Ahead) (core : Machine State)
-    (fault : Option SessionFault) → IsRunning start past now ahead core fault → IsRunning start past now ahead core None
-without-fault start past now ahead core fault running = record {
-  init = running.init;
-  events = running.events;
-  good = running.good;
-  greeting = running.greeting;
-  spelled = running.spelled;
-  reached = running.reached;
-  passed = running.passed;
-  place = running.place;
-  found = tt;
-}
 
 -- the fault in front ends the session, since nothing is unanswered
 pub fault-ends : (events : List Event) (rest : List ℕ) (place : ℕ) (over : Type 0) (fault : SessionFault)
@@ -160,34 +118,33 @@ fault-ends events rest place over (faults.IdInUse id) found =
 fault-ends events rest place over faults.BadInit found = found
 fault-ends events rest place over other found = absurd found
 
--- the session that found this fault ends, once each request is answered
-pub ending-fault : (start : Tree) (past now : StreamBytes) (ahead : Ahead) (core : Machine State) (fault : SessionFault)
-    → IsRunning start past now ahead core (Some fault) → core.queue ≡ [] → IsEnding start past now core (Some fault)
-unfolding without-fault
-ending-fault start past now ahead core fault running answered =
-    let found : IsFaultAhead running.events [] ahead.held ahead.place (Some fault) =
-    subst (λ (queue : List Entry). IsFaultAhead running.events queue ahead.held ahead.place (Some fault)) answered
-    running.found in
-    record {
-      ahead = ahead;
-      running = without-fault start past now ahead core (Some fault) running;
-      answered = answered;
-      why = fault-ends running.events ahead.held ahead.place (IsAtEnd now.left) fault found;
-    }
+module _ {start : Tree} {past now : StreamBytes} {ahead : Ahead} {core : Machine State} where
+  -- the session that found this fault ends, once each request is answered
+  pub ending-fault : {fault : SessionFault} → IsRunning start past now ahead core (Some fault) → core.queue ≡ []
+      → IsEnding start past now core (Some fault)
+  ending-fault {fault} running answered =
+      let found : IsFaultAhead running.events [] ahead.held ahead.place (Some fault) =
+      subst (λ (queue : List Entry). IsFaultAhead running.events queue ahead.held ahead.place (Some fault)) answered
+      running.found in
+      record {
+        ahead = ahead;
+        running = running-on running running.passed refl tt;
+        answered = answered;
+        why = fault-ends running.events ahead.held ahead.place (IsAtEnd now.left) fault found;
+      }
 
--- the input ended after a whole packet
-pub ending-whole : (start : Tree) (past now : StreamBytes) (ahead : Ahead) (core : Machine State)
-    → IsRunning start past now ahead core None → core.queue ≡ [] → IsAtEnd now.left → ahead.held ≡ []
-    → IsEnding start past now core None
-ending-whole start past now ahead core running answered over none =
-    record { ahead = ahead; running = running; answered = answered; why = (over, none) }
+  -- the input ended after a whole packet
+  pub ending-whole : IsRunning start past now ahead core None → core.queue ≡ [] → IsAtEnd now.left → ahead.held ≡ []
+      → IsEnding start past now core None
+  ending-whole running answered over none =
+      record { ahead = ahead; running = running; answered = answered; why = (over, none) }
 
--- the input ended inside a packet
-pub ending-cut : (start : Tree) (past now : StreamBytes) (ahead : Ahead) (core : Machine State) (at : ℕ)
-    → IsRunning start past now ahead core None → core.queue ≡ [] → IsAtEnd now.left → ahead.held ≢ []
-    → front_of Client ahead.held ≡ Ok None → at ≡ ahead.place → IsEnding start past now core (Some (faults.Cut at))
-ending-cut start past now ahead core at running answered over some waits is =
-    record { ahead = ahead; running = running; answered = answered; why = (over, some, waits, is) }
+  -- the input ended inside a packet
+  pub ending-cut : {at : ℕ} → IsRunning start past now ahead core None → core.queue ≡ [] → IsAtEnd now.left
+      → ahead.held ≢ [] → front_of Client ahead.held ≡ Ok None → at ≡ ahead.place
+      → IsEnding start past now core (Some (faults.Cut at))
+  ending-cut running answered over some waits is =
+      record { ahead = ahead; running = running; answered = answered; why = (over, some, waits, is) }
 
 -- whether bytes are held
 pub held-none : (held got : List ℕ) (empty : Bool) → got ≡ held → empty ≡ (length got == 0) → empty ≡ true → held ≡ []
@@ -199,70 +156,69 @@ held-some held got empty same is false_is none =
 
 -- ---- a session that has ended
 
-served-by : (start : Tree) (past now : StreamBytes) (core : Machine State) (fault : Option SessionFault)
-    → (ending : IsEnding start past now core fault) → IsServed start ending.running.events (closed_tree core.state)
-served-by start past now core fault ending =
-    let running = ending.running in
-    record {
-      last = core.state;
-      explained = explained stays-good each-answered (started start) window running.events core running.good (omega arith)
-          running.reached ending.answered;
-      end_is = refl;
-    }
+module _ {start : Tree} {past now : StreamBytes} {core : Machine State} where
+  served-by : {fault : Option SessionFault} (ending : IsEnding start past now core fault)
+      → IsServed start ending.running.events (closed_tree core.state)
+  served-by ending =
+      let running = ending.running in
+      record {
+        last = core.state;
+        explained =
+            explained stays-good each-answered (started start) window running.events core running.good (omega arith)
+            running.reached ending.answered;
+        end_is = refl;
+      }
 
-opened-by : (start : Tree) (past now : StreamBytes) (ahead : Ahead) (core : Machine State) (fault : Option SessionFault)
-    (running : IsRunning start past now ahead core fault)
-    → IsOpened (sent_by Client (session_packets running.init running.events) ++ ahead.held)
-    (sent_by Server (session_packets running.init running.events))
-    (recorded (session_packets running.init running.events)) running.init running.events ahead.held
-opened-by start past now ahead core fault running = record {
-  greeting = running.greeting;
-  spelled = running.spelled;
-  read = refl;
-  written = refl;
-  logged = refl;
-}
+  opened-by : {ahead : Ahead} {fault : Option SessionFault} (running : IsRunning start past now ahead core fault)
+      → IsOpened (sent_by Client (session_packets running.init running.events) ++ ahead.held)
+      (sent_by Server (session_packets running.init running.events))
+      (recorded (session_packets running.init running.events)) running.init running.events ahead.held
+  opened-by running = record {
+    greeting = running.greeting;
+    spelled = running.spelled;
+    read = refl;
+    written = refl;
+    logged = refl;
+  }
 
-pub closed : (start : Tree) (past now : StreamBytes) (core : Machine State) (fault : Option SessionFault)
-    → IsEnding start past now core fault → Serves start past now (closed_end core.state fault)
-closed start past now core None ending =
-    let running = ending.running in
-    let ahead = ending.ahead in
-    let packets = session_packets running.init running.events in
-    record {
-      input = sent_by Client packets ++ ahead.held;
-      output = sent_by Server packets;
-      log = recorded packets;
-      passed = running.passed;
-      served = record {
+  served-closed : (fault : Option SessionFault) (ending : IsEnding start past now core fault)
+      → let packets = session_packets ending.running.init ending.running.events in
+      Served start (sent_by Client packets ++ ending.ahead.held) (IsAtEnd now.left) (sent_by Server packets)
+      (recorded packets) (closed_end core.state fault)
+  served-closed None ending =
+      let running = ending.running in
+      let packets = session_packets running.init running.events in
+      record {
         init = running.init;
         events = running.events;
-        opened = subst (λ (rest : List ℕ). IsOpened (sent_by Client packets ++ ahead.held) (sent_by Server packets)
-            (recorded packets) running.init running.events rest) ending.why.1
-            (opened-by start past now ahead core None running);
-        served = served-by start past now core None ending;
+        opened = subst (IsOpened (sent_by Client packets ++ ending.ahead.held) (sent_by Server packets)
+            (recorded packets) running.init running.events) ending.why.1 (opened-by running);
+        served = served-by ending;
         ended = ending.why.0;
-      };
-    }
-closed start past now core (Some fault) ending =
-    let running = ending.running in
-    let ahead = ending.ahead in
-    let packets = session_packets running.init running.events in
-    record {
-      input = sent_by Client packets ++ ahead.held;
-      output = sent_by Server packets;
-      log = recorded packets;
-      passed = running.passed;
-      served = inr record {
+      }
+  served-closed (Some fault) ending =
+      let running = ending.running in
+      inr record {
         init = running.init;
         events = running.events;
-        rest = ahead.held;
-        opened = opened-by start past now ahead core None running;
-        served = served-by start past now core (Some fault) ending;
-        broken = subst (λ (place : ℕ). EndsSession running.events ahead.held place (IsAtEnd now.left) fault)
+        rest = ending.ahead.held;
+        opened = opened-by running;
+        served = served-by ending;
+        broken = subst (λ (place : ℕ). EndsSession running.events ending.ahead.held place (IsAtEnd now.left) fault)
             running.place ending.why;
-      };
-    }
+      }
+
+  pub closed : {fault : Option SessionFault} → IsEnding start past now core fault
+      → Serves start past now (closed_end core.state fault)
+  closed {fault} ending =
+      let packets = session_packets ending.running.init ending.running.events in
+      record {
+        input = sent_by Client packets ++ ending.ahead.held;
+        output = sent_by Server packets;
+        log = recorded packets;
+        passed = ending.running.passed;
+        served = served-closed fault ending;
+      }
 
 -- ---- a session that was not opened
 
@@ -278,24 +234,23 @@ unopened start past now ahead fault yet by = record {
 }
 
 -- memory ran out before the first packet was logged
-pub unopened-stops : (start : Tree) (past now : StreamBytes) (ahead : Ahead) (stop : Stop)
+pub unopened-stops : {start : Tree} {past now : StreamBytes} {ahead : Ahead} {stop : Stop}
     → IsUnopenedYet past now ahead → stop ≡ stops.NoMemory → Stops start past now stop None
-unopened-stops start past now ahead stop yet is =
-    subst (λ (s : Stop). Stops start past now s None) (sym is) (unopened-no_memory start past now ahead yet)
+unopened-stops yet is = unopened-stopped yet (inl is)
 
 -- ---- what a session leaves
 
-leaves-at : (start : Tree) (past now : StreamBytes) (stop : Stop) (left : Option Tree) → Leaves start past now left
+leaves-at : {start : Tree} {past now : StreamBytes} {left : Option Tree} (stop : Stop) → Leaves start past now left
     → LeavesAt start past now (ended_by stop) left
-leaves-at start past now (stops.Io stream) left leaves = leaves
-leaves-at start past now stops.NoMemory left leaves = leaves
+leaves-at (stops.Io stream) leaves = leaves
+leaves-at stops.NoMemory leaves = leaves
 
 -- the session was stopped
-pub stopped-end : (start : Tree) (past now : StreamBytes) (stop : Stop) (left : Option Tree) (end : SessionEnd)
+pub stopped-end : {start : Tree} {past now : StreamBytes} {stop : Stop} {left : Option Tree} {end : SessionEnd}
     → end.ended ≡ ended_by stop → end.left ≡ left → Stops start past now stop left → IsSessionEnd start past now end
-stopped-end start past now stop left end ended is stopped = (
+stopped-end {start} {past} {now} {stop} ended is stopped = (
   subst (Serves start past now) (sym ended) stopped.served,
-  subst₂ (LeavesAt start past now) (sym ended) (sym is) (leaves-at start past now stop left stopped.leaves),
+  subst₂ (LeavesAt start past now) (sym ended) (sym is) (leaves-at stop stopped.leaves),
 )
 
 closed-leaves : (start : Tree) (past now : StreamBytes) (last : State) (fault : Option SessionFault)
@@ -304,11 +259,11 @@ closed-leaves start past now last None = refl
 closed-leaves start past now last (Some fault) = refl
 
 -- the session ended by itself
-pub closed-session : (start : Tree) (past now : StreamBytes) (core : Machine State) (fault : Option SessionFault)
-    (ended : Ended) → ended ≡ closed_end core.state fault → IsEnding start past now core fault
+pub closed-session : {start : Tree} {past now : StreamBytes} {core : Machine State} {fault : Option SessionFault}
+    {ended : Ended} → ended ≡ closed_end core.state fault → IsEnding start past now core fault
     → IsSessionEnd start past now (record { ended = ended; left = None })
-closed-session start past now core fault ended is ending = (
-  subst (Serves start past now) (sym is) (closed start past now core fault ending),
+closed-session {start} {past} {now} {core} {fault} is ending = (
+  subst (Serves start past now) (sym is) (closed ending),
   subst (λ (e : Ended). LeavesAt start past now e None) (sym is) (closed-leaves start past now core.state fault),
 )
 

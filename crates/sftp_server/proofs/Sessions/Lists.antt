@@ -1,9 +1,9 @@
--- What the packets of a session and their records are with one event more, and what streams passed in two steps.
+-- What the packets of a session and their records are with one event more.
 use Rattle.sftp_server.proofs.Imports.{◌≡◌, ℕ, List, [], ◌∷◌, ◌++◌, map, refl, sym, ap, ◌∙◌, append_assoc, append-nil}
-use Rattle.sftp_server.proofs.Imports.{Appends-trans, Consumes-trans, map-append, flat_map_more, Packet, request_packet}
-use Rattle.sftp_server.proofs.Imports.{reply_packet, Request, Reply, Side, Client, Server, spelling, side_of, Event}
-use Rattle.sftp_server.proofs.Imports.{Asked, Replied, packet_of, record_text, transcript_opening, session_packets}
-use Rattle.sftp_server.proofs.Imports.{spelled_if, sent_by, recorded, our_version, StreamBytes, Passed}
+use Rattle.sftp_server.proofs.Imports.{map-append, flat_map_more, Packet, request_packet, reply_packet, Request, Reply}
+use Rattle.sftp_server.proofs.Imports.{Side, Client, Server, spelling, side_of, Event, Asked, Replied, packet_of}
+use Rattle.sftp_server.proofs.Imports.{record_text, transcript_opening, session_packets, spelled_if, sent_by, recorded}
+use Rattle.sftp_server.proofs.Imports.{our_version}
 
 -- ---- packets
 
@@ -83,14 +83,4 @@ replied-session init events reply = record {
       sent-session Client init events (Replied reply) ∙ append-nil (sent_by Client (session_packets init events));
   server = sent-session Server init events (Replied reply);
   log = recorded-session init events (Replied reply);
-}
-
--- ---- streams
-
-pub passed-more : (past mid now : StreamBytes) (a b c d e f : List ℕ) → Passed past mid a b c → Passed mid now d e f
-    → Passed past now (a ++ d) (b ++ e) (c ++ f)
-passed-more past mid now a b c d e f before after = record {
-  read = Consumes-trans past.left mid.left now.left a d before.read after.read;
-  written = Appends-trans past.written mid.written now.written b e before.written after.written;
-  logged = Appends-trans past.logged mid.logged now.logged c f before.logged after.logged;
 }

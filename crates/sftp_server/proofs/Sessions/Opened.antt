@@ -8,10 +8,10 @@ use Rattle.sftp_server.proofs.Imports.{limits_name, front_of, StandsInFront, pla
 use Rattle.sftp_server.proofs.Imports.{Log, opened_text, record_text, transcript_opening, BeginsFrom, turn_after}
 use Rattle.sftp_server.proofs.Imports.{in_window, exchanges_of, leading_pairs, window, Tree, State, Good, settled}
 use Rattle.sftp_server.proofs.Imports.{Allowed, bytes-by, Stop, at_start, started, our_version, sent_by, spelled_if}
-use Rattle.sftp_server.proofs.Imports.{recorded, IsGreeting, IsNoGreeting, IsListed, closed_tree, IsCutInLast}
-use Rattle.sftp_server.proofs.Imports.{StreamBytes, stream_bytes, Passed, AreDone, IsAfterDone, Leaves, Stops}
-use Rattle.sftp_server.proofs.Imports.{tree_left, IsLogging, Ahead, IsRunning, IsUnopenedYet, FailsToSend, MatchResult}
-use Rattle.sftp_server.proofs.Imports.{drop_at, Consumes-kept, input_limit, ahead_without, BeginsWithGreeting, First}
+use Rattle.sftp_server.proofs.Imports.{recorded, IsGreeting, IsNoGreeting, IsListed, IsCutInLast, StreamBytes}
+use Rattle.sftp_server.proofs.Imports.{stream_bytes, Passed, AreDone, Stops, tree_left, IsLogging, Ahead, IsRunning}
+use Rattle.sftp_server.proofs.Imports.{IsUnopenedYet, FailsToSend, MatchResult, drop_at, input_limit, ahead_without}
+use Rattle.sftp_server.proofs.Imports.{BeginsWithGreeting, First, Keeps-refl, IsLeftAfter}
 use Rattle.sftp_packets.specs.declared.packets.Packet.TheVariants.{Version, Request, Reply}
 use Rattle.sftp_server.specs.Opening.{IsFirst, IsInFront, IsGreetingOf}
 use Rattle.std.specs.Result.{IsErrAnd}
@@ -23,20 +23,17 @@ use Rattle.sftp_server.specs.declared.opening.First.TheVariants as firsts
 use Rattle.sftp_server.proofs.Machines.Reached.{reached-start}
 use Rattle.sftp_server.proofs.Sessions.Lists.{sent-one, recorded-more}
 use Rattle.sftp_server.proofs.Sessions.Stops.{cut-whole, is-beginning, client-silent, server-sent, stopped-sending}
+use Rattle.sftp_server.proofs.Sessions.Stops.{passed-kept, stops-by, leaves-by}
+use Rattle.sftp_server.specs.Served.{IsWrittenSoFar}
+use Rattle.sftp_server.specs.Sessions.{ended_by}
 
 -- ---- before the first packet is complete
 
-pub unopened-kept : (past : StreamBytes) (left0 left1 written logged : Option (List ℕ)) (ahead : Ahead)
+pub unopened-kept : {past : StreamBytes} {left0 left1 written logged : Option (List ℕ)} {ahead : Ahead}
     → IsUnopenedYet past (stream_bytes left0 written logged) ahead → Keeps left0 left1
     → IsUnopenedYet past (stream_bytes left1 written logged) ahead
-unopened-kept past left0 left1 written logged ahead unopened kept = (
-  record {
-    read = Consumes-kept past.left left0 left1 ahead.held unopened.0.read kept;
-    written = unopened.0.written;
-    logged = unopened.0.logged;
-  },
-  unopened.1,
-)
+unopened-kept {written = written} {logged = logged} unopened kept =
+    (passed-kept unopened.0 kept (Keeps-refl written) (Keeps-refl logged), unopened.1)
 
 -- Between two moments bytes were read and none was taken, whatever was written and logged; and no read failed.
 pub record OnlyReads (left0 left1 : Option (List ℕ)) (ahead0 ahead1 : Ahead) (failures0 failures1 : ℕ) : Type 0 where
@@ -46,52 +43,19 @@ pub record OnlyReads (left0 left1 : Option (List ℕ)) (ahead0 ahead1 : Ahead) (
   pub failures : failures1 ≡ failures0
 
 -- a session that stops before it is opened
-unopened-leaves : (start : Tree) (past now : StreamBytes) (ahead : Ahead) → IsUnopenedYet past now ahead
-    → Leaves start past now None
+pub unopened-stopped : {start : Tree} {past now : StreamBytes} {ahead : Ahead} {stop : Stop}
+    → IsUnopenedYet past now ahead → (stop ≡ stops.NoMemory) ⊎ (stop ≡ stops.Io streams.Reader)
+    → Stops start past now stop None
 unfolding sent_by
-unopened-leaves start past now ahead unopened = record {
-  input = ahead.held;
-  output = [];
-  log = [];
-  passed = unopened.0;
-  is_left = record {
-    packets = [];
-    rest = ahead.held;
-    listed = tt;
-    read = refl;
-    written = ([], refl);
-    logged = inl (refl, refl);
-    tree = refl;
-  };
-}
-
-pub unopened-no_memory : (start : Tree) (past now : StreamBytes) (ahead : Ahead) → IsUnopenedYet past now ahead
-    → Stops start past now stops.NoMemory None
-unfolding sent_by
-unopened-no_memory start past now ahead unopened = record {
-  leaves = unopened-leaves start past now ahead unopened;
-  served = record {
-    input = ahead.held;
-    output = [];
-    log = [];
-    passed = unopened.0;
-    served = record { packets = []; rest = ahead.held; listed = tt; read = refl; left = (refl, inl (refl, refl)) };
-  };
-}
-
-pub unopened-reader : (start : Tree) (past now : StreamBytes) (ahead : Ahead) → IsUnopenedYet past now ahead
-    → Stops start past now (stops.Io streams.Reader) None
-unfolding sent_by
-unopened-reader start past now ahead unopened = record {
-  leaves = unopened-leaves start past now ahead unopened;
-  served = record {
-    input = ahead.held;
-    output = [];
-    log = [];
-    passed = unopened.0;
-    served = record { packets = []; rest = ahead.held; listed = tt; read = refl; left = (refl, refl) };
-  };
-}
+unopened-stopped {start} {past} {now} {ahead} unopened why = elim why [
+  | inl memory ↦ subst (λ (s : Stop). Stops start past now s None) (sym memory) (by (refl, inl (refl, refl)))
+  | inr reader ↦ subst (λ (s : Stop). Stops start past now s None) (sym reader) (by (refl, refl))
+]
+  where
+    by : {stop : Stop} → IsWrittenSoFar start [] [] [] (ended_by stop) → Stops start past now stop None
+    by so_far =
+        stops-by unopened.0 [] ahead.held tt refl so_far
+        (leaves-by unopened.0 [] ahead.held tt refl ([], refl) (inl (refl, refl)) refl)
 
 -- where no packet is in front yet there is room for more bytes
 pub waits-room : (bytes : List ℕ) (found : Option First) → IsInFront bytes found → found ≡ None
@@ -103,16 +67,6 @@ pub stopped-so : {A : Type 0} (result : Result A Stop) (P : A → Type 0) (Q : S
     → IsErrAnd result (λ y. y ≡ stop) → Q stop → MatchResult result P Q
 stopped-so (Ok value) P Q stop is holds = absurd is
 stopped-so (Err error) P Q stop is holds = subst Q (sym is) holds
-
-pub unopened-stopped : (start : Tree) (past now : StreamBytes) (ahead : Ahead) (stop : Stop)
-    → IsUnopenedYet past now ahead → (stop ≡ stops.NoMemory) ⊎ (stop ≡ stops.Io streams.Reader)
-    → Stops start past now stop None
-unopened-stopped start past now ahead stop unopened why = elim why [
-  | inl memory ↦ subst (λ (s : Stop). Stops start past now s None) (sym memory)
-      (unopened-no_memory start past now ahead unopened)
-  | inr reader ↦ subst (λ (s : Stop). Stops start past now s None) (sym reader)
-      (unopened-reader start past now ahead unopened)
-]
 
 -- ---- the first packet
 
@@ -183,47 +137,44 @@ init-read bytes count greets =
     greets.bytes_are ∙ ap (λ (rest : List ℕ). spelling greets.init ++ rest) (sym (init-taken bytes count greets).1)
     ∙ ap (λ (front : List ℕ). front ++ drop count bytes) (sym (init-sent greets.init greets.greeting.0))
 
-pub init-logged : (past : StreamBytes) (left written logged0 logged1 : Option (List ℕ)) (ahead : Ahead) (count : ℕ)
+pub init-logged : {past : StreamBytes} {left written logged0 logged1 : Option (List ℕ)} {ahead : Ahead} {count : ℕ}
     → (greets : BeginsWithGreeting ahead.held count) → IsUnopenedYet past (stream_bytes left written logged0) ahead
     → Appends logged0 logged1 (opened_text 0 (record_text greets.init))
     → IsInitLogged greets.init past (stream_bytes left written logged1) (ahead_without count ahead)
-init-logged past left written logged0 logged1 ahead count greets unopened logged =
+init-logged {past} {left} {written} {logged0} {logged1} {ahead} {count} greets unopened logged =
     let init = greets.init in
     let is = greets.greeting.0 in
-    let text : List ℕ = opened_text 0 (record_text init) in
-    let counted : count ≡ length (sent_by Client (init ∷ [])) = greets.count_is ∙ ap length (sym (init-sent init is)) in
     record {
       greeting = greets.greeting;
       passed = record {
-        read = subst (λ (input : List ℕ). Consumes past.left left input) (init-read ahead.held count greets)
-            unopened.0.read;
-        written = subst (λ (output : List ℕ). Appends past.written written output) (sym (init-silent init is))
-            unopened.0.written;
-        logged = subst (λ (log : List ℕ). Appends past.logged logged1 log) (sym (init-recorded init))
-            (Appends-trans past.logged logged0 logged1 [] text unopened.0.logged logged);
+        read = subst (Consumes past.left left) (init-read ahead.held count greets) unopened.0.read;
+        written = subst (Appends past.written written) (sym (init-silent init is)) unopened.0.written;
+        logged = subst (Appends past.logged logged1) (sym (init-recorded init))
+            (Appends-trans past.logged logged0 logged1 [] _ unopened.0.logged logged);
       };
-      place = ap (λ (place : ℕ). place_after place count) unopened.1 ∙ ap (place_after 0) counted;
+      place = ap (λ (place : ℕ). place_after place count) unopened.1
+          ∙ ap (place_after 0) (greets.count_is ∙ ap length (sym (init-sent init is)));
     }
 
 -- the tree of a session in which no request was done
 abbrev pub first_left : Tree → Option Tree
 first_left start = tree_left (at_start (started start) window)
 
-nothing-done : (start : Tree) → IsAfterDone start [] (closed_tree (started start))
+nothing-done : (start : Tree) (init : Packet) → IsLeftAfter start (init ∷ []) (first_left start)
 unfolding AreDone exchanges_of
-nothing-done start = record {
-  last = started start;
-  leads = record { done = []; are_done = refl; run = refl };
-  end_is = refl;
-}
+nothing-done start init = (
+  [],
+  refl,
+  record { last = started start; leads = record { done = []; are_done = refl; run = refl }; end_is = refl },
+)
 
 -- the log fails in its record
-pub init-unlogged : (start : Tree) (past : StreamBytes) (left written logged0 logged1 : Option (List ℕ)) (ahead : Ahead)
-    (count : ℕ) → (greets : BeginsWithGreeting ahead.held count)
+pub init-unlogged : {start : Tree} {past : StreamBytes} {left written logged0 logged1 : Option (List ℕ)} {ahead : Ahead}
+    {count : ℕ} → (greets : BeginsWithGreeting ahead.held count)
     → IsUnopenedYet past (stream_bytes left written logged0) ahead
     → AppendsPart logged0 logged1 (opened_text 0 (record_text greets.init))
     → Stops start past (stream_bytes left written logged1) (stops.Io streams.Log) (first_left start)
-init-unlogged start past left written logged0 logged1 ahead count greets unopened logged =
+init-unlogged {start} {past} {left} {written} {logged0} {logged1} {ahead} {count} greets unopened logged =
     let init = greets.init in
     let passed : Passed past (stream_bytes left written logged1) ahead.held [] logged.part =
     record {
@@ -234,70 +185,18 @@ init-unlogged start past left written logged0 logged1 ahead count greets unopene
     let cut : IsCutInLast (init ∷ []) logged.part =
     inr ([], init, logged.part, refl, (logged.rest, logged.parts), refl) in
     let silent = init-silent init greets.greeting.0 in
-    record {
-      served = record {
-        input = ahead.held;
-        output = [];
-        log = logged.part;
-        passed = passed;
-        served = record {
-          packets = init ∷ [];
-          rest = drop count ahead.held;
-          listed = greets.greeting;
-          read = init-read ahead.held count greets;
-          left = (sym silent, cut);
-        };
-      };
-      leaves = record {
-        input = ahead.held;
-        output = [];
-        log = logged.part;
-        passed = passed;
-        is_left = record {
-          packets = init ∷ [];
-          rest = drop count ahead.held;
-          listed = greets.greeting;
-          read = init-read ahead.held count greets;
-          written = ([], silent);
-          logged = cut;
-          tree = ([], refl, nothing-done start);
-        };
-      };
-    }
+    let read = init-read ahead.held count greets in
+    let rest = drop count ahead.held in
+    stops-by passed (init ∷ []) rest greets.greeting read (sym silent, cut)
+    (leaves-by passed (init ∷ []) rest greets.greeting read ([], silent) cut (nothing-done start init))
 
 -- memory runs out after it
-pub init-no_memory : (start : Tree) (init : Packet) (past now : StreamBytes) (ahead : Ahead)
+pub init-no_memory : {start : Tree} {init : Packet} {past now : StreamBytes} {ahead : Ahead}
     → IsInitLogged init past now ahead → Stops start past now stops.NoMemory (first_left start)
-init-no_memory start init past now ahead logged = record {
-  served = record {
-    input = sent_by Client (init ∷ []) ++ ahead.held;
-    output = sent_by Server (init ∷ []);
-    log = recorded (init ∷ []);
-    passed = logged.passed;
-    served = record {
-      packets = init ∷ [];
-      rest = ahead.held;
-      listed = logged.greeting;
-      read = refl;
-      left = (refl, cut-whole (init ∷ []));
-    };
-  };
-  leaves = record {
-    input = sent_by Client (init ∷ []) ++ ahead.held;
-    output = sent_by Server (init ∷ []);
-    log = recorded (init ∷ []);
-    passed = logged.passed;
-    is_left = record {
-      packets = init ∷ [];
-      rest = ahead.held;
-      listed = logged.greeting;
-      read = refl;
-      written = is-beginning (sent_by Server (init ∷ []));
-      logged = cut-whole (init ∷ []);
-      tree = ([], refl, nothing-done start);
-    };
-  };
-}
+init-no_memory {start} {init} {ahead = ahead} logged =
+    stops-by logged.passed (init ∷ []) ahead.held logged.greeting refl (refl, cut-whole (init ∷ []))
+    (leaves-by logged.passed (init ∷ []) ahead.held logged.greeting refl (is-beginning (sent_by Server (init ∷ [])))
+    (cut-whole (init ∷ [])) (nothing-done start init))
 
 -- ---- VERSION
 
@@ -342,24 +241,15 @@ none-begin start = record {
 pub version-listed : (start : Tree) (init : Packet) → IsGreeting init → IsListed start (init ∷ our_version ∷ [])
 version-listed start init greeting = (greeting, refl, [], refl, tt, none-begin (settled start []))
 
--- VERSION could not be sent
-pub version-unsent : (start : Tree) (init : Packet) (past : StreamBytes) (left written0 written1 : Option (List ℕ))
-    (log0 log1 : Log) (ahead : Ahead) (stop : Stop) → IsLogging log0
-    → IsInitLogged init past (stream_bytes left written0 log0.bytes) ahead
-    → FailsToSend our_version written0 written1 log0 log1 stop
-    → Stops start past (stream_bytes left written1 log1.bytes) stop (first_left start)
-version-unsent start init past left written0 written1 log0 log1 ahead stop logging logged fails =
-    stopped-sending start past left written0 written1 log0 log1 init [] our_version ahead.held stop (first_left start)
-    logging logged.greeting (version-listed start init logged.greeting) version-server logged.passed
-    ([], refl, nothing-done start) ([], refl, nothing-done start) fails
-
 -- VERSION was sent
-pub version-sent : (start : Tree) (init : Packet) (past : StreamBytes)
-    (left written0 written1 logged0 logged1 : Option (List ℕ)) (ahead : Ahead) → Good (started start)
+version-sent : {start : Tree} {init : Packet} {past : StreamBytes}
+    {left written0 written1 logged0 logged1 : Option (List ℕ)} {ahead : Ahead} → Good (started start)
     → IsInitLogged init past (stream_bytes left written0 logged0) ahead
     → Appends written0 written1 (spelling our_version) → Appends logged0 logged1 (record_text our_version)
     → IsRunning start past (stream_bytes left written1 logged1) ahead (at_start (started start) window) None
-version-sent start init past left written0 written1 logged0 logged1 ahead good logged written recorded_too =
+version-sent {start} {init} {past} {left} {written0} {written1} {logged0} {logged1} {ahead} good logged written
+    recorded_too =
+    let silent = sym (client-silent (init ∷ []) our_version refl) in
     record {
       init = init;
       events = [];
@@ -368,38 +258,34 @@ version-sent start init past left written0 written1 logged0 logged1 ahead good l
       spelled = tt;
       reached = reached-start (started start) window;
       passed = record {
-        read = subst (λ (input : List ℕ). Consumes past.left left (input ++ ahead.held))
-            (sym (client-silent (init ∷ []) our_version refl)) logged.passed.read;
-        written = subst (λ (output : List ℕ). Appends past.written written1 output)
-            (sym (server-sent (init ∷ []) our_version refl))
-            (Appends-trans past.written written0 written1 (sent_by Server (init ∷ [])) (spelling our_version)
-            logged.passed.written written);
-        logged = subst (λ (log : List ℕ). Appends past.logged logged1 log)
-            (sym (recorded-more init [] our_version))
-            (Appends-trans past.logged logged0 logged1 (recorded (init ∷ [])) (record_text our_version)
-            logged.passed.logged recorded_too);
+        read = subst (λ (input : List ℕ). Consumes past.left left (input ++ ahead.held)) silent logged.passed.read;
+        written = subst (Appends past.written written1) (sym (server-sent (init ∷ []) our_version refl))
+            (Appends-trans past.written written0 written1 _ _ logged.passed.written written);
+        logged = subst (Appends past.logged logged1) (sym (recorded-more init [] our_version))
+            (Appends-trans past.logged logged0 logged1 _ _ logged.passed.logged recorded_too);
       };
-      place = logged.place ∙ ap (λ (sent : List ℕ). place_after 0 (length sent))
-          (sym (client-silent (init ∷ []) our_version refl));
+      place = logged.place ∙ ap (λ (sent : List ℕ). place_after 0 (length sent)) silent;
       found = tt;
     }
 
 -- VERSION was sent, or could not be
-pub version-done : (start : Tree) (init : Packet) (past : StreamBytes) (left written0 written1 : Option (List ℕ))
-    (log0 log1 : Log) (ahead : Ahead) (packet : Packet) (result : Result (Unit {0}) Stop) → Good (started start)
-    → packet ≡ our_version → IsLogging log0 → IsInitLogged init past (stream_bytes left written0 log0.bytes) ahead
+pub version-done : {init : Packet} {past : StreamBytes} {left written0 : Option (List ℕ)} {log0 : Log} {ahead : Ahead}
+    {packet : Packet} (start : Tree) (written1 : Option (List ℕ)) (log1 : Log) (result : Result (Unit {0}) Stop)
+    → Good (started start) → packet ≡ our_version → IsLogging log0
+    → IsInitLogged init past (stream_bytes left written0 log0.bytes) ahead
     → OnOk result (Appends written0 written1 (spelling packet))
     → OnOk result (Appends log0.bytes log1.bytes (record_text packet))
     → IfErr result (λ stop. FailsToSend packet written0 written1 log0 log1 stop)
     → MatchResult result
     (λ _. IsRunning start past (stream_bytes left written1 log1.bytes) ahead (at_start (started start) window) None)
     (λ stop. Stops start past (stream_bytes left written1 log1.bytes) stop (first_left start))
-version-done start init past left written0 written1 log0 log1 ahead packet (Ok done) good is logging logged written
+version-done {written0 = written0} {log0 = log0} start written1 log1 (Ok done) good is logging logged written
     recorded_too fails =
-    version-sent start init past left written0 written1 log0.bytes log1.bytes ahead good logged
-    (subst (λ (p : Packet). Appends written0 written1 (spelling p)) is written)
+    version-sent good logged (subst (λ (p : Packet). Appends written0 written1 (spelling p)) is written)
     (subst (λ (p : Packet). Appends log0.bytes log1.bytes (record_text p)) is recorded_too)
-version-done start init past left written0 written1 log0 log1 ahead packet (Err stop) good is logging logged written
-    recorded_too fails =
-    version-unsent start init past left written0 written1 log0 log1 ahead stop logging logged
+version-done {init} {past} {left} {written0} {log0} {ahead} start written1 log1 (Err stop) good is logging logged
+    written recorded_too fails =
+    stopped-sending start past left written0 written1 log0 log1 init [] our_version ahead.held (first_left start)
+    logging logged.greeting (version-listed start init logged.greeting) version-server logged.passed
+    (nothing-done start init) (nothing-done start init) stop
     (subst (λ (p : Packet). FailsToSend p written0 written1 log0 log1 stop) is fails)

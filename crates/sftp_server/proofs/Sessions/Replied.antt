@@ -100,10 +100,10 @@ used-sent {core0} {core1} {k} {reply} sent events same id (inr answered) =
 
 -- ---- a request is done
 
-pub running-worked : (start : Tree) (past now : StreamBytes) (ahead : Ahead) (core0 core1 : Machine State) (k : ℕ)
-    (fault : Option SessionFault) → IsRunning start past now ahead core0 fault → is_ready server_clash core0 k ≡ true
+running-worked : {start : Tree} {past now : StreamBytes} {ahead : Ahead} {core0 core1 : Machine State} {k : ℕ}
+    {fault : Option SessionFault} → IsRunning start past now ahead core0 fault → is_ready server_clash core0 k ≡ true
     → IsWorked Allowed core0 k core1 → IsRunning start past now ahead core1 fault
-running-worked start past now ahead core0 core1 k fault running ready worked = record {
+running-worked {start} {ahead = ahead} {core0} {core1} {k} {fault} running ready worked = record {
   init = running.init;
   events = running.events;
   good = running.good;
@@ -120,7 +120,7 @@ pub sends-worked : (core0 core1 : Machine State) (k : ℕ) (written logged : Opt
     → is_ready server_clash core0 k ≡ true → IsWorked Allowed core0 k core1
     → SendsOn core0 core1 written written logged logged (Ok tt)
 sends-worked core0 core1 k written logged ready worked start past left ahead fault running =
-    running-worked start past (stream_bytes left written logged) ahead core0 core1 k fault running ready worked
+    running-worked running ready worked
 
 -- memory ran out, and nothing changed
 pub sends-nothing : (core : Machine State) (written logged : Option (List ℕ))
@@ -167,15 +167,15 @@ module _ {start : Tree} {past now : StreamBytes} {ahead : Ahead} {core0 core1 : 
       subst (IsListed start) (session-more running.init running.events (Replied reply ∷ []))
       (running.greeting, refl, events, refl, spelled, reached-begins start events core1 running.good reached)
 
-pub running-replied : (start : Tree) (past : StreamBytes) (left written0 written1 logged0 logged1 : Option (List ℕ))
-    (ahead : Ahead) (core0 core1 : Machine State) (k : ℕ) (reply : Reply) (fault : Option SessionFault)
+running-replied : {start : Tree} {past : StreamBytes} {left written0 written1 logged0 logged1 : Option (List ℕ)}
+    {ahead : Ahead} {core0 core1 : Machine State} {k : ℕ} {reply : Reply} {fault : Option SessionFault}
     → IsRunning start past (stream_bytes left written0 logged0) ahead core0 fault
     → reply_at core0.queue k ≡ Some reply → IsSent core0 k reply core1
     → Appends written0 written1 (spelling (reply_packet reply))
     → Appends logged0 logged1 (record_text (reply_packet reply))
     → IsRunning start past (stream_bytes left written1 logged1) ahead core1 fault
-running-replied start past left written0 written1 logged0 logged1 ahead core0 core1 k reply fault running at sent
-    written logged =
+running-replied {past = past} {left} {written0} {written1} {logged0} {logged1} {ahead} {core0} {core1} {k} {reply} {fault}
+    running at sent written logged =
     let more = replied-session running.init running.events reply in
     record {
       init = running.init;
@@ -206,24 +206,13 @@ pub replied : (core0 core1 : Machine State) (k : ℕ) (reply : Reply) (written0 
     → SendsOn core0 core1 written0 written1 log0.bytes log1.bytes result
 replied core0 core1 k reply written0 written1 log0 log1 (Ok done) at sent logging written logged fails start past left
     ahead fault running =
-    running-replied start past left written0 written1 log0.bytes log1.bytes ahead core0 core1 k reply fault running at
-    sent written logged
+    running-replied running at sent written logged
 replied core0 core1 k reply written0 written1 log0 log1 (Err stop) at sent logging written logged fails start past left
     ahead fault running =
     stopped-sending start past left written0 written1 log0 log1 running.init
-    (our_version ∷ map packet_of running.events)
-    (reply_packet reply) ahead.held stop (tree_left core1) logging (running-listed running)
-    (listed-replied running at sent) refl running.passed (leaves running at sent) (leaves-replied running at sent) fails
-
--- ---- call after call
-
-pub sends-more : (core0 core1 core2 : Machine State)
-    (written0 written1 written2 logged0 logged1 logged2 : Option (List ℕ)) (result : Result (Unit {0}) Stop) → SendsOn core0 core1 written0 written1 logged0 logged1 (Ok tt)
-    → SendsOn core1 core2 written1 written2 logged1 logged2 result
-    → SendsOn core0 core2 written0 written2 logged0 logged2 result
-sends-more core0 core1 core2 written0 written1 written2 logged0 logged1 logged2 result first more start past left ahead
-    fault running =
-    more start past left ahead fault (first start past left ahead fault running)
+    (our_version ∷ map packet_of running.events) (reply_packet reply) ahead.held (tree_left core1) logging
+    (running-listed running) (listed-replied running at sent) refl running.passed (leaves running at sent)
+    (leaves-replied running at sent) stop fails
 
 -- ---- what one call does
 

@@ -7,7 +7,7 @@ use Rattle.sftp_server.proofs.Imports.{Allowed, SessionFault, Stop, Machine, sta
 use Rattle.sftp_server.proofs.Imports.{sent_by, spelled_if, recorded, opened_record, IsListed, IsBeginning, IsCutInLast}
 use Rattle.sftp_server.proofs.Imports.{closed_tree, StreamBytes, stream_bytes, Passed, IsAfterDone, IsLeftAfter, Leaves}
 use Rattle.sftp_server.proofs.Imports.{IsLogging, Ahead, IsRunning, FailsToSend, Stops, tree_left, PathsLeadWell}
-use Rattle.sftp_server.proofs.Imports.{Appends-kept, Consumes-kept, Keeps-refl}
+use Rattle.sftp_server.proofs.Imports.{Appends-kept, Consumes-kept, Keeps-refl, IsAtEnd, IsFaultAhead}
 use Rattle.sftp_tree.proofs.Walks.Places.{path-found}
 use Rattle.sftp_handles.proofs.Good.GoodLaws.{allowed-good}
 use Rattle.sftp_listing.proofs.FirstListings.{listing-fits}
@@ -16,32 +16,46 @@ use Rattle.sftp_server.specs.declared.ends.Stop.TheVariants as stops
 use Rattle.sftp_server.specs.declared.ends.Stream.TheVariants as streams
 use Rattle.sftp_server.proofs.Machines.Laws as core_laws
 use Rattle.sftp_server.proofs.Sessions.Lists.{sent-more, recorded-more}
+use Rattle.sftp_server.specs.Served.{IsStopped, IsWrittenSoFar, Served}
+use Rattle.sftp_server.specs.Sessions.{ended_by}
 
--- ---- streams that kept their bytes since
+-- ---- a session that runs on as it is
 
-pub passed-kept : (past mid now : StreamBytes) (input output log : List ℕ) → Passed past mid input output log
-    → Keeps mid.left now.left → Keeps mid.written now.written → Keeps mid.logged now.logged
-    → Passed past now input output log
-passed-kept past mid now input output log passed left written logged = record {
-  read = Consumes-kept past.left mid.left now.left input passed.read left;
-  written = Appends-kept past.written mid.written now.written output passed.written written;
-  logged = Appends-kept past.logged mid.logged now.logged log passed.logged logged;
-}
-
-pub running-kept : (start : Tree) (past mid now : StreamBytes) (ahead : Ahead) (core : Machine State)
-    (fault : Option SessionFault) → IsRunning start past mid ahead core fault → Keeps mid.left now.left
-    → Keeps mid.written now.written → Keeps mid.logged now.logged → IsRunning start past now ahead core fault
-running-kept start past mid now ahead core fault running left written logged = record {
+-- the same core, at other streams, with other bytes ahead or another fault
+abbrev pub running-on : {start : Tree} {past mid now : StreamBytes} {ahead0 ahead1 : Ahead} {core : Machine State}
+    {fault0 fault1 : Option SessionFault} → (running : IsRunning start past mid ahead0 core fault0)
+    → Passed past now (sent_by Client (session_packets running.init running.events) ++ ahead1.held)
+    (sent_by Server (session_packets running.init running.events))
+    (recorded (session_packets running.init running.events)) → ahead1.place ≡ ahead0.place
+    → IsFaultAhead running.events core.queue ahead1.held ahead1.place fault1
+    → IsRunning start past now ahead1 core fault1
+running-on running passed place found = record {
   init = running.init;
   events = running.events;
   good = running.good;
   greeting = running.greeting;
   spelled = running.spelled;
   reached = running.reached;
-  passed = passed-kept past mid now _ _ _ running.passed left written logged;
-  place = running.place;
-  found = running.found;
+  passed = passed;
+  place = place ∙ running.place;
+  found = found;
 }
+
+-- streams that kept their bytes since
+pub passed-kept : {past mid now : StreamBytes} {input output log : List ℕ} → Passed past mid input output log
+    → Keeps mid.left now.left → Keeps mid.written now.written → Keeps mid.logged now.logged
+    → Passed past now input output log
+passed-kept {past} {mid} {now} {input} {output} {log} passed left written logged = record {
+  read = Consumes-kept past.left mid.left now.left input passed.read left;
+  written = Appends-kept past.written mid.written now.written output passed.written written;
+  logged = Appends-kept past.logged mid.logged now.logged log passed.logged logged;
+}
+
+pub running-kept : {start : Tree} {past mid now : StreamBytes} {ahead : Ahead} {core : Machine State}
+    {fault : Option SessionFault} → IsRunning start past mid ahead core fault → Keeps mid.left now.left
+    → Keeps mid.written now.written → Keeps mid.logged now.logged → IsRunning start past now ahead core fault
+running-kept running left written logged =
+    running-on running (passed-kept running.passed left written logged) refl running.found
 
 -- ---- what is reached begins an explained session
 
@@ -120,105 +134,79 @@ pub reached-leaves : (start : Tree) (init : Packet) (events : List Event) (core 
     → IsReached (started start) window events core → IsLeftAfter start (session_packets init events) (tree_left core)
 reached-leaves start init events core good reached = (events, refl, after-done start events core good reached)
 
--- ---- a session that stops between packets
+-- ---- a session that stops, by the packets that it read, wrote and logged
 
 -- a whole is its own beginning
 pub is-beginning : (whole : List ℕ) → IsBeginning whole whole
 is-beginning whole = ([], sym (append-nil whole))
+
+served-stopped : (start : Tree) (input output log : List ℕ) (over : Type 0) (stop : Stop)
+    → IsStopped start input output log (ended_by stop) → Served start input over output log (ended_by stop)
+served-stopped start input output log over (stops.Io stream) is = is
+served-stopped start input output log over stops.NoMemory is = is
+
+module _ {start : Tree} {past now : StreamBytes} {input output log : List ℕ} (passed : Passed past now input output log)
+  where
+    pub leaves-by : {left : Option Tree} (packets : List Packet) (rest : List ℕ) → IsListed start packets
+        → input ≡ sent_by Client packets ++ rest → IsBeginning output (sent_by Server packets)
+        → IsCutInLast packets log → IsLeftAfter start packets left → Leaves start past now left
+    leaves-by packets rest listed read written logged tree = record {
+      input = input;
+      output = output;
+      log = log;
+      passed = passed;
+      is_left = record {
+        packets = packets;
+        rest = rest;
+        listed = listed;
+        read = read;
+        written = written;
+        logged = logged;
+        tree = tree;
+      };
+    }
+
+    pub stops-by : {stop : Stop} {left : Option Tree} (packets : List Packet) (rest : List ℕ) → IsListed start packets
+        → input ≡ sent_by Client packets ++ rest → IsWrittenSoFar start packets output log (ended_by stop)
+        → Leaves start past now left → Stops start past now stop left
+    stops-by {stop} packets rest listed read so_far leaves = record {
+      served = record {
+        input = input;
+        output = output;
+        log = log;
+        passed = passed;
+        served = served-stopped start input output log (IsAtEnd now.left) stop
+            (record { packets = packets; rest = rest; listed = listed; read = read; left = so_far });
+      };
+      leaves = leaves;
+    }
+
+-- ---- a session that stops between packets
 
 module _ {start : Tree} {past now : StreamBytes} {ahead : Ahead} {core : Machine State} {fault : Option SessionFault}
     (running : IsRunning start past now ahead core fault) where
   abbrev packets : List Packet
   packets = session_packets running.init running.events
 
-  pub running-leaves : Leaves start past now (tree_left core)
-  running-leaves = record {
-    input = sent_by Client packets ++ ahead.held;
-    output = sent_by Server packets;
-    log = recorded packets;
-    passed = running.passed;
-    is_left = record {
-      packets = packets;
-      rest = ahead.held;
-      listed = running-listed running;
-      read = refl;
-      written = is-beginning (sent_by Server packets);
-      logged = cut-whole packets;
-      tree = reached-leaves start running.init running.events core running.good running.reached;
-    };
-  }
+  stopped : {stop : Stop}
+      → IsWrittenSoFar start packets (sent_by Server packets) (recorded packets) (ended_by stop)
+      → Stops start past now stop (tree_left core)
+  stopped so_far =
+      stops-by running.passed packets ahead.held (running-listed running) refl so_far
+      (leaves-by running.passed packets ahead.held (running-listed running) refl (is-beginning (sent_by Server packets))
+      (cut-whole packets) (reached-leaves start running.init running.events core running.good running.reached))
 
   pub stopped-no-memory : Stops start past now stops.NoMemory (tree_left core)
-  stopped-no-memory = record {
-    leaves = running-leaves;
-    served = record {
-      input = sent_by Client packets ++ ahead.held;
-      output = sent_by Server packets;
-      log = recorded packets;
-      passed = running.passed;
-      served = record {
-        packets = packets;
-        rest = ahead.held;
-        listed = running-listed running;
-        read = refl;
-        left = (refl, cut-whole packets);
-      };
-    };
-  }
+  stopped-no-memory = stopped (refl, cut-whole packets)
 
   pub stopped-reader : Stops start past now (stops.Io streams.Reader) (tree_left core)
-  stopped-reader = record {
-    leaves = running-leaves;
-    served = record {
-      input = sent_by Client packets ++ ahead.held;
-      output = sent_by Server packets;
-      log = recorded packets;
-      passed = running.passed;
-      served = record {
-        packets = packets;
-        rest = ahead.held;
-        listed = running-listed running;
-        read = refl;
-        left = (refl, refl);
-      };
-    };
-  }
+  stopped-reader = stopped (refl, refl)
 
   pub stopped-writer : Stops start past now (stops.Io streams.Writer) (tree_left core)
-  stopped-writer = record {
-    leaves = running-leaves;
-    served = record {
-      input = sent_by Client packets ++ ahead.held;
-      output = sent_by Server packets;
-      log = recorded packets;
-      passed = running.passed;
-      served = record {
-        packets = packets;
-        rest = ahead.held;
-        listed = running-listed running;
-        read = refl;
-        left = (refl, inl refl);
-      };
-    };
-  }
+  stopped-writer = stopped (refl, inl refl)
 
   pub stopped-log : Stops start past now (stops.Io streams.Log) (tree_left core)
-  stopped-log = record {
-    leaves = running-leaves;
-    served = record {
-      input = sent_by Client packets ++ ahead.held;
-      output = sent_by Server packets;
-      log = recorded packets;
-      passed = running.passed;
-      served = record {
-        packets = packets;
-        rest = ahead.held;
-        listed = running-listed running;
-        read = refl;
-        left = (refl, cut-whole packets);
-      };
-    };
-  }
+  stopped-log = stopped (refl, cut-whole packets)
 
 -- ---- a session that stops in a packet of the server
 
@@ -251,146 +239,55 @@ part-written packets packet part side begins = (
 )
 
 -- some packets were written and logged, and the next could not be; the tree left is that after each of them
-pub stopped-sending : (start : Tree) (past : StreamBytes) (left written0 written1 : Option (List ℕ)) (log0 log1 : Log)
-    (first : Packet) (others : List Packet) (packet : Packet) (rest : List ℕ) (stop : Stop) (tree : Option Tree)
-    → IsLogging log0 → IsListed start (first ∷ others) → IsListed start ((first ∷ others) ++ packet ∷ [])
-    → side_of packet ≡ Server
-    → Passed past (stream_bytes left written0 log0.bytes) (sent_by Client (first ∷ others) ++ rest)
-    (sent_by Server (first ∷ others)) (recorded (first ∷ others)) → IsLeftAfter start (first ∷ others) tree
-    → IsLeftAfter start ((first ∷ others) ++ packet ∷ []) tree → FailsToSend packet written0 written1 log0 log1 stop
-    → Stops start past (stream_bytes left written1 log1.bytes) stop tree
-stopped-sending start past left written0 written1 log0 log1 first others packet rest (stops.Io streams.Reader) tree
-    logging listed more side passed leaves leaves_more fails =
-    absurd fails
-stopped-sending start past left written0 written1 log0 log1 first others packet rest (stops.Io streams.Writer) tree
-    logging listed more side passed leaves leaves_more fails =
-    let packets : List Packet = first ∷ others in
-    let all : Passed past (stream_bytes left written1 log1.bytes) (sent_by Client packets ++ rest)
-    (sent_by Server packets ++ fails.0.part) (recorded packets) =
-    record {
-      read = passed.read;
-      written = Appends-trans past.written written0 written1 (sent_by Server packets) fails.0.part passed.written
-          fails.0.appended;
-      logged = Appends-kept past.logged log0.bytes log1.bytes (recorded packets) passed.logged fails.1;
-    } in
-    record {
-      served = record {
-        input = sent_by Client packets ++ rest;
-        output = sent_by Server packets ++ fails.0.part;
-        log = recorded packets;
-        passed = all;
-        served = record {
-          packets = packets;
-          rest = rest;
-          listed = listed;
-          read = refl;
-          left = (refl, inr (packet, fails.0.part, side, more, (fails.0.rest, fails.0.parts), refl));
-        };
-      };
-      leaves = record {
-        input = sent_by Client packets ++ rest;
-        output = sent_by Server packets ++ fails.0.part;
-        log = recorded packets;
-        passed = all;
-        is_left = record {
-          packets = packets ++ packet ∷ [];
-          rest = rest;
-          listed = more;
-          read = ap (λ (l : List ℕ). l ++ rest) (sym (client-silent packets packet side));
-          written = part-written packets packet fails.0.part side (fails.0.rest, fails.0.parts);
-          logged = inr (
-            packets,
-            packet,
-            [],
-            refl,
-            (opened_record packets packet, refl),
-            sym (append-nil (recorded packets)),
-          );
-          tree = leaves_more;
-        };
-      };
-    }
-stopped-sending start past left written0 written1 log0 log1 first others packet rest (stops.Io streams.Log) tree
-    logging listed more side passed leaves leaves_more fails =
-    let packets : List Packet = first ∷ others in
-    let text = no-opening log0.records (record_text packet) logging.begun in
-    let read : sent_by Client packets ++ rest ≡ sent_by Client (packets ++ packet ∷ []) ++ rest =
-    ap (λ (l : List ℕ). l ++ rest) (sym (client-silent packets packet side)) in
-    let cut : IsCutInLast (packets ++ packet ∷ []) (recorded packets ++ fails.1.part) =
-    inr (packets, packet, fails.1.part, refl, (fails.1.rest, sym text ∙ fails.1.parts), refl) in
-    let all : Passed past (stream_bytes left written1 log1.bytes) (sent_by Client packets ++ rest)
-    (sent_by Server packets ++ spelling packet) (recorded packets ++ fails.1.part) =
-    record {
-      read = passed.read;
-      written = Appends-trans past.written written0 written1 (sent_by Server packets) (spelling packet) passed.written
-          fails.0;
-      logged = Appends-trans past.logged log0.bytes log1.bytes (recorded packets) fails.1.part passed.logged
-          fails.1.appended;
-    } in
-    record {
-      served = record {
-        input = sent_by Client packets ++ rest;
-        output = sent_by Server packets ++ spelling packet;
-        log = recorded packets ++ fails.1.part;
-        passed = all;
-        served = record {
-          packets = packets ++ packet ∷ [];
-          rest = rest;
-          listed = more;
-          read = read;
-          left = (sym (server-sent packets packet side), cut);
-        };
-      };
-      leaves = record {
-        input = sent_by Client packets ++ rest;
-        output = sent_by Server packets ++ spelling packet;
-        log = recorded packets ++ fails.1.part;
-        passed = all;
-        is_left = record {
-          packets = packets ++ packet ∷ [];
-          rest = rest;
-          listed = more;
-          read = read;
-          written = part-written packets packet (spelling packet) side (is-beginning (spelling packet));
-          logged = cut;
-          tree = leaves_more;
-        };
-      };
-    }
-stopped-sending start past left written0 written1 log0 log1 first others packet rest stops.NoMemory tree logging listed
-    more side passed leaves leaves_more fails =
-    let packets : List Packet = first ∷ others in
-    let all : Passed past (stream_bytes left written1 log1.bytes) (sent_by Client packets ++ rest)
-    (sent_by Server packets) (recorded packets) =
-    passed-kept past (stream_bytes left written0 log0.bytes) (stream_bytes left written1 log1.bytes) _ _ _
-    passed (Keeps-refl left) fails.0 fails.1 in
-    record {
-      served = record {
-        input = sent_by Client packets ++ rest;
-        output = sent_by Server packets;
-        log = recorded packets;
-        passed = all;
-        served = record {
-          packets = packets;
-          rest = rest;
-          listed = listed;
-          read = refl;
-          left = (refl, cut-whole packets);
-        };
-      };
-      leaves = record {
-        input = sent_by Client packets ++ rest;
-        output = sent_by Server packets;
-        log = recorded packets;
-        passed = all;
-        is_left = record {
-          packets = packets;
-          rest = rest;
-          listed = listed;
-          read = refl;
-          written = is-beginning (sent_by Server packets);
-          logged = cut-whole packets;
-          tree = leaves;
-        };
-      };
-    }
+module _ (start : Tree) (past : StreamBytes) (left written0 written1 : Option (List ℕ)) (log0 log1 : Log)
+    (first : Packet) (others : List Packet) (packet : Packet) (rest : List ℕ) (tree : Option Tree)
+    (logging : IsLogging log0) (listed : IsListed start (first ∷ others))
+    (more : IsListed start ((first ∷ others) ++ packet ∷ [])) (side : side_of packet ≡ Server)
+    (passed : Passed past (stream_bytes left written0 log0.bytes) (sent_by Client (first ∷ others) ++ rest)
+    (sent_by Server (first ∷ others)) (recorded (first ∷ others))) (leaves : IsLeftAfter start (first ∷ others) tree)
+    (leaves_more : IsLeftAfter start ((first ∷ others) ++ packet ∷ []) tree) where
+  abbrev so_far : List Packet
+  so_far = first ∷ others
+
+  abbrev now : StreamBytes
+  now = stream_bytes left written1 log1.bytes
+
+  read-more : sent_by Client so_far ++ rest ≡ sent_by Client (so_far ++ packet ∷ []) ++ rest
+  read-more = ap (λ (l : List ℕ). l ++ rest) (sym (client-silent so_far packet side))
+
+  pub stopped-sending : (stop : Stop) → FailsToSend packet written0 written1 log0 log1 stop
+      → Stops start past now stop tree
+  stopped-sending (stops.Io streams.Reader) fails = absurd fails
+  stopped-sending (stops.Io streams.Writer) fails =
+      let part = fails.0.part in
+      let begun : IsBeginning part (spelling packet) = (fails.0.rest, fails.0.parts) in
+      let all : Passed past now (sent_by Client so_far ++ rest) (sent_by Server so_far ++ part) (recorded so_far) =
+      record {
+        read = passed.read;
+        written = Appends-trans past.written written0 written1 _ part passed.written fails.0.appended;
+        logged = Appends-kept past.logged log0.bytes log1.bytes _ passed.logged fails.1;
+      } in
+      stops-by all so_far rest listed refl (refl, inr (packet, part, side, more, begun, refl))
+      (leaves-by all (so_far ++ packet ∷ []) rest more read-more (part-written so_far packet part side begun)
+      (inr (so_far, packet, [], refl, (opened_record so_far packet, refl), sym (append-nil (recorded so_far))))
+      leaves_more)
+  stopped-sending (stops.Io streams.Log) fails =
+      let part = fails.1.part in
+      let text = no-opening log0.records (record_text packet) logging.begun in
+      let cut : IsCutInLast (so_far ++ packet ∷ []) (recorded so_far ++ part) =
+      inr (so_far, packet, part, refl, (fails.1.rest, sym text ∙ fails.1.parts), refl) in
+      let all : Passed past now (sent_by Client so_far ++ rest) (sent_by Server so_far ++ spelling packet)
+      (recorded so_far ++ part) =
+      record {
+        read = passed.read;
+        written = Appends-trans past.written written0 written1 _ (spelling packet) passed.written fails.0;
+        logged = Appends-trans past.logged log0.bytes log1.bytes _ part passed.logged fails.1.appended;
+      } in
+      stops-by all (so_far ++ packet ∷ []) rest more read-more (sym (server-sent so_far packet side), cut)
+      (leaves-by all (so_far ++ packet ∷ []) rest more read-more
+      (part-written so_far packet (spelling packet) side (is-beginning (spelling packet))) cut leaves_more)
+  stopped-sending stops.NoMemory fails =
+      let all : Passed past now (sent_by Client so_far ++ rest) (sent_by Server so_far) (recorded so_far) =
+      passed-kept passed (Keeps-refl left) fails.0 fails.1 in
+      stops-by all so_far rest listed refl (refl, cut-whole so_far)
+      (leaves-by all so_far rest listed refl (is-beginning (sent_by Server so_far)) (cut-whole so_far) leaves)

@@ -7,9 +7,7 @@ pub returns-in_err-flush-in-Fault-clause-running : goal.returns-in_err-flush-in-
 returns-in_err-flush-in-Fault-clause-running g c =
     let p = err_from_is_err_and c.from_residual.result c.from_residual.ensures.1 in
     rw (p.1, p.2) (λ start past core running answered.
-    writer-stops start past (g.R.Source.left c.args.reader.now) (g.W.Sink.written c.args.writer.now)
-    (g.W.Sink.written c.flush.new.writer) c.args.log.now.bytes c.args.input.now core (fault_of c.args.front)
-    c.in_err-flush-in-Fault.field-0.0 running c.flush.ensures.bytes c.in_err-flush-in-Fault.ensures.err)
+    writer-stops running c.flush.ensures.bytes c.in_err-flush-in-Fault.ensures.err)
 
 pub returns-in_err-flush_log-in-Fault-clause-running : goal.returns-in_err-flush_log-in-Fault-clause-running
 returns-in_err-flush_log-in-Fault-clause-running g c =
@@ -17,24 +15,14 @@ returns-in_err-flush_log-in-Fault-clause-running g c =
     err_from_is_err_and c.from_residual-in_err-flush_log-in-Fault.result
     c.from_residual-in_err-flush_log-in-Fault.ensures.1 in
     rw (p.1, p.2) (λ start past core running answered.
-    log-stops start past (g.R.Source.left c.args.reader.now) (g.W.Sink.written c.flush.new.writer) c.args.log.now.bytes
-    c.flush_log.new.log.bytes c.args.input.now core (fault_of c.args.front) c.in_err-flush_log-in-Fault.field-0.0
-    (running-written start past (g.R.Source.left c.args.reader.now) (g.W.Sink.written c.args.writer.now)
-    (g.W.Sink.written c.flush.new.writer) c.args.log.now.bytes c.args.input.now core (fault_of c.args.front) running
-    c.flush.ensures.bytes)
-    c.flush_log.ensures.bytes c.in_err-flush_log-in-Fault.ensures.err)
+    log-stops (running-written running c.flush.ensures.bytes) c.flush_log.ensures.bytes
+    c.in_err-flush_log-in-Fault.ensures.err)
 
 pub returns-in_ok-flush_log-in-Fault-clause-running : goal.returns-in_ok-flush_log-in-Fault-clause-running
 returns-in_ok-flush_log-in-Fault-clause-running g c = λ start past core running answered.
     let now =
     stream_bytes (g.R.Source.left c.args.reader.now) (g.W.Sink.written c.flush.new.writer) c.flush_log.new.log.bytes in
-    let flushed =
-    running-logged start past (g.R.Source.left c.args.reader.now) (g.W.Sink.written c.flush.new.writer)
-    c.args.log.now.bytes c.flush_log.new.log.bytes c.args.input.now core (fault_of c.args.front)
-    (running-written start past (g.R.Source.left c.args.reader.now) (g.W.Sink.written c.args.writer.now)
-    (g.W.Sink.written c.flush.new.writer) c.args.log.now.bytes c.args.input.now core (fault_of c.args.front) running
-    c.flush.ensures.bytes)
-    c.flush_log.ensures.bytes in
-    ending-fault start past now c.args.input.now core c.in-Fault.fault
-    (subst (λ (front : Front). IsRunning start past now c.args.input.now core (fault_of front)) c.in-Fault.is flushed)
+    ending-fault
+    (subst (λ (front : Front). IsRunning start past now c.args.input.now core (fault_of front)) c.in-Fault.is
+    (running-logged (running-written running c.flush.ensures.bytes) c.flush_log.ensures.bytes))
     answered

@@ -1,44 +1,30 @@
 -- Once memory is there, the session is opened, served, and ends.
-use Rattle.sftp_server.proofs.Imports.{Some, None, refl, subst, sym, ap, ◌∙◌, window, State, Machine, at_start, started}
-use Rattle.sftp_server.proofs.Imports.{stream_bytes, IsRunning, tree_left}
-use Rattle.sftp_server.specs.declared.ends.Stop.TheVariants as stops
+use Rattle.sftp_server.proofs.Imports.{Some, None, refl, subst, sym, ap, ◌∙◌, State, Machine, stream_bytes, IsRunning}
+use Rattle.sftp_server.proofs.Imports.{tree_left}
 use Rattle.sftp_server.proofs.Sessions.Closed.{unopened-stops, stopped-end, closed-session}
 use Rattle.sftp_server.proofs.serving.serve_from.Goals as goal
 
 pub returns-in_default-clause-served : goal.returns-in_default-clause-served
 returns-in_default-clause-served g c = λ past yet.
-    let now =
-    stream_bytes (g.R.Source.left c.args.reader.now) (g.W.Sink.written c.args.writer.now) c.args.log.now.bytes in
-    stopped-end c.args.tree past now stops.NoMemory None c.leaving.result c.leaving.ensures.ended c.leaving.ensures.left
-    (unopened-stops c.args.tree past now c.args.input.now stops.NoMemory yet refl)
+    stopped-end c.leaving.ensures.ended c.leaving.ensures.left (unopened-stops yet refl)
 
 pub returns-in_default-with_capacity-clause-served : goal.returns-in_default-with_capacity-clause-served
 returns-in_default-with_capacity-clause-served g c = λ past yet.
-    let now =
-    stream_bytes (g.R.Source.left c.args.reader.now) (g.W.Sink.written c.args.writer.now) c.args.log.now.bytes in
     let call = c.leaving-in_default-with_capacity in
-    stopped-end c.args.tree past now stops.NoMemory None call.result call.ensures.ended call.ensures.left
-    (unopened-stops c.args.tree past now c.args.input.now stops.NoMemory yet refl)
+    stopped-end call.ensures.ended call.ensures.left (unopened-stops yet refl)
 
 pub returns-in-Err-clause-served : goal.returns-in-Err-clause-served
 returns-in-Err-clause-served g c = λ past yet.
-    let left = g.R.Source.left c.args.reader.now in
-    let now = stream_bytes left (g.W.Sink.written c.greet.new.writer) c.greet.new.log.bytes in
     let call = c.leaving-in-Err in
-    let first : Machine State = at_start (started c.args.tree) window in
-    stopped-end c.args.tree past now c.in-Err.stop (tree_left first) call.result call.ensures.ended
+    stopped-end call.ensures.ended
     (call.ensures.left ∙ ap Some c.into_tree.ensures ∙ ap (λ (core : Machine State). tree_left core) c.in-Ok.ensures.start)
-    (c.in-Err.ensures.running c.args.tree past left c.in-Ok.ensures.good yet)
+    (c.in-Err.ensures.running c.args.tree past (g.R.Source.left c.args.reader.now) c.in-Ok.ensures.good yet)
 
 pub returns-in-Ok-serve_requests-clause-served : goal.returns-in-Ok-serve_requests-clause-served
 returns-in-Ok-serve_requests-clause-served g c = λ past yet.
     let left = g.R.Source.left c.args.reader.now in
     let now = stream_bytes left (g.W.Sink.written c.greet.new.writer) c.greet.new.log.bytes in
-    let end =
-    stream_bytes (g.R.Source.left c.serve_requests.new.reader) (g.W.Sink.written c.serve_requests.new.writer)
-    c.serve_requests.new.log.bytes in
-    closed-session c.args.tree past end c.serve_requests.new.core c.in-Ok-serve_requests.fault c.end.result
-    c.end.ensures
+    closed-session c.end.ensures
     (c.in-Ok-serve_requests.ensures.running c.args.tree past
     (subst (λ (core : Machine State). IsRunning c.args.tree past now c.greet.new.input core None)
     (sym c.in-Ok.ensures.start)
@@ -48,12 +34,8 @@ pub returns-clause-served : goal.returns-clause-served
 returns-clause-served g c = λ past yet.
     let left = g.R.Source.left c.args.reader.now in
     let now = stream_bytes left (g.W.Sink.written c.greet.new.writer) c.greet.new.log.bytes in
-    let end =
-    stream_bytes (g.R.Source.left c.serve_requests.new.reader) (g.W.Sink.written c.serve_requests.new.writer)
-    c.serve_requests.new.log.bytes in
     let call = c.leaving-in-Err-serve_requests in
-    stopped-end c.args.tree past end c.in-Err-serve_requests.stop (tree_left c.serve_requests.new.core) call.result
-    call.ensures.ended (call.ensures.left ∙ ap Some c.into_tree-in-Err-serve_requests.ensures)
+    stopped-end call.ensures.ended (call.ensures.left ∙ ap Some c.into_tree-in-Err-serve_requests.ensures)
     (c.in-Err-serve_requests.ensures.running c.args.tree past
     (subst (λ (core : Machine State). IsRunning c.args.tree past now c.greet.new.input core None)
     (sym c.in-Ok.ensures.start)

@@ -1,5 +1,5 @@
 -- The session begins with nothing read; it is opened, or its first packet ends it.
-use Rattle.sftp_server.proofs.Imports.{[], None, subst, sym, IsAtEnd, stream_bytes, Ahead, IsUnopenedYet, First}
+use Rattle.sftp_server.proofs.Imports.{subst, sym, IsAtEnd, stream_bytes, IsUnopenedYet}
 use Rattle.sftp_server.specs.Opening.{IsFirst}
 use Rattle.sftp_server.proofs.Sessions.Closed.{unopened-at_start, unopened-stops, unopened, stopped-end}
 use Rattle.sftp_server.proofs.serving.serve_keeping_tree.Goals as goal
@@ -8,19 +8,15 @@ pub returns-in-Err-clause-served : goal.returns-in-Err-clause-served
 returns-in-Err-clause-served g c =
     let past =
     stream_bytes (g.R.Source.left c.args.reader.now) (g.W.Sink.written c.args.writer.now) c.args.log.now.bytes in
-    (stopped-end c.args.tree past past c.in-Err.stop None c.leaving.result c.leaving.ensures.ended
-    c.leaving.ensures.left
-    (unopened-stops c.args.tree past past (record { held = []; place = 0 }) c.in-Err.stop (unopened-at_start past)
-    c.in-Err.ensures.err)).0
+    (stopped-end {start = c.args.tree} c.leaving.ensures.ended c.leaving.ensures.left
+    (unopened-stops (unopened-at_start past) c.in-Err.ensures.err)).0
 
 pub returns-in-Err-clause-left : goal.returns-in-Err-clause-left
 returns-in-Err-clause-left g c =
     let past =
     stream_bytes (g.R.Source.left c.args.reader.now) (g.W.Sink.written c.args.writer.now) c.args.log.now.bytes in
-    (stopped-end c.args.tree past past c.in-Err.stop None c.leaving.result c.leaving.ensures.ended
-    c.leaving.ensures.left
-    (unopened-stops c.args.tree past past (record { held = []; place = 0 }) c.in-Err.stop (unopened-at_start past)
-    c.in-Err.ensures.err)).1
+    (stopped-end {start = c.args.tree} c.leaving.ensures.ended c.leaving.ensures.left
+    (unopened-stops (unopened-at_start past) c.in-Err.ensures.err)).1
 
 pub returns-in-Ok-Init-clause-served : goal.returns-in-Ok-Init-clause-served
 returns-in-Ok-Init-clause-served g c =
@@ -28,7 +24,7 @@ returns-in-Ok-Init-clause-served g c =
     let past = stream_bytes (g.R.Source.left c.args.reader.now) written c.args.log.now.bytes in
     (c.serve_from.ensures.served past
     (c.in-Ok-Init.ensures.unopened c.args.tree past written c.args.log.now.bytes
-    (subst (λ (ahead : Ahead). IsUnopenedYet past past ahead) (sym c.in-Ok.ensures.empty) (unopened-at_start past)))).0
+    (subst (IsUnopenedYet past past) (sym c.in-Ok.ensures.empty) (unopened-at_start past)))).0
 
 pub returns-in-Ok-Init-clause-left : goal.returns-in-Ok-Init-clause-left
 returns-in-Ok-Init-clause-left g c =
@@ -36,7 +32,7 @@ returns-in-Ok-Init-clause-left g c =
     let past = stream_bytes (g.R.Source.left c.args.reader.now) written c.args.log.now.bytes in
     (c.serve_from.ensures.served past
     (c.in-Ok-Init.ensures.unopened c.args.tree past written c.args.log.now.bytes
-    (subst (λ (ahead : Ahead). IsUnopenedYet past past ahead) (sym c.in-Ok.ensures.empty) (unopened-at_start past)))).1
+    (subst (IsUnopenedYet past past) (sym c.in-Ok.ensures.empty) (unopened-at_start past)))).1
 
 pub returns-in-Ok-Fault-clause-served : goal.returns-in-Ok-Fault-clause-served
 returns-in-Ok-Fault-clause-served g c =
@@ -46,28 +42,21 @@ returns-in-Ok-Fault-clause-served g c =
     let now = stream_bytes left written c.args.log.now.bytes in
     unopened c.args.tree past now c.await_init.new.input c.in-Ok-Fault.fault
     (c.in-Ok-Fault.ensures.unopened c.args.tree past written c.args.log.now.bytes
-    (subst (λ (ahead : Ahead). IsUnopenedYet past past ahead) (sym c.in-Ok.ensures.empty) (unopened-at_start past)))
-    (subst (λ (first : First). IsFirst c.await_init.new.input.held (IsAtEnd left) first) c.in-Ok-Fault.field-0-is
-    c.in-Ok-Fault.ensures.first)
+    (subst (IsUnopenedYet past past) (sym c.in-Ok.ensures.empty) (unopened-at_start past)))
+    (subst (IsFirst c.await_init.new.input.held (IsAtEnd left)) c.in-Ok-Fault.field-0-is c.in-Ok-Fault.ensures.first)
 
 pub returns-clause-served : goal.returns-clause-served
 returns-clause-served g c =
-    let left = g.R.Source.left c.await_init.new.reader in
     let written = g.W.Sink.written c.args.writer.now in
     let past = stream_bytes (g.R.Source.left c.args.reader.now) written c.args.log.now.bytes in
-    (stopped-end c.args.tree past (stream_bytes left written c.args.log.now.bytes) c.in-Err-await_init.stop None
-    c.leaving-in-Err-await_init.result c.leaving-in-Err-await_init.ensures.ended
-    c.leaving-in-Err-await_init.ensures.left
+    (stopped-end c.leaving-in-Err-await_init.ensures.ended c.leaving-in-Err-await_init.ensures.left
     (c.in-Err-await_init.ensures.unopened c.args.tree past written c.args.log.now.bytes
-    (subst (λ (ahead : Ahead). IsUnopenedYet past past ahead) (sym c.in-Ok.ensures.empty) (unopened-at_start past)))).0
+    (subst (IsUnopenedYet past past) (sym c.in-Ok.ensures.empty) (unopened-at_start past)))).0
 
 pub returns-clause-left : goal.returns-clause-left
 returns-clause-left g c =
-    let left = g.R.Source.left c.await_init.new.reader in
     let written = g.W.Sink.written c.args.writer.now in
     let past = stream_bytes (g.R.Source.left c.args.reader.now) written c.args.log.now.bytes in
-    (stopped-end c.args.tree past (stream_bytes left written c.args.log.now.bytes) c.in-Err-await_init.stop None
-    c.leaving-in-Err-await_init.result c.leaving-in-Err-await_init.ensures.ended
-    c.leaving-in-Err-await_init.ensures.left
+    (stopped-end c.leaving-in-Err-await_init.ensures.ended c.leaving-in-Err-await_init.ensures.left
     (c.in-Err-await_init.ensures.unopened c.args.tree past written c.args.log.now.bytes
-    (subst (λ (ahead : Ahead). IsUnopenedYet past past ahead) (sym c.in-Ok.ensures.empty) (unopened-at_start past)))).1
+    (subst (IsUnopenedYet past past) (sym c.in-Ok.ensures.empty) (unopened-at_start past)))).1

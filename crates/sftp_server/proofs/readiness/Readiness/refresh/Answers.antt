@@ -21,12 +21,8 @@ wake-requires-clause-within c =
 
 pub wake-requires-clause-noted : goal.wake-requires-clause-noted
 wake-requires-clause-noted c =
-    let settled = c.settle.new.self in
-    let passed = c.pass.new.self in
-    front-passed c.args.queue.now settled.notes.items passed.notes.items settled.first_pending passed.first_pending
-    settled.opened settled.writers settled.possible passed.opened passed.writers passed.possible c.pass.ensures.notes
-    c.pass.ensures.size c.pass.ensures.writers c.pass.ensures.possible c.settle.ensures.settled.noted
-    c.pass.ensures.front c.pass.ensures.passed
+    front-passed c.pass.ensures.notes c.pass.ensures.size c.pass.ensures.writers c.pass.ensures.possible
+    c.settle.ensures.settled.noted c.pass.ensures.front c.pass.ensures.passed
 
 pub wake-requires-clause-blocked : goal.wake-requires-clause-blocked
 wake-requires-clause-blocked c =

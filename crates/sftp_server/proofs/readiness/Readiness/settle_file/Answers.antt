@@ -4,26 +4,16 @@ use Rattle.sftp_server.proofs.readiness.Readiness.settle_file.Goals as goal
 
 pub look_again-requires-clause-waits : goal.look_again-requires-clause-waits
 look_again-requires-clause-waits c =
-    let now = c.each.self in
-    let at = settling-at c.args.session.now c.args.queue.now now.notes.items now.first_pending now.opened now.writers
-    now.possible c.args.k (c.args.k + (note_at c.args.self.now.notes.items c.args.k).waiter) c.args.file (suc c.each.q)
-    (c.each.q + 1) (omega arith) c.each.invariant.0 in
-    at.waits
+    (settling-at (suc c.each.q) (c.each.q + 1) (omega arith) c.each.invariant.0).waits
 
 pub look_again-requires-clause-marks : goal.look_again-requires-clause-marks
 look_again-requires-clause-marks c =
-    let now = c.each.self in
-    let at = settling-at c.args.session.now c.args.queue.now now.notes.items now.first_pending now.opened now.writers
-    now.possible c.args.k (c.args.k + (note_at c.args.self.now.notes.items c.args.k).waiter) c.args.file (suc c.each.q)
-    (c.each.q + 1) (omega arith) c.each.invariant.0 in
-    at.marks
+    (settling-at (suc c.each.q) (c.each.q + 1) (omega arith) c.each.invariant.0).marks
 
 pub each-preserved : goal.each-preserved
 each-preserved c =
-    let now = c.each.self in
     let to = c.args.k + (note_at c.args.self.now.notes.items c.args.k).waiter in
-    let at = settling-at c.args.session.now c.args.queue.now now.notes.items now.first_pending now.opened now.writers
-    now.possible c.args.k to c.args.file (suc c.each.q) (c.each.q + 1) (omega arith) c.each.invariant.0 in
+    let at = settling-at (suc c.each.q) (c.each.q + 1) (omega arith) c.each.invariant.0 in
     let less = c.each-test.true in
     let same = c.look_again.ensures.size in
     let before = c.each.invariant.1 in
@@ -37,20 +27,12 @@ each-preserved c =
 -- the loop stops at a request that may change the length of the file still
 pub returns-then-look_again-clause-settled : goal.returns-then-look_again-clause-settled
 returns-then-look_again-clause-settled c =
-    let now = c.each.self in
-    let new = c.look_again.new.self in
     let to = c.args.k + (note_at c.args.self.now.notes.items c.args.k).waiter in
-    let at = settling-at c.args.session.now c.args.queue.now now.notes.items now.first_pending now.opened now.writers
-    now.possible c.args.k to c.args.file (suc c.each.q) (c.each.q + 1) (omega arith) c.each.invariant.0 in
+    let at = settling-at (suc c.each.q) (c.each.q + 1) (omega arith) c.each.invariant.0 in
     let stops = c.look_again.ensures.stops c.if-look_again.true in
-    settled-stopped c.args.session.now c.args.queue.now new.notes.items new.first_pending new.opened new.writers
-    new.possible c.args.k to c.args.file (c.each.q + 1) (c.look_again.ensures.settling c.args.k to at.blocked) stops.0
-    stops.1
+    settled-stopped (c.each.q + 1) (c.look_again.ensures.settling c.args.k to at.blocked) stops.0 stops.1
 
 -- it ends at the last open request
 pub returns-clause-settled : goal.returns-clause-settled
 returns-clause-settled c =
-    let now = c.each.self in
-    settled-ended c.args.session.now c.args.queue.now now.notes.items now.first_pending now.opened now.writers
-    now.possible c.args.k (c.args.k + (note_at c.args.self.now.notes.items c.args.k).waiter) c.args.file (suc c.each.q)
-    (let end = c.each-test.false in omega (arith, end)) c.each.invariant.0
+    settled-ended (suc c.each.q) (let end = c.each-test.false in omega (arith, end)) c.each.invariant.0
