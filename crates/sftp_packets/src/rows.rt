@@ -45,7 +45,7 @@ pub(crate) enum Fields<'a> {
 }
 
 /// Evaluates an expression with the fields of a request.
-// A macro and no function: where it is used the compiler knows the kinds of the fields, and reads no row.
+// A macro and not a function: wherever it is used, the compiler then knows the kinds of the fields.
 macro_rules! with_asked {
     ($ask:expr, $fields:ident => $value:expr) => {
         match $ask {

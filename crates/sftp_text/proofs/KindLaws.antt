@@ -1,7 +1,7 @@
 -- An entry of a kind is its letter, its path, the kind, and what it says behind its path.
 use Rattle.std.proofs.Common.{◌≡◌, ℕ, false, List, [], ◌∷◌, Option, Some, None, refl, sym, ◌∙◌}
 use Rattle.std.specs.Prelude.{codes, is_some, option_and_then}
-use Rattle.sftp_text.specs.Formats.{Step, Format, after, ◌then◌, word, mark}
+use Rattle.sftp_text.specs.Formats.{Step, Format, after, word, mark}
 use Rattle.sftp_text.specs.Quoted.{string_text}
 use Rattle.sftp_text.specs.Trees.{kind_text, entry_of, show_kind, read_kind}
 use Rattle.sftp_text.specs.Moves.{behind, behind_path}

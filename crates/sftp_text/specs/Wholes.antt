@@ -1,15 +1,10 @@
 -- What the code of whole files does, beside their definitions.
-use Rattle.std.specs.Prelude.{◌≡◌, ◌==◌, ℕ, if◌then◌else◌, List, [], ◌∷◌, ◌++◌, take, drop, Option, Some, None, Result, Ok, Err}
+use Rattle.std.specs.Prelude.{◌≡◌, ℕ, List, [], ◌∷◌, ◌++◌, take, drop, Option, Some, None, Result, Ok, Err}
 use Rattle.std.specs.Prelude.{option_and_then}
-use Rattle.std.specs.List.{flat_map}
 use Rattle.sftp_packets.specs.declared.packets.Side.{Side}
 use Rattle.sftp_text.specs.declared.errors.ShowFault.{ShowFault}
 use Rattle.sftp_text.specs.declared.errors.ShowFault.TheVariants as shows
-use Rattle.sftp_text.specs.declared.errors.Fault.{Fault}
-use Rattle.sftp_text.specs.declared.errors.Fault.TheVariants as faults
-use Rattle.sftp_text.specs.declared.errors.TextFault.{TextFault}
-use Rattle.sftp_text.specs.declared.errors.TextFault.TheVariants as texts
-use Rattle.sftp_text.specs.Lines.{line_of, side_letter, side_of_letter, record_length, text_of, with_line}
+use Rattle.sftp_text.specs.Lines.{line_of, side_of_letter, record_length, text_of}
 
 -- the text is as shown, unless memory runs out
 abbrev pub Shows : {A : Type 0} → Result A ShowFault → List ℕ → Option (List ℕ) → Type 0
