@@ -3,4 +3,4 @@ pub mod GivenTables
 pub mod SlotTables
 pub mod NewHandles
 pub mod HandleRoom
-pub mod Swaps
+pub mod LentListings

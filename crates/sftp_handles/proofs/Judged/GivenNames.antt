@@ -14,7 +14,7 @@ use Rattle.sftp_handles.proofs.Good.Pins.{pins-listing_again}
 use Rattle.sftp_handles.proofs.Good.GoodStates.{left-struck, good-listing}
 use Rattle.sftp_handles.proofs.Good.NewStates.{state_of, settled-already}
 use Rattle.sftp_listing.proofs.Strikes.{struck-none}
-use Rattle.sftp_handles.proofs.HandleTables.Swaps.{opened-back}
+use Rattle.sftp_handles.proofs.HandleTables.LentListings.{opened-back}
 use Rattle.sftp_handles.proofs.Judged.Judgements.{allow-one, unlike, not-allowed, judged-none, judged-done}
 
 -- ---- what is open under the handle

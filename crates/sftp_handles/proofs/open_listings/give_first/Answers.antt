@@ -1,7 +1,7 @@
 use Rattle.sftp_handles.proofs.Imports.{sym, ap, subst, ◌∙◌, Some, Listing, open_at, names_in, names_in_reply}
 use Rattle.sftp_handles.proofs.Imports.{AreFirstNames}
 use Rattle.sftp_listing.proofs.FirstNames.{first-again}
-use Rattle.sftp_handles.proofs.HandleTables.Swaps.{struck-lent, first-taken, first-counted, first-struck}
+use Rattle.sftp_handles.proofs.HandleTables.LentListings.{struck-lent, first-taken, first-counted, first-struck}
 use Rattle.sftp_handles.proofs.open_listings.give_first.Goals as goal
 
 pub take_first-requires-clause-names : goal.take_first-requires-clause-names
