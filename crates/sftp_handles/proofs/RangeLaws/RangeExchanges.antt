@@ -77,9 +77,9 @@ pub record OnFile (s : State) (ask : Ask) (number : ℕ) (flags : OpenFlags) (be
   pub spanned : span (limits s.tree) ask flags ≡ Some ends
   pub within : ends.1 ≤ length before.bytes
 
-pub on-file : (s : State) (ask : Ask) (at : ByteRange) → (r : Ranged s ask at)
+pub on-file : {s : State} {ask : Ask} {at : ByteRange} → (r : Ranged s ask at)
     → OnFile s ask at.number r.flags r.before (ends_of at)
-on-file s ask at r = record {
+on-file r = record {
   handle = r.handle;
   asked = r.asked;
   needed = r.needed;
@@ -90,66 +90,61 @@ on-file s ask at r = record {
 }
 
 -- the same file
-pub on-same : (s : State) (ask : Ask) (m n : ℕ) (flags : OpenFlags) (before content : Content) (ends : ℕ × ℕ) → m ≡ n
+pub on-same : {s : State} {ask : Ask} {m n : ℕ} {flags : OpenFlags} {before content : Content} {ends : ℕ × ℕ} → m ≡ n
     → content_at s.tree.files n ≡ Some content → OnFile s ask m flags before ends → OnFile s ask n flags content ends
-on-same s ask m n flags before content ends same there at =
+on-same {s} {ask} {m} {n} {flags} {before} {content} {ends} same there at =
     let here : content_at s.tree.files m ≡ Some content = ap (content_at s.tree.files) same ∙ there in
     let one : before ≡ content = same_Some before content (sym at.there ∙ here) in
     subst (λ (k : ℕ). OnFile s ask k flags content ends) same (subst (λ (c : Content). OnFile s ask m flags c ends) one at)
 
--- with another content of the same length
-pub on-changed : (s : State) (ask : Ask) (number : ℕ) (flags : OpenFlags) (before next : Content) (ends : ℕ × ℕ)
-    → length next.bytes ≡ length before.bytes → OnFile s ask number flags before ends
-    → OnFile (with_file s number next) ask number flags next ends
-on-changed s ask number flags before next ends sized at = record {
-  handle = at.handle;
-  asked = at.asked;
-  needed = at.needed;
-  opened = at.opened;
-  there = get-put_here nat_cmp nat_cmp_total s.tree.files number next;
-  spanned = at.spanned;
-  within = subst (λ n. ends.1 ≤ n) (sym sized) at.within;
-}
+module _ {s : State} {ask : Ask} {number : ℕ} {flags : OpenFlags} {before : Content} {ends : ℕ × ℕ}
+    (at : OnFile s ask number flags before ends) where
+  -- with another content of the same length
+  pub on-changed : (next : Content) → length next.bytes ≡ length before.bytes
+      → OnFile (with_file s number next) ask number flags next ends
+  on-changed next sized = record {
+    handle = at.handle;
+    asked = at.asked;
+    needed = at.needed;
+    opened = at.opened;
+    there = get-put_here nat_cmp nat_cmp_total s.tree.files number next;
+    spanned = at.spanned;
+    within = subst (λ n. ends.1 ≤ n) (sym sized) at.within;
+  }
 
-sees-file : (s : State) (ask : Ask) (number : ℕ) (flags : OpenFlags) (before : Content) (ends : ℕ × ℕ)
-    → (at : OnFile s ask number flags before ends)
-    → seen s (row_of ask).needed at.handle ≡ file number flags before
-unfolding seen
-sees-file s ask number flags before ends at =
-    (λ i. seen_among s.tree.files (at.needed i) (at.opened i)) ∙ ap (seen_file number flags) at.there
+  sees-file : seen s (row_of ask).needed at.handle ≡ file number flags before
+  unfolding seen
+  sees-file =
+      (λ i. seen_among s.tree.files (at.needed i) (at.opened i)) ∙ ap (seen_file number flags) at.there
 
--- its step, by whether the answer says that it was done
-pub on-step : (s : State) (ask : Ask) (number : ℕ) (flags : OpenFlags) (before : Content) (ends : ℕ × ℕ)
-    (answer : Answer) → Good s → IsAsk ask → OnFile s ask number flags before ends
-    → step s ask answer
-    ≡ option_map (λ done. with_file s number (effect done ask flags before))
-    (judged (limits s.tree) ask number flags before answer)
-on-step s ask number flags before ends answer good fit at =
-    file-step s ask at.handle number flags before answer good.tree.well_formed.numbered at.there at.asked good fit
-    (sees-file s ask number flags before ends at)
+  -- its step, by whether the answer says that it was done
+  on-step : (answer : Answer) → Good s → IsAsk ask
+      → step s ask answer
+      ≡ option_map (λ done. with_file s number (effect done ask flags before))
+      (judged (limits s.tree) ask number flags before answer)
+  on-step answer good fit =
+      file-step s ask at.handle number flags before answer good.tree.well_formed.numbered at.there at.asked good fit
+      sees-file
 
--- the length of the file stays
-pub effect-size : (s : State) (ask : Ask) (number : ℕ) (flags : OpenFlags) (before : Content) (ends : ℕ × ℕ)
-    (done : Bool) → OnFile s ask number flags before ends
-    → length (effect done ask flags before).bytes ≡ length before.bytes
-effect-size s ask number flags before ends done at =
-    ap (λ (c : Content). length c.bytes)
-    (effect-over (limits s.tree) flags before ends at.within done ask at.spanned)
-    ∙ over-length ends.0 (data_of done ask) before.bytes
-
--- the content after it is as before in a range apart
-effect-alike : (s : State) (ask : Ask) (number : ℕ) (flags : OpenFlags) (before : Content) (ends other : ℕ × ℕ)
-    (done : Bool) → IsApart other ends → OnFile s ask number flags before ends
-    → AreAlike other before (effect done ask flags before)
-effect-alike s ask number flags before ends other done apart at = record {
-  sized = effect-size s ask number flags before ends done at;
-  bytes =
-      λ count within.
-      ap (λ (c : Content). take count (drop other.0 c.bytes))
+  -- the length of the file stays
+  pub effect-size : (done : Bool) → length (effect done ask flags before).bytes ≡ length before.bytes
+  effect-size done =
+      ap (λ (c : Content). length c.bytes)
       (effect-over (limits s.tree) flags before ends at.within done ask at.spanned)
-      ∙ read-apart other ends (data_of done ask) before.bytes
-      (data-within (limits s.tree) flags before ends at.within done ask at.spanned) apart count within;
-}
+      ∙ over-length ends.0 (data_of done ask) before.bytes
+
+  -- the content after it is as before in a range apart
+  effect-alike : (other : ℕ × ℕ) (done : Bool) → IsApart other ends
+      → AreAlike other before (effect done ask flags before)
+  effect-alike other done apart = record {
+    sized = effect-size done;
+    bytes =
+        λ count within.
+        ap (λ (c : Content). take count (drop other.0 c.bytes))
+        (effect-over (limits s.tree) flags before ends at.within done ask at.spanned)
+        ∙ read-apart other ends (data_of done ask) before.bytes
+        (data-within (limits s.tree) flags before ends at.within done ask at.spanned) apart count within;
+  }
 
 mapped : {A : Type 0} (f : A → State) (end : State) (found : Option A) → option_map f found ≡ Some end
     → (a : A) × (found ≡ Some a) × (end ≡ f a)
@@ -163,55 +158,52 @@ pub record Did (s : State) (ask : Ask) (number : ℕ) (before : Content) (flags 
   pub is : judged (limits s.tree) ask number flags before answer ≡ Some done
   pub end_is : end ≡ with_file s number (effect done ask flags before)
 
-pub did : (s end : State) (request : Request) (reply : Reply) (number : ℕ) (flags : OpenFlags) (before : Content)
-    (ends : ℕ × ℕ) → Good s → IsAsk request.ask → Allowed s request reply end
+pub did : {s end : State} {request : Request} {reply : Reply} {number : ℕ} {flags : OpenFlags} {before : Content}
+    {ends : ℕ × ℕ} → Good s → IsAsk request.ask → Allowed s request reply end
     → OnFile s request.ask number flags before ends → Did s request.ask number before flags reply.answer end
-did s end request reply number flags before ends good fit allowed at =
+did {s} {end} {request} {reply} {number} {flags} {before} good fit allowed at =
     let found = mapped (λ done. with_file s number (effect done request.ask flags before)) end
     (judged (limits s.tree) request.ask number flags before reply.answer)
-    (sym (on-step s request.ask number flags before ends reply.answer good fit at)
-    ∙ allowed-step s request reply end allowed) in
+    (sym (on-step at reply.answer good fit) ∙ allowed-step s request reply end allowed) in
     record { done = found.0; is = found.1; end_is = found.2 }
 
-does : (s : State) (request : Request) (reply : Reply) (number : ℕ) (flags : OpenFlags) (before : Content)
-    (ends : ℕ × ℕ) (done : Bool) → Good s → IsAsk request.ask → reply.id ≡ request.id
+does : {s : State} {request : Request} {reply : Reply} {number : ℕ} {flags : OpenFlags} {before : Content} {ends : ℕ × ℕ}
+    (done : Bool) → Good s → IsAsk request.ask → reply.id ≡ request.id
     → OnFile s request.ask number flags before ends
     → judged (limits s.tree) request.ask number flags before reply.answer ≡ Some done
     → Allowed s request reply (with_file s number (effect done request.ask flags before))
-does s request reply number flags before ends done good fit same at is =
+does {s} {request} {reply} {number} {flags} {before} done good fit same at is =
     step-is_allowed s request reply (with_file s number (effect done request.ask flags before)) same
-    (on-step s request.ask number flags before ends reply.answer good fit at
+    (on-step at reply.answer good fit
     ∙ ap (option_map (λ done. with_file s number (effect done request.ask flags before))) is)
 
 -- ---- two requests apart
 
-module _ (stays-good : StaysGood) (s mid end : State) (request other : Request) (reply next : Reply) (good : Good s)
-    (fit : IsAsk request.ask) (fit_other : IsAsk other.ask) (number : ℕ) (flags other_flags : OpenFlags)
-    (before : Content) (ends other_ends : ℕ × ℕ)
-    (apart : IsApart ends other_ends) (at : OnFile s request.ask number flags before ends)
-    (other_at : OnFile s other.ask number other_flags before other_ends) (first : Allowed s other next mid)
-    (second : Allowed mid request reply end) where
+module _ {s mid end : State} {request other : Request} {reply next : Reply} {number : ℕ} {flags other_flags : OpenFlags}
+    {before : Content} {ends other_ends : ℕ × ℕ} (stays-good : StaysGood) (good : Good s) (fit : IsAsk request.ask)
+    (fit_other : IsAsk other.ask) (at : OnFile s request.ask number flags before ends)
+    (other_at : OnFile s other.ask number other_flags before other_ends) (apart : IsApart ends other_ends)
+    (first : Allowed s other next mid) (second : Allowed mid request reply end) where
   order : InOrder nat_cmp s.tree.files
   order = good.tree.well_formed.numbered
 
   one : Did s other.ask number before other_flags next.answer mid
-  one = did s mid other next number other_flags before other_ends good fit_other first other_at
+  one = did good fit_other first other_at
 
   abbrev middle : Content
   middle = effect one.done other.ask other_flags before
 
   alike : AreAlike ends before middle
-  alike = effect-alike s other.ask number other_flags before other_ends ends one.done apart other_at
+  alike = effect-alike other_at ends one.done apart
 
   good-mid : Good (with_file s number middle)
   good-mid = subst Good one.end_is (stays-good s other next mid good fit_other first)
 
   at-mid : OnFile (with_file s number middle) request.ask number flags middle ends
-  at-mid = on-changed s request.ask number flags before middle ends alike.sized at
+  at-mid = on-changed at middle alike.sized
 
   two : Did (with_file s number middle) request.ask number middle flags reply.answer end
-  two = did (with_file s number middle) end request reply number flags middle ends good-mid fit
-      (subst (λ (m : State). Allowed m request reply end) one.end_is second) at-mid
+  two = did good-mid fit (subst (λ (m : State). Allowed m request reply end) one.end_is second) at-mid
 
   early : judged (limits s.tree) request.ask number flags before reply.answer ≡ Some two.done
   early = sym (judged-alike (limits s.tree) number flags before middle ends at.within alike reply.answer request.ask at.spanned)
@@ -221,16 +213,16 @@ module _ (stays-good : StaysGood) (s mid end : State) (request other : Request) 
   changed = effect two.done request.ask flags before
 
   first-now : Allowed s request reply (with_file s number changed)
-  first-now = does s request reply number flags before ends two.done good fit second.same_id at early
+  first-now = does two.done good fit second.same_id at early
 
   alike-too : AreAlike other_ends before changed
-  alike-too = effect-alike s request.ask number flags before ends other_ends two.done (turn ends other_ends apart) at
+  alike-too = effect-alike at other_ends two.done (turn ends other_ends apart)
 
   good-between : Good (with_file s number changed)
   good-between = stays-good s request reply (with_file s number changed) good fit first-now
 
   at-between : OnFile (with_file s number changed) other.ask number other_flags changed other_ends
-  at-between = on-changed s other.ask number other_flags before changed other_ends alike-too.sized other_at
+  at-between = on-changed other_at changed alike-too.sized
 
   late : judged (limits s.tree) other.ask number other_flags changed next.answer ≡ Some one.done
   late = judged-alike (limits s.tree) number other_flags before changed other_ends other_at.within alike-too next.answer other.ask other_at.spanned
@@ -238,8 +230,7 @@ module _ (stays-good : StaysGood) (s mid end : State) (request other : Request) 
 
   second-now : Allowed (with_file s number changed) other next
       (with_file (with_file s number changed) number (effect one.done other.ask other_flags changed))
-  second-now = does (with_file s number changed) other next number other_flags changed other_ends one.done good-between fit_other
-      first.same_id at-between late
+  second-now = does one.done good-between fit_other first.same_id at-between late
 
   after-both : effect two.done request.ask flags middle
       ≡ with_bytes before

@@ -18,7 +18,7 @@ use Rattle.sftp_handles.proofs.ClashLaws.Exchanges.{handle-of, not-everything, l
 use Rattle.sftp_handles.proofs.Good.Pins.{pins-times}
 use Rattle.sftp_handles.proofs.RangeLaws.RangedAsks.{Ranged, ranged-of, ranged-sees}
 use Rattle.sftp_handles.proofs.RangeLaws.RangedSteps.{effect}
-use Rattle.sftp_handles.proofs.RangeLaws.RangeExchanges.{ends_of, on-file, effect-size}
+use Rattle.sftp_handles.proofs.RangeLaws.RangeExchanges.{on-file, effect-size}
 use Rattle.sftp_handles.proofs.RangeLaws.SteadyRanges.{range-sized}
 
 -- ---- a listing gives names
@@ -152,7 +152,7 @@ of-rewrite s asked ask answer k n next at named r change =
     let made : change_file at.number ((row_of asked).content r.flags r.before) ≡ rewrites n next =
     ap (λ it. change_of (row_of asked) it answer) (sym sees) ∙ change in
     let sized : length (effect true asked r.flags r.before).bytes ≡ length r.before.bytes =
-    effect-size s asked at.number r.flags r.before (ends_of at) true (on-file s asked at r) in
+    effect-size (on-file r) true in
     let both = rewritten-by asked at.number n r.flags r.before next ((row_of asked).content r.flags r.before) refl made
     sized in
     range-sized s ask n r.before next (ap (content_at s.tree.files) (sym both.0) ∙ r.there) both.1

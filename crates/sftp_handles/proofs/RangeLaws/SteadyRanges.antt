@@ -17,7 +17,7 @@ use Rattle.sftp_handles.proofs.ClashLaws.Exchanges.{touched-past}
 use Rattle.sftp_handles.proofs.Judged.Steps.{allowed-step}
 use Rattle.sftp_handles.proofs.RangeLaws.RangedAsks.{Ranged, ranged-of, ranged-is}
 use Rattle.sftp_handles.proofs.RangeLaws.RangedSteps.{with_file, effect}
-use Rattle.sftp_handles.proofs.RangeLaws.RangeExchanges.{apart-of, ends_of, on-file, on-same, did, effect-size}
+use Rattle.sftp_handles.proofs.RangeLaws.RangeExchanges.{apart-of, on-file, on-same, did, effect-size}
 use Rattle.sftp_handles.proofs.RangeLaws.RangeExchanges.{exchanged-apart}
 
 -- ---- ranges that are compared
@@ -67,13 +67,9 @@ exchange-apart : (stays-good : StaysGood) (s mid end : State) (request other : R
     → IsAsk request.ask → IsAsk other.ask → AreRanged s request.ask other.ask → Allowed s other next mid
     → Allowed mid request reply end → ComesFirst s request other reply next end
 exchange-apart stays-good s mid end request other reply next good fit fit_other two first second =
-    exchanged-apart stays-good s mid end request other reply next good fit fit_other two.at.number two.ranged.flags
-    two.other_ranged.flags two.ranged.before (ends_of two.at) (ends_of two.other_at)
-    (apart-of two.at two.other_at two.apart) (on-file s request.ask two.at two.ranged)
-    (on-same s other.ask two.other_at.number two.at.number two.other_ranged.flags two.other_ranged.before
-    two.ranged.before (ends_of two.other_at) (sym two.same) two.ranged.there
-    (on-file s other.ask two.other_at two.other_ranged))
-    first second
+    exchanged-apart stays-good good fit fit_other (on-file two.ranged)
+    (on-same (sym two.same) two.ranged.there (on-file two.other_ranged)) (apart-of two.at two.other_at two.apart) first
+    second
 
 pub ranges-exchanged : (stays-good : StaysGood) (s mid end : State) (request other : Request) (reply next : Reply)
     → Good s → IsAsk request.ask → IsAsk other.ask → range_clash s request other ≡ false → Allowed s other next mid
@@ -252,12 +248,10 @@ module _ (s end : State) (request earlier later : Request) (reply : Reply) (good
     sized-free : range_clash end earlier later ≡ range_clash s earlier later
     unfolding range_clash clash
     sized-free =
-        let at = on-file s request.ask two.at its-range in
-        let one = did s end request reply two.at.number its-range.flags its-range.before (ends_of two.at) good fit allowed
-        at in
+        let at = on-file its-range in
+        let one = did good fit allowed at in
         let next = effect one.done request.ask its-range.flags its-range.before in
-        let sized : length next.bytes ≡ length its-range.before.bytes =
-        effect-size s request.ask two.at.number its-range.flags its-range.before (ends_of two.at) one.done at in
+        let sized : length next.bytes ≡ length its-range.before.bytes = effect-size at one.done in
         ap (λ (e : State). range_clash e earlier later) one.end_is
         ∙ (λ i.
         share (touched-sized s earlier.ask two.at.number its-range.before next its-range.there sized i)
