@@ -29,36 +29,12 @@ impl<T: HandleTable> Session<T> {
         is_done(self.do_ok(ask))
     }
 
-    /// Does a request whose reply says OK.
-    ///
-    /// # Errors
-    ///
-    /// `Cause` with the first cause that holds. `NoMemory` if memory runs out. On error the session is unchanged.
-    pub(crate) fn do_ok(&mut self, ask: &Ask) -> Result<(), Refused>
-        requires { kinds.kind_of ask.now ≡ Change }
-        ensures done { OnOk result (IsDone self.old ask.now self.new) }
-        ensures refused { IfErr result (IsRefusal self.old ask.now) }
-        ensures kept { OnErr result (self.new ≡ self.old) }
-    {
-        match ask {
-            Ask::Close { handle } => self.close(handle.as_slice()),
-            Ask::Write {
-                handle,
-                offset,
-                bytes,
-            } => self.write_open(handle.as_slice(), *offset, bytes.as_slice()),
-            Ask::Fsetstat { handle, attrs } => self.set_open(handle.as_slice(), attrs),
-            Ask::Fsync { handle } => self.sync_open(handle.as_slice()),
-            _ => self.change_tree(ask),
-        }
-    }
-
     /// Does a request that changes the tree, and removes the files that nothing holds any more.
     ///
     /// # Errors
     ///
     /// `Cause` with the first cause that holds. `NoMemory` if memory runs out. On error the session is unchanged.
-    fn change_tree(&mut self, ask: &Ask) -> Result<(), Refused>
+    pub(crate) fn change_tree(&mut self, ask: &Ask) -> Result<(), Refused>
         requires { IsTrue (changes_tree ask.now) }
         ensures done { OnOk result (IsDone self.old ask.now self.new) }
         ensures refused { IfErr result (IsRefusal self.old ask.now) }

@@ -1,11 +1,21 @@
-//! What the code knows of each request: its kind, and how it uses what is open under its handle.
-ghost use Rattle.std.specs.Prelude.{◌≡◌, Some, None, IfNone, IfSome};
+//! What the code knows of each request: its kind, how it uses what is open under its handle, which causes refuse it,
+//! and how it is done if its reply says OK.
+ghost use Rattle.std.specs.Prelude.{◌≡◌, Some, None, IfNone, IfSome, IfOk, IfErr, OnOk, OnErr};
 ghost use Rattle.sftp_packets.specs.Spelling.{asked_handle};
+ghost use Rattle.sftp_tree.specs.declared.causes.Cause.{Cause as cause};
+ghost use Rattle.sftp_tree.specs.Refusals.{in_set};
+ghost use Rattle.sftp_handles.specs.declared.requests.Kind.TheVariants.{Change};
+ghost use Rattle.sftp_handles.specs.Requests as requests;
+ghost use Rattle.sftp_handles.specs.Judged.{IsDone, IsRefusal};
 ghost use Rattle.sftp_handles.specs.Clash.{bars, may_change};
 ghost use Rattle.sftp_handles.specs.HandleRequests.{row_of};
 ghost use Rattle.sftp_handles.specs.Kinds as kinds;
 ghost use Rattle.sftp_handles.specs.Uses as uses;
 
+use crate::handle_requests::only;
+use crate::sessions::Session;
+use crate::tables::HandleTable;
+use sftp_tree::{Cause, Causes, NoMemory, Refused};
 use sftp_wire::Ask;
 
 /// The kind of a request, by what its reply says where no cause refuses it.
@@ -111,5 +121,64 @@ pub(crate) fn through(ask: &Ask) -> Option<(&[u8], Use)>
         | Ask::Hardlink { .. }
         | Ask::Limits
         | Ask::Unknown { .. } => None,
+    }
+}
+
+impl<T: HandleTable> Session<T> {
+    /// Every cause that holds of a request.
+    ///
+    /// # Errors
+    ///
+    /// `NoMemory` if memory runs out.
+    #[tactic(auto, unfolding(crate::specs::Requests::causes))]
+    pub fn causes(&self, ask: &Ask) -> Result<Causes, NoMemory>
+        ensures { IfOk result (λ set. (c : cause) → in_set set c ≡ requests.causes self.now ask.now c) }
+    {
+        // Requests of one arm would not tell the prover which of them it is.
+        match ask {
+            Ask::Close { handle } => Ok(self.close_causes(handle.as_slice())),
+            Ask::Read { handle, .. } => Ok(only(self.readable_at(handle.as_slice()))),
+            Ask::Write {
+                handle,
+                offset,
+                bytes,
+            } => { Ok(only(self.writable_at(handle.as_slice(), *offset, bytes.as_slice()))) }
+            Ask::Fstat { handle } => Ok(only(self.file_at(handle.as_slice()))),
+            Ask::Fsetstat { handle, attrs } => Ok(only(self.resizable_at(
+                handle.as_slice(),
+                attrs,
+            ))),
+            Ask::Readdir { handle } => Ok(only(self.listing_at(handle.as_slice()))),
+            Ask::Fsync { handle } => Ok(only(self.file_at(handle.as_slice()))),
+            Ask::Limits => Ok(Causes::none()),
+            Ask::Unknown { .. } => Ok(Causes::none().when(Cause::Unknown, true)),
+            Ask::Open { .. } => self.opening_causes(ask),
+            Ask::Opendir { .. } => self.opening_causes(ask),
+            _ => self.tree.causes(ask),
+        }
+    }
+
+    /// Does a request whose reply says OK.
+    ///
+    /// # Errors
+    ///
+    /// `Cause` with the first cause that holds. `NoMemory` if memory runs out. On error the session is unchanged.
+    pub(crate) fn do_ok(&mut self, ask: &Ask) -> Result<(), Refused>
+        requires { kinds.kind_of ask.now ≡ Change }
+        ensures done { OnOk result (IsDone self.old ask.now self.new) }
+        ensures refused { IfErr result (IsRefusal self.old ask.now) }
+        ensures kept { OnErr result (self.new ≡ self.old) }
+    {
+        match ask {
+            Ask::Close { handle } => self.close(handle.as_slice()),
+            Ask::Write {
+                handle,
+                offset,
+                bytes,
+            } => self.write_open(handle.as_slice(), *offset, bytes.as_slice()),
+            Ask::Fsetstat { handle, attrs } => self.set_open(handle.as_slice(), attrs),
+            Ask::Fsync { handle } => self.sync_open(handle.as_slice()),
+            _ => self.change_tree(ask),
+        }
     }
 }

@@ -35,11 +35,8 @@ fn ask_name(ask: &Ask) -> &'static str {
         Ask::Rename { .. } => "RENAME",
         Ask::Readlink { .. } => "READLINK",
         Ask::Symlink { .. } => "SYMLINK",
-        Ask::PosixRename { .. }
-        | Ask::Hardlink { .. }
-        | Ask::Fsync { .. }
-        | Ask::Limits
-        | Ask::Unknown { .. } => "EXTENDED",
+        // all requests beyond those of the draft are extensions
+        _ => "EXTENDED",
     }
 }
 
