@@ -28,6 +28,26 @@ fn gives<T: HandleTable>(
     given
 }
 
+/// Opens an empty listing under a name that is reserved for it, and says whether it is open under this name.
+fn gives_reserved<T: HandleTable>(
+    alloc: Global,
+    table: &mut T,
+    want: &[u8],
+    name: &[u8],
+) -> Result<bool, PutError>
+    requires { length want.now ≤ 256 }
+{
+    let Ok(wanted) = Vec::from_slice(alloc, want) else {
+        return Err(PutError::NoMemory);
+    };
+    let reserved = table.reserve(alloc, want)?;
+    let it = Open::Listing {
+        left: Listing::empty(alloc),
+    };
+    table.put_reserved(it, wanted);
+    Ok(reserved.as_slice() == name && table.find_mut(name).is_some())
+}
+
 fn is_name(put: &Result<Vec<u8>, (Open, PutError)>, name: &[u8]) -> Result<bool, PutError> {
     match put {
         Ok(given) => Ok(given.as_slice() == name),
@@ -47,7 +67,9 @@ fn gives_names(alloc: Global, table: &mut GivenTable) -> bool {
     gives(alloc, table, b"h", b"h") == Ok(true)
         && gives(alloc, table, b"", b"") == Ok(true)
         && gives(alloc, table, b"h", b"h") == Err(PutError::Taken)
-        && table.len() == 2
+        && gives_reserved(alloc, table, b"r", b"r") == Ok(true)
+        && gives_reserved(alloc, table, b"r", b"r") == Err(PutError::Taken)
+        && table.len() == 3
 }
 
 /// Whether a handle is found until it is closed.
@@ -55,7 +77,7 @@ fn closes_names(table: &mut GivenTable) -> bool {
     let was_found = table.find(b"h").is_some();
     let was_taken = was_open(table.take(b"h"));
     let is_open = table.find(b"h").is_some();
-    was_found && was_taken && !is_open && !was_open(table.take(b"h")) && table.len() == 1
+    was_found && was_taken && !is_open && !was_open(table.take(b"h")) && table.len() == 2
 }
 
 #[test]
@@ -99,12 +121,13 @@ fn uses_the_last_freed(alloc: Global, table: &mut SlabTable) -> bool {
         && gives_next(alloc, table, 0, 4)
 }
 
-/// Whether the newest name is given again once it is given back, and an older one is not.
+/// Whether the newest name is given again once it is given back, and an older one is not, and a slot is reserved.
 fn gives_back_the_newest(alloc: Global, table: &mut SlabTable) -> bool {
     was_open(table.give_back(&handle(0, 4)))
         && gives_next(alloc, table, 0, 4)
         && was_open(table.give_back(&handle(1, 3)))
         && gives_next(alloc, table, 1, 5)
+        && gives_reserved(alloc, table, b"", &handle(2, 6)) == Ok(true)
 }
 
 #[test]
