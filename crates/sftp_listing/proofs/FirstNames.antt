@@ -1,14 +1,13 @@
 -- The first names of a listing, copied one by one: as items they are some of the names that it still has to give.
-use Rattle.sftp_listing.proofs.Imports.{◌≡◌, ◌==◌, ◌&&◌, not, nat_lt, ℕ, zero, suc, ◌≤◌, true, false, cond, List, []}
+use Rattle.sftp_listing.proofs.Imports.{◌≡◌, ◌==◌, ◌&&◌, not, nat_lt, ℕ, zero, suc, ◌≤◌, true, false, List, []}
 use Rattle.sftp_listing.proofs.Imports.{◌∷◌, ◌++◌, length, map, take, Option, Some, None, refl, sym, ap, ◌∙◌, arith}
-use Rattle.sftp_listing.proofs.Imports.{eq-eqb, is_eq, Less, AllByRecursion, list_all, keys_of, nat_list_cmp_total}
+use Rattle.sftp_listing.proofs.Imports.{eq-eqb, is_eq, Less, AllByRecursion, list_all, keys_of}
 use Rattle.sftp_listing.proofs.Imports.{texts_ties, and_from, take_all, take_min, length-take, length-map, append-nil}
-use Rattle.sftp_listing.proofs.Imports.{Attrs, Name, name_cmp, same_bytes, InOrder, get, get-cons, Left, IsLeft, IsItem}
+use Rattle.sftp_listing.proofs.Imports.{Attrs, Name, name_cmp, same_bytes, InOrder, get, Left, IsLeft, IsItem}
 use Rattle.sftp_listing.proofs.Imports.{is_plain, same_attributes, has_attributes, is_left, is_among, are_distinct}
 use Rattle.sftp_listing.proofs.Imports.{names_in, are_some_left, name_of, first_names, item_of, first_items}
-use Rattle.std.proofs.lemmas.Cmp.{tied_itself}
 use Rattle.std.proofs.lemmas.Map.Keys.{sorted_head, sorted_tail}
-use Rattle.sftp_listing.proofs.DistinctNames.{tie}
+use Rattle.sftp_listing.proofs.MarkedItems.{get-behind, get-here}
 
 -- ---- the names that were copied
 
@@ -92,20 +91,11 @@ plain-alike attrs = fields-alike attrs.size attrs.owner attrs.permissions attrs.
 
 -- the first entry of a table in order is found
 pub found-first : (name : Name) (attrs : Attrs) (left : Left) → get name_cmp ((name, attrs) ∷ left) name ≡ Some attrs
-found-first name attrs left =
-    get-cons name_cmp (name, attrs) left name
-    ∙ ap (λ o. cond (is_eq o) (Some attrs) (get name_cmp left name)) (tied_itself nat_list_cmp_total name)
+found-first name attrs left = get-here (name, attrs) left
 
 -- names that come one after the other differ
 apart : (first name : Name) → name_cmp first name ≡ Less → same_bytes first name ≡ false
 apart first name less = texts_ties first name ∙ ap is_eq less
-
--- after another entry
-found-behind : (e : Name × Attrs) (left : Left) (name : Name) → name_cmp e.0 name ≡ Less
-    → get name_cmp (e ∷ left) name ≡ get name_cmp left name
-found-behind e left name less =
-    get-cons name_cmp e left name
-    ∙ ap (λ b. cond b (Some e.1) (get name_cmp left name)) (tie name e.0 ∙ apart e.0 name less)
 
 -- each of the first names is found in a table in which these come
 module _ (whole : Left) where
@@ -125,7 +115,7 @@ found-more : (e : Name × Attrs) (left part : Left) → AllByRecursion (λ k. na
     → AllByRecursion (IsFound left) part → AllByRecursion (IsFound (e ∷ left)) part
 found-more e left [] above found = tt
 found-more e left (d ∷ ds) above found =
-    (found-behind e left d.0 above.0 ∙ found.0, found-more e left ds above.1 found.1)
+    (get-behind e left d.0 above.0 ∙ found.0, found-more e left ds above.1 found.1)
 
 each-found : (left : Left) → InOrder name_cmp left → AllByRecursion (IsFound left) left
 each-found [] order = tt

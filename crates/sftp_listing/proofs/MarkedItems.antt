@@ -71,13 +71,13 @@ below-named low (x ∷ xs) name (suc place) below named = below-named low xs nam
 less-apart : (a b : Name) → name_cmp a b ≡ Less → is_eq (name_cmp b a) ≡ false
 less-apart a b less = ap is_eq (turned a b less)
 
-get-behind : (e : Name × Attrs) (es : Left) (name : Name) → name_cmp e.0 name ≡ Less
+pub get-behind : (e : Name × Attrs) (es : Left) (name : Name) → name_cmp e.0 name ≡ Less
     → get name_cmp (e ∷ es) name ≡ get name_cmp es name
 get-behind e es name less =
     get-cons name_cmp e es name
     ∙ ap (λ b. cond b (Some e.1) (get name_cmp es name)) (less-apart e.0 name less)
 
-get-here : (e : Name × Attrs) (es : Left) → get name_cmp (e ∷ es) e.0 ≡ Some e.1
+pub get-here : (e : Name × Attrs) (es : Left) → get name_cmp (e ∷ es) e.0 ≡ Some e.1
 get-here e es =
     get-cons name_cmp e es e.0
     ∙ ap (λ o. cond (is_eq o) (Some e.1) (get name_cmp es e.0)) (tied_itself nat_list_cmp_total e.0)
