@@ -89,6 +89,10 @@ fields-alike (Some size) (Some owner) None times extended is = absurd cc
 plain-alike : (attrs : Attrs) → is_plain attrs ≡ true → same_attributes attrs attrs ≡ true
 plain-alike attrs = fields-alike attrs.size attrs.owner attrs.permissions attrs.times attrs.extended
 
+-- the first entry of a table in order is found
+pub found-first : (name : Name) (attrs : Attrs) (left : Left) → get name_cmp ((name, attrs) ∷ left) name ≡ Some attrs
+found-first name attrs left = get-here (name, attrs) left
+
 -- names that come one after the other differ
 apart : (first name : Name) → name_cmp first name ≡ Less → same_bytes first name ≡ false
 apart first name less = texts_ties first name ∙ ap is_eq less
@@ -116,7 +120,7 @@ found-more e left (d ∷ ds) above found =
 each-found : (left : Left) → InOrder name_cmp left → AllByRecursion (IsFound left) left
 each-found [] order = tt
 each-found (e ∷ es) order = (
-  get-here e es,
+  found-first e.0 e.1 es,
   found-more e es es (sorted_head name_cmp e.0 (keys_of es) order)
       (each-found es (sorted_tail name_cmp e.0 (keys_of es) order)),
 )

@@ -17,21 +17,14 @@ use Rattle.sftp_server.proofs.NewNotes.{notes-pushed}
 -- ---- requests that are taken
 
 -- the notes are the same, but for their room
-pub record AreSameNotes (old new : Readiness) : Type 0 where
-  pub notes : new.notes.items ≡ old.notes.items
-  pub first_pending : new.first_pending ≡ old.first_pending
-  pub size : new.opened ≡ old.opened
-  pub writers : new.writers ≡ old.writers
-  pub possible : new.possible ≡ old.possible
-
-pub keeps-taken : (s : State) (queue after : List Entry) (request : Request) (old new : Readiness)
-    → KeepsNotes s queue old → AreSameNotes old new
+pub keeps-taken : {s : State} {queue after : List Entry} (request : Request) (old new : Readiness)
+    → KeepsNotes s queue old → new.notes.items ≡ old.notes.items → new.first_pending ≡ old.first_pending
+    → new.opened ≡ old.opened → new.writers ≡ old.writers → new.possible ≡ old.possible
     → after ≡ queue ++ record { request = request; progress = Pending } ∷ []
     → AreNotes s after (new.notes.items ++ record blank { pending = true } ∷ []) new.first_pending new.opened
     new.writers new.possible
-keeps-taken s queue after request old new keeps same pushed =
-    rw (same.notes, same.first_pending, same.size, same.writers, same.possible, pushed)
-    (notes-pushed request keeps.0)
+keeps-taken request old new keeps notes first opened writers possible pushed =
+    rw (notes, first, opened, writers, possible, pushed) (notes-pushed request keeps.0)
 
 -- ---- what the notes say
 
@@ -63,14 +56,6 @@ ready-inside s queue r k keeps ready =
     (and_parts (note_at r.notes.items k).pending (note_at r.notes.items k).possible
     (sym (ready-noted s queue r k keeps) ∙ ready)).1
 
--- the request at the position is noted as done
-pub record IsMarkedDone (old new : Readiness) (k : ℕ) : Type 0 where
-  pub notes : new.notes.items ≡ set old.notes.items k (record (note_at old.notes.items k) { pending = false })
-  pub first_pending : new.first_pending ≡ old.first_pending
-  pub size : new.opened ≡ old.opened
-  pub writers : new.writers ≡ old.writers
-  pub possible : new.possible ≡ old.possible
-
 ask-found : (found : Option Entry) (request : Request) → request_in found ≡ Some request
     → ask_in found ≡ request.ask
 ask-found None request is = absurd (none-some request is)
@@ -85,29 +70,24 @@ ask-found (Some entry) request is = by (is_pending entry.progress) refl
 pub keeps-done : (s end : State) (queue after : List Entry) (old new : Readiness) (k : ℕ) (request : Request)
     (reply : Reply) → KeepsNotes s queue old → ready_in server_clash s (take k queue) (slice_get queue k) ≡ true
     → pending_at queue k ≡ Some request → Allowed s request reply end
-    → after ≡ with_progress queue k (Done reply) → IsMarkedDone old new k → CanRefresh end after new k
-keeps-done s end queue after old new k request reply keeps ready pending allowed is marked =
+    → after ≡ with_progress queue k (Done reply)
+    → new.notes.items ≡ set old.notes.items k (record (note_at old.notes.items k) { pending = false })
+    → new.first_pending ≡ old.first_pending → new.opened ≡ old.opened → new.writers ≡ old.writers
+    → new.possible ≡ old.possible → CanRefresh end after new k
+keeps-done s end queue after old new k request reply keeps ready pending allowed is notes first opened writers
+    possible =
     let both = and_parts (note_at old.notes.items k).pending (note_at old.notes.items k).possible
     (sym (ready-noted s queue old k keeps) ∙ ready) in
     let before = ready-open k keeps.0 both.0 both.1 in
     let parts = notes-worked end k request reply keeps.0 both.0 both.1
     (ask-found (slice_get queue k) request pending) allowed in
     record {
-      within = rw marked.size before;
-      noted = rw (marked.notes, marked.first_pending, marked.size, marked.writers, marked.possible, is) parts.0;
-      done = rw (marked.notes, marked.size, is) parts.1;
+      within = rw opened before;
+      noted = rw (notes, first, opened, writers, possible, is) parts.0;
+      done = rw (notes, opened, is) parts.1;
     }
 
 -- ---- a reply is sent
-
--- a reply was sent, and so many requests left the front
-pub record IsMarkedSent (old new : Readiness) (k count : ℕ) : Type 0 where
-  pub notes : new.notes.items
-      ≡ drop count (set old.notes.items k (record (note_at old.notes.items k) { possible = false }))
-  pub first_pending : new.first_pending ≡ old.first_pending - count
-  pub size : new.opened ≡ old.opened - count
-  pub writers : new.writers ≡ old.writers - count
-  pub possible : new.possible ≡ old.possible - 1
 
 pub sent-shorter : (queue after : List Entry) (k : ℕ) → after ≡ from_unsent (with_progress queue k Sent)
     → length after ≤ length queue
@@ -119,9 +99,14 @@ sent-shorter queue after k is =
 
 pub keeps-sent : (s : State) (queue after : List Entry) (old new : Readiness) (k before now : ℕ) (reply : Reply)
     → KeepsNotes s queue old → reply_at queue k ≡ Some reply → after ≡ from_unsent (with_progress queue k Sent)
-    → before ≡ length queue → now ≡ length after → IsMarkedSent old new k (before - now) → KeepsNotes s after new
-keeps-sent s queue after old new k before now reply keeps found is before_is now_is marked =
+    → before ≡ length queue → now ≡ length after
+    → new.notes.items
+    ≡ drop (before - now) (set old.notes.items k (record (note_at old.notes.items k) { possible = false }))
+    → new.first_pending ≡ old.first_pending - (before - now) → new.opened ≡ old.opened - (before - now)
+    → new.writers ≡ old.writers - (before - now) → new.possible ≡ old.possible - 1 → KeepsNotes s after new
+keeps-sent s queue after old new k before now reply keeps found is before_is now_is notes first opened writers
+    possible =
     let short = sent-shorter queue after k is in
     let size : length after ≡ length (from_unsent (with_progress queue k Sent)) = ap length is in
-    rw (marked.notes, marked.first_pending, marked.size, marked.writers, marked.possible, is)
+    rw (notes, first, opened, writers, possible, is)
     (notes-sent k (before - now) reply keeps.0 keeps.1 found (omega (arith, short, size, before_is, now_is)))

@@ -96,8 +96,8 @@ ready-open {queue = queue} {notes} {opened = opened} k are pending ready = by (n
         (pending-within queue k (sym (are.marks.asked.marked k) ∙ pending))).1))
 
 -- A request that was ready was done with this reply: what is known before the notes are looked through again.
-pub notes-worked : {s : State} {queue : List Entry} {notes : List Note} {first opened writers possible : ℕ} (end : State)
-    (k : ℕ) (request : Request) (reply : Reply) → AreNotes s queue notes first opened writers possible
+pub notes-worked : {s : State} {queue : List Entry} {notes : List Note} {first opened writers possible : ℕ}
+    (end : State) (k : ℕ) (request : Request) (reply : Reply) → AreNotes s queue notes first opened writers possible
     → (note_at notes k).pending ≡ true → (note_at notes k).possible ≡ true → ask_at queue k ≡ request.ask
     → Allowed s request reply end
     → IsNoted (with_progress queue k (Done reply)) (done_notes notes k) first opened writers possible

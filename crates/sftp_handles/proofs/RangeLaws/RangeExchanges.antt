@@ -167,8 +167,8 @@ did {s} {end} {request} {reply} {number} {flags} {before} good fit allowed at =
     (sym (on-step at reply.answer good fit) ∙ allowed-step s request reply end allowed) in
     record { done = found.0; is = found.1; end_is = found.2 }
 
-does : {s : State} {request : Request} {reply : Reply} {number : ℕ} {flags : OpenFlags} {before : Content} {ends : ℕ × ℕ}
-    (done : Bool) → Good s → IsAsk request.ask → reply.id ≡ request.id
+does : {s : State} {request : Request} {reply : Reply} {number : ℕ} {flags : OpenFlags} {before : Content}
+    {ends : ℕ × ℕ} (done : Bool) → Good s → IsAsk request.ask → reply.id ≡ request.id
     → OnFile s request.ask number flags before ends
     → judged (limits s.tree) request.ask number flags before reply.answer ≡ Some done
     → Allowed s request reply (with_file s number (effect done request.ask flags before))

@@ -15,13 +15,9 @@ invariant_of-self c =
           c.send.ensures.unchanged,
       keeps-sent old.session old.queue c.send.new.self old.readiness c.mark_sent.new.self c.args.k
           c.len-before.result c.len.result c.in-Some.reply c.self.invariant.1 (sym c.in-Some.ensures.reply)
-          c.in-Some.ensures.sent c.len-before.ensures c.len.ensures (record {
-            notes = c.mark_sent.ensures.notes;
-            first_pending = c.mark_sent.ensures.first_pending;
-            size = c.mark_sent.ensures.size;
-            writers = c.mark_sent.ensures.writers;
-            possible = c.mark_sent.ensures.possible;
-          }),
+          c.in-Some.ensures.sent c.len-before.ensures c.len.ensures c.mark_sent.ensures.notes
+          c.mark_sent.ensures.first_pending c.mark_sent.ensures.size c.mark_sent.ensures.writers
+          c.mark_sent.ensures.possible,
     )
 
 pub returns-in-Some-clause-sent : goal.returns-in-Some-clause-sent

@@ -32,13 +32,8 @@ refresh-requires c =
     c.in-Some.request.now c.in_ok-reply.reply c.self.invariant.1
     (was-ready c.args.k c.self.view_is (sym c.ready.ensures ∙ c.if-not-ready.false))
     (sym c.pending.ensures ∙ rw c.in-Some.is refl) c.in_ok-reply.ensures.allowed c.complete.ensures
-    (record {
-      notes = c.mark_done.ensures.notes;
-      first_pending = c.mark_done.ensures.first_pending;
-      size = c.mark_done.ensures.size;
-      writers = c.mark_done.ensures.writers;
-      possible = c.mark_done.ensures.possible;
-    })
+    c.mark_done.ensures.notes c.mark_done.ensures.first_pending c.mark_done.ensures.size c.mark_done.ensures.writers
+    c.mark_done.ensures.possible
 
 pub invariant_of-self-2 : goal.invariant_of-self-2
 invariant_of-self-2 c =
@@ -58,10 +53,6 @@ returns-clause-done c = λ _.
     sym c.pending.ensures ∙ rw c.in-Some.is refl in
     rw (← c.self.view_is)
     (worked-step (record { state = c.self.inside.session; window = c.self.inside.window; queue = queue })
-    (record {
-      state = c.answer.new.self;
-      window = c.self.inside.window;
-      queue =
-          c.complete.new.self;
-    }) c.args.k c.in-Some.request.now c.in_ok-reply.reply pending c.in_ok-reply.ensures.allowed
-    c.in_ok-reply.ensures.spelled refl c.complete.ensures)
+    (record { state = c.answer.new.self; window = c.self.inside.window; queue = c.complete.new.self }) c.args.k
+    c.in-Some.request.now c.in_ok-reply.reply pending c.in_ok-reply.ensures.allowed c.in_ok-reply.ensures.spelled refl
+    c.complete.ensures)
