@@ -171,12 +171,6 @@ judged-unlisted s handle answer code end other =
     (λ free.
     ap (λ b. b && answers s (Readdir handle) answer) (sym free) ∙ readdir-unlisted s handle answer (gives-none answer other) end))
 
-pub gives-unlisted : (items : List NameItem) (found : Option Open) → listing_in found ≡ None
-    → false ≡ gives_names found items
-gives-unlisted items None is = refl
-gives-unlisted items (Some (File number flags)) is = refl
-gives-unlisted items (Some (Listing left)) is = absurd cc
-
 -- the names come from a listing, in order
 listing-in : (s : State) (handle : List ℕ) (items : List NameItem) (found : Option Open) → Good s
     → open_at s.handles handle ≡ found → gives_names found items ≡ true → IsListing found

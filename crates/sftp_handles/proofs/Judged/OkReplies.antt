@@ -45,9 +45,6 @@ is-change s (asks.Close handle) is = absurd cc
 is-change s other is =
     record { on_paths = cc; no_handle = cc; same_causes = cc; same_said = cc; says_done = λ place. cc }
 
-pub change-on_paths : (s : State) (ask : Ask) → IsTrue (changes_tree ask) → IsTrue (has_step ask)
-change-on_paths s ask is = (is-change s ask is).on_paths
-
 pub change-causes : (s : State) (ask : Ask) → IsTrue (changes_tree ask) → causes s ask ≡ paths.causes s.tree ask
 unfolding causes
 change-causes s ask is = ap (causes_by s ask) (is-change s ask is).no_handle ∙ (is-change s ask is).same_causes
