@@ -38,7 +38,7 @@ empty = record { bytes_fit = tt; length_fits = lit< tt }
 status_spelled : (id code : ℕ) → id < 2 ^ 32 → code < 2 ^ 32 → length (spelling (packet_of (status id code))) ≤ packet_limit
     → IsEvent (status id code)
 status_spelled id code small code_small whole =
-    record { fields = (small, (code_small, empty, empty)); whole = whole; handle = tt; canonical = refl }
+    record { fields = (small, (code_small, (empty, empty))); whole = whole; handle = tt; canonical = refl }
 
 one : FitsString (codes "1")
 one = string_by (codes "1") refl (lit< tt)

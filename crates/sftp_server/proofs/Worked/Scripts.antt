@@ -47,7 +47,7 @@ no_text = record { bytes_fit = tt; length_fits = lit< tt }
 success_spelled : (id : ℕ) → id < 2 ^ 32 → length (spelling (reply_packet (success id))) ≤ packet_limit
     → HasSpelling (reply_packet (success id))
 success_spelled id small whole = record {
-  fields = (small, (lit< tt, no_text, no_text));
+  fields = (small, (lit< tt, (no_text, no_text)));
   whole = whole;
   handle = tt;
   canonical = refl;
