@@ -54,17 +54,17 @@ touched_by s ask None = everything
 touched_by s ask (Some handle) =
     touched_through (row_of ask).needed (may_change ask) handle (open_at s.handles handle)
 
--- whether a request through a handle that needs this there touches everything in every state
+-- whether a request through a handle under which it needs this touches everything in every state
 abbrev pub bars : Needed → Bool
 bars anything = true
 bars other = false
 
--- whether a request does that names this handle, if any
+-- the same of any request; one that names no handle touches everything
 abbrev pub bars_by : Option (List ℕ) → Needed → Bool
 bars_by None needed = true
 bars_by (Some handle) needed = bars needed
 
--- all do but those that need a file or a listing under their handle
+-- so all do but those that need a file or a listing under their handle
 abbrev pub is_barrier : Ask → Bool
 is_barrier ask = bars_by (asked_handle ask) (row_of ask).needed
 

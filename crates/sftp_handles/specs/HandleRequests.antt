@@ -72,7 +72,7 @@ pub record Row : Type 0 where
   -- the content of the file after it, if it changes that
   pub content : OpenFlags → Content → Option Content
   -- what its reply says of the file
-  pub told : TreeLimits → Content → Said
+  pub said_of_file : TreeLimits → Content → Said
 
 -- of a request on paths alone, or on a handle of either kind that changes no content
 abbrev pub plain_row : Row
@@ -82,7 +82,7 @@ plain_row = record {
   needed = anything;
   refused = λ flags. no_causes;
   content = λ flags before. None;
-  told = λ bounds before. ok;
+  said_of_file = λ bounds before. ok;
 }
 
 -- of a request that opens something
@@ -109,13 +109,15 @@ read_from bounds offset len before =
 abbrev pub row_of : Ask → Row
 row_of (asks.Read handle offset len) = record file_row {
   refused = λ flags. unless_open_for (may_read flags);
-  told = λ bounds before. read_from bounds offset len before;
+  said_of_file = λ bounds before. read_from bounds offset len before;
 }
 row_of (asks.Write handle offset bytes) = record file_row {
   refused = λ flags. unless_open_for (may_write flags);
   content = λ flags before. Some (written_content (start_of flags offset before) bytes before);
 }
-row_of (asks.Fstat handle) = record file_row { told = λ bounds before. shows (Some (shown_content before)) }
+row_of (asks.Fstat handle) = record file_row {
+  said_of_file = λ bounds before. shows (Some (shown_content before));
+}
 row_of (asks.Fsetstat handle attrs) = record file_row {
   refused = λ flags. when no_causes NotOpenFor (is_some attrs.size && not (may_write flags));
   content = λ flags before. Some (changed_content attrs before);
@@ -166,7 +168,7 @@ listed [] = ended
 listed (e ∷ es) = lists (e ∷ es)
 
 abbrev pub said_of : TreeLimits → Row → Seen → Said
-said_of bounds row (file number flags before) = row.told bounds before
+said_of bounds row (file number flags before) = row.said_of_file bounds before
 said_of bounds row (listing left) = listed left
 said_of bounds row other = ok
 

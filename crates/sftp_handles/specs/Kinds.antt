@@ -16,4 +16,5 @@ kind_of (asks.Realpath path) = Query
 kind_of (asks.Readlink path) = Query
 kind_of asks.Limits = Query
 kind_of (asks.Unknown name rest) = Unknown
+-- that all others are changes is proved from their rows
 kind_of other = Change

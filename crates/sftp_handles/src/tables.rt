@@ -53,7 +53,7 @@ pub trait HandleTable: Sized + Drop {
     fn find(&self, name: &[u8]) -> Option<&Open>
         ensures { option_copied result ≡ open_at (handles self.now) name.now };
 
-    /// Lends what is open under the name, to be changed. Does not allocate.
+    /// Lends what is open under the name, to be changed; `None` if nothing is. Does not allocate.
     fn find_mut(&mut self, name: &[u8]) -> Option<&mut Open>
         ensures* writes_back { sem 𝓛 (LendsSo Self.row the_row self.entry result
             (λ after it. OnSome result ((handles after ≡ with_open (handles self.old) name.now it)

@@ -1,4 +1,4 @@
-//! The paths that a request walks, and which of them end loosely (draft, section 6.2).
+//! Whether a path that a request walks ends loosely (draft, section 6.2).
 ghost use Rattle.std.specs.Prelude.{◌≡◌};
 ghost use Rattle.sftp_profile.specs.Paths as spec;
 

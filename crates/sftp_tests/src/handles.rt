@@ -121,13 +121,17 @@ fn uses_the_last_freed(alloc: Global, table: &mut SlabTable) -> bool {
         && gives_next(alloc, table, 0, 4)
 }
 
-/// Whether the newest name is given again once it is given back, and an older one is not, and a slot is reserved.
+/// Whether the newest name is given again once it is given back, and an older one is not.
 fn gives_back_the_newest(alloc: Global, table: &mut SlabTable) -> bool {
     was_open(table.give_back(&handle(0, 4)))
         && gives_next(alloc, table, 0, 4)
         && was_open(table.give_back(&handle(1, 3)))
         && gives_next(alloc, table, 1, 5)
-        && gives_reserved(alloc, table, b"", &handle(2, 6)) == Ok(true)
+}
+
+/// Whether what is put after a reservation gets the next name.
+fn puts_reserved(alloc: Global, table: &mut SlabTable) -> bool {
+    gives_reserved(alloc, table, b"", &handle(2, 6)) == Ok(true)
 }
 
 #[test]
@@ -137,9 +141,10 @@ fn names_of_slots(rt: HostRuntime) -> Result<(), Fail> {
     let freed = uses_freed_slots(rt.alloc(), &mut table);
     let last = uses_the_last_freed(rt.alloc(), &mut table);
     let newest = gives_back_the_newest(rt.alloc(), &mut table);
+    let reserved = puts_reserved(rt.alloc(), &mut table);
     drop(table);
     assert!(rt; counted && freed, "{counted} {freed}");
-    assert!(rt; last && newest, "{last} {newest}");
+    assert!(rt; last && newest && reserved, "{last} {newest} {reserved}");
     Ok(())
 }
 

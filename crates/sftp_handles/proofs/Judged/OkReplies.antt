@@ -107,13 +107,13 @@ module _ (s : State) (ask : Ask) (t : Tree) (good : Good s) (changes : IsTrue (c
 -- through a handle
 record IsOk (ask : Ask) : Type 0 where
   pub no_listing : (row_of ask).needed ≢ a_listing
-  pub told : (bounds : TreeLimits) (before : Content) → (row_of ask).told bounds before ≡ ok
+  pub told : (bounds : TreeLimits) (before : Content) → (row_of ask).said_of_file bounds before ≡ ok
 
 is-ok : (ask : Ask) → kind_of ask ≡ Change → IsOk ask
 is-ok (asks.Close handle) is = record { no_listing = λ needs. cc; told = λ bounds before. refl }
 is-ok other is = record { no_listing = λ needs. cc; told = λ bounds before. cc }
 
-module _ (bounds : TreeLimits) (row : Row) (told : (before : Content) → row.told bounds before ≡ ok) where
+module _ (bounds : TreeLimits) (row : Row) (told : (before : Content) → row.said_of_file bounds before ≡ ok) where
   content-ok : (number : ℕ) (flags : OpenFlags) (content : Option Content)
       → said_of bounds row (seen_file number flags content) ≡ ok
   content-ok number flags None = refl

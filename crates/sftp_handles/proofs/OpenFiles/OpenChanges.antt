@@ -51,7 +51,7 @@ module _ (s : State) (ask : Ask) (handle : List ℕ) (asked : asked_handle ask �
       ap (λ n. seen_among s.tree.files n (open_at s.handles handle)) needs
       ∙ (seen-found s.tree.files (open_at s.handles handle) f is ∙ ap (seen_file f.0 f.1) there)
 
-  says-is : (answer : Answer) → answers s ask answer ≡ says ((row_of ask).told (limits s.tree) before) answer
+  says-is : (answer : Answer) → answers s ask answer ≡ says ((row_of ask).said_of_file (limits s.tree) before) answer
   unfolding answers
   says-is answer =
       ap (λ h. says (said_to s ask h) answer) asked
@@ -65,7 +65,7 @@ module _ (s : State) (ask : Ask) (handle : List ℕ) (asked : asked_handle ask �
       ∙ ap (λ x. changed s handle (change_of (row_of ask) x answer)) seen-is
 
   -- where no cause holds, it is done with OK
-  pub done-file : (end : State) → (row_of ask).told (limits s.tree) before ≡ ok → causes s ask ≡ no_causes
+  pub done-file : (end : State) → (row_of ask).said_of_file (limits s.tree) before ≡ ok → causes s ask ≡ no_causes
       → end ≡ changed s handle (change_file f.0 ((row_of ask).content f.1 before)) → IsDone s ask end
   done-file end told free is_end message language = record {
     free = none-holds s ask free;
@@ -75,7 +75,7 @@ module _ (s : State) (ask : Ask) (handle : List ℕ) (asked : asked_handle ask �
   }
 
   -- the file gets a content, and all else in the tree stays
-  done-rewritten : (next : Content) (t : Tree) → Good s → IsKept t → (row_of ask).told (limits s.tree) before ≡ ok
+  done-rewritten : (next : Content) (t : Tree) → Good s → IsKept t → (row_of ask).said_of_file (limits s.tree) before ≡ ok
       → causes s ask ≡ no_causes → (row_of ask).content f.1 before ≡ Some next
       → t ≡ record s.tree { files = with_content s.tree.files f.0 next } → IsDone s ask (state_of t s.handles)
   done-rewritten next t good kept told free gets same =

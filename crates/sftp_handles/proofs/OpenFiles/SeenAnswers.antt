@@ -23,14 +23,14 @@ pub only-holds : (s : State) (ask : Ask) (cause : Cause) → causes s ask ≡ wh
 only-holds s ask cause is = ap (λ set. set cause) is ∙ cause-holds cause
 
 of-content : (bounds : TreeLimits) (row : Row) (number : ℕ) (flags : OpenFlags) (content : Option Content) (said : Said)
-    → option_map (row.told bounds) content ≡ Some said → said_of bounds row (seen_file number flags content) ≡ said
+    → option_map (row.said_of_file bounds) content ≡ Some said → said_of bounds row (seen_file number flags content) ≡ said
 of-content bounds row number flags None said is = absurd cc
-of-content bounds row number flags (Some before) said is = same_Some (row.told bounds before) said is
+of-content bounds row number flags (Some before) said is = same_Some (row.said_of_file bounds before) said is
 
 -- what is said of the file that is found
 pub said-found : (s : State) (ask : Ask) (handle : List ℕ) → (row_of ask).needed ≡ a_file
     → (f : ℕ × OpenFlags) (said : Said) → found_file (open_at s.handles handle) ≡ Ok f
-    → option_map ((row_of ask).told (limits s.tree)) (content_at s.tree.files f.0) ≡ Some said
+    → option_map ((row_of ask).said_of_file (limits s.tree)) (content_at s.tree.files f.0) ≡ Some said
     → said_to s ask (Some handle) ≡ said
 unfolding seen
 said-found s ask handle needs f said is there =

@@ -49,7 +49,7 @@ module _ (s : State) (good : Good s) where
 
   -- what is said of a file
   told-fits : (ask : Ask) (number : ℕ) (content : Content) → content_at s.tree.files number ≡ Some content
-      → FitsSaid ((row_of ask).told (limits s.tree) content)
+      → FitsSaid ((row_of ask).said_of_file (limits s.tree) content)
   told-fits (asks.Read handle offset len) number content there =
       let is = each-get nat_cmp nat_cmp-IsAntisymmetric (λ e. IsContent e.1) s.tree.files number content
       good.tree.well_formed.contents there in
