@@ -1,5 +1,4 @@
 -- The answers that this program gives.
-pub mod AnswersSpelled
 pub mod AnswersSteps
 pub mod LimitsAnswers
 pub mod ReadLimits

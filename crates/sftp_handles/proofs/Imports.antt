@@ -18,11 +18,11 @@ pub use Rattle.std.proofs.lemmas.Result.{IfOk-weaker, err_from_is_err_and}
 pub use Rattle.std.proofs.lemmas.Slice.Eq.{bytes_eq-Decides}
 pub use Rattle.std.specs.BTreeMap.{is_at}
 pub use Rattle.std.specs.Cmp.{IsTotalOrder, nat_cmp_total, nat_eq_equiv, Equal-is}
-pub use Rattle.std.specs.Cmp.Lexicographic.{nat_list_eq_equiv, nat_list_cmp_total, bytes_decides, texts_ties}
+pub use Rattle.std.specs.Cmp.Lexicographic.{nat_list_eq_equiv, nat_list_cmp_total, bytes_decides}
 pub use Rattle.std.specs.FinMap.{nat_cmp-IsAntisymmetric, IsAntisymmetric}
 pub use Rattle.std.specs.Int.{w32, w64, from_be_bytes, byte_at, bytes_high_first}
-pub use Rattle.std.specs.List.{AllByRecursion, flat_map, IsDistinct, list_any, list_all, filter}
-pub use Rattle.std.specs.Map.{lookup, keys_of, KeepsOthers}
+pub use Rattle.std.specs.List.{AllByRecursion, flat_map, list_any, list_all, filter}
+pub use Rattle.std.specs.Map.{lookup, keys_of}
 pub use Rattle.std.specs.Ordering.{nat_cmp, is_eq}
 pub use Rattle.std.specs.Prelude.{codes, bytes_eq}
 pub use Rattle.std.specs.declared.cmp.Ordering.{Ordering}
@@ -73,10 +73,8 @@ pub use Rattle.sftp_tree.specs.declared.nodes.Node.{Node}
 pub use Rattle.sftp_treefile.specs.TreeFile.{are_bytes}
 pub use Rattle.sftp_treefile.specs.declared.limits.TreeLimits.{TreeLimits}
 pub use Rattle.sftp_wire.specs.Examples.{no_attributes}
-pub use Rattle.sftp_packets.specs.Spelling.{string, attributes, FitsAttrs, name_item, FitsString, FitsNameItem}
-pub use Rattle.sftp_packets.specs.Spelling.{AreBytes}
+pub use Rattle.sftp_packets.specs.Spelling.{string, attributes, name_item, FitsString, FitsNameItem, AreBytes, FitsAsk}
 pub use Rattle.sftp_packets.specs.Spelling.{handle_limit, asked_handle, uint32, uint64, HasSpelling, packet_limit}
-pub use Rattle.sftp_packets.specs.Spelling.{FitsAsk}
 unfoldable pub use Rattle.sftp_packets.specs.Spelling.{spelling}
 pub use Rattle.sftp_packets.specs.declared.attributes.Attrs.{Attrs}
 pub use Rattle.sftp_packets.specs.declared.names.NameItem.{NameItem}
@@ -95,7 +93,6 @@ pub use Rattle.sftp_handles.specs.Clash.{Touched, untouched, everything, share, 
 pub use Rattle.sftp_handles.specs.Clash.{ComesFirst, reads_file, writes_file, takes_names, may_change, bars, bars_by}
 unfoldable pub use Rattle.sftp_handles.specs.Clash.{touched, clash}
 pub use Rattle.sftp_handles.specs.FirstNames.{item_of, first_items, names_in_reply, AreFirst, AreFirstNames}
-pub use Rattle.sftp_handles.specs.Fitting.{FitsSaid, FitsTwice, FitsData}
 pub use Rattle.sftp_handles.specs.Found.{found_file, IsWritable, with_room, refusing, granted, read_said}
 pub use Rattle.sftp_handles.specs.Given.{named, handles_in}
 pub use Rattle.sftp_handles.specs.Giving.{IsListing, gives_names, with_struck}
@@ -109,10 +106,9 @@ unfoldable pub use Rattle.sftp_handles.specs.Handles.{pins_of}
 pub use Rattle.sftp_handles.specs.Judged.{IsDone, IsJudged, refusal_code, IsRefusal, IsJudgedCode}
 pub use Rattle.sftp_handles.specs.Kinds.{kind_of}
 pub use Rattle.sftp_handles.specs.Laws.{is_opening, asked_state, IsOpenedBy, IsAskable, IsAnswerable}
-pub use Rattle.sftp_handles.specs.Payloads.{Carries, said_in}
-pub use Rattle.sftp_handles.specs.Replies.{shows, names, gives, ended, extends, names_in, refuses, are_some_left, opens}
-pub use Rattle.sftp_handles.specs.Replies.{is_new_handle, says, struck, names_given, is_among, gives_some, has_code}
-pub use Rattle.sftp_handles.specs.Replies.{Said, ok, same_attributes, has_attributes, is_left, lists}
+pub use Rattle.sftp_handles.specs.Payloads.{FitsSaid, FitsTwice, FitsData, HasNewName, said_in, answer_of, Carries}
+pub use Rattle.sftp_handles.specs.Replies.{Said, says, names_in, names_given, refuses, is_new_handle, gives_some}
+pub use Rattle.sftp_handles.specs.Replies.{struck, is_among, are_some_left, has_code, same_attributes}
 pub use Rattle.sftp_handles.specs.Requests.{causes_by, said_to, after_by, changed, flags_of, opened_by}
 pub use Rattle.sftp_handles.specs.Requests.{with_new, path_causes, path_said, seen_by}
 unfoldable pub use Rattle.sftp_handles.specs.Requests.{causes, after, told_to, answers}

@@ -20,7 +20,6 @@ pub mod Found
 pub mod Uses
 pub mod Judged
 pub mod Kinds
-pub mod Fitting
-pub mod Payloads
 pub mod Answered
+pub mod Payloads
 pub mod Opening

@@ -1,22 +1,81 @@
--- What the replies to queries carry. Words of private contracts.
-use Rattle.std.specs.Prelude.{◌≡◌, Some, IsTrue}
+-- What replies carry: what can be said in a reply that can be encoded, and what the replies to queries say. Words of
+-- private contracts.
+use Rattle.std.specs.Prelude.{◌≡◌, ◌<◌, ◌≤◌, ℕ, List, [], ◌∷◌, length, Option, Some, None, IsTrue}
+use Rattle.sftp_packets.specs.declared.attributes.Attrs.{Attrs}
 use Rattle.sftp_packets.specs.declared.packets.Ask.{Ask}
-use Rattle.sftp_packets.specs.Spelling.{asked_handle}
+use Rattle.sftp_packets.specs.declared.packets.Answer.{Answer}
+use Rattle.sftp_packets.specs.declared.packets.Answer.TheVariants as replies
+use Rattle.sftp_packets.specs.Spelling.{FitsString, FitsAttrs, asked_handle}
+use Rattle.sftp_path.specs.Place.{bytes_cmp}
+use Rattle.sftp_path.specs.Table.{InOrder, size}
+use Rattle.sftp_treefile.specs.Limits.{highest_limits}
 use Rattle.sftp_tree.specs.Causes.{is_none}
 use Rattle.sftp_handles.specs.declared.payloads.Payload.{Payload}
-use Rattle.sftp_handles.specs.declared.payloads.Payload.TheVariants.{Attrs, Name, Data, Extended, End}
-use Rattle.sftp_handles.specs.State.{State, Good}
-use Rattle.sftp_handles.specs.Replies.{Said, shows, names, gives, ended, extends}
+use Rattle.sftp_handles.specs.declared.payloads.Payload.TheVariants as payloads
+use Rattle.sftp_handles.specs.Handles.{Left, Handles}
+use Rattle.sftp_handles.specs.State.{State, Good, IsLeft, is_plain}
+use Rattle.sftp_handles.specs.Replies.{Said, ok, shows, names, gives, ended, lists, opens, extends}
 use Rattle.sftp_handles.specs.Requests.{causes, said_to}
-use Rattle.sftp_handles.specs.Fitting.{FitsSaid}
+use Rattle.sftp_handles.specs.Answered.{status_of, only_name}
+
+-- ---- what can be encoded
+
+abbrev pub FitsShown : Option Attrs → Type 0
+FitsShown None = ⊥
+FitsShown (Some attrs) = FitsAttrs attrs × IsTrue (is_plain attrs)
+
+-- a text that fits a reply twice, as a name and as its long name
+pub record FitsTwice (text : List ℕ) : Type 0 where
+  pub string : FitsString text
+  pub short : length text ≤ 16641
+
+abbrev pub FitsNamed : Option (List ℕ) → Type 0
+FitsNamed None = ⊥
+FitsNamed (Some text) = FitsTwice text
+
+-- bytes that fit a reply
+pub record FitsData (bytes : List ℕ) : Type 0 where
+  pub string : FitsString bytes
+  pub short : length bytes ≤ highest_limits.read_bytes
+
+-- a listing has a name left, and each name that it has left can be given
+abbrev pub FitsListed : Left → Type 0
+FitsListed [] = ⊥
+FitsListed (e ∷ es) = IsLeft (e ∷ es)
+
+-- there are so few handles that one more has a name
+pub record HasNewName (handles : Handles) : Type 0 where
+  pub ordered : InOrder bytes_cmp handles
+  pub few : size handles < highest_limits.open_handles
+
+-- an answer that can be encoded says it
+abbrev pub FitsSaid : Said → Type 0
+FitsSaid ok = Unit {0}
+FitsSaid (shows shown) = FitsShown shown
+FitsSaid (names text) = FitsNamed text
+FitsSaid (gives bytes) = FitsData bytes
+FitsSaid ended = Unit {0}
+FitsSaid (lists left) = FitsListed left
+FitsSaid (opens handles) = HasNewName handles
+FitsSaid (extends bytes) = FitsData bytes
+
+-- ---- the replies to queries
 
 -- what the reply says
 abbrev pub said_in : Payload → Said
-said_in (Attrs shown) = shows (Some shown)
-said_in (Name text) = names (Some text)
-said_in (Data bytes) = gives bytes.now
-said_in (Extended told) = extends told
-said_in End = ended
+said_in (payloads.Attrs shown) = shows (Some shown)
+said_in (payloads.Name text) = names (Some text)
+said_in (payloads.Data bytes) = gives bytes.now
+said_in (payloads.Extended told) = extends told
+said_in payloads.End = ended
+
+-- the answer that says it
+abbrev pub answer_of : Payload → Answer
+answer_of (payloads.Attrs shown) = replies.Attrs shown
+answer_of (payloads.Name text) = only_name text
+answer_of (payloads.Data bytes) = replies.Data bytes.now
+answer_of (payloads.Extended told) = replies.Extended told
+answer_of payloads.End = status_of 1
 
 -- no cause refuses the request, its reply says this, which can be encoded, and the state is good
 pub record Carries (s : State) (ask : Ask) (said : Said) : Type 0 where

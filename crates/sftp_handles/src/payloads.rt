@@ -1,9 +1,7 @@
 //! What the replies to queries carry (draft, section 7).
 ghost use Rattle.std.specs.Prelude.{◌≡◌, IfOk};
 ghost use Rattle.sftp_handles.specs.Replies as spec;
-ghost use Rattle.sftp_handles.specs.Fitting.{FitsSaid};
-ghost use Rattle.sftp_handles.specs.Payloads.{said_in};
-ghost use Rattle.sftp_handles.specs.Answered.{IsReplyOf};
+ghost use Rattle.sftp_handles.specs.Payloads.{said_in, answer_of};
 
 use crate::answer::forms::{has_code, one_name, status};
 use sftp_listing::same_attributes;
@@ -60,8 +58,7 @@ impl<'a> Payload<'a> {
     ///
     /// `NoMemory` if memory runs out.
     pub(crate) fn answer(self, alloc: Global) -> Result<Answer, NoMemory>
-        requires { FitsSaid (said_in self) }
-        ensures { IfOk result (IsReplyOf (said_in self.entry)) }
+        ensures { IfOk result (λ answer. answer ≡ answer_of self.entry) }
     {
         match self {
             Payload::Attrs(shown) => Ok(Answer::Attrs(shown)),

@@ -7,7 +7,7 @@ use Rattle.sftp_handles.specs.declared.requests.Kind.TheVariants as kinds
 use Rattle.sftp_handles.proofs.Judged.Steps.{done-step}
 use Rattle.sftp_handles.proofs.Judged.Judgements.{some-holds, refused-step, judged-refused, unlike}
 use Rattle.sftp_handles.proofs.OpenFiles.SeenAnswers.{cause-holds}
-use Rattle.sftp_handles.proofs.Answered.AnswersSpelled.{spelled-status}
+use Rattle.sftp_handles.proofs.TotalSteps.SaidReplies.{status-spelled}
 
 -- ---- refusals
 
@@ -42,4 +42,4 @@ answered-step s ask answer end answered = done-step s ask answer end answered.do
 
 -- a request that says OK
 pub answered-ok : (s : State) (ask : Ask) (end : State) → IsDone s ask end → IsAnswered s ask (status_of 0) end
-answered-ok s ask end done = record { does = done [] []; spelled = spelled-status 0 (lit< tt) }
+answered-ok s ask end done = record { does = done [] []; spelled = status-spelled 0 (lit< tt) }

@@ -1,88 +1,17 @@
 -- READDIR: the reply that gives the first names of a listing, and the reply that there are no more.
-use Rattle.sftp_handles.proofs.Imports.{◌≡◌, ◌==◌, nat_lt, ℕ, zero, suc, ◌+◌, ◌*◌, ◌≤◌, Bool, true, false, List, []}
-use Rattle.sftp_handles.proofs.Imports.{◌∷◌, length, Option, Some, None, refl, sym, ap, subst, ◌∙◌, arith, lit<, inl}
-use Rattle.sftp_handles.proofs.Imports.{inr, AllByRecursion, flat_map, both_ways, eqb-true, lt-ltb, length-append}
-use Rattle.sftp_handles.proofs.Imports.{Attrs, NameItem, Ask, Readdir, Answer, reply_packet, spelling, attributes}
-use Rattle.sftp_handles.proofs.Imports.{name_item, FitsString, FitsNameItem, Name, Open, File, Listing, Left, Handles}
-use Rattle.sftp_handles.proofs.Imports.{open_at, State, Good, IsItem, is_plain, names_in, refuses, are_some_left}
-use Rattle.sftp_handles.proofs.Imports.{causes, Does, IsJudged, IsSpelledAnswer, IsAnswered, IsListing, gives_names}
-use Rattle.sftp_handles.proofs.Imports.{with_struck, item_of, first_items, names_in_reply, AreFirst, AreFirstNames}
+use Rattle.sftp_handles.proofs.Imports.{◌≡◌, ◌==◌, nat_lt, ℕ, Bool, true, false, List, [], ◌∷◌, length, Option, Some}
+use Rattle.sftp_handles.proofs.Imports.{None, refl, sym, ap, subst, ◌∙◌, arith, lit<, inl, inr, both_ways, eqb-true}
+use Rattle.sftp_handles.proofs.Imports.{lt-ltb, NameItem, Ask, Answer, Name, Open, File, Listing, Handles, open_at}
+use Rattle.sftp_handles.proofs.Imports.{State, Good, names_in, refuses, causes, Does, IsJudged, IsSpelledAnswer}
+use Rattle.sftp_handles.proofs.Imports.{IsAnswered, IsListing, gives_names, with_struck, AreFirst, AreFirstNames}
+use Rattle.sftp_handles.proofs.Imports.{IsReplyOf, Readdir}
 use Rattle.sftp_packets.specs.declared.packets.Answer.TheVariants as replies
-use Rattle.sftp_listing.proofs.FirstNames.{Extended, attributes_of, first-some}
+use Rattle.sftp_handles.specs.Replies.{lists}
 use Rattle.sftp_handles.proofs.Judged.GivenNames.{has_none, listing-left, given-judged, readdir-ends}
 use Rattle.sftp_handles.proofs.Judged.Judgements.{allow-one}
 use Rattle.sftp_handles.proofs.Good.NewStates.{state_of}
 use Rattle.sftp_handles.proofs.Judged.Steps.{step-is_allowed}
-use Rattle.sftp_handles.proofs.TotalSteps.PlaceTexts.{name-parts}
-use Rattle.sftp_handles.proofs.TotalSteps.SaidReplies.{reply_of, status-spelled}
-
--- ---- how long an item is
-
-fields-length : (size : Option ℕ) (owner : Option (ℕ × ℕ)) (permissions : Option ℕ) (times : Option (ℕ × ℕ))
-    → (extended : Option Extended) → is_plain (attributes_of size owner permissions times extended) ≡ true
-    → length (attributes (attributes_of size owner permissions times extended)) ≡ 24
-fields-length (Some size) (Some owner) (Some permissions) None None is = omega arith
-fields-length None owner permissions times extended is = absurd cc
-fields-length (Some size) None permissions times extended is = absurd cc
-fields-length (Some size) (Some owner) None times extended is = absurd cc
-fields-length (Some size) (Some owner) (Some permissions) (Some times) extended is = absurd cc
-fields-length (Some size) (Some owner) (Some permissions) None (Some extended) is = absurd cc
-
-plain-length : (attrs : Attrs) → is_plain attrs ≡ true → length (attributes attrs) ≡ 24
-plain-length attrs = fields-length attrs.size attrs.owner attrs.permissions attrs.times attrs.extended
-
-item-length : (e : Name × Attrs) → IsItem e → length (name_item (item_of e)) ≤ 542
-item-length e item =
-    let short = (name-parts e.0 item.0).0 in
-    let plain = plain-length e.1 item.2 in
-    grind (arith, length-append, short, plain)
-
-items-length : (n : ℕ) (left : Left) → AllByRecursion IsItem left
-    → length (flat_map name_item (first_items n left)) ≤ 542 * n
-items-length zero [] items = omega arith
-items-length zero (e ∷ es) items = omega arith
-items-length (suc n) [] items = omega arith
-items-length (suc n) (e ∷ es) items =
-    let here = item-length e items.0 in
-    let rest = items-length n es items.1 in
-    omega (arith, here, rest, length-append (name_item (item_of e)) (flat_map name_item (first_items n es)))
-
--- ---- the reply can be encoded
-
-items-fit : (n : ℕ) (left : Left) → AllByRecursion IsItem left → AllByRecursion FitsNameItem (first_items n left)
-items-fit zero [] items = tt
-items-fit zero (e ∷ es) items = tt
-items-fit (suc n) [] items = tt
-items-fit (suc n) (e ∷ es) items =
-    let parts = name-parts e.0 items.0.0 in
-    let text : FitsString e.0 = record { bytes_fit = parts.1; length_fits = omega (arith, parts.0) } in
-    (record { filename = text; longname = text; attrs = items.0.1 }, items-fit n es items.1)
-
-few-items : (n : ℕ) (left : Left) → length (first_items n left) ≤ n
-few-items zero [] = omega arith
-few-items zero (e ∷ es) = omega arith
-few-items (suc n) [] = omega arith
-few-items (suc n) (e ∷ es) = omega (arith, few-items n es)
-
-reply-length : (id : ℕ) (items : List NameItem)
-    → length (spelling (reply_packet (reply_of id (replies.Name items)))) ≡ 13 + length (flat_map name_item items)
-unfolding spelling
-reply-length id items = omega arith
-
-pub first-spelled : (left : Left) → AllByRecursion IsItem left
-    → IsSpelledAnswer (replies.Name (first_items names_in_reply left))
-first-spelled left items id small =
-    let few = few-items names_in_reply left in
-    let short = items-length names_in_reply left items in
-    record {
-      fields = (small, (omega (arith, few), items-fit names_in_reply left items));
-      whole = omega (arith, reply-length id (first_items names_in_reply left), short);
-      handle = tt;
-      canonical = refl;
-    }
-
-pub end-spelled : IsSpelledAnswer (replies.Status 1 [] [])
-end-spelled id small = status-spelled id 1 small (lit< tt)
+use Rattle.sftp_handles.proofs.TotalSteps.SaidReplies.{status-spelled, reply-listed}
 
 -- ---- whether there are names, as the code finds out
 
@@ -126,13 +55,11 @@ module _ (s : State) (handle : List ℕ) (good : Good s) where
   given-in items None there first some = absurd first
   given-in items (Some (File number flags)) there first some = absurd first
   given-in items (Some (Listing left)) there first some =
-      let is_left = listing-left s handle left good there in (
-        subst (λ (xs : List NameItem). are_some_left left xs ≡ true) (sym first)
-            (first-some names_in_reply left is_left
-            (ap (λ (xs : List NameItem). nat_lt 0 (length xs)) (sym first) ∙ some)),
-        subst (λ (xs : List NameItem). IsSpelledAnswer (replies.Name xs)) (sym first)
-            (first-spelled left is_left.items),
-      )
+      let reply : IsReplyOf (lists left) (replies.Name items) =
+      subst (λ (xs : List NameItem). IsReplyOf (lists left) (replies.Name xs)) (sym first)
+      (reply-listed left (listing-left s handle left good there)
+      (subst (λ (xs : List NameItem). nat_lt 0 (length xs) ≡ true) first some)) in
+      (reply.says, reply.spelled)
 
   named-in : (names : List Name) (found : Option Open) → open_at s.handles handle ≡ found → AreFirstNames found names
       → IsListing found
@@ -171,5 +98,5 @@ module _ (s : State) (handle : List ℕ) (good : Good s) where
     does =
         judged-does s (Readdir handle) (replies.Status 1 [] []) s (allow-one (causes s (Readdir handle)))
         (readdir-ends s handle true good (sym (none-in names (open_at s.handles handle) first none)) [] []);
-    spelled = end-spelled;
+    spelled = status-spelled 1 (lit< tt);
   }

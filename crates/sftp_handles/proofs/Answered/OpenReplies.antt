@@ -1,18 +1,18 @@
 -- OPEN and OPENDIR: the reply that gives a new handle, and why there is none.
 use Rattle.sftp_handles.proofs.Imports.{◌≡◌, ◌&&◌, ◌||◌, not, ℕ, ◌≤◌, Bool, true, false, List, length, refl, sym, ap}
-use Rattle.sftp_handles.proofs.Imports.{◌∙◌, arith, IsTrue, nat_le, leb-true, and_parts, Ask, AreBytes, handle_limit}
-use Rattle.sftp_handles.proofs.Imports.{NoRoom, Refused, CauseSet, is_none, when, State, has_handle_left, Handles}
-use Rattle.sftp_handles.proofs.Imports.{is_open, opens, is_new_handle, causes, with_handle_room, Does, kind_of}
-use Rattle.sftp_handles.proofs.Imports.{IsRefusal, IsSpelledAnswer, IsAnswered}
+use Rattle.sftp_handles.proofs.Imports.{◌∙◌, IsTrue, nat_le, leb-true, and_parts, Ask, AreBytes, handle_limit, NoRoom}
+use Rattle.sftp_handles.proofs.Imports.{Refused, CauseSet, is_none, when, State, has_handle_left, Handles, is_open}
+use Rattle.sftp_handles.proofs.Imports.{is_new_handle, causes, with_handle_room, Does, kind_of, IsRefusal, IsAnswered}
 use Rattle.sftp_packets.specs.declared.packets.Ask.TheVariants.{Open, Opendir}
 use Rattle.sftp_packets.specs.declared.packets.Answer.TheVariants as replies
 use Rattle.sftp_tree.specs.Requests as paths
 use Rattle.sftp_tree.specs.Refusals as refusals_of
+use Rattle.sftp_handles.specs.Replies.{opens}
 use Rattle.sftp_handles.specs.declared.requests.Kind.TheVariants as kinds
 use Rattle.sftp_handles.proofs.Judged.HandleReplies.{opens-said}
 use Rattle.sftp_handles.proofs.Judged.Judgements.{answers-said}
 use Rattle.sftp_handles.proofs.OpenFiles.Opened.{refused-file, refused-listing}
-use Rattle.sftp_handles.proofs.TotalSteps.SaidReplies.{handle-length}
+use Rattle.sftp_handles.proofs.TotalSteps.SaidReplies.{handle-spelled}
 
 -- ---- no more handles
 
@@ -48,15 +48,6 @@ path-refuses s (Opendir path) refused opening holds = refused-listing s s.tree p
 path-refuses s other refused opening holds = absurd cc
 
 -- ---- a new handle
-
-handle-spelled : (handle : List ℕ) → AreBytes handle → length handle ≤ handle_limit
-    → IsSpelledAnswer (replies.Handle handle)
-handle-spelled handle bytes short id small = record {
-  fields = (small, record { bytes_fit = bytes; length_fits = omega (arith, short) });
-  whole = omega (arith, handle-length id handle, short);
-  handle = short;
-  canonical = refl;
-}
 
 -- it is not too long
 new-short : (handles : Handles) (handle : List ℕ) → is_new_handle handles (replies.Handle handle) ≡ true

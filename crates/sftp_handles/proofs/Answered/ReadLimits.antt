@@ -1,10 +1,11 @@
 -- How many bytes one READ gives: of a file of 70,000 bytes as many as the tree's limit, and no other number.
 use Rattle.sftp_handles.proofs.Imports.{◌≡◌, ◌≢◌, ℕ, if◌then◌else◌, min, List, length, take, Some, None, refl, ap, ◌∙◌}
-use Rattle.sftp_handles.proofs.Imports.{arith, nat_eq, codes, nat_list_eq_equiv, lt-ltb, Ask, Data, same_bytes}
-use Rattle.sftp_handles.proofs.Imports.{get, put, retain, TreeLimits, bytes_at, no_causes, when, State, seen, pins_of}
-use Rattle.sftp_handles.proofs.Imports.{gives, ended, says, causes, answers, after, step}
+use Rattle.sftp_handles.proofs.Imports.{arith, nat_eq, codes, nat_list_eq_equiv, lt-ltb, Ask, Data, same_bytes, get}
+use Rattle.sftp_handles.proofs.Imports.{put, retain, TreeLimits, bytes_at, no_causes, when, State, seen, pins_of, says}
+use Rattle.sftp_handles.proofs.Imports.{causes, answers, after, step}
 use Rattle.sftp_packets.specs.declared.packets.Ask.TheVariants as asks
 use Rattle.std.specs.Cmp.Lexicographic.{unequal}
+use Rattle.sftp_handles.specs.Replies.{gives, ended}
 use Rattle.sftp_handles.specs.Examples.{with_text, reading}
 use Rattle.sftp_handles.proofs.Judged.Judgements.{not-answered}
 use Rattle.sftp_handles.proofs.Judged.Steps.{done-step}

@@ -1,12 +1,12 @@
 -- READDIR: the names that its reply gives, and its end.
 use Rattle.sftp_handles.proofs.Imports.{◌≡◌, ◌&&◌, nat_lt, ℕ, Bool, true, false, List, [], ◌∷◌, length, Option, Some}
-use Rattle.sftp_handles.proofs.Imports.{None, ◌↔◌, refl, sym, subst, ap, ◌∙◌, and_parts, NameItem, Readdir, Answer}
-use Rattle.sftp_handles.proofs.Imports.{Status, bytes_cmp, get, bytes_cmp-same, no_causes, when, is_none}
-use Rattle.sftp_handles.proofs.Imports.{limits, each-get, Open, File, Listing, Left, Handles}
-use Rattle.sftp_handles.proofs.Imports.{open_at, with_open, State, Good, IsHandle, IsLeft, settled, a_listing, seen}
-use Rattle.sftp_handles.proofs.Imports.{seen_among, names_in, names_given, are_some_left, gives_some, has_code, says}
-use Rattle.sftp_handles.proofs.Imports.{struck, row_of, causes_of, said_of, change_of, causes, answers, after, changed}
-use Rattle.sftp_handles.proofs.Imports.{IsJudged, IsJudgedCode, refusal_code, IsListing, gives_names, with_struck}
+use Rattle.sftp_handles.proofs.Imports.{None, ◌↔◌, refl, sym, subst, ap, ◌∙◌, and_parts, NameItem, Answer, Status}
+use Rattle.sftp_handles.proofs.Imports.{bytes_cmp, get, bytes_cmp-same, no_causes, when, is_none, limits, each-get}
+use Rattle.sftp_handles.proofs.Imports.{Open, File, Listing, Left, Handles, open_at, with_open, State, Good, IsHandle}
+use Rattle.sftp_handles.proofs.Imports.{IsLeft, settled, a_listing, seen, seen_among, names_in, names_given}
+use Rattle.sftp_handles.proofs.Imports.{are_some_left, gives_some, has_code, says, struck, row_of, causes_of, said_of}
+use Rattle.sftp_handles.proofs.Imports.{change_of, causes, answers, after, changed, IsJudged, IsJudgedCode}
+use Rattle.sftp_handles.proofs.Imports.{refusal_code, IsListing, gives_names, with_struck, and-false, Readdir}
 use Rattle.sftp_packets.specs.declared.packets.Answer.TheVariants.{Name}
 use Rattle.sftp_path.specs.Place as places
 use Rattle.sftp_handles.specs.Giving.{listing_in}
@@ -24,10 +24,6 @@ pub listing-left : (s : State) (handle : List ℕ) (left : Left) → Good s
     → open_at s.handles handle ≡ Some (Listing left) → IsLeft left
 listing-left s handle left good there =
     (each-get bytes_cmp bytes_cmp-same IsHandle s.handles handle (Listing left) good.handles there).1
-
-and-false : (b : Bool) → (b && false) ≡ false
-and-false true = refl
-and-false false = refl
 
 -- an empty listing gives no names
 none-left : (items : List NameItem) → are_some_left [] items ≡ false

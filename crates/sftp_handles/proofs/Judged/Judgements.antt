@@ -3,9 +3,10 @@ use Rattle.sftp_handles.proofs.Imports.{◌≡◌, ◌==◌, ◌&&◌, nat_lt, �
 use Rattle.sftp_handles.proofs.Imports.{[], ◌∷◌, Some, None, refl, sym, ap, subst, ◌∙◌, IsTrue, arith, list_any}
 use Rattle.sftp_handles.proofs.Imports.{and_parts, both_ways, eqb-true, lt-ltb, ltb-true, ne_eqb, same_Some, Ask}
 use Rattle.sftp_handles.proofs.Imports.{Answer, Status, Request, Reply, asked_handle, Cause, BadFlags, CauseSet}
-use Rattle.sftp_handles.proofs.Imports.{every_cause, allows, allow, is_none, none-each, State, Said, ok, shows, names}
-use Rattle.sftp_handles.proofs.Imports.{ended, says, refuses, has_code, causes, said_to, answers, after, Does, Allowed}
-use Rattle.sftp_handles.proofs.Imports.{stepped, step, IsJudged, IsJudgedCode, IsDone, refusal_code}
+use Rattle.sftp_handles.proofs.Imports.{every_cause, allows, allow, is_none, none-each, State, Said, says, refuses}
+use Rattle.sftp_handles.proofs.Imports.{has_code, causes, said_to, answers, after, Does, Allowed, stepped, step}
+use Rattle.sftp_handles.proofs.Imports.{IsJudged, IsJudgedCode, IsDone, refusal_code}
+use Rattle.sftp_handles.specs.Replies.{ok, shows, names, ended}
 use Rattle.sftp_handles.proofs.Judged.Steps.{done-step, allowed-step, step-is_allowed}
 
 -- ---- causes

@@ -1,17 +1,18 @@
 -- Replies that say OK: which requests are done, and which have another answer.
-use Rattle.sftp_handles.proofs.Imports.{◌≡◌, ◌≢◌, nat_le, ℕ, true, false, List, Option, Some, None, Result, Ok, Err, IsTrue, refl}
-use Rattle.sftp_handles.proofs.Imports.{sym, ap, subst, ◌∙◌, IfOk, IfErr, OnOk, OnErr, OpenFlags, Ask, Answer, Status}
-use Rattle.sftp_handles.proofs.Imports.{asked_handle, Place, size, TreeLimits, Cause, Refused, Content, Tree, Files}
-use Rattle.sftp_handles.proofs.Imports.{IsKept, content_at, limits, is_none, Told, done, led, led_to}
+use Rattle.sftp_handles.proofs.Imports.{◌≡◌, ◌≢◌, nat_le, ℕ, true, false, List, Option, Some, None, Result, Ok, Err}
+use Rattle.sftp_handles.proofs.Imports.{IsTrue, refl, sym, ap, subst, ◌∙◌, IfOk, IfErr, OnOk, OnErr, OpenFlags, Ask}
+use Rattle.sftp_handles.proofs.Imports.{Answer, Status, asked_handle, Place, size, TreeLimits, Cause, Refused, Content}
+use Rattle.sftp_handles.proofs.Imports.{Tree, Files, IsKept, content_at, limits, is_none, Told, done, led, led_to}
 use Rattle.sftp_handles.proofs.Imports.{told_at, has_step, outcome, IsFree, pins-stay, limits-stay, Open, File, Listing}
 use Rattle.sftp_handles.proofs.Imports.{open_at, State, Good, settled, Needed, anything, a_file, a_listing, seen}
-use Rattle.sftp_handles.proofs.Imports.{seen_among, seen_file, ok, has_code, Row, row_of, said_of, causes, path_causes}
+use Rattle.sftp_handles.proofs.Imports.{seen_among, seen_file, has_code, Row, row_of, said_of, causes, path_causes}
 use Rattle.sftp_handles.proofs.Imports.{path_said, causes_by, after, after_by, told_to, said_to, said_by, with_new}
 use Rattle.sftp_handles.proofs.Imports.{flags_of, opened_by, IsJudged, IsDone, IsRefusal, refusal_code, kind_of}
 use Rattle.sftp_packets.specs.declared.packets.Ask.TheVariants as asks
 use Rattle.sftp_tree.specs.declared.causes.Refused.TheVariants as refusals
 use Rattle.sftp_tree.specs.Requests as paths
 use Rattle.sftp_tree.specs.Refusals as of_tree
+use Rattle.sftp_handles.specs.Replies.{ok}
 use Rattle.sftp_handles.specs.declared.requests.Kind.TheVariants.{Change}
 use Rattle.sftp_handles.specs.Judged.{is_done, changes_by, changes_tree}
 use Rattle.sftp_handles.proofs.Good.NewStates.{state_of, settled-pinned}

@@ -4,20 +4,24 @@ use Rattle.sftp_handles.proofs.Imports.{IsTrue, refl, sym, ap, subst, ◌∙◌,
 use Rattle.sftp_handles.proofs.Imports.{Place, absolute, are_bytes, Cause, Refused, Content, Tree, Files, node_at}
 use Rattle.sftp_handles.proofs.Imports.{content_at, is_none, Told, led, led_to, told_at, outcome, shown_at, has_step}
 use Rattle.sftp_handles.proofs.Imports.{IsFree, stat_ask, PathsLeadWell, Opened, File, Listing, open_at, State, Good}
-use Rattle.sftp_handles.proofs.Imports.{settled, a_file, seen, seen_among, Said, shows, names, says, Row, row_of}
-use Rattle.sftp_handles.proofs.Imports.{change_of, change_file, nothing, causes, answers, after, after_by, told_to}
-use Rattle.sftp_handles.proofs.Imports.{said_by, said_to, opened_by, flags_of, with_new, changed, path_said, IsJudged}
-use Rattle.sftp_handles.proofs.Imports.{IsRefusal, refusal_code, kind_of, FitsSaid, Carries, IsReplyOf, IsAnswered}
+use Rattle.sftp_handles.proofs.Imports.{settled, a_file, seen, seen_among, Said, says, Row, row_of, change_of}
+use Rattle.sftp_handles.proofs.Imports.{change_file, nothing, causes, answers, after, after_by, told_to, said_by}
+use Rattle.sftp_handles.proofs.Imports.{said_to, opened_by, flags_of, with_new, changed, path_said, IsJudged, IsRefusal}
+use Rattle.sftp_handles.proofs.Imports.{refusal_code, kind_of, FitsSaid, Carries, IsReplyOf, IsAnswered, said_in}
+use Rattle.sftp_handles.proofs.Imports.{answer_of}
 use Rattle.sftp_packets.specs.declared.packets.Ask.TheVariants as asks
 use Rattle.sftp_tree.specs.declared.causes.Refused.TheVariants as refusals
 use Rattle.sftp_tree.specs.Requests as paths
 use Rattle.sftp_tree.specs.Requests.{target_of}
 use Rattle.sftp_tree.specs.Told.{shown_to, text_to}
 use Rattle.sftp_tree.specs.Refusals as of_tree
+use Rattle.sftp_handles.specs.Replies.{shows, names}
+use Rattle.sftp_handles.specs.declared.payloads.Payload.{Payload}
 use Rattle.sftp_handles.specs.declared.requests.Kind.TheVariants.{Query}
 use Rattle.sftp_handles.proofs.Good.GoodStates.{good-settled}
 use Rattle.sftp_handles.proofs.Judged.Judgements.{answers-said, unlike, judged-still}
 use Rattle.sftp_handles.proofs.Answered.LimitsAnswers.{limits-still}
+use Rattle.sftp_handles.proofs.TotalSteps.SaidReplies.{payload-reply}
 use Rattle.sftp_handles.proofs.TotalSteps.SeenReplies.{seen-fits}
 use Rattle.sftp_handles.proofs.TotalSteps.PathReplies.{path-fits, stat-fits, lstat-fits, target-fits, place-fits}
 
@@ -206,14 +210,16 @@ judged-query s ask said answer fits is code carries fits_is =
     judged-still s ask answer fits (unlike s ask answer code) (λ e. query-still s ask answer is carries.good)
     (sym (ap (λ b. b && answers s ask answer) carries.free ∙ (answers-said s ask said answer carries.is ∙ sym fits_is)))
 
-pub answered-query : (s : State) (ask : Ask) (said : Said) (answer : Answer) → kind_of ask ≡ Query
-    → Carries s ask said → IsReplyOf said answer → IsAnswered s ask answer s
-answered-query s ask said answer is carries reply = record {
-  does =
-      record {
-        free = carries.free;
-        answered = answers-said s ask said answer carries.is ∙ reply.says;
-        changed = sym (query-still s ask answer is carries.good);
-      };
-  spelled = reply.spelled;
-}
+pub answered-query : (s : State) (ask : Ask) (payload : Payload) (answer : Answer) → kind_of ask ≡ Query
+    → Carries s ask (said_in payload) → answer ≡ answer_of payload → IsAnswered s ask answer s
+answered-query s ask payload answer is carries same =
+    let reply = subst (IsReplyOf (said_in payload)) (sym same) (payload-reply payload carries.fits) in
+    record {
+      does =
+          record {
+            free = carries.free;
+            answered = answers-said s ask (said_in payload) answer carries.is ∙ reply.says;
+            changed = sym (query-still s ask answer is carries.good);
+          };
+      spelled = reply.spelled;
+    }

@@ -1,19 +1,19 @@
 -- Requests that change what is open: CLOSE, and those that give an open file another content.
 use Rattle.sftp_handles.proofs.Imports.{◌≡◌, ℕ, Bool, true, List, Option, Some, None, Ok, Err, Result, is_some}
 use Rattle.sftp_handles.proofs.Imports.{option_map, refl, sym, ap, subst, ◌∙◌, IsTrue, IfErr, OnOk, both_ways}
-use Rattle.sftp_handles.proofs.Imports.{same_Some, Attrs, OpenFlags, Ask, Answer, Status}
-use Rattle.sftp_handles.proofs.Imports.{asked_handle, bytes_cmp, without-absent, BadHandle, Refused, Content}
-use Rattle.sftp_handles.proofs.Imports.{Tree, Pins, IsKept, HasFile, content_at, with_content, limits, trim}
-use Rattle.sftp_handles.proofs.Imports.{without_pin, changed_content, is_none, no_causes, written_content, after_write}
-use Rattle.sftp_handles.proofs.Imports.{after_set, IsRoomRefusal, Open, File, Listing, Left, Handles}
-use Rattle.sftp_handles.proofs.Imports.{open_at, without_open, State, settled, Good, anything, a_file, file}
-use Rattle.sftp_handles.proofs.Imports.{seen, seen_among, seen_file, ok, says, row_of, causes_of, said_of, change_of}
-use Rattle.sftp_handles.proofs.Imports.{change_file, start_of, causes, said_to, answers, changed, after, after_by}
-use Rattle.sftp_handles.proofs.Imports.{found_file, IsWritable, IsDone, IsRefusal}
+use Rattle.sftp_handles.proofs.Imports.{same_Some, Attrs, OpenFlags, Ask, Answer, Status, asked_handle, bytes_cmp}
+use Rattle.sftp_handles.proofs.Imports.{without-absent, BadHandle, Refused, Content, Tree, Pins, IsKept, HasFile}
+use Rattle.sftp_handles.proofs.Imports.{content_at, with_content, limits, trim, without_pin, changed_content, is_none}
+use Rattle.sftp_handles.proofs.Imports.{no_causes, written_content, after_write, after_set, IsRoomRefusal, Open, File}
+use Rattle.sftp_handles.proofs.Imports.{Listing, Left, Handles, open_at, without_open, State, settled, Good, anything}
+use Rattle.sftp_handles.proofs.Imports.{a_file, file, seen, seen_among, seen_file, says, row_of, causes_of, said_of}
+use Rattle.sftp_handles.proofs.Imports.{change_of, change_file, start_of, causes, said_to, answers, changed, after}
+use Rattle.sftp_handles.proofs.Imports.{after_by, found_file, IsWritable, IsDone, IsRefusal}
 use Rattle.sftp_packets.specs.declared.packets.Ask.TheVariants as asks
 use Rattle.sftp_tree.specs.declared.causes.Refused.TheVariants as refusals
 use Rattle.sftp_tree.specs.Changes.{with_changed_file}
 use Rattle.sftp_tree.specs.FileChanges.{with_written_file, after_unpin}
+use Rattle.sftp_handles.specs.Replies.{ok}
 use Rattle.sftp_handles.proofs.Good.Pins.{pins-close_file, pins-close_listing}
 use Rattle.sftp_handles.proofs.Good.NewStates.{state_of, settled-already}
 use Rattle.sftp_handles.proofs.Good.GoodStates.{good-closed}

@@ -4,12 +4,13 @@ use Rattle.sftp_handles.proofs.Imports.{◌≡◌, ◌&&◌, not, nat_lt, nat_le
 use Rattle.sftp_handles.proofs.Imports.{if◌then◌else◌, List, [], length, take, drop, cond, Option, Some, None}
 use Rattle.sftp_handles.proofs.Imports.{unwrap_or, option_map, refl, sym, ap, subst, ◌∙◌, arith, nat_cmp, is_eq}
 use Rattle.sftp_handles.proofs.Imports.{IsTotalOrder, nat_cmp_total, Equal-is, IsAntisymmetric, nat_cmp-IsAntisymmetric}
-use Rattle.sftp_handles.proofs.Imports.{Ordering, same_Some, OpenFlags, Ask, Answer, asked_handle, Table}
-use Rattle.sftp_handles.proofs.Imports.{InOrder, get, put, get-put, InOrder-put, same_table, TreeLimits, IsAsk, Content}
-use Rattle.sftp_handles.proofs.Imports.{content_at, content_fits, with_content, limits, written_content, is_none, when}
-use Rattle.sftp_handles.proofs.Imports.{State, Good, file, seen, NoRoom, refuses, says, gives, ended, ok, row_of}
-use Rattle.sftp_handles.proofs.Imports.{goes_to_end, start_of, causes_of, said_of, read_from, change_file, step}
+use Rattle.sftp_handles.proofs.Imports.{Ordering, same_Some, OpenFlags, Ask, Answer, asked_handle, Table, InOrder, get}
+use Rattle.sftp_handles.proofs.Imports.{put, get-put, InOrder-put, same_table, TreeLimits, IsAsk, Content, content_at}
+use Rattle.sftp_handles.proofs.Imports.{content_fits, with_content, limits, written_content, is_none, when, State, Good}
+use Rattle.sftp_handles.proofs.Imports.{file, seen, NoRoom, refuses, says, row_of, goes_to_end, start_of, causes_of}
+use Rattle.sftp_handles.proofs.Imports.{said_of, read_from, change_file, step}
 use Rattle.sftp_packets.specs.declared.packets.Ask.TheVariants as asks
+use Rattle.sftp_handles.specs.Replies.{gives, ended, ok}
 use Rattle.sftp_handles.specs.Ranges.{written_span, span}
 use Rattle.sftp_handles.proofs.ClashLaws.Touches.{applied}
 use Rattle.sftp_handles.proofs.ClashLaws.Exchanges.{decided, outcome, step-applied}

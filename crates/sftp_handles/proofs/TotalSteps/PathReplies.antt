@@ -1,17 +1,18 @@
 -- What the replies to requests on paths say fits a reply.
 use Rattle.sftp_handles.proofs.Imports.{◌≡◌, ℕ, ◌+◌, true, false, List, length, Option, Some, None, Result, Ok, Err}
 use Rattle.sftp_handles.proofs.Imports.{is_some, refl, sym, subst, arith, IsTrue, leb-true, same_Some, Attrs, Ask}
-use Rattle.sftp_handles.proofs.Imports.{Place, place_cmp, size, place_cmp-same, are_bytes}
-use Rattle.sftp_handles.proofs.Imports.{Cause, NoEntry, NotLink, Content, Node, Tree, IsKept, IsNode, node_at}
-use Rattle.sftp_handles.proofs.Imports.{content_at, link_fits, limits, reached, said, shown, shown_content, no_causes}
-use Rattle.sftp_handles.proofs.Imports.{when, needing_causes, link_causes, done, led, led_to, told_at, shown_at, IsFree}
-use Rattle.sftp_handles.proofs.Imports.{each-get, each-all, fits-parts, free-at, PathsLeadWell, State, Good}
-use Rattle.sftp_handles.proofs.Imports.{has_handle_left, shows, names, opens, FitsSaid, said_by, told_to}
+use Rattle.sftp_handles.proofs.Imports.{Place, place_cmp, size, place_cmp-same, are_bytes, Cause, NoEntry, NotLink}
+use Rattle.sftp_handles.proofs.Imports.{Content, Node, Tree, IsKept, IsNode, node_at, content_at, link_fits, limits}
+use Rattle.sftp_handles.proofs.Imports.{reached, said, shown, shown_content, no_causes, when, needing_causes}
+use Rattle.sftp_handles.proofs.Imports.{link_causes, done, led, led_to, told_at, shown_at, IsFree, each-get, each-all}
+use Rattle.sftp_handles.proofs.Imports.{fits-parts, free-at, PathsLeadWell, State, Good, has_handle_left, FitsSaid}
+use Rattle.sftp_handles.proofs.Imports.{said_by, told_to}
 use Rattle.sftp_packets.specs.declared.packets.Ask.TheVariants as asks
 use Rattle.std.specs.Option.{option_map}
 use Rattle.sftp_tree.specs.declared.nodes.Node.TheVariants.{Dir, File, Link}
 use Rattle.sftp_tree.specs.Requests.{target_of}
 use Rattle.sftp_listing.proofs.FirstListings.{node-shown, short-target}
+use Rattle.sftp_handles.specs.Replies.{shows, names, opens}
 use Rattle.sftp_handles.proofs.TotalSteps.PlaceTexts.{bytes-by, text-fits}
 
 -- ---- what is at a place

@@ -1,205 +1,178 @@
--- What a reply has to say can be said in one that can be encoded.
-use Rattle.sftp_handles.proofs.Imports.{◌≡◌, not, nat_le, ℕ, ◌+◌, ◌^◌, ◌<◌, ◌≤◌, true, List, [], ◌∷◌, ◌++◌}
-use Rattle.sftp_handles.proofs.Imports.{length, Option, Some, None, is_some, refl, sym, ap, subst, ◌∙◌, IsTrue}
-use Rattle.sftp_handles.proofs.Imports.{arith, lit<, lit≤, nat_list_eq_equiv, and_from, le-leb, length-append, Attrs}
-use Rattle.sftp_handles.proofs.Imports.{NameItem, Answer, reply_packet, Reply, spelling, string, uint32, uint64}
-use Rattle.sftp_handles.proofs.Imports.{attributes, AreBytes, FitsString, FitsAttrs, HasSpelling, packet_limit}
-use Rattle.sftp_handles.proofs.Imports.{handle_limit, no_attributes, TreeLimits, Name, bytes_cmp, InOrder, size, said}
-use Rattle.sftp_handles.proofs.Imports.{Left, Handles, open_at, is_open, IsItem, is_plain, Said, ok, shows, names}
-use Rattle.sftp_handles.proofs.Imports.{gives, ended, lists, opens, extends, says, same_attributes, is_left}
-use Rattle.sftp_handles.proofs.Imports.{has_attributes, limits_data, FitsSaid, FitsData}
+-- What a reply has to say can be said in one that can be encoded: for each kind of reply how long it is, that it has an
+-- encoding with any id, and that it says what it has to.
+use Rattle.sftp_handles.proofs.Imports.{◌≡◌, nat_lt, ℕ, zero, suc, ◌+◌, ◌*◌, ◌^◌, ◌<◌, ◌≤◌, true, List, [], ◌∷◌, ◌++◌}
+use Rattle.sftp_handles.proofs.Imports.{length, Option, Some, None, refl, arith, lit<, lit≤, AllByRecursion, flat_map}
+use Rattle.sftp_handles.proofs.Imports.{nat_list_eq_equiv, lt-ltb, length-append, Attrs, NameItem, Answer, Reply}
+use Rattle.sftp_handles.proofs.Imports.{reply_packet, spelling, string, uint32, uint64, attributes, name_item, AreBytes}
+use Rattle.sftp_handles.proofs.Imports.{FitsString, FitsNameItem, packet_limit, handle_limit, no_attributes, TreeLimits}
+use Rattle.sftp_handles.proofs.Imports.{Name, Left, Handles, IsItem, IsLeft, is_plain, item_of, first_items}
+use Rattle.sftp_handles.proofs.Imports.{names_in_reply, Said, same_attributes, limits_data, FitsSaid, FitsTwice}
+use Rattle.sftp_handles.proofs.Imports.{FitsData, HasNewName, said_in, answer_of, IsSpelledAnswer, IsReplyOf, status_of}
+use Rattle.sftp_handles.proofs.Imports.{only_name}
 use Rattle.sftp_packets.specs.declared.packets.Answer.TheVariants as replies
 use Rattle.sftp_treefile.specs.Limits.{highest_limits}
-use Rattle.sftp_listing.proofs.FirstNames.{Extended, attributes_of, found-first, same-itself}
+use Rattle.sftp_listing.proofs.FirstNames.{Extended, attributes_of, same-itself, first-some}
+use Rattle.sftp_handles.specs.Replies.{ok, shows, names, gives, ended, lists, opens, extends}
+use Rattle.sftp_handles.specs.declared.payloads.Payload.{Payload}
+use Rattle.sftp_handles.specs.declared.payloads.Payload.TheVariants as payloads
+use Rattle.sftp_handles.proofs.OpenFiles.Opened.{new-handle}
 use Rattle.sftp_handles.proofs.TotalSteps.PlaceTexts.{name-parts, bytes-joined, number-bytes}
 use Rattle.sftp_handles.proofs.TotalSteps.NewHandles.{name-left}
 
 abbrev pub reply_of : ℕ → Answer → Reply
 reply_of id answer = record { id = id; answer = answer }
 
--- an answer says it, and the reply with this id can be encoded
-pub record IsSayable (id : ℕ) (said : Said) : Type 0 where
-  pub answer : Answer
-  pub says : IsTrue (says said answer)
-  pub spelled : HasSpelling (reply_packet (reply_of id answer))
-
-pub empty : FitsString []
-empty = record { bytes_fit = tt; length_fits = lit< tt }
+-- some answer says it, and can be encoded
+abbrev pub IsSayable : Said → Type 0
+IsSayable said = (answer : Answer) × IsReplyOf said answer
 
 -- ---- statuses
 
--- no more than a code
-abbrev pub status_of : ℕ → Answer
-status_of code = replies.Status code [] []
+empty : FitsString []
+empty = record { bytes_fit = tt; length_fits = lit< tt }
 
-pub status-spelled : (id code : ℕ) → id < 2 ^ 32 → code < 2 ^ 32
-    → HasSpelling (reply_packet (reply_of id (status_of code)))
+pub status-spelled : (code : ℕ) → code < 2 ^ 32 → IsSpelledAnswer (status_of code)
 unfolding spelling
-status-spelled id code small code_small =
+status-spelled code code_small id small =
     record { fields = (small, (code_small, (empty, empty))); whole = lit≤ tt; handle = tt; canonical = refl }
 
-ok-sayable : (id : ℕ) → id < 2 ^ 32 → IsSayable id ok
-ok-sayable id small = record { answer = status_of 0; says = refl; spelled = status-spelled id 0 small (lit< tt) }
+reply-ok : IsReplyOf ok (status_of 0)
+reply-ok = record { says = refl; spelled = status-spelled 0 (lit< tt) }
 
-ended-sayable : (id : ℕ) → id < 2 ^ 32 → IsSayable id ended
-ended-sayable id small = record { answer = status_of 1; says = refl; spelled = status-spelled id 1 small (lit< tt) }
+reply-end : IsReplyOf ended (status_of 1)
+reply-end = record { says = refl; spelled = status-spelled 1 (lit< tt) }
 
 -- ---- attributes
 
--- attributes that have a size, an owner and permissions, and nothing else
-pub record IsSaid (attrs : Attrs) : Type 0 where
-  pub size : ℕ
-  pub uid : ℕ
-  pub gid : ℕ
-  pub permissions : ℕ
-  pub is : attrs ≡ said size uid gid permissions
-
-pub plain-said : (size : Option ℕ) (owner : Option (ℕ × ℕ)) (permissions : Option ℕ) (times : Option (ℕ × ℕ))
+-- those with a size, an owner and permissions, and nothing else, have one length, and are like themselves
+fields-plain : (size : Option ℕ) (owner : Option (ℕ × ℕ)) (permissions : Option ℕ) (times : Option (ℕ × ℕ))
     → (extended : Option Extended) → is_plain (attributes_of size owner permissions times extended) ≡ true
-    → IsSaid (attributes_of size owner permissions times extended)
-plain-said (Some size) (Some owner) (Some permissions) None None is =
-    record { size = size; uid = owner.0; gid = owner.1; permissions = permissions; is = refl }
-plain-said None owner permissions times extended is = absurd cc
-plain-said (Some size) None permissions times extended is = absurd cc
-plain-said (Some size) (Some owner) None times extended is = absurd cc
-plain-said (Some size) (Some owner) (Some permissions) (Some times) extended is = absurd cc
-plain-said (Some size) (Some owner) (Some permissions) None (Some extended) is = absurd cc
+    → (length (attributes (attributes_of size owner permissions times extended)) ≡ 24)
+    × (same_attributes (attributes_of size owner permissions times extended)
+    (attributes_of size owner permissions times extended)
+    ≡ true)
+fields-plain (Some size) (Some owner) (Some permissions) None None is = (omega arith, simp (same-itself))
+fields-plain None owner permissions times extended is = absurd cc
+fields-plain (Some size) None permissions times extended is = absurd cc
+fields-plain (Some size) (Some owner) None times extended is = absurd cc
+fields-plain (Some size) (Some owner) (Some permissions) (Some times) extended is = absurd cc
+fields-plain (Some size) (Some owner) (Some permissions) None (Some extended) is = absurd cc
 
-pub same-said : (size uid gid permissions : ℕ)
-    → same_attributes (said size uid gid permissions) (said size uid gid permissions) ≡ true
-same-said size uid gid permissions = simp (same-itself)
+attributes-plain : (attrs : Attrs) → is_plain attrs ≡ true
+    → (length (attributes attrs) ≡ 24) × (same_attributes attrs attrs ≡ true)
+attributes-plain attrs = fields-plain attrs.size attrs.owner attrs.permissions attrs.times attrs.extended
 
-pub attributes-spelled : (id size uid gid permissions : ℕ) → id < 2 ^ 32 → FitsAttrs (said size uid gid permissions)
-    → HasSpelling (reply_packet (reply_of id (replies.Attrs (said size uid gid permissions))))
+attributes-length : (id : ℕ) (attrs : Attrs)
+    → length (spelling (reply_packet (reply_of id (replies.Attrs attrs)))) ≡ 9 + length (attributes attrs)
 unfolding spelling
-attributes-spelled id size uid gid permissions small fits =
-    record { fields = (small, fits); whole = lit≤ tt; handle = tt; canonical = refl }
+attributes-length id attrs = grind (arith, length-append)
 
-said-sayable : (id size uid gid permissions : ℕ) → id < 2 ^ 32 → FitsAttrs (said size uid gid permissions)
-    → IsSayable id (shows (Some (said size uid gid permissions)))
-said-sayable id size uid gid permissions small fits = record {
-  answer = replies.Attrs (said size uid gid permissions);
-  says = same-said size uid gid permissions;
-  spelled = attributes-spelled id size uid gid permissions small fits;
-}
+reply-attributes : (attrs : Attrs) → FitsSaid (shows (Some attrs))
+    → IsReplyOf (shows (Some attrs)) (replies.Attrs attrs)
+reply-attributes attrs fits =
+    let plain = attributes-plain attrs fits.1 in
+    record {
+      says = plain.1;
+      spelled =
+          λ id small.
+          record {
+            fields = (small, fits.0);
+            whole = omega (arith, attributes-length id attrs, plain.0);
+            handle = tt;
+            canonical = refl;
+          };
+    }
 
-attributes-sayable : (id : ℕ) (attrs : Attrs) → id < 2 ^ 32 → FitsAttrs attrs → IsTrue (is_plain attrs)
-    → IsSayable id (shows (Some attrs))
-attributes-sayable id attrs small fits plain =
-    let is = plain-said attrs.size attrs.owner attrs.permissions attrs.times attrs.extended plain in
-    subst (λ attrs. IsSayable id (shows (Some attrs))) (sym is.is)
-    (said-sayable id is.size is.uid is.gid is.permissions small (subst FitsAttrs is.is fits))
+-- ---- names
 
--- ---- one name
-
-abbrev item_of : List ℕ → Attrs → NameItem
-item_of text attrs = record { filename = text; longname = []; attrs = attrs }
-
-abbrev name_of : List ℕ → Attrs → Answer
-name_of text attrs = replies.Name (item_of text attrs ∷ [])
-
--- the fields after the name
-behind : (text : List ℕ) → length ((text ++ (string [] ++ attributes no_attributes)) ++ []) ≡ length text + 8
-behind text = grind (arith, length-append)
-
-name-length : (id : ℕ) (text : List ℕ)
-    → length (spelling (reply_packet (reply_of id (name_of text no_attributes))))
-    ≡ 17 + length ((text ++ (string [] ++ attributes no_attributes)) ++ [])
+names-length : (id : ℕ) (items : List NameItem)
+    → length (spelling (reply_packet (reply_of id (replies.Name items)))) ≡ 13 + length (flat_map name_item items)
 unfolding spelling
-name-length id text = omega arith
+names-length id items = omega arith
 
-pub nothing-fits : FitsAttrs no_attributes
-nothing-fits = record { size = tt; owner = tt; permissions = tt; times = tt; extended = tt }
-
-name-sayable : (id : ℕ) (text : List ℕ) → id < 2 ^ 32 → FitsString text → length text ≤ 33000
-    → IsSayable id (names (Some text))
-name-sayable id text small fits short = record {
-  answer = name_of text no_attributes;
-  says = nat_list_eq_equiv.refl text;
-  spelled =
-      record {
-        fields = (small, (lit< tt, (record { filename = fits; longname = empty; attrs = nothing-fits }, tt)));
-        whole = omega (arith, name-length id text, behind text, short);
-        handle = tt;
-        canonical = refl;
-      };
-}
-
--- ---- the first name of a listing
-
--- the fields after the name, with attributes
-behind_said : (text : List ℕ) (size uid gid permissions : ℕ)
-    → length ((text ++ (string [] ++ attributes (said size uid gid permissions))) ++ []) ≡ length text + 28
-behind_said text size uid gid permissions = grind (arith, length-append)
-
-item-length : (id : ℕ) (text : List ℕ) (size uid gid permissions : ℕ)
-    → length (spelling (reply_packet (reply_of id (name_of text (said size uid gid permissions)))))
-    ≡ 17 + length ((text ++ (string [] ++ attributes (said size uid gid permissions))) ++ [])
-unfolding spelling
-item-length id text size uid gid permissions = omega arith
-
-item-spelled : (id : ℕ) (text : List ℕ) (size uid gid permissions : ℕ) → id < 2 ^ 32 → AreBytes text
-    → length text ≤ 255 → FitsAttrs (said size uid gid permissions)
-    → HasSpelling (reply_packet (reply_of id (name_of text (said size uid gid permissions))))
-item-spelled id text size uid gid permissions small bytes short fits = record {
-  fields = (
-    small,
-    (
-      lit< tt,
-      (
-        record {
-          filename = record { bytes_fit = bytes; length_fits = omega (arith, short) };
-          longname = empty;
-          attrs = fits;
-        },
-        tt,
-      ),
-    ),
-  );
-  whole = omega (arith, item-length id text size uid gid permissions, behind_said text size uid gid permissions, short);
+names-spelled : (items : List NameItem) → length items ≤ names_in_reply → AllByRecursion FitsNameItem items
+    → length (flat_map name_item items) ≤ 33294 → IsSpelledAnswer (replies.Name items)
+names-spelled items few fit short id small = record {
+  fields = (small, (omega (arith, few), fit));
+  whole = omega (arith, names-length id items, short);
   handle = tt;
   canonical = refl;
 }
 
--- the first entry is found
-first-left : (name : Name) (size uid gid permissions : ℕ) (left : Left)
-    → is_left ((name, said size uid gid permissions) ∷ left) (item_of name (said size uid gid permissions)) ≡ true
-first-left name size uid gid permissions left =
-    ap (λ found. has_attributes found (said size uid gid permissions))
-    (found-first name (said size uid gid permissions) left)
-    ∙ same-said size uid gid permissions
+-- one name
 
-first-sayable : (id : ℕ) (name : Name) (size uid gid permissions : ℕ) (left : Left) → id < 2 ^ 32
-    → IsItem (name, said size uid gid permissions)
-    → IsSayable id (lists ((name, said size uid gid permissions) ∷ left))
-first-sayable id name size uid gid permissions left small item =
-    let parts = name-parts name item.0 in
+only-length : (text : List ℕ)
+    → length (name_item (record { filename = text; longname = text; attrs = no_attributes }) ++ [])
+    ≡ length text + (length text + 12)
+only-length text = grind (arith, length-append)
+
+reply-name : (text : List ℕ) → FitsTwice text → IsReplyOf (names (Some text)) (only_name text)
+reply-name text fits =
+    let none = record { size = tt; owner = tt; permissions = tt; times = tt; extended = tt } in
     record {
-      answer = name_of name (said size uid gid permissions);
-      says = rw (first-left name size uid gid permissions left) refl;
-      spelled = item-spelled id name size uid gid permissions small parts.1 parts.0 item.1;
+      says = nat_list_eq_equiv.refl text;
+      spelled =
+          names-spelled (record { filename = text; longname = text; attrs = no_attributes } ∷ []) (lit≤ tt)
+          (record { filename = fits.string; longname = fits.string; attrs = none }, tt)
+          (omega (arith, only-length text, fits.short));
     }
 
-listing-sayable : (id : ℕ) (name : Name) (attrs : Attrs) (left : Left) → id < 2 ^ 32 → IsItem (name, attrs)
-    → IsSayable id (lists ((name, attrs) ∷ left))
-listing-sayable id name attrs left small item =
-    let is = plain-said attrs.size attrs.owner attrs.permissions attrs.times attrs.extended item.2 in
-    subst (λ attrs. IsSayable id (lists ((name, attrs) ∷ left))) (sym is.is)
-    (first-sayable id name is.size is.uid is.gid is.permissions left small
-    (subst (λ attrs. IsItem (name, attrs)) is.is item))
+-- the first names of a listing
+
+item-length : (e : Name × Attrs) → IsItem e → length (name_item (item_of e)) ≤ 542
+item-length e item =
+    let short = (name-parts e.0 item.0).0 in
+    let plain = (attributes-plain e.1 item.2).0 in
+    grind (arith, length-append, short, plain)
+
+items-length : (n : ℕ) (left : Left) → AllByRecursion IsItem left
+    → length (flat_map name_item (first_items n left)) ≤ 542 * n
+items-length zero [] items = omega arith
+items-length zero (e ∷ es) items = omega arith
+items-length (suc n) [] items = omega arith
+items-length (suc n) (e ∷ es) items =
+    let here = item-length e items.0 in
+    let rest = items-length n es items.1 in
+    omega (arith, here, rest, length-append (name_item (item_of e)) (flat_map name_item (first_items n es)))
+
+items-fit : (n : ℕ) (left : Left) → AllByRecursion IsItem left → AllByRecursion FitsNameItem (first_items n left)
+items-fit zero [] items = tt
+items-fit zero (e ∷ es) items = tt
+items-fit (suc n) [] items = tt
+items-fit (suc n) (e ∷ es) items =
+    let parts = name-parts e.0 items.0.0 in
+    let text : FitsString e.0 = record { bytes_fit = parts.1; length_fits = omega (arith, parts.0) } in
+    (record { filename = text; longname = text; attrs = items.0.1 }, items-fit n es items.1)
+
+few-items : (n : ℕ) (left : Left) → length (first_items n left) ≤ n
+few-items zero [] = omega arith
+few-items zero (e ∷ es) = omega arith
+few-items (suc n) [] = omega arith
+few-items (suc n) (e ∷ es) = omega (arith, few-items n es)
+
+pub reply-listed : (left : Left) → IsLeft left → nat_lt 0 (length (first_items names_in_reply left)) ≡ true
+    → IsReplyOf (lists left) (replies.Name (first_items names_in_reply left))
+reply-listed left is some =
+    let short = items-length names_in_reply left is.items in
+    record {
+      says = first-some names_in_reply left is some;
+      spelled =
+          names-spelled (first_items names_in_reply left) (few-items names_in_reply left)
+          (items-fit names_in_reply left is.items) (omega (arith, short));
+    }
 
 -- ---- bytes
 
-pub data-length : (id : ℕ) (bytes : List ℕ)
+data-length : (id : ℕ) (bytes : List ℕ)
     → length (spelling (reply_packet (reply_of id (replies.Data bytes)))) ≡ 13 + length bytes
 unfolding spelling
 data-length id bytes = omega arith
 
-data-sayable : (id : ℕ) (bytes : List ℕ) → id < 2 ^ 32 → FitsData bytes → IsSayable id (gives bytes)
-data-sayable id bytes small fits = record {
-  answer = replies.Data bytes;
+reply-data : (bytes : List ℕ) → FitsData bytes → IsReplyOf (gives bytes) (replies.Data bytes)
+reply-data bytes fits = record {
   says = nat_list_eq_equiv.refl bytes;
   spelled =
+      λ id small.
       record {
         fields = (small, fits.string);
         whole = omega (arith, data-length id bytes, fits.short);
@@ -215,23 +188,20 @@ extended-length : (id : ℕ) (bytes : List ℕ)
 unfolding spelling
 extended-length id bytes = omega arith
 
-pub extended-spelled : (id : ℕ) (bytes : List ℕ) → id < 2 ^ 32 → FitsData bytes
-    → HasSpelling (reply_packet (reply_of id (replies.Extended bytes)))
-extended-spelled id bytes small fits = record {
-  fields = (small, fits.string.bytes_fit);
-  whole = omega (arith, extended-length id bytes, fits.short);
-  handle = tt;
-  canonical = refl;
-}
-
-extended-sayable : (id : ℕ) (bytes : List ℕ) → id < 2 ^ 32 → FitsData bytes → IsSayable id (extends bytes)
-extended-sayable id bytes small fits = record {
-  answer = replies.Extended bytes;
+reply-extended : (bytes : List ℕ) → FitsData bytes → IsReplyOf (extends bytes) (replies.Extended bytes)
+reply-extended bytes fits = record {
   says = nat_list_eq_equiv.refl bytes;
-  spelled = extended-spelled id bytes small fits;
+  spelled =
+      λ id small.
+      record {
+        fields = (small, fits.string.bytes_fit);
+        whole = omega (arith, extended-length id bytes, fits.short);
+        handle = tt;
+        canonical = refl;
+      };
 }
 
--- ---- the limits
+-- the limits
 
 limits-bytes : (bounds : TreeLimits) → AreBytes (limits_data bounds)
 unfolding limits_data
@@ -258,48 +228,52 @@ limits-fit bounds =
 
 -- ---- a new handle
 
-pub handle-length : (id : ℕ) (handle : List ℕ)
+handle-length : (id : ℕ) (handle : List ℕ)
     → length (spelling (reply_packet (reply_of id (replies.Handle handle)))) ≡ 13 + length handle
 unfolding spelling
 handle-length id handle = omega arith
 
-is-new : (handles : Handles) (handle : List ℕ) → length handle ≤ handle_limit → open_at handles handle ≡ None
-    → says (opens handles) (replies.Handle handle) ≡ true
-is-new handles handle short absent =
-    and_from (nat_le (length handle) handle_limit) (not (is_open handles handle))
-    (le-leb (length handle) handle_limit short) (ap (λ (found : Option _). not (is_some found)) absent)
-
-handle-sayable : (id : ℕ) (handles : Handles) (handle : List ℕ) → id < 2 ^ 32 → AreBytes handle
-    → length handle ≤ handle_limit → open_at handles handle ≡ None → IsSayable id (opens handles)
-handle-sayable id handles handle small are short absent = record {
-  answer = replies.Handle handle;
-  says = is-new handles handle short absent;
-  spelled =
-      record {
-        fields = (small, record { bytes_fit = are; length_fits = omega (arith, short) });
-        whole = omega (arith, handle-length id handle, short);
-        handle = short;
-        canonical = refl;
-      };
+pub handle-spelled : (handle : List ℕ) → AreBytes handle → length handle ≤ handle_limit
+    → IsSpelledAnswer (replies.Handle handle)
+handle-spelled handle bytes short id small = record {
+  fields = (small, record { bytes_fit = bytes; length_fits = omega (arith, short) });
+  whole = omega (arith, handle-length id handle, short);
+  handle = short;
+  canonical = refl;
 }
 
-new-sayable : (id : ℕ) (handles : Handles) → id < 2 ^ 32 → InOrder bytes_cmp handles
-    → size handles < highest_limits.open_handles → IsSayable id (opens handles)
-new-sayable id handles small order few =
-    let free = name-left highest_limits.open_handles handles (omega arith) order few in
-    handle-sayable id handles (uint32 free.count) small (number-bytes 4 free.count) (lit≤ tt) free.absent
+new-sayable : (handles : Handles) → HasNewName handles → IsSayable (opens handles)
+new-sayable handles fits =
+    let free = name-left highest_limits.open_handles handles (omega arith) fits.ordered fits.few in
+    let handle = uint32 free.count in (
+      replies.Handle handle,
+      record {
+        says = new-handle handles handle (lit≤ tt) free.absent;
+        spelled = handle-spelled handle (number-bytes 4 free.count) (lit≤ tt);
+      },
+    )
 
 -- ---- what fits
 
-pub fits-sayable : (id : ℕ) (said : Said) → id < 2 ^ 32 → FitsSaid said → IsSayable id said
-fits-sayable id ok small fits = ok-sayable id small
-fits-sayable id (shows None) small fits = absurd fits
-fits-sayable id (shows (Some attrs)) small fits = attributes-sayable id attrs small fits.0 fits.1
-fits-sayable id (names None) small fits = absurd fits
-fits-sayable id (names (Some text)) small fits = name-sayable id text small fits.string (omega (arith, fits.short))
-fits-sayable id (gives bytes) small fits = data-sayable id bytes small fits
-fits-sayable id ended small fits = ended-sayable id small
-fits-sayable id (lists []) small fits = absurd fits
-fits-sayable id (lists (e ∷ es)) small fits = listing-sayable id e.0 e.1 es small fits
-fits-sayable id (opens handles) small fits = new-sayable id handles small fits.ordered fits.few
-fits-sayable id (extends bytes) small fits = extended-sayable id bytes small fits
+pub fits-sayable : (said : Said) → FitsSaid said → IsSayable said
+fits-sayable ok fits = (status_of 0, reply-ok)
+fits-sayable (shows None) fits = absurd fits
+fits-sayable (shows (Some attrs)) fits = (replies.Attrs attrs, reply-attributes attrs fits)
+fits-sayable (names None) fits = absurd fits
+fits-sayable (names (Some text)) fits = (only_name text, reply-name text fits)
+fits-sayable (gives bytes) fits = (replies.Data bytes, reply-data bytes fits)
+fits-sayable ended fits = (status_of 1, reply-end)
+fits-sayable (lists []) fits = absurd fits
+fits-sayable (lists (e ∷ es)) fits =
+    let items = first_items names_in_reply (e ∷ es) in
+    (replies.Name items, reply-listed (e ∷ es) fits (lt-ltb 0 (length items) (omega arith)))
+fits-sayable (opens handles) fits = new-sayable handles fits
+fits-sayable (extends bytes) fits = (replies.Extended bytes, reply-extended bytes fits)
+
+-- the answer to a query says what it has to
+pub payload-reply : (payload : Payload) → FitsSaid (said_in payload) → IsReplyOf (said_in payload) (answer_of payload)
+payload-reply (payloads.Attrs shown) fits = reply-attributes shown fits
+payload-reply (payloads.Name text) fits = reply-name text fits
+payload-reply (payloads.Data bytes) fits = reply-data bytes.now fits
+payload-reply (payloads.Extended told) fits = reply-extended told fits
+payload-reply payloads.End fits = reply-end

@@ -1,13 +1,14 @@
 -- What the replies to requests through handles say fits a reply.
 use Rattle.sftp_handles.proofs.Imports.{◌≡◌, nat_lt, ℕ, zero, suc, ◌≤◌, Bool, true, false, if◌then◌else◌, min, List, []}
 use Rattle.sftp_handles.proofs.Imports.{◌∷◌, length, take, drop, Option, Some, None, refl, IsTrue, arith, nat_cmp}
-use Rattle.sftp_handles.proofs.Imports.{nat_cmp-IsAntisymmetric, length-take, OpenFlags, Ask, AreBytes}
-use Rattle.sftp_handles.proofs.Imports.{bytes_cmp, bytes_cmp-same, are_bytes, Content, IsContent, content_at, limits}
-use Rattle.sftp_handles.proofs.Imports.{bytes_at, each-get, bytes-dropped, Open, File, Listing, Left, open_at, State}
-use Rattle.sftp_handles.proofs.Imports.{Good, IsHandle, IsLeft, Needed, anything, a_file, a_listing, seen, seen_among}
-use Rattle.sftp_handles.proofs.Imports.{seen_file, gives, ended, FitsData, FitsSaid, row_of, said_of, seen_by}
+use Rattle.sftp_handles.proofs.Imports.{nat_cmp-IsAntisymmetric, length-take, OpenFlags, Ask, AreBytes, bytes_cmp}
+use Rattle.sftp_handles.proofs.Imports.{bytes_cmp-same, are_bytes, Content, IsContent, content_at, limits, bytes_at}
+use Rattle.sftp_handles.proofs.Imports.{each-get, bytes-dropped, Open, File, Listing, Left, open_at, State, Good}
+use Rattle.sftp_handles.proofs.Imports.{IsHandle, IsLeft, Needed, anything, a_file, a_listing, seen, seen_among}
+use Rattle.sftp_handles.proofs.Imports.{seen_file, FitsData, FitsSaid, row_of, said_of, seen_by}
 use Rattle.sftp_packets.specs.declared.packets.Ask.TheVariants as asks
 use Rattle.sftp_treefile.specs.Limits.{highest_limits}
+use Rattle.sftp_handles.specs.Replies.{gives, ended}
 use Rattle.sftp_handles.specs.HandleRequests.{listed}
 use Rattle.sftp_listing.proofs.FirstListings.{content-shown}
 use Rattle.sftp_handles.proofs.TotalSteps.PlaceTexts.{bytes-by}
@@ -59,7 +60,7 @@ module _ (s : State) (good : Good s) where
 
   left-fits : (left : Left) → IsLeft left → FitsSaid (listed left)
   left-fits [] is = tt
-  left-fits (e ∷ es) is = is.items.0
+  left-fits (e ∷ es) is = is
 
   module _ (ask : Ask) (handle : List ℕ) where
     of-number : (number : ℕ) (flags : OpenFlags) (found : Option Content) → content_at s.tree.files number ≡ found

@@ -1,13 +1,14 @@
 -- Some reply to each request is allowed, and can be encoded.
-use Rattle.sftp_handles.proofs.Imports.{◌≡◌, ◌&&◌, ◌||◌, ℕ, ◌^◌, ◌<◌, Bool, true, false, not, List, [], ◌∷◌, Option, Some}
-use Rattle.sftp_handles.proofs.Imports.{None, refl, ap, inl, inr, IsTrue, IfSome, lit<, list_any, Ask, Request, asked_handle, are_bytes}
-use Rattle.sftp_handles.proofs.Imports.{Cause, NoEntry, NotDir, Loop, Unknown, limits, CauseSet, every_cause, allows}
-use Rattle.sftp_handles.proofs.Imports.{is_none, path_of, PathsLeadWell, State, Good, has_handle_left, causes, answers}
-use Rattle.sftp_handles.proofs.Imports.{after, said_to, causes_by, path_causes, path_said, FitsSaid, IsAskable, IsAnswerable}
+use Rattle.sftp_handles.proofs.Imports.{◌≡◌, ◌&&◌, ◌||◌, ℕ, ◌^◌, ◌<◌, Bool, true, false, not, List, [], ◌∷◌, Option}
+use Rattle.sftp_handles.proofs.Imports.{Some, None, refl, ap, inl, inr, IsTrue, IfSome, lit<, list_any, Ask, Request}
+use Rattle.sftp_handles.proofs.Imports.{asked_handle, are_bytes, Cause, NoEntry, NotDir, Loop, Unknown, limits}
+use Rattle.sftp_handles.proofs.Imports.{CauseSet, every_cause, allows, is_none, path_of, PathsLeadWell, State, Good}
+use Rattle.sftp_handles.proofs.Imports.{has_handle_left, causes, answers, after, said_to, causes_by, path_causes}
+use Rattle.sftp_handles.proofs.Imports.{path_said, FitsSaid, IsAskable, IsAnswerable, status_of}
 use Rattle.sftp_packets.specs.declared.packets.Ask.TheVariants as asks
 use Rattle.sftp_tree.specs.Requests as paths
 use Rattle.sftp_handles.proofs.Good.GoodSteps.{room-of}
-use Rattle.sftp_handles.proofs.TotalSteps.SaidReplies.{reply_of, status_of, status-spelled, limits-fit, fits-sayable}
+use Rattle.sftp_handles.proofs.TotalSteps.SaidReplies.{reply_of, status-spelled, limits-fit, fits-sayable}
 use Rattle.sftp_handles.proofs.TotalSteps.SeenReplies.{seen-fits}
 use Rattle.sftp_handles.proofs.TotalSteps.PathReplies.{path-fits, stat-fits, lstat-fits, target-fits, place-fits}
 use Rattle.sftp_handles.proofs.TotalSteps.PathReplies.{handles-fit}
@@ -64,7 +65,7 @@ refused s id ask small one =
       end = s;
       allowed =
           record { same_id = refl; step = inl (record { cause = found.2; unchanged = refl }) };
-      spelled = status-spelled id found.0 small found.1;
+      spelled = status-spelled found.0 found.1 id small;
     }
 
 -- ---- where none holds
@@ -73,16 +74,16 @@ answered : (s : State) (id : ℕ) (ask : Ask) → id < 2 ^ 32 → is_none (cause
     → FitsSaid (said_to s ask (asked_handle ask)) → IsAnswerable s (request_of id ask)
 unfolding answers
 answered s id ask small free fits =
-    let said = fits-sayable id (said_to s ask (asked_handle ask)) small fits in
+    let said = fits-sayable (said_to s ask (asked_handle ask)) fits in
     record {
-      reply = reply_of id said.answer;
-      end = after s ask said.answer;
+      reply = reply_of id said.0;
+      end = after s ask said.0;
       allowed =
           record {
             same_id = refl;
-            step = inr (record { free = free; answered = said.says; changed = refl });
+            step = inr (record { free = free; answered = said.1.says; changed = refl });
           };
-      spelled = said.spelled;
+      spelled = said.1.spelled id small;
     }
 
 -- what the reply to a request says fits one

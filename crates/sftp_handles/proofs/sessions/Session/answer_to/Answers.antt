@@ -1,6 +1,6 @@
 use Rattle.sftp_handles.proofs.Imports.{◌≡◌, Some, sym, ap, subst, ◌∙◌, State, step, IsSpelledAnswer}
-use Rattle.sftp_handles.proofs.Answered.AnswersSpelled.{spelled-status}
 use Rattle.sftp_handles.proofs.Answered.AnswersSteps.{answered-step, refusal-step}
+use Rattle.sftp_handles.proofs.TotalSteps.SaidReplies.{status-spelled}
 use Rattle.sftp_handles.proofs.sessions.Session.answer_to.Goals as goal
 
 pub returns-in-Ok-clause-answered : goal.returns-in-Ok-clause-answered
@@ -17,4 +17,4 @@ returns-in-Err-Cause-clause-answered g c =
 
 pub returns-in-Err-Cause-clause-spelled : goal.returns-in-Err-Cause-clause-spelled
 returns-in-Err-Cause-clause-spelled g c =
-    subst IsSpelledAnswer (sym c.status.ensures.status) (spelled-status c.code.result c.status.ensures.fits)
+    subst IsSpelledAnswer (sym c.status.ensures.status) (status-spelled c.code.result c.status.ensures.fits)

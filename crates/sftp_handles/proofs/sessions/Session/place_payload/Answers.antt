@@ -1,10 +1,10 @@
-use Rattle.sftp_handles.proofs.Imports.{◌≡◌, ℕ, List, Some, sym, subst, IsFree, State, Good, names, Carries}
-use Rattle.sftp_handles.proofs.Imports.{refl}
+use Rattle.sftp_handles.proofs.Imports.{◌≡◌, ℕ, List, Some, sym, subst, IsFree, State, Good, Carries, refl}
 use Rattle.sftp_packets.specs.declared.packets.Ask.TheVariants as asks
 use Rattle.sftp_path.proofs.PathTexts.GoodPaths.{list_all-octets}
 use Rattle.sftp_tree.specs.Told as told
 use Rattle.sftp_tree.proofs.Walks.Places.{path-found}
 use Rattle.sftp_tree.specs.Refusals as of_tree
+use Rattle.sftp_handles.specs.Replies.{names}
 use Rattle.sftp_handles.proofs.Judged.QueryReplies.{carries-place, path-refusal}
 use Rattle.sftp_handles.proofs.sessions.Session.place_payload.Goals as goal
 
