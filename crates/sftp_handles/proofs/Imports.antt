@@ -96,10 +96,6 @@ pub use Rattle.sftp_handles.specs.FirstNames.{item_of, first_items, names_in_rep
 pub use Rattle.sftp_handles.specs.Found.{found_file, IsWritable, with_room, refusing, granted, read_said}
 pub use Rattle.sftp_handles.specs.Given.{named, handles_in}
 pub use Rattle.sftp_handles.specs.Giving.{IsListing, gives_names, with_struck}
-pub use Rattle.sftp_handles.specs.HandleRequests.{row_of, Row, causes_of, said_of, Change, nothing, rewrites, leaves}
-pub use Rattle.sftp_handles.specs.HandleRequests.{closes, change_of, change_file, with_file_room, start_of, may_write}
-pub use Rattle.sftp_handles.specs.HandleRequests.{unless_open_for, goes_to_end, read_from, with_handle_room, said_by}
-unfoldable pub use Rattle.sftp_handles.specs.HandleRequests.{limits_data}
 pub use Rattle.sftp_handles.specs.Handles.{Left, Handles, open_at, is_open, with_open, kept_flags, without_open}
 pub use Rattle.sftp_handles.specs.Handles.{opens_file, times_open}
 unfoldable pub use Rattle.sftp_handles.specs.Handles.{pins_of}
@@ -109,6 +105,10 @@ pub use Rattle.sftp_handles.specs.Laws.{is_opening, asked_state, IsOpenedBy, IsA
 pub use Rattle.sftp_handles.specs.Payloads.{FitsSaid, FitsTwice, FitsData, HasNewName, said_in, answer_of, Carries}
 pub use Rattle.sftp_handles.specs.Replies.{Said, says, names_in, names_given, refuses, is_new_handle, gives_some}
 pub use Rattle.sftp_handles.specs.Replies.{struck, is_among, are_some_left, has_code, same_attributes}
+pub use Rattle.sftp_handles.specs.RequestRows.{row_of, Row, causes_of, said_of, Change, nothing, rewrites, leaves}
+pub use Rattle.sftp_handles.specs.RequestRows.{closes, change_of, change_file, with_file_room, start_of, may_write}
+pub use Rattle.sftp_handles.specs.RequestRows.{unless_open_for, goes_to_end, read_from, with_handle_room, said_by}
+unfoldable pub use Rattle.sftp_handles.specs.RequestRows.{limits_data}
 pub use Rattle.sftp_handles.specs.Requests.{causes_by, said_to, after_by, changed, flags_of, opened_by}
 pub use Rattle.sftp_handles.specs.Requests.{with_new, path_causes, path_said, seen_by}
 unfoldable pub use Rattle.sftp_handles.specs.Requests.{causes, after, told_to, answers}

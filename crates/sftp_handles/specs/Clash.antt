@@ -14,7 +14,7 @@ use Rattle.sftp_handles.specs.declared.opens.Open.TheVariants.{File, Listing}
 use Rattle.sftp_handles.specs.Handles.{open_at}
 use Rattle.sftp_handles.specs.State.{State}
 use Rattle.sftp_handles.specs.Seen.{Needed, anything, a_file, a_listing}
-use Rattle.sftp_handles.specs.HandleRequests.{row_of}
+use Rattle.sftp_handles.specs.RequestRows.{row_of}
 use Rattle.sftp_handles.specs.Allowed.{Allowed}
 
 -- what a request touches

@@ -12,7 +12,7 @@ use Rattle.sftp_handles.specs.declared.opens.Open.TheVariants.{File, Listing}
 use Rattle.sftp_handles.specs.Handles.{open_at}
 use Rattle.sftp_handles.specs.State.{State}
 use Rattle.sftp_handles.specs.Replies.{Said, gives, ended}
-use Rattle.sftp_handles.specs.HandleRequests.{start_of}
+use Rattle.sftp_handles.specs.RequestRows.{start_of}
 
 -- the number of the file that is open and how it was opened, or why a request on files is refused
 abbrev pub found_file : Option Open → Result (ℕ × OpenFlags) Cause

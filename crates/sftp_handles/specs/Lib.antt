@@ -2,7 +2,7 @@ pub mod Handles
 pub mod State
 pub mod Seen
 pub mod Replies
-pub mod HandleRequests
+pub mod RequestRows
 pub mod Requests
 pub mod Allowed
 pub mod Laws

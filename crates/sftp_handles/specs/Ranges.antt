@@ -13,7 +13,7 @@ use Rattle.sftp_tree.specs.Tree.{limits}
 use Rattle.sftp_handles.specs.declared.byte_range.ByteRange.{ByteRange}
 use Rattle.sftp_handles.specs.State.{State}
 use Rattle.sftp_handles.specs.Seen.{Seen, file, seen}
-use Rattle.sftp_handles.specs.HandleRequests.{goes_to_end, row_of}
+use Rattle.sftp_handles.specs.RequestRows.{goes_to_end, row_of}
 use Rattle.sftp_handles.specs.Clash.{Touched, writes_file, clash}
 
 -- ---- the range of a request

@@ -17,8 +17,8 @@ use Rattle.sftp_handles.specs.Handles.{Handles, with_open, without_open, kept_fl
 use Rattle.sftp_handles.specs.State.{State, settled}
 use Rattle.sftp_handles.specs.Seen.{Seen, seen}
 use Rattle.sftp_handles.specs.Replies.{Said, says}
-use Rattle.sftp_handles.specs.HandleRequests.{row_of, causes_of, said_of, Change, nothing, rewrites, leaves, closes}
-use Rattle.sftp_handles.specs.HandleRequests.{change_of}
+use Rattle.sftp_handles.specs.RequestRows.{row_of, causes_of, said_of, Change, nothing, rewrites, leaves, closes}
+use Rattle.sftp_handles.specs.RequestRows.{change_of}
 
 -- what a request sees of the handle that it names
 abbrev pub seen_by : State → Ask → List ℕ → Seen

@@ -7,7 +7,7 @@ ghost use Rattle.sftp_tree.specs.Tree.{HasFile, content_at, limits};
 ghost use Rattle.sftp_handles.specs.Found.{found_file, refusing, granted, IsWritable};
 ghost use Rattle.sftp_handles.specs.Handles.{open_at};
 ghost use Rattle.sftp_handles.specs.Requests.{causes};
-ghost use Rattle.sftp_handles.specs.HandleRequests as rows;
+ghost use Rattle.sftp_handles.specs.RequestRows as rows;
 ghost use Rattle.sftp_handles.specs.State.{Good};
 
 use crate::open_handles::{goes_to_end, may_read, may_write};

@@ -1,7 +1,7 @@
 //! What the reply to a request for the limits of a tree has. The request is an extension of this profile's own.
 ghost use Rattle.std.specs.Prelude.{◌≡◌, ◌++◌, IfOk, OnOk};
 ghost use Rattle.sftp_packets.specs.Spelling.{uint64};
-ghost use Rattle.sftp_handles.specs.HandleRequests as rows;
+ghost use Rattle.sftp_handles.specs.RequestRows as rows;
 
 use sftp_tree::TreeLimits;
 use sftp_wire::{ByteString, PACKET_LIMIT};
@@ -13,7 +13,7 @@ use std::alloc::{AllocError, Global};
 /// # Errors
 ///
 /// `AllocError` if memory runs out.
-#[tactic(auto, unfolding(crate::specs::HandleRequests::limits_data))]
+#[tactic(auto, unfolding(crate::specs::RequestRows::limits_data))]
 pub(crate) fn limits_data(alloc: Global, limits: TreeLimits) -> Result<ByteString, AllocError>
     ensures { IfOk result (λ bytes. bytes ≡ rows.limits_data limits) }
 {

@@ -4,7 +4,7 @@ ghost use Rattle.sftp_packets.specs.declared.packets.Ask.TheVariants.{Fstat, Rea
 ghost use Rattle.sftp_tree.specs.Causes.{is_none};
 ghost use Rattle.sftp_handles.specs.Requests.{causes, said_to};
 ghost use Rattle.sftp_handles.specs.Replies.{shows};
-ghost use Rattle.sftp_handles.specs.HandleRequests.{read_from};
+ghost use Rattle.sftp_handles.specs.RequestRows.{read_from};
 ghost use Rattle.sftp_handles.specs.Found.{read_said};
 ghost use Rattle.sftp_handles.specs.State.{Good};
 ghost use Rattle.sftp_tree.specs.Tree.{HasFile, content_at, limits};

@@ -3,7 +3,7 @@ ghost use Rattle.std.specs.Prelude.{◌≡◌, IfOk};
 ghost use Rattle.sftp_tree.specs.Refusals.{in_set};
 ghost use Rattle.sftp_handles.specs.State as state;
 ghost use Rattle.sftp_tree.specs.Requests as tree_requests;
-ghost use Rattle.sftp_handles.specs.HandleRequests.{with_handle_room};
+ghost use Rattle.sftp_handles.specs.RequestRows.{with_handle_room};
 
 use crate::sessions::Session;
 use crate::tables::HandleTable;

@@ -8,7 +8,7 @@ ghost use Rattle.sftp_handles.specs.declared.requests.Kind.TheVariants.{Change};
 ghost use Rattle.sftp_handles.specs.Requests as requests;
 ghost use Rattle.sftp_handles.specs.Judged.{IsDone, IsRefusal};
 ghost use Rattle.sftp_handles.specs.Clash.{bars, may_change};
-ghost use Rattle.sftp_handles.specs.HandleRequests.{row_of};
+ghost use Rattle.sftp_handles.specs.RequestRows.{row_of};
 ghost use Rattle.sftp_handles.specs.Kinds as kinds;
 ghost use Rattle.sftp_handles.specs.Uses as uses;
 

@@ -13,7 +13,7 @@ use Rattle.sftp_tree.specs.FileChanges.{bytes_at}
 use Rattle.sftp_tree.specs.Causes.{is_none}
 use Rattle.sftp_handles.specs.State.{State}
 use Rattle.sftp_handles.specs.Seen.{Seen, file, a_file, seen}
-use Rattle.sftp_handles.specs.HandleRequests.{may_read}
+use Rattle.sftp_handles.specs.RequestRows.{may_read}
 use Rattle.sftp_handles.specs.Requests.{causes}
 use Rattle.sftp_handles.specs.Replies.{has_code}
 

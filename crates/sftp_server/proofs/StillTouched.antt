@@ -10,7 +10,7 @@ use Rattle.sftp_handles.specs.Allowed.{Refuses, Does}
 use Rattle.sftp_handles.specs.Clash.{touched_by, touched_through, may_change}
 use Rattle.sftp_packets.specs.declared.packets.Answer.{Answer}
 use Rattle.sftp_handles.specs.Seen.{seen}
-use Rattle.sftp_handles.specs.HandleRequests.{row_of, Change, nothing, change_of}
+use Rattle.sftp_handles.specs.RequestRows.{row_of, Change, nothing, change_of}
 use Rattle.sftp_handles.proofs.ClashLaws.Touches.{applied, change-touches, touched-stays}
 use Rattle.sftp_handles.proofs.ClashLaws.Exchanges.{handle-of}
 use Rattle.sftp_server.proofs.RangedNotes.{resizes-on}

@@ -3,7 +3,7 @@ use Rattle.sftp_audit.proofs.Imports.{turn_after, in_window, requests_before_rep
 use Rattle.sftp_audit.proofs.Imports.{next_reply, step, hex, exchanges_from, next_recorded, unsettled}
 use Rattle.sftp_path.specs.Table.{get, put, retain, without}
 use Rattle.sftp_tree.specs.Tree.{fits, has_entries}
-use Rattle.sftp_handles.specs.HandleRequests.{limits_data}
+use Rattle.sftp_handles.specs.RequestRows.{limits_data}
 use Rattle.sftp_handles.specs.Requests.{causes, answers, after, told_to}
 use Rattle.sftp_handles.specs.Handles.{pins_of}
 use Rattle.sftp_tree.specs.Requests.{causes as path_causes, plain_causes, led, outcome}

@@ -9,7 +9,7 @@ use Rattle.sftp_handles.proofs.Imports.{seen_file, FitsData, FitsSaid, row_of, s
 use Rattle.sftp_packets.specs.declared.packets.Ask.TheVariants as asks
 use Rattle.sftp_treefile.specs.Limits.{highest_limits}
 use Rattle.sftp_handles.specs.Replies.{gives, ended}
-use Rattle.sftp_handles.specs.HandleRequests.{listed}
+use Rattle.sftp_handles.specs.RequestRows.{listed}
 use Rattle.sftp_listing.proofs.FirstListings.{content-shown}
 use Rattle.sftp_handles.proofs.TotalSteps.PlaceTexts.{bytes-by}
 
