@@ -150,7 +150,7 @@ pub(crate) fn path_ask(ask: &Ask) -> Option<PathAsk<'_>>
     }
 }
 
-/// The path that a request walks, or the first of two; `None` if it names no path.
+/// The path that a request names first, for SYMLINK that of the link; `None` if it names none.
 pub fn path_of(ask: &Ask) -> Option<&[u8]>
     ensures { option_copied result ≡ requests.path_of ask.now }
 {
@@ -160,7 +160,7 @@ pub fn path_of(ask: &Ask) -> Option<&[u8]>
     }
 }
 
-/// The second path of a request that has two: a new name.
+/// The second path that a request names, a new name; `None` if it names none.
 pub fn new_path_of(ask: &Ask) -> Option<&[u8]>
     ensures { option_copied result ≡ requests.new_path_of ask.now }
 {
@@ -171,7 +171,7 @@ pub fn new_path_of(ask: &Ask) -> Option<&[u8]>
 }
 
 impl<'a> PathAsk<'a> {
-    /// The path that it walks, or the first of two.
+    /// The path that it names first, for SYMLINK that of the link.
     pub(crate) fn path(self) -> &'a [u8]
         ensures { requests.path_of (asked self.entry) ≡ Some result.now }
     {
@@ -193,7 +193,7 @@ impl<'a> PathAsk<'a> {
         }
     }
 
-    /// The second path of a request that has two: a new name.
+    /// The second path that it names, a new name; `None` if it names none.
     pub(crate) fn new_path(self) -> Option<&'a [u8]>
         ensures { requests.new_path_of (asked self.entry) ≡ option_copied result }
     {
@@ -410,7 +410,7 @@ impl Tree {
             }
             PathAsk::Rmdir { .. } => Plan::Remove(place),
             PathAsk::Remove { .. } => Plan::Remove(place),
-            PathAsk::Setstat { attrs, .. } => self.setting(place, &node, attrs),
+            PathAsk::Setstat { attrs, .. } => self.plan_to_set(place, &node, attrs),
             PathAsk::Symlink { target, .. } => Plan::Put(place, self.link_to(target)?),
             PathAsk::Open { flags, attrs, .. } => self.plan_to_open(flags, attrs, place, &node),
             PathAsk::Stat { .. }

@@ -133,7 +133,7 @@ impl Tree {
     }
 
     /// What is to be done to set the attributes of what was found.
-    pub(crate) fn setting<'a>(
+    pub(crate) fn plan_to_set<'a>(
         &self,
         place: Place,
         node: &Option<Seen<'_>>,

@@ -1,6 +1,6 @@
 use Rattle.sftp_tree.proofs.Imports.{sym, ◌∙◌, ap, Some, option_map, node_seen, Dir}
 use Rattle.sftp_tree.proofs.WellFormedTrees.Found.{node-kept}
-use Rattle.sftp_tree.proofs.trees.Tree.setting.Goals as goal
+use Rattle.sftp_tree.proofs.trees.Tree.plan_to_set.Goals as goal
 
 pub changed_owner-requires : goal.changed_owner-requires
 changed_owner-requires c = node-kept c.args.self.now c.args.place (Dir c.in-Dir.owner) c.requires.kept
