@@ -7,7 +7,7 @@ use Rattle.sftp_listing.proofs.Imports.{Equal, Greater, keys_of, remove_entry, n
 use Rattle.sftp_listing.proofs.Imports.{bytes_decides, length-set, length-replicate, length-map, ltb-true, ltb-false}
 use Rattle.sftp_listing.proofs.Imports.{Attrs, Name, name_cmp, InOrder, get, put, without, bytes_cmp-same, get-empty}
 use Rattle.sftp_listing.proofs.Imports.{get-cons, get-below, InOrder-empty, InOrder-put, without-absent, Item, entry_of}
-use Rattle.sftp_listing.proofs.Imports.{Left, IsLeft, unmarked, ArePaired}
+use Rattle.sftp_listing.proofs.Imports.{Left, unmarked, ArePaired}
 use Rattle.std.specs.BTreeMap.{is_at, insert_entry}
 use Rattle.std.proofs.Math.ListN.{set, replicate}
 use Rattle.std.specs.List.Sorted.{IsStrictlySortedBy, IsNonDecreasingBy, IsBinarySearchResult, IsSearchInRange}
@@ -623,6 +623,3 @@ put-one items marks next next-marks left more marked paired size is =
       omega (arith, grown, marked.counted, unmarked-few next next-marks),
       record { paired = paired; counted = omega (arith, grown, marked.counted) },
     )
-
-pub none-left : IsLeft []
-none-left = record { ordered = InOrder-empty Attrs name_cmp; items = tt }

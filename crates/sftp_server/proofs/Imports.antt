@@ -21,7 +21,7 @@ pub use Rattle.std.specs.List.{AllByRecursion, flat_map}
 pub use Rattle.std.specs.Map.{lookup}
 pub use Rattle.sftp_handles.proofs.TotalSteps.PlaceTexts.{bytes-by}
 pub use Rattle.sftp_handles.specs.Allowed.{Allowed}
-pub use Rattle.sftp_handles.specs.Clash.{Touched, share, untouched, everything, reads_file, writes_file, takes_names}
+pub use Rattle.sftp_handles.specs.Clash.{Touched, share, untouched, everything, reads_file, writes_file}
 unfoldable pub use Rattle.sftp_handles.specs.Clash.{touched, clash}
 unfoldable pub use Rattle.sftp_handles.specs.Handles.{pins_of}
 pub use Rattle.sftp_handles.specs.Ranges.{are_apart, may_resize}
@@ -30,7 +30,7 @@ pub use Rattle.sftp_handles.specs.State.{State, Good, started, closed_tree, sett
 pub use Rattle.sftp_handles.specs.Touch.{touched_as}
 pub use Rattle.sftp_handles.specs.declared.byte_range.ByteRange.{ByteRange}
 pub use Rattle.sftp_handles.specs.declared.touch.Touch.{Touch}
-pub use Rattle.sftp_handles.specs.declared.touch.Touch.TheVariants.{Everything, Nothing, ReadsFile, WritesFile}
+pub use Rattle.sftp_handles.specs.declared.touch.Touch.TheVariants.{Everything, Nothing, WritesFile}
 pub use Rattle.sftp_packets.specs.AskValues.{IsAsk}
 pub use Rattle.sftp_packets.specs.Spelling.{HasSpelling, side_of, server_extensions, FitsString, posix_rename_name}
 pub use Rattle.sftp_packets.specs.Spelling.{hardlink_name, fsync_name, limits_name, asked_handle, packet_limit}

@@ -272,9 +272,6 @@ module _ {s : State} {queue : List Entry} {notes mid : List Note} {f o w p numbe
   abbrev own : Option ByteRange
   own = range s (ask_at queue q)
 
-  abbrev over : List Note
-  over = set notes q (record (note_at notes q) { range = own })
-
   in_notes : q < length notes
   in_notes = let size = noted.same_length in let within = noted.within in omega (arith, size, within, before)
 

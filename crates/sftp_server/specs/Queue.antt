@@ -6,7 +6,7 @@ use Rattle.sftp_packets.specs.declared.packets.Request.{Request}
 use Rattle.sftp_packets.specs.declared.packets.Reply.{Reply}
 use Rattle.sftp_server.specs.declared.queue.Entry.{Entry}
 use Rattle.sftp_server.specs.declared.queue.Progress.{Progress}
-use Rattle.sftp_server.specs.Machine.{ClashOf, is_pending, is_sent, is_unsent, from_unsent, reply_of}
+use Rattle.sftp_server.specs.Machine.{is_pending, is_sent, is_unsent, from_unsent, reply_of}
 
 -- the request of an entry, if it is pending
 abbrev pub request_in : Option Entry → Option Request
@@ -16,11 +16,6 @@ request_in (Some entry) = if is_pending entry.progress then Some entry.request e
 -- the request at this position, if it is pending
 abbrev pub pending_at : List Entry → ℕ → Option Request
 pending_at queue k = request_in (slice_get queue k)
-
--- whether this request, if there is one, conflicts with the other, which was asked later
-abbrev pub clashes_with : {S : Type 0} → ClashOf S → S → Option Request → Request → Bool
-clashes_with clash s None request = false
-clashes_with clash s (Some earlier) request = clash s earlier request
 
 abbrev pub sent_in : Option Entry → Bool
 sent_in None = false

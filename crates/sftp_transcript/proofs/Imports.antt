@@ -11,7 +11,7 @@ pub use Rattle.std.proofs.lemmas.List.Concat.{flat_map-cons}
 pub use Rattle.std.proofs.lemmas.Option.{same_Some}
 pub use Rattle.std.proofs.lemmas.Result.{err_from_is_err_and, IfOk-weaker, IfErr-weaker}
 pub use Rattle.std.specs.Int.{w32, from_be_bytes}
-pub use Rattle.std.specs.Io.KnownBytes.{IsAtEnd, Consumes, Keeps, prepend_known}
+pub use Rattle.std.specs.Io.KnownBytes.{IsAtEnd, Keeps, prepend_known}
 pub use Rattle.std.specs.List.{flat_map, AllByRecursion, list_any}
 pub use Rattle.sftp_packets.proofs.Bytes.Numbers.{wide32}
 unfoldable pub use Rattle.sftp_wire.specs.Fronts.{front_of}

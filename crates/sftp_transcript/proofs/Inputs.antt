@@ -1,40 +1,9 @@
 -- What is ahead of a reader while its buffer fills.
 use Rattle.sftp_transcript.proofs.Imports.{◌≡◌, ℕ, ◌+◌, ◌^◌, ◌<◌, ◌≤◌, List, ◌∷◌, ◌++◌, length, take, Option, None}
-use Rattle.sftp_transcript.proofs.Imports.{Some, refl, sym, ap, ◌∙◌, append_assoc, append-nil, arith, take_at}
-use Rattle.sftp_transcript.proofs.Imports.{length-append, same_Some, w32, from_be_bytes, Consumes, Keeps, IsAtEnd}
+use Rattle.sftp_transcript.proofs.Imports.{Some, refl, sym, ap, ◌∙◌, append_assoc, arith, take_at}
+use Rattle.sftp_transcript.proofs.Imports.{length-append, same_Some, w32, from_be_bytes}
 use Rattle.sftp_transcript.proofs.Imports.{prepend_known, Packet, wide32, record_text, Ahead, bytes_ahead}
 use Rattle.sftp_packets.specs.Spelling.{uint32, contents, spelling, packet_limit, HasSpelling}
-
--- ---- bytes that are read
-
-pub Keeps-same : (a : Option (List ℕ)) → Keeps a a
-Keeps-same None = tt
-Keeps-same (Some xs) = refl
-
-pub Keeps-then : (a b c : Option (List ℕ)) → Keeps a b → Keeps b c → Keeps a c
-Keeps-then None b c p q = tt
-Keeps-then (Some x) None c p q = absurd p
-Keeps-then (Some x) (Some y) None p q = absurd q
-Keeps-then (Some x) (Some y) (Some z) p q = q ∙ p
-
-pub read_keeps : (held more : List ℕ) (a b : Option (List ℕ)) → Consumes a b more
-    → Keeps (prepend_known held a) (prepend_known (held ++ more) b)
-read_keeps held more None b p = tt
-read_keeps held more (Some x) None p = absurd p
-read_keeps held more (Some x) (Some y) p = append_assoc held more y ∙ ap (λ (l : List ℕ). held ++ l) (sym p)
-
-pub failed_keeps : (held : List ℕ) (a b : Option (List ℕ)) → Keeps a b → Keeps (prepend_known held a) (prepend_known held b)
-failed_keeps held None b p = tt
-failed_keeps held (Some x) None p = absurd p
-failed_keeps held (Some x) (Some y) p = ap (λ (l : List ℕ). held ++ l) p
-
--- where nothing is left, all is held
-pub all_held : (a : Ahead) (bytes : List ℕ) → IsAtEnd a.left → bytes_ahead a ≡ Some bytes → bytes ≡ a.held
-all_held a bytes end known = held_by a.held a.left bytes end known
-  where
-    held_by : (held : List ℕ) (left : Option (List ℕ)) (bytes : List ℕ) → IsAtEnd left → prepend_known held left ≡ Some bytes → bytes ≡ held
-    held_by held None bytes end e = absurd cc
-    held_by held (Some x) bytes end e = sym (same_Some (held ++ x) bytes e) ∙ ap (λ (l : List ℕ). held ++ l) end ∙ append-nil held
 
 -- what is ahead begins with what is held
 pub record Ahead-parts (a : Ahead) (bytes : List ℕ) : Type 0 where

@@ -1,6 +1,6 @@
 -- Bytes that are written in several calls.
-use Rattle.sftp_transcript.proofs.Imports.{◌≡◌, ℕ, List, [], ◌++◌, Option, None, Some, take, drop, refl, sym, ap, ◌∙◌}
-use Rattle.sftp_transcript.proofs.Imports.{append_assoc, append-nil, take-append-drop, Result, Ok, Err, OnErr, Keeps}
+use Rattle.sftp_transcript.proofs.Imports.{◌≡◌, ℕ, List, ◌++◌, Option, None, Some, take, drop, sym, ap, ◌∙◌}
+use Rattle.sftp_transcript.proofs.Imports.{append_assoc, take-append-drop, Result, Ok, Err, OnErr}
 use Rattle.std.specs.Io.KnownBytes.{Appends}
 use Rattle.sftp_transcript.specs.Streams.{AppendsPart}
 
@@ -8,21 +8,11 @@ pub on_err : {A E P : Type 0} (result : Result A E) → P → OnErr result P
 on_err (Ok value) holds = tt
 on_err (Err error) holds = holds
 
-pub Appends-none : (a : Option (List ℕ)) → Appends a a []
-Appends-none None = tt
-Appends-none (Some xs) = sym (append-nil xs)
-
 pub Appends-then : (a b c : Option (List ℕ)) (xs ys : List ℕ) → Appends a b xs → Appends b c ys → Appends a c (xs ++ ys)
 Appends-then None b c xs ys p q = tt
 Appends-then (Some x) None c xs ys p q = absurd p
 Appends-then (Some x) (Some y) None xs ys p q = absurd q
 Appends-then (Some x) (Some y) (Some z) xs ys p q = q ∙ ap (λ (l : List ℕ). l ++ ys) p ∙ append_assoc x xs ys
-
-pub Appends-kept : (a b c : Option (List ℕ)) (xs : List ℕ) → Appends a b xs → Keeps b c → Appends a c xs
-Appends-kept None b c xs p q = tt
-Appends-kept (Some x) None c xs p q = absurd p
-Appends-kept (Some x) (Some y) None xs p q = absurd q
-Appends-kept (Some x) (Some y) (Some z) xs p q = q ∙ p
 
 -- of the bytes all but the rest were appended, and no call failed
 pub record IsPutBefore (old new : Option (List ℕ)) (failed fails : ℕ) (bytes rest : List ℕ) : Type 0 where
@@ -30,10 +20,6 @@ pub record IsPutBefore (old new : Option (List ℕ)) (failed fails : ℕ) (bytes
   pub parts : bytes ≡ done ++ rest
   pub appended : Appends old new done
   pub none_failed : fails ≡ failed
-
-pub IsPutBefore-first : (a : Option (List ℕ)) (failed : ℕ) (bytes : List ℕ) → IsPutBefore a a failed failed bytes bytes
-IsPutBefore-first a failed bytes =
-    record { done = []; parts = refl; appended = Appends-none a; none_failed = refl }
 
 pub IsPutBefore-next : (a b c : Option (List ℕ)) (failed fails now : ℕ) (bytes rest : List ℕ) (count : ℕ) → IsPutBefore a b failed fails bytes rest
     → Appends b c (take count rest) → now ≡ fails → IsPutBefore a c failed now bytes (drop count rest)
@@ -44,17 +30,6 @@ IsPutBefore-next a b c failed fails now bytes rest count put some e = record {
   appended = Appends-then a b c put.done (take count rest) put.appended some;
   none_failed = e ∙ put.none_failed;
 }
-
-pub IsPutBefore-cut : (a b c : Option (List ℕ)) (failed fails : ℕ) (bytes rest : List ℕ) → IsPutBefore a b failed fails bytes rest
-    → Keeps b c → AppendsPart a c bytes
-IsPutBefore-cut a b c failed fails bytes rest put kept =
-    record { part = put.done; rest = rest; parts = put.parts; appended = Appends-kept a b c put.done put.appended kept }
-
-pub IsPutBefore-all : (a b : Option (List ℕ)) (failed fails : ℕ) (bytes rest : List ℕ) → IsPutBefore a b failed fails bytes rest
-    → rest ≡ [] → Appends a b bytes
-IsPutBefore-all a b failed fails bytes rest put none =
-    let whole : put.done ≡ bytes = sym (append-nil put.done) ∙ ap (λ (l : List ℕ). put.done ++ l) (sym none) ∙ sym put.parts in
-    rw (sym whole) put.appended
 
 -- ---- one text after another
 

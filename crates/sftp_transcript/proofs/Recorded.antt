@@ -3,24 +3,13 @@ use Rattle.sftp_transcript.proofs.Imports.{◌≡◌, ℕ, ◌≤◌, true, List
 use Rattle.sftp_transcript.proofs.Imports.{OnErr, refl, sym, ap, ◌∙◌, subst, arith, flat_map, flat_map-cons, same_Some}
 use Rattle.sftp_transcript.proofs.Imports.{TranscriptError, Event, Stage, IsSameAhead, bytes_ahead, size_of, MayCome}
 use Rattle.sftp_transcript.proofs.Imports.{stage_after, is_greeting, BeginsKind, Reading, IsKnown, Records, RecordsSame}
-use Rattle.sftp_transcript.proofs.Imports.{Gave, Gives, HasAhead, IsExcuse, IsOpened, Took, BeginsEvent, TookEvent}
-use Rattle.sftp_transcript.proofs.Imports.{event_record, AreRecords, IsRecord}
-use Rattle.sftp_transcript.specs.Recorded.{RecordsFrom, RecordsFromInit}
+use Rattle.sftp_transcript.proofs.Imports.{Gave, Gives, HasAhead, IsExcuse, Took, BeginsEvent, TookEvent}
+use Rattle.sftp_transcript.proofs.Imports.{event_record, AreRecords}
+use Rattle.sftp_transcript.specs.Recorded.{RecordsFrom}
 use Rattle.sftp_transcript.specs.declared.stage.Stage.TheVariants as stages
 use Rattle.sftp_transcript.proofs.Taking.{known_kept}
-use Rattle.sftp_transcript.proofs.transcripts.Reading.{record_parts, record_by}
 
--- ---- no step, and steps one after the other
-
-pub RecordsSame-none : (s : Reading) → RecordsSame s s
-RecordsSame-none s = record {
-  known = λ k. k;
-  sound = λ k events r. r;
-  complete = λ events r. r;
-  number = refl;
-  fault = refl;
-  never_rises = omega arith;
-}
+-- ---- steps one after the other
 
 pub RecordsSame-then : (a b c : Reading) → RecordsSame a b → RecordsSame b c → RecordsSame a c
 RecordsSame-then a b c p q = record {
@@ -33,9 +22,6 @@ RecordsSame-then a b c p q = record {
 }
 
 -- ---- the same bytes are ahead
-
-kept_known : (a b : Option (List ℕ)) (x y : List ℕ) → a ≡ Some x → b ≡ Some y → ((z : List ℕ) → a ≡ Some z → b ≡ Some z) → x ≡ y
-kept_known a b x y e k f = same_Some x y (sym (f x e) ∙ k)
 
 pub RecordsSame-kept : (old new : Reading) → IsSameAhead old.ahead new.ahead → new.stage ≡ old.stage → new.number ≡ old.number
     → new.fault ≡ old.fault → RecordsSame old new
@@ -99,16 +85,6 @@ module _ (P : List ℕ → List ℕ → Type 0) (s t : Stage)
   passed_excuse old error from only events r =
       let parts = split events r.bytes (subst (λ (u : Stage). RecordsFrom u events r.bytes) from r.recorded) in
       only r.bytes parts.0 r.are_ahead parts.1
-
-pub opening_sound : (events : List Event) (before after : List ℕ) → IsOpened before after → RecordsFromInit events after → IsRecord events before
-opening_sound events before after is r =
-    record_by events before after r.middle r.answered.records is r.init r.answered.version r.answered.recorded
-
-pub opening_split : (events : List Event) (before : List ℕ) → IsRecord events before
-    → (after : List ℕ) × IsOpened before after × RecordsFromInit events after
-opening_split events before is =
-    let p = record_parts events before is.opened is.opening is in
-    (is.opened, is.opening, record { middle = p.middle; init = p.init; answered = record { records = p.records; version = p.version; recorded = p.recorded } })
 
 pub greeting_sound : (s : Stage) → is_greeting s ≡ true → (events : List Event) (before after : List ℕ)
     → BeginsKind (MayCome s) before after → RecordsFrom (stage_after s) events after → RecordsFrom s events before

@@ -35,7 +35,7 @@ pub use Rattle.std.specs.List.{list_any, AllByRecursion, list_all, cons_option, 
 unfoldable pub use Rattle.std.specs.List.Sorted.{IsStrictlySortedBy}
 pub use Rattle.std.specs.Map.{lookup, remove_entry, set_value, keys_of}
 pub use Rattle.std.specs.Option.{option_copied_mut}
-pub use Rattle.std.specs.Ordering.{nat_cmp, is_eq, ordering_reverse, ordering_then, is_le}
+pub use Rattle.std.specs.Ordering.{nat_cmp, is_eq, ordering_reverse, ordering_then}
 pub use Rattle.std.specs.Prelude.{max, OnErr, codes, slice_index}
 pub use Rattle.std.specs.Result.{IfErr, IsErrAnd}
 pub use Rattle.std.specs.declared.cmp.Ordering.{Ordering}
@@ -46,7 +46,7 @@ pub use Rattle.sftp_path.proofs.Order.{bytes_cmp-same, parent-entered, begins-is
 pub use Rattle.sftp_path.proofs.PathTexts.AbsoluteTexts.{components-absolute}
 pub use Rattle.sftp_path.proofs.PathTexts.GoodPaths.{filter_all, components-steps, list_all-weaker, list_all-octets}
 pub use Rattle.sftp_path.proofs.Table.Counts.{count-put_new, count-without, count-found, count-put_again}
-pub use Rattle.sftp_path.proofs.Table.Entries.{get-front, without-absent}
+pub use Rattle.sftp_path.proofs.Table.Entries.{without-absent}
 pub use Rattle.sftp_path.proofs.Table.Laws.{get-put, get-without, get-without_here, InOrder-put, InOrder-without}
 pub use Rattle.sftp_path.proofs.Table.Laws.{same_table, get-put_here, get-put_elsewhere, get-retain, InOrder-retain}
 pub use Rattle.sftp_path.proofs.Table.Laws.{size-put, size-put_present, get-cons, size-without, get-below, get-empty}
@@ -59,7 +59,7 @@ pub use Rattle.sftp_path.specs.Rekeying.{renamed, NothingFrom}
 unfoldable pub use Rattle.sftp_path.specs.Rekeying.{rekeyed}
 pub use Rattle.sftp_path.specs.Split.{Split}
 pub use Rattle.sftp_path.specs.Table.{InOrder, Table, kept, with_values}
-unfoldable pub use Rattle.sftp_path.specs.Table.{get, put, without, from_entries, retain}
+unfoldable pub use Rattle.sftp_path.specs.Table.{get, put, without, retain}
 pub use Rattle.sftp_treefile.proofs.Texts.Fields.{path_length, target_length, place_is}
 pub use Rattle.sftp_treefile.proofs.Texts.Files.{one_file, spelled_head}
 pub use Rattle.sftp_treefile.proofs.Texts.Limits.{highest_are, usual_are, file_bytes_bound, rows_wider}

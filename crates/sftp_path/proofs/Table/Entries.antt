@@ -24,11 +24,6 @@ all-behind : {K X : Type 0} (P : K → Type 0) (es : Table K X) (e : K × X) (fs
 all-behind P [] e fs h = h.0
 all-behind P (x ∷ xs) e fs h = all-behind P xs e fs h.1
 
-all-front : {K X : Type 0} (P : K → Type 0) (es fs : Table K X) → AllByRecursion P (keys_of (es ++ fs))
-    → AllByRecursion P (keys_of es)
-all-front P [] fs h = tt
-all-front P (x ∷ xs) fs h = (h.0, all-front P xs fs h.1)
-
 not-both : (o p : Ordering) → o ≡ Less → p ≡ Equal → o ≡ p → ⊥
 not-both o p is_less is_equal same = cc
 
@@ -54,11 +49,6 @@ module _ {K X : Type 0} (cmp : K → K → Ordering) where
   pub get-none_behind : (es fs : Table K X) (key : K) → get cmp (es ++ fs) key ≡ None → get cmp fs key ≡ None
   get-none_behind [] fs key h = h
   get-none_behind (x ∷ xs) fs key h = get-none_behind xs fs key (get-none x (xs ++ fs) key h).1
-
-  pub InOrder-front : (es fs : Table K X) → InOrder cmp (es ++ fs) → InOrder cmp es
-  unfolding IsStrictlySortedBy
-  InOrder-front [] fs h = tt
-  InOrder-front (x ∷ xs) fs h = (all-front (λ k. cmp x.0 k ≡ Less) xs fs h.0, InOrder-front xs fs h.1)
 
   module _ (total : IsTotalOrder cmp) (same : IsAntisymmetric cmp) where
     -- in a table in order no entry in front has the key of one after

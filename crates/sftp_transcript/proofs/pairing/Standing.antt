@@ -129,10 +129,6 @@ length-answered : (front : List Exchange) (request : Request) (reply : Reply) (b
     → length (front ++ (request, None) ∷ back) ≡ length (front ++ (request, Some reply) ∷ back)
 length-answered front request reply back = simp (length-append)
 
-broken_after : (id : ℕ) (event : Event) → after_event id event broken ≡ broken
-broken_after id (Asked request) = cond_alike (request.id == id)
-broken_after id (Replied reply) = cond_alike (reply.id == id)
-
 -- of requests that are apart, one that waits is the only one of its id
 pub record Alone (front : List Exchange) (request : Request) (back : List Exchange) : Type 0 where
   pub not_before : is_open request.id front ≡ false

@@ -42,8 +42,3 @@ handshake_by (Init version asked) (Version three told) opened middle records hig
     grind (arith, eqb-true)
 handshake_by (Init version asked) other opened middle records high first is second = absurd is
 handshake_by other q opened middle records high first is second = absurd high
-
--- the parts of what the bytes record
-pub record_by : (events : List Event) (bytes opened middle records : List ℕ) → bytes ≡ transcript_opening ++ opened
-    → BeginsInit opened middle → BeginsVersion middle records → AreRecords events records → IsRecord events bytes
-record_by events bytes opened middle records opening init version are = grind (arith, handshake_by, append-nil)

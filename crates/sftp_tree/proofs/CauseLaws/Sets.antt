@@ -1,6 +1,6 @@
 -- Sets of causes: what is in none, and `NoRoom`.
 use Rattle.sftp_tree.proofs.Imports.{rules, ◌≡◌, ℕ, zero, suc, Bool, true, false, ◌&&◌, List, [], ◌∷◌, refl, IsTrue}
-use Rattle.sftp_tree.proofs.Imports.{list_any, or_parts, eq-eqb, Cause, BadFlags, Tree, fits, CauseSet, every_cause}
+use Rattle.sftp_tree.proofs.Imports.{or_parts, eq-eqb, Cause, BadFlags, Tree, fits, CauseSet, every_cause}
 use Rattle.sftp_tree.proofs.Imports.{row, only, is_none, when}
 use Rattle.sftp_tree.specs.Requests.{with_room}
 
@@ -16,11 +16,6 @@ at_row (c ∷ cs) (suc n) other = at_row cs n other
 pub listed : (c : Cause) → at_row every_cause (row c) BadFlags ≡ c
 listed BadFlags = refl
 listed _ = refl
-
-none-at : (set : CauseSet) (cs : List Cause) (n : ℕ) (other : Cause) → list_any set cs ≡ false → set other ≡ false → set (at_row cs n other) ≡ false
-none-at set [] n other none last = last
-none-at set (c ∷ cs) zero other none last = (or_parts (set c) (list_any set cs) none).0
-none-at set (c ∷ cs) (suc n) other none last = none-at set cs n other (or_parts (set c) (list_any set cs) none).1 last
 
 -- where no cause is in a set, none of them is
 pub none-each : (set : CauseSet) → IsTrue (is_none set) → (c : Cause) → set c ≡ false

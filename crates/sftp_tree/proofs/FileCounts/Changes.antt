@@ -1,7 +1,7 @@
 -- Files that are changed one at a time: what a call on the map makes of them.
-use Rattle.sftp_tree.proofs.Imports.{rules, ◌≡◌, ◌≢◌, ℕ, true, false, refl, sym, ap, ◌∙◌, Option, Some, None, is_some}
-use Rattle.sftp_tree.proofs.Imports.{option_and_then, if◌then◌else◌, nat_cmp, is_eq, ordering_reverse, Ordering, Less}
-use Rattle.sftp_tree.proofs.Imports.{Equal, Greater, BTreeMap, IsOrdered, UpdatesBy, WritesThrough, get_by, get, Stored}
+use Rattle.sftp_tree.proofs.Imports.{rules, ◌≡◌, ◌≢◌, ℕ, true, false, sym, ap, ◌∙◌, Option, Some, None, is_some}
+use Rattle.sftp_tree.proofs.Imports.{option_and_then, if◌then◌else◌, nat_cmp, is_eq}
+use Rattle.sftp_tree.proofs.Imports.{BTreeMap, IsOrdered, UpdatesBy, WritesThrough, get_by, get, Stored}
 use Rattle.sftp_tree.proofs.Imports.{IsChanged, is_held_still, where_held}
 
 -- numbers that differ do not tie
@@ -47,10 +47,3 @@ where_held-gone s none = ap (λ b. if b then Some s else None) none
 
 pub where_held-left : (s : Stored) → is_held_still s ≡ true → where_held s ≡ Some s
 where_held-left s held = ap (λ b. if b then Some s else None) held
-
--- ---- another value at a key that is there
-
-pub reversed : (o : Ordering) → is_eq (ordering_reverse o) ≡ is_eq o
-reversed Less = refl
-reversed Equal = refl
-reversed Greater = refl

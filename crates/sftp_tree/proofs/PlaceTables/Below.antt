@@ -1,21 +1,10 @@
 -- What is below a place: it comes right after the place, and all of it in a row.
 use Rattle.sftp_tree.proofs.Imports.{◌≡◌, ◌-◌, ◌<◌, ◌&&◌, ◌||◌, ℕ, zero, suc, Bool, true, false, cond, Some, [], ◌∷◌}
-use Rattle.sftp_tree.proofs.Imports.{length, take, refl, sym, ◌∙◌, ap, arith, texts_ties, nat_list_eq_equiv, Equal-is}
-use Rattle.sftp_tree.proofs.Imports.{ordering_then, ordering_reverse, is_eq, Ordering, Less, Equal, list_any}
-use Rattle.sftp_tree.proofs.Imports.{AllByRecursion, lookup, is_at, Node, Name, Place, name_cmp, place_cmp, same_bytes}
+use Rattle.sftp_tree.proofs.Imports.{length, take, refl, sym, ◌∙◌, ap, arith, nat_list_eq_equiv, Equal-is}
+use Rattle.sftp_tree.proofs.Imports.{is_eq, list_any}
+use Rattle.sftp_tree.proofs.Imports.{AllByRecursion, lookup, is_at, Node, Place, place_cmp}
 use Rattle.sftp_tree.proofs.Imports.{is_below, parent, get, place_cmp-same, Names, node_at, is_taken, has_entries}
 use Rattle.std.proofs.Math.Bool.{or-true}
-
--- ---- the order
-
-same_bytes-cmp : (m n : Name) → same_bytes m n ≡ true → name_cmp m n ≡ Equal
-same_bytes-cmp m n same = (Equal-is (name_cmp m n)).0 (sym (texts_ties m n) ∙ same)
-
--- a name that is neither below nor above another is that name
-pub between-names : (o q : Ordering) (x y : Ordering) → o ≡ ordering_reverse q → ordering_then o x ≡ Less → ordering_then q y ≡ Less → (o ≡ Equal) × (x ≡ Less) × (y ≡ Less)
-between-names Less Less x y turned first second = cc
-between-names Equal Equal x y turned first second = (refl, first, second)
-between-names o q x y turned first second = cc
 
 -- ---- the parent
 

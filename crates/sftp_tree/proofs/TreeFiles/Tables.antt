@@ -187,11 +187,6 @@ rows_table bounds root earlier (row ∷ rows) t grown =
 pub table_of_rows : (bounds : TreeLimits) → (root : Owner) (rows : List Row) → IsOwner root → AreRows bounds [] rows → IsTable root (bare_names root rows)
 table_of_rows bounds root rows fits grown = rows_table bounds root [] rows (root_table root fits) grown
 
--- a row's parent is a directory among the rows before it
-pub row_parent : (bounds : TreeLimits) → (root : Owner) (rows : List Row) (row : Row) → IsOwner root → AreRows bounds [] rows → IsNext bounds rows row → IsTrue (is_directory (node_at (bare_names root rows) (parent (place_of row.path))))
-row_parent bounds root rows row fits grown next =
-    sym (has_dir_is root rows (parent (place_of row.path)) (table_of_rows bounds root rows fits grown).ordered) ∙ next.parent
-
 -- ---- and back
 
 below_root : (p : Place) → place_cmp [] p ≡ Less → 0 < length p

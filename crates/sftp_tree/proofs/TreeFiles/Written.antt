@@ -1,6 +1,6 @@
 -- A tree file is written entry by entry.
 use Rattle.sftp_tree.proofs.Imports.{◌≡◌, ℕ, suc, ◌+◌, ◌-◌, ◌<◌, ◌≤◌, ◌^◌, ◌==◌, Bool, true, false, cond, if◌then◌else◌}
-use Rattle.sftp_tree.proofs.Imports.{List, [], ◌∷◌, ◌++◌, length, take, Option, Some, None, refl, sym, ap, ◌∙◌, arith}
+use Rattle.sftp_tree.proofs.Imports.{[], ◌∷◌, ◌++◌, length, Option, Some, None, refl, sym, ap, ◌∙◌, arith}
 use Rattle.sftp_tree.proofs.Imports.{IfSome, flat_map, AllByRecursion, nat_cmp, is_eq, nat_cmp_total, eqb-true, eq-eqb}
 use Rattle.sftp_tree.proofs.Imports.{Place, absolute, get, get-put, TreeLimits, highest_limits, row_text, head_bytes}
 use Rattle.sftp_tree.proofs.Imports.{path_length, target_length, spelled_head, file_bytes_bound, Content, Node, Dir}
@@ -95,13 +95,6 @@ firsts_push firsts front e are = λ k. node_met firsts (length front) e.1 k ∙ 
 pub known : (files : Files) (firsts : Firsts) (front : Names) (standing : Node) → AreFirsts firsts front → known_kind files firsts standing ≡ kind_of files front standing
 known files firsts front (File number) are = ap (λ (o : Option ℕ). naming o (content_at files number)) (are number)
 known files firsts front other are = refl
-
--- ---- the loop
-
--- what is written after the earlier bytes, of so many entries
-pub record Written (t : Tree) (start out : List ℕ) (firsts : Firsts) (entry : ℕ) : Type 0 where
-  pub out_is : out ≡ start ++ flat_map row_text (rows_after t.files [] (take entry t.names))
-  pub firsts_are : AreFirsts firsts (take entry t.names)
 
 -- ---- the head
 

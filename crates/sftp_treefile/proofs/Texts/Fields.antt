@@ -3,7 +3,7 @@ use Rattle.sftp_treefile.proofs.Imports.{◌≡◌, ℕ, get_or, ◌*◌, ◌<�
 use Rattle.sftp_treefile.proofs.Imports.{take, drop, refl, sym, ap, ◌∙◌, append_assoc, arith, IsTrue, nat_eq, flat_map}
 use Rattle.sftp_treefile.proofs.Imports.{leb-true, and_parts, eqb-true, ltb-true, false≢true, length-append, uint32}
 use Rattle.sftp_treefile.proofs.Imports.{string, components, is_good_path, Owner, Kind, Row, TreeLimits, owner_text}
-use Rattle.sftp_treefile.proofs.Imports.{kind_text, place_of, IsPlaceText, IsOwner, IsKind, Reads, ReadsNone, IsNumber}
+use Rattle.sftp_treefile.proofs.Imports.{kind_text, place_of, IsPlaceText, IsOwner, IsKind, ReadsNone, IsNumber}
 use Rattle.sftp_treefile.proofs.Imports.{IsTarget, IsFileBytes, IsFile, file_text}
 use Rattle.std.proofs.lemmas.List.{take_at, drop_at}
 use Rattle.std.proofs.lemmas.Nat.{from_be_bytes-to_be_bytes_4}
@@ -106,11 +106,6 @@ pub file_front : (limits : TreeLimits) → limits.file_bytes < 2 ^ 32 → (x y :
     → IsFile limits x → IsFile limits y → file_text x ++ r ≡ file_text y ++ s → (x ≡ y) × (r ≡ s)
 file_front limits bound x y r s x-fits y-fits e =
     grind (arith, owner_front, file_parts, string_front, file_bytes_length)
-
-pub file_read : (limits : TreeLimits) (bytes middle rest text : List ℕ) (owner : Owner)
-    → Reads IsOwner owner_text bytes owner middle → Reads (IsFileBytes limits) string middle text rest
-    → Reads (IsFile limits) file_text bytes (owner, text) rest
-file_read limits bytes middle rest text owner a b = grind (arith, append_assoc)
 
 -- a file whose owner cannot be read, and one whose bytes cannot
 pub file_owner_none : (limits : TreeLimits) (bytes : List ℕ) → ReadsNone IsOwner owner_text bytes
