@@ -104,7 +104,7 @@ impl Auditor {
         ensures refused { IfErr result (HasReason self.old event) }
         // After `NotAllowed` the session is the one in which the reply is not permitted.
         ensures wrong { IfErr result (StopsIn self.old event self.new.state) }
-        // It is for good, and no request is kept.
+        // It is permanent, and no request is kept.
         ensures for_good { IfErr result (λ refusal. (self.new.refusal ≡ Some refusal) × (self.new.kept ≡ [])) }
         ensures again { (refusal : Refusal) → self.old.refusal ≡ Some refusal → result ≡ Err refusal }
     {
@@ -129,7 +129,7 @@ impl Auditor {
         // `is_modelled` says whether the profile follows the request.
         ensures told { IfErr result (Reports self.old event is_modelled.old is_modelled.new) }
         ensures untold { OnOk result (is_modelled.new ≡ is_modelled.old) }
-        // It is for good, and no request is kept.
+        // It is permanent, and no request is kept.
         ensures for_good { IfErr result (λ refusal. (self.new.refusal ≡ Some refusal) × (self.new.kept ≡ [])) }
         ensures again { (refusal : Refusal) → self.old.refusal ≡ Some refusal → result ≡ Err refusal }
     {
@@ -196,7 +196,7 @@ impl Auditor {
     /// # Errors
     ///
     /// `Unanswered` with the record of the oldest request without a reply, if there is one; and a refusal that `feed`
-    /// returned comes again.
+    /// returned, again.
     pub fn finish(self) -> Result<Tree, Refusal>
         ensures again { (refusal : Refusal) → self.refusal ≡ Some refusal → result ≡ Err refusal }
         // The events are explained, and the result is the tree where their run ends.

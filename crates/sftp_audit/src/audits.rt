@@ -172,7 +172,7 @@ pub fn audit_stream_by<R: Source>(
     ensures may_fail { records.old.fault ≡ None → IfErr result (IsExcusedBy R.may_fail) }
     ensures plain { IfErr result IsPlain }
 {
-    // Dear to prove: it has six ways out, each with all that is promised of an audit.
+    // Slow to prove: it has six exits, each with all that is promised of an audit.
     *is_modelled = true;
     let mut auditor = Auditor::by(profile, Tree::read(alloc, tree)?)?;
     let requests = match feed_all(&mut auditor, records, is_modelled) {

@@ -105,8 +105,8 @@ pub fn wrong_byte()
     ensures { Unexplained with_five_letters (read_in_parts (codes "abd")) }
 {}
 
-/// The limits of the blank tree are asked for, and told. A raised tree tells others, and neither tells those of the
-/// other.
+/// A client queries the limits of the blank tree. A raised tree has others, and no reply may give those of the other
+/// tree.
 pub fn limits_are_told()
     ensures usual { Explained Allowed (started blank) (limits_session usual_limits_told) (started blank) }
     ensures highest { Explained Allowed (started (raised blank)) (limits_session highest_limits_told)

@@ -29,7 +29,7 @@ const TWO: &str = "  ";
 
 const FOUR: &str = "    ";
 
-/// How a line is indented that goes on with the line before it.
+/// The indentation of a line that continues the line before it.
 const EIGHT: &str = "        ";
 
 /// Whether a line is blank or a comment.
@@ -152,7 +152,7 @@ fn put_handles(text: &str, out: &mut Text) {
     }
 }
 
-/// Writes the quote in front of a text. A text right behind another goes on with that one.
+/// Writes the quote in front of a text. A text right behind another continues that one.
 fn put_quote(out: &mut Text) {
     if out.as_str().ends_with('"') {
         out.pop();

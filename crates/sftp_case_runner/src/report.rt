@@ -5,11 +5,11 @@ use std::alloc::Global;
 use std::io;
 use std::io::ErrorKind;
 
-/// What is said of a case. It also notes that memory ran out, after which no further block is run: so what has no
-/// memory goes on, and need not be right.
+/// The report on a case. It also notes that memory ran out, after which no further block is run: so what lacks memory
+/// continues, and need not be right.
 #[derive(Drop)]
 pub struct Report {
-    /// The number of the line of the block in hand.
+    /// The number of the line of the current block.
     pub line: usize,
     pub text: Text,
 }
@@ -22,7 +22,7 @@ impl Report {
         }
     }
 
-    /// Whether nothing is said.
+    /// Whether it is empty.
     pub fn is_empty(&self) -> bool {
         self.text.as_str().is_empty()
     }
@@ -38,14 +38,14 @@ impl Report {
         }
     }
 
-    /// Says of which line the next words are.
+    /// Writes which line the next words concern.
     pub fn say_line(&mut self, line: usize) {
         self.text.push("  line ");
         self.text.push_number(line as u64);
         self.text.push(":\n");
     }
 
-    /// Says words of the block in hand.
+    /// Writes words about the current block.
     pub fn say(&mut self, words: &str) {
         self.say_line(self.line);
         self.text.push("    ");

@@ -2,7 +2,7 @@
 use std::alloc::{AllocError, Global};
 use std::fmt::Display;
 
-/// A text that grows. Where memory runs out it lacks a piece, and notes that for good.
+/// A text that grows. If memory runs out, it lacks a piece, and `has_gap` stays true.
 #[derive(Drop)]
 pub struct Text {
     written: String,

@@ -31,7 +31,7 @@ impl<'a> Fields<'a> {
         }
     }
 
-    /// Goes on where these bytes are left.
+    /// Continues where these bytes are left.
     fn go_on(&mut self, rest: &'a [u8]) {
         let passed = self.rest.len().saturating_sub(rest.len());
         self.place = self.place.saturating_add(passed as u64);

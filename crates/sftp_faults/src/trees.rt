@@ -92,7 +92,7 @@ fn judge_settings(fields: &mut Fields<'_>, own: bool) -> Result<TreeLimits, Spot
 }
 
 fn judge_limits(fields: &mut Fields<'_>) -> Result<TreeLimits, Spot> {
-    // Dear to prove: each of the four may be out of its range.
+    // Slow to prove: each of the four may be out of its range.
     let (lowest, highest) = (usual_limits(), highest_limits());
     let first = fields.spot("limits");
     let limits = TreeLimits {

@@ -27,7 +27,7 @@ use std::alloc::Global;
 /// What an open session does after a batch of requests.
 #[derive(Clone, Copy)]
 enum Next {
-    /// It goes on.
+    /// It continues.
     Batch,
     /// It ends: with the fault, or because the input ended after a whole packet.
     End(Option<SessionFault>),
@@ -88,7 +88,7 @@ pub fn serve_keeping_tree<R: Source, W: Sink, L: Sink, S: Schedule>(
     ensures counts_writer { CountsEnd streams.Writer result.ended (W.failures writer.old) (W.failures writer.new) }
     ensures counts_log { CountsEnd streams.Log result.ended log.old.failures log.new.failures }
 {
-    // Dear to prove: the tree, or what was read, is dropped at each way out.
+    // Slow to prove: the tree, or what was read, is dropped at each exit.
     let alloc = tree.allocator();
     let mut input = match Input::new(alloc) {
         Ok(input) => input,
@@ -132,7 +132,7 @@ fn serve_from<R: Source, W: Sink, L: Sink, S: Schedule>(
     ensures counts_writer { CountsEnd streams.Writer result.ended (W.failures writer.old) (W.failures writer.new) }
     ensures counts_log { CountsEnd streams.Log result.ended log.old.failures log.new.failures }
 {
-    // Dear to prove: the core and the room for a packet are dropped at each way out.
+    // Slow to prove: the core and the room for a packet are dropped at each exit.
     let alloc = tree.allocator();
     let Ok(mut core) = Core::new(tree, WINDOW) else {
         return Stop::NoMemory.leaving(None);
@@ -184,7 +184,7 @@ fn serve_requests<R: Source, W: Sink, L: Sink, S: Schedule>(
     ensures counts_writer { CountsCall streams.Writer result (W.failures writer.old) (W.failures writer.new) }
     ensures counts_log { CountsCall streams.Log result log.old.failures log.new.failures }
 {
-    // Dear to prove: each call in the loop may stop the session, and each changes several of what is borrowed.
+    // Slow to prove: each call in the loop may end the session, and changes several borrowed values.
     let alloc = *output.allocator();
     'batch: loop {
         let front = take_requests(alloc, input, core, log)?;
@@ -197,7 +197,7 @@ fn serve_requests<R: Source, W: Sink, L: Sink, S: Schedule>(
 }
 
 /// What comes after a batch, by what is in front of the input: the session ends at a fault, reads if no packet in front
-/// is complete, and goes on if a packet waits for room in the core.
+/// is complete, and continues if a packet waits for room in the core.
 fn after_batch<R: Source, W: Sink, L: Sink>(
     front: Front,
     input: &mut Input,
@@ -248,7 +248,7 @@ fn read_more<R: Source, W: Sink, L: Sink>(
     ensures falls { IfOk result (λ next. next ≡ nexts.Batch → R.reads_left reader.new < R.reads_left reader.old) }
     ensures fits { IfOk result (λ next. next ≡ nexts.Batch → length input.new.held ≤ input_limit) }
 {
-    // Dear to prove: it has six ways out, each with all that is promised of three streams.
+    // Slow to prove: it has six exits, each with all that is promised of three streams.
     flush(writer)?;
     if input.read(reader)? > 0 {
         return Ok(Next::Batch);

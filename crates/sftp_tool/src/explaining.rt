@@ -304,14 +304,14 @@ impl<R: Files + AllocGlobal, E: Write> Explanation<'_, '_, R, E> {
         self.is_written(written)
     }
 
-    /// Whether the session goes on beyond its refusal if the departure of this name is accepted besides.
+    /// Whether the session continues beyond its refusal if the departure of this name is accepted besides.
     fn goes_on_with(&mut self, name: &str) -> bool {
         let accepted = self.files.profile;
         let profile = accepted.with(name, true).unwrap_or(accepted);
         profile != accepted && self.goes_on_by(profile, name)
     }
 
-    /// Whether the session goes on beyond its refusal by this profile, which accepts the departure of this name.
+    /// Whether the session continues beyond its refusal by this profile, which accepts the departure of this name.
     fn goes_on_by(&mut self, profile: Profile, name: &str) -> bool {
         match new_auditor(self.rt.alloc(), profile, self.tree) {
             Some(mut auditor) => {
@@ -324,7 +324,7 @@ impl<R: Files + AllocGlobal, E: Write> Explanation<'_, '_, R, E> {
         }
     }
 
-    /// Whether a session that was fed with the departure of this name accepted goes on beyond its refusal without it:
+    /// Whether a session that was fed with the departure of this name accepted continues beyond its refusal without it:
     /// it is not refused, or at a later record. `made` judges another request than the one that was sent, so with it a
     /// session may be refused at an earlier record.
     fn is_beyond(&self, fed: Option<Refusal>, name: &str) -> bool {

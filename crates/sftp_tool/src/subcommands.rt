@@ -48,7 +48,7 @@ fn audit_by<'a, R: Files + AllocGlobal, O: Write, E: Write>(
 }
 
 /// Audits a session that starts from the tree of this file.
-// Slow to prove: each of its ends is a call that may fail, one of them with the outcome of the audit in hand.
+// Slow to prove: each of its exits is a call that may fail, one of them while it owns the outcome of the audit.
 fn audit_from<'a, R: Files + AllocGlobal, O: Write, E: Write>(
     rt: &R,
     files: &AuditOptions<'a>,

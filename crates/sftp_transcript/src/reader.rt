@@ -297,7 +297,7 @@ impl<R: Source> Reader<R> {
         self.take_record()
     }
 
-    /// Reports an error: for good, unless memory ran out.
+    /// Reports an error, which is permanent unless memory ran out.
     fn report(&mut self, error: TranscriptError)
         ensures becomes { self.new ≡ reported error self.old }
         ensures stage { self.new.stage ≡ self.old.stage }
@@ -323,9 +323,9 @@ impl<R: Source> Reader<R> {
     /// - `Wire` if a packet cannot be read.
     /// - `Truncated` if the source ended inside a record: it has no bytes left.
     /// - `Io` if the source fails.
-    /// - `NoMemory` if memory runs out. This one is not for good: the same events are to come.
+    /// - `NoMemory` if memory runs out. This one is not permanent: the same events are to come.
     pub fn next(&mut self) -> Result<Option<Event>, TranscriptError>
-        // An error that was returned comes again.
+        // An error that was returned is returned again.
         ensures again { (error : TranscriptError) → self.old.fault ≡ Some error
             → (result ≡ Err error) × (self.new ≡ self.old) }
         // An event that it returns is the next one; `None` is the end.
@@ -343,17 +343,17 @@ impl<R: Source> Reader<R> {
         // Where memory ran out, the same events are to come.
         ensures no_memory { result ≡ Err TranscriptError.NoMemory → RecordsSame self.old self.new }
         ensures fault { OnOk result (self.new.fault ≡ None) }
-        // An error is for good, unless memory ran out.
+        // An error is permanent, unless memory ran out.
         ensures stays { IfErr result (λ error. error ≢ TranscriptError.NoMemory → self.new.fault ≡ Some error) }
         // After an event the next one has the next number; on error the numbers are unchanged.
         ensures number { MatchResult result (λ given. self.new.number ≡ number_after self.old.number given)
             (λ _. self.new.number ≡ self.old.number) }
         ensures stage { MatchResult result (λ _. self.new.stage ≡ Stage.Events)
             (λ _. rank self.old.stage ≤ rank self.new.stage) }
-        // An error names the record in hand, `Io` too.
+        // An error, also `Io`, has the number of the current record.
         ensures names { self.old.fault ≡ None
             → IfErr result (NamesRecord (number_in_hand self.new.stage self.old.number)) }
-        // An error is of the record in hand.
+        // An error is one of the current record.
         ensures refused { self.old.fault ≡ None
             → IfErr result (FaultIn self.new.stage self.new.number self.new.ahead.held) }
         ensures counts { self.old.fault ≡ None
@@ -379,7 +379,7 @@ impl<R: Source> Reader<R> {
     ///
     /// Those of `next`.
     pub fn next_record(&mut self) -> Result<Option<(Side, Packet, usize)>, TranscriptError>
-        // An error that was returned comes again.
+        // An error that was returned is returned again.
         ensures again { (error : TranscriptError) → self.old.fault ≡ Some error
             → (result ≡ Err error) × (self.new ≡ self.old) }
         // A record that it returns is the next one; `None` is the end.
@@ -403,17 +403,17 @@ impl<R: Source> Reader<R> {
         // Where memory ran out, the same events are to come.
         ensures no_memory { result ≡ Err TranscriptError.NoMemory → RecordsSame self.old self.new }
         ensures fault { OnOk result (self.new.fault ≡ None) }
-        // An error is for good, unless memory ran out.
+        // An error is permanent, unless memory ran out.
         ensures stays { IfErr result (λ error. error ≢ TranscriptError.NoMemory → self.new.fault ≡ Some error) }
         // After a record of an event the next one has the next number; on error the numbers are unchanged.
         ensures number { MatchResult result
             (λ given. self.new.number ≡ number_then self.old.stage self.old.number given)
             (λ _. self.new.number ≡ self.old.number) }
         ensures stage { IfOk result (λ given. IsStageThen self.old.stage given self.new.stage) }
-        // An error names the record in hand, `Io` too.
+        // An error, also `Io`, has the number of the current record.
         ensures names { self.old.fault ≡ None
             → IfErr result (NamesRecord (number_in_hand self.new.stage self.old.number)) }
-        // An error is of the record in hand.
+        // An error is one of the current record.
         ensures refused { self.old.fault ≡ None
             → IfErr result (FaultIn self.new.stage self.new.number self.new.ahead.held) }
         ensures counts { self.old.fault ≡ None

@@ -97,7 +97,7 @@ impl Entries {
         ensures ok { OnOk result (self.new ≡ tree.with_node self.old place.now node) }
         ensures err { OnErr result (self.new ≡ self.old) }
     {
-        // Dear to prove: the node is dropped at each way out but the last.
+        // Slow to prove: the node is dropped at each exit but the last.
         let Some((name, parent)) = place.names().split_last() else {
             unreachable!();
         };

@@ -9,7 +9,7 @@ use sftp_wire::Attrs;
 /// Permissions have twelve bits.
 const PERMISSION_BITS: u32 = 0o7777;
 
-/// The owner of an existing entry after attributes are set: what they give, and else as it was. Of the permissions
+/// The owner of an existing entry after attributes are set: what they give, and otherwise unchanged. Of the permissions
 /// given the low twelve bits count.
 pub(crate) fn changed_owner(attrs: &Attrs, owner: Owner) -> Owner
     requires { IsOwner owner }

@@ -9,25 +9,25 @@ use crate::entries::seen::Seen;
 use crate::entries::trail::Trail;
 use sftp_path::{Name, NoMemory, is_dot, is_dot_dot};
 
-/// What a walk meets at a component. Where it goes on, it has moved; otherwise it has not.
+/// What a walk meets at a component. If the walk continues, it has moved; otherwise it has not.
 #[derive(Drop)]
 pub(crate) enum Met<'a> {
-    /// It goes on.
+    /// It continues.
     Enters,
     /// It ends at this name of the directory that it has reached, which has this there, or nothing yet.
     Ends(Name, Option<Seen<'a>>),
     /// It leads nowhere.
     Fails(Cause),
-    /// It goes on by this target.
+    /// It continues with this target.
     Through(&'a [u8]),
 }
 
-/// Goes on by one component, with one look-up at most.
+/// Takes one component, with one look-up at most.
 ///
 /// # Errors
 ///
 /// `NoMemory` if memory runs out.
-// Slow to prove: the name is dropped on each of seven ways.
+// Slow to prove: the name is dropped at each of seven exits.
 #[tactic(auto, unfolding(crate::specs::Walk::meets))]
 pub(crate) fn meet<'a>(
     trail: &mut Trail<'a>,

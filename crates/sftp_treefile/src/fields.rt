@@ -195,7 +195,7 @@ pub(crate) fn kind_at<'a>(
         (λ error. OutOfMemoryOr error (ReadsNone (IsKind limits rows.now) kind_text bytes.now)) }
     ensures number { IfErr result (IsAt entry) }
 {
-    // Dear to prove: an arm for each kind of entry, and each of its steps may refuse.
+    // Slow to prove: an arm for each kind of entry, and each of its steps may refuse.
     let (letter, rest) = letter_at(entry, bytes)?;
     match letter {
         b'D' => {

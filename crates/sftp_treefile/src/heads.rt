@@ -71,7 +71,7 @@ fn front_at(alloc: Global, bytes: &[u8]) -> Result<(Front, &[u8]), TreeError>
     ensures none { IfErr result (λ error. OutOfMemoryOr error (ReadsNone IsFront front_bytes bytes.now)) }
     ensures number { IfErr result (IsAt 0) }
 {
-    // Dear to prove: each step may refuse, and the later ones drop the home.
+    // Slow to prove: each step may refuse, and the later ones drop the home.
     let (has_limits, rest) = opening_at(bytes)?;
     let (home, rest) = home_at(alloc, rest)?;
     let (uid, rest) = number_at(0, rest)?;

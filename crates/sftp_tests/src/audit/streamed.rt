@@ -37,7 +37,7 @@ fn fails_behind(alloc: Global, count: usize) -> bool {
     fails
 }
 
-/// The source fails in the record in hand, also where the session so far is good.
+/// The source fails in the current record, also where the session so far is good.
 #[test]
 fn sources_fail(rt: HostRuntime) {
     for count in 0..=SESSION.len() {

@@ -127,7 +127,7 @@ const MORE_THAN_A_PACKET: &[Call] = &[
     Call::Room(262_139),
 ];
 
-/// A fault stays at its packet for good, and nothing more is taken.
+/// A fault is permanent, and nothing more is taken.
 const WRONG_TYPE_BEHIND_INIT: &[Call] = &[
     Call::Push(INIT, 9),
     Call::Push(b"\0\0\0\x01\x63", 5),
