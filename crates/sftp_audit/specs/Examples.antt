@@ -1,7 +1,7 @@
 -- What the worked examples name: trees, and sessions.
 use Rattle.std.specs.Prelude.{ℕ, List, [], ◌∷◌, ◌++◌, codes, None}
-use Rattle.sftp_packets.specs.declared.packets.Ask.TheVariants.{Mkdir, Limits}
-use Rattle.sftp_packets.specs.declared.packets.Answer.TheVariants.{Extended}
+use Rattle.sftp_packets.specs.declared.requests.Ask.TheVariants.{Mkdir, Limits}
+use Rattle.sftp_packets.specs.declared.replies.Answer.TheVariants.{Extended}
 use Rattle.sftp_packets.specs.declared.attributes.Attrs.{Attrs}
 use Rattle.sftp_wire.specs.Examples.{hex, no_attributes}
 use Rattle.sftp_transcript.specs.declared.events.Event.{Event}

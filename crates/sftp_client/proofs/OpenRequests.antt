@@ -11,7 +11,7 @@ use Rattle.std.proofs.lemmas.List.Sorted.{IsPermutation-middle}
 use Rattle.std.proofs.lemmas.Map.Keys.{IsDistinct-push}
 use Rattle.std.proofs.lemmas.Map.Made.{is_some-lookup}
 use Rattle.std.proofs.lemmas.Option.{none-some, same_Some}
-use Rattle.sftp_packets.specs.declared.packets.Ask.{Ask}
+use Rattle.sftp_packets.specs.declared.requests.Ask.{Ask}
 use Rattle.sftp_client.specs.Client.{OpenRequests, open_at}
 
 -- ---- one more

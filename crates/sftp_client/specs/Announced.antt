@@ -2,10 +2,10 @@
 -- OpenSSH's PROTOCOL, section 4).
 use Rattle.std.specs.Prelude.{◌&&◌, ℕ, Bool, true, List, Option, Some, None, if◌then◌else◌, nat_eq, bytes_eq}
 use Rattle.std.specs.List.{list_any}
-use Rattle.sftp_packets.specs.declared.packets.Ask.{Ask}
+use Rattle.sftp_packets.specs.declared.requests.Ask.{Ask}
 use Rattle.sftp_packets.specs.declared.packets.Packet.{Packet}
 use Rattle.sftp_packets.specs.declared.packets.Packet.TheVariants.{Init, Version, Request, Reply}
-use Rattle.sftp_packets.specs.Spelling.{posix_rename_name, hardlink_name, fsync_name, limits_name, ask_row}
+use Rattle.sftp_packets.specs.Requests.{posix_rename_name, hardlink_name, fsync_name, limits_name, ask_row}
 use Rattle.sftp_client.specs.declared.announced.Announced.{Announced}
 
 -- one of the extensions has this name, with any data
@@ -42,4 +42,4 @@ may_be_named announced (Some name) = is_announced announced name
 
 -- a request may be sent: an extension with a request of its own only if it was announced
 abbrev pub may_be_sent : Announced → Ask → Bool
-may_be_sent announced ask = may_be_named announced (ask_row ask).name
+may_be_sent announced ask = may_be_named announced (ask_row ask).extension

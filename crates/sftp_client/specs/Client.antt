@@ -4,8 +4,8 @@ use Rattle.std.specs.Prelude.{◌≡◌, ℕ, ◌+◌, ◌%◌, ◌^◌, ◌<◌
 use Rattle.std.specs.Prelude.{Option, Some, None, IsSome, if◌then◌else◌, nat_eq, nat_lt}
 use Rattle.std.specs.List.{IsDistinct}
 use Rattle.std.specs.Map.{lookup, remove_entry, keys_of}
-use Rattle.sftp_packets.specs.declared.packets.Ask.{Ask}
-use Rattle.sftp_packets.specs.declared.packets.Answer.{Answer}
+use Rattle.sftp_packets.specs.declared.requests.Ask.{Ask}
+use Rattle.sftp_packets.specs.declared.replies.Answer.{Answer}
 use Rattle.sftp_packets.specs.declared.packets.Packet.{Packet}
 use Rattle.sftp_packets.specs.declared.packets.Request.{Request}
 use Rattle.sftp_packets.specs.declared.packets.Reply.{Reply}
@@ -13,7 +13,7 @@ use Rattle.sftp_client.specs.declared.announced.Announced.{Announced}
 use Rattle.sftp_client.specs.declared.errors.ClientError.{ClientError}
 use Rattle.sftp_client.specs.declared.errors.ClientError.TheVariants as errors
 use Rattle.sftp_client.specs.Announced.{announced_by, may_be_sent}
-use Rattle.sftp_client.specs.Kinds.{may_get}
+use Rattle.sftp_packets.specs.Packets.{may_get}
 
 -- the requests that have no reply yet, by their ids, in the order sent
 abbrev pub OpenRequests : Type 0

@@ -1,11 +1,11 @@
 -- Words of the worked examples.
 use Rattle.std.specs.Prelude.{ℕ, true, false, [], Some, codes}
-use Rattle.sftp_packets.specs.declared.packets.Ask.{Ask}
-use Rattle.sftp_packets.specs.declared.packets.Ask.TheVariants.{Stat, Read}
+use Rattle.sftp_packets.specs.declared.requests.Ask.{Ask}
+use Rattle.sftp_packets.specs.declared.requests.Ask.TheVariants.{Stat, Read}
 use Rattle.sftp_packets.specs.declared.packets.Packet.{Packet}
 use Rattle.sftp_packets.specs.declared.packets.Packet.TheVariants.{Version}
 use Rattle.sftp_packets.specs.declared.packets.Reply.{Reply}
-use Rattle.sftp_packets.specs.declared.packets.Answer.TheVariants.{Data, Attrs, Status, Extended}
+use Rattle.sftp_packets.specs.declared.replies.Answer.TheVariants.{Data, Attrs, Status, Extended}
 use Rattle.sftp_wire.specs.Examples.{no_attributes}
 use Rattle.sftp_client.specs.declared.announced.Announced.{Announced}
 use Rattle.sftp_client.specs.Client.{Client, OpenRequests, session_with}

@@ -1,5 +1,4 @@
 pub mod Announced
-pub mod Kinds
 pub mod Client
 pub mod Runs
 pub mod Examples

@@ -1,9 +1,9 @@
 //! Worked examples: what a client's session sends, refuses and pairs, computed by the checker on the definitions that
 //! the contracts name. The functions do nothing; each promise is in the contract.
 ghost use Rattle.std.specs.Prelude.{◌≡◌, ◌∷◌, [], Some, None, codes};
-ghost use Rattle.sftp_packets.specs.declared.packets.Ask.TheVariants.{Fsync, Limits, Unknown};
+ghost use Rattle.sftp_packets.specs.declared.requests.Ask.TheVariants.{Fsync, Limits, Unknown};
 ghost use Rattle.sftp_packets.specs.declared.packets.Packet.TheVariants.{Init, Version};
-ghost use Rattle.sftp_packets.specs.Spelling.{server_extensions};
+ghost use Rattle.sftp_packets.specs.Requests.{server_extensions};
 ghost use Rattle.sftp_client.specs.declared.errors.ClientError.TheVariants as errors;
 ghost use Rattle.sftp_client.specs.Announced.{announced_by};
 ghost use Rattle.sftp_client.specs.Client.{new_client, IsSent, IsPaired, version_error, send_error, reply_error};

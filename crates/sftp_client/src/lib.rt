@@ -6,7 +6,6 @@ mod announced;
 mod errors;
 pub mod examples;
 mod ids;
-mod kinds;
 pub mod laws;
 mod pairing;
 

@@ -8,9 +8,8 @@ ghost use Rattle.sftp_packets.specs.declared.packets.Packet.TheVariants.{Init};
 use crate::announced::{Announced, PROTOCOL_VERSION, announced_by};
 use crate::errors::ClientError;
 use crate::ids::first_free;
-use crate::kinds::may_get;
 use indexmap::IndexMap;
-use sftp_wire::{Ask, Packet, Pairs, Reply, Request};
+use sftp_wire::{Ask, Packet, Pairs, Reply, Request, may_get};
 use std::alloc::Global;
 use std::marker::Model;
 

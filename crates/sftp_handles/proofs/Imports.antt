@@ -73,16 +73,19 @@ pub use Rattle.sftp_tree.specs.declared.nodes.Node.{Node}
 pub use Rattle.sftp_treefile.specs.TreeFile.{are_bytes}
 pub use Rattle.sftp_treefile.specs.declared.limits.TreeLimits.{TreeLimits}
 pub use Rattle.sftp_wire.specs.Examples.{no_attributes}
-pub use Rattle.sftp_packets.specs.Spelling.{string, attributes, name_item, FitsString, FitsNameItem, AreBytes, FitsAsk}
-pub use Rattle.sftp_packets.specs.Spelling.{handle_limit, asked_handle, uint32, uint64, HasSpelling, packet_limit}
-unfoldable pub use Rattle.sftp_packets.specs.Spelling.{spelling}
+pub use Rattle.sftp_packets.specs.Spelling.{string, attributes, name_item, FitsString, FitsNameItem, AreBytes}
+pub use Rattle.sftp_packets.specs.Requests.{FitsAsk}
+pub use Rattle.sftp_packets.specs.Spelling.{handle_limit, uint32, uint64, packet_limit}
+pub use Rattle.sftp_packets.specs.Requests.{asked_handle}
+pub use Rattle.sftp_packets.specs.Packets.{HasSpelling}
+unfoldable pub use Rattle.sftp_packets.specs.Packets.{spelling}
 pub use Rattle.sftp_packets.specs.declared.attributes.Attrs.{Attrs}
 pub use Rattle.sftp_packets.specs.declared.names.NameItem.{NameItem}
 pub use Rattle.sftp_packets.specs.declared.open_flags.OpenFlags.{OpenFlags}
-pub use Rattle.sftp_packets.specs.declared.packets.Answer.{Answer}
-pub use Rattle.sftp_packets.specs.declared.packets.Answer.TheVariants.{Data, Status, Handle}
-pub use Rattle.sftp_packets.specs.declared.packets.Ask.{Ask}
-pub use Rattle.sftp_packets.specs.declared.packets.Ask.TheVariants.{Readdir}
+pub use Rattle.sftp_packets.specs.declared.replies.Answer.{Answer}
+pub use Rattle.sftp_packets.specs.declared.replies.Answer.TheVariants.{Data, Status, Handle}
+pub use Rattle.sftp_packets.specs.declared.requests.Ask.{Ask}
+pub use Rattle.sftp_packets.specs.declared.requests.Ask.TheVariants.{Readdir}
 pub use Rattle.sftp_packets.specs.declared.packets.Packet.TheVariants.{Reply as reply_packet, Request as request_packet}
 pub use Rattle.sftp_packets.specs.declared.packets.Reply.{Reply}
 pub use Rattle.sftp_packets.specs.declared.packets.Request.{Request}

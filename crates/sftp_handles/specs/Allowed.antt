@@ -1,7 +1,7 @@
 -- Which replies a session allows, and the state after each (draft-ietf-secsh-filexfer-02, sections 6 and 7).
 use Rattle.std.specs.Prelude.{◌≡◌, ◌&&◌, Bool, true, false, List, [], ◌∷◌, Option, Some, None, IsTrue, ◌⊎◌}
-use Rattle.sftp_packets.specs.declared.packets.Ask.{Ask}
-use Rattle.sftp_packets.specs.declared.packets.Answer.{Answer}
+use Rattle.sftp_packets.specs.declared.requests.Ask.{Ask}
+use Rattle.sftp_packets.specs.declared.replies.Answer.{Answer}
 use Rattle.sftp_packets.specs.declared.packets.Request.{Request}
 use Rattle.sftp_packets.specs.declared.packets.Reply.{Reply}
 use Rattle.sftp_tree.specs.Causes.{is_none}

@@ -1,11 +1,11 @@
 -- What this program's own sessions answer to a request.
 use Rattle.std.specs.Prelude.{ℕ, ◌<◌, ◌^◌, List, [], ◌∷◌, IsTrue}
-use Rattle.sftp_packets.specs.declared.packets.Ask.{Ask}
-use Rattle.sftp_packets.specs.declared.packets.Answer.{Answer}
-use Rattle.sftp_packets.specs.declared.packets.Answer.TheVariants as replies
+use Rattle.sftp_packets.specs.declared.requests.Ask.{Ask}
+use Rattle.sftp_packets.specs.declared.replies.Answer.{Answer}
+use Rattle.sftp_packets.specs.declared.replies.Answer.TheVariants as replies
 use Rattle.sftp_packets.specs.declared.packets.Packet.TheVariants.{Reply as reply_packet}
 use Rattle.sftp_wire.specs.Examples.{no_attributes}
-use Rattle.sftp_packets.specs.Spelling.{HasSpelling}
+use Rattle.sftp_packets.specs.Packets.{HasSpelling}
 use Rattle.sftp_handles.specs.State.{State}
 use Rattle.sftp_handles.specs.Replies.{Said, says}
 use Rattle.sftp_handles.specs.Allowed.{Does}

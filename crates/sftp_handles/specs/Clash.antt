@@ -3,11 +3,11 @@
 -- do not overlap may run in parallel (draft-ietf-secsh-filexfer-02, section 6.1). Which requests conflict is this
 -- profile's own, and stricter: ranges are not compared.
 use Rattle.std.specs.Prelude.{◌==◌, ℕ, Bool, true, false, if◌then◌else◌, List, Option, Some, None}
-use Rattle.sftp_packets.specs.declared.packets.Ask.{Ask}
-use Rattle.sftp_packets.specs.declared.packets.Ask.TheVariants as asks
+use Rattle.sftp_packets.specs.declared.requests.Ask.{Ask}
+use Rattle.sftp_packets.specs.declared.requests.Ask.TheVariants as asks
 use Rattle.sftp_packets.specs.declared.packets.Request.{Request}
 use Rattle.sftp_packets.specs.declared.packets.Reply.{Reply}
-use Rattle.sftp_packets.specs.Spelling.{asked_handle}
+use Rattle.sftp_packets.specs.Requests.{asked_handle}
 use Rattle.sftp_path.specs.Place.{same_bytes}
 use Rattle.sftp_handles.specs.declared.opens.Open.{Open}
 use Rattle.sftp_handles.specs.declared.opens.Open.TheVariants.{File, Listing}

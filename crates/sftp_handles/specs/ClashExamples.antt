@@ -1,7 +1,7 @@
 -- What the worked examples of requests that conflict name: a state, and requests through its handles.
 use Rattle.std.specs.Prelude.{ℕ, Bool, List, [], ◌∷◌, codes}
-use Rattle.sftp_packets.specs.declared.packets.Ask.{Ask}
-use Rattle.sftp_packets.specs.declared.packets.Ask.TheVariants as asks
+use Rattle.sftp_packets.specs.declared.requests.Ask.{Ask}
+use Rattle.sftp_packets.specs.declared.requests.Ask.TheVariants as asks
 use Rattle.sftp_wire.specs.Examples.{no_attributes}
 use Rattle.sftp_tree.specs.RequestExamples.{with_two_files}
 use Rattle.sftp_handles.specs.declared.opens.Open.TheVariants.{File, Listing}

@@ -1,6 +1,6 @@
 -- The kinds of requests, by what their replies say where no cause refuses them. Words of private contracts.
-use Rattle.sftp_packets.specs.declared.packets.Ask.{Ask}
-use Rattle.sftp_packets.specs.declared.packets.Ask.TheVariants as asks
+use Rattle.sftp_packets.specs.declared.requests.Ask.{Ask}
+use Rattle.sftp_packets.specs.declared.requests.Ask.TheVariants as asks
 use Rattle.sftp_handles.specs.declared.requests.Kind.{Kind}
 use Rattle.sftp_handles.specs.declared.requests.Kind.TheVariants.{Change, Open, List, Query, Unknown}
 

@@ -1,6 +1,6 @@
 -- Why nothing is opened. Words of private contracts.
 use Rattle.std.specs.Prelude.{ℕ, Bool, false, List, Result, Ok, Err, IsTrue}
-use Rattle.sftp_packets.specs.declared.packets.Ask.{Ask}
+use Rattle.sftp_packets.specs.declared.requests.Ask.{Ask}
 use Rattle.sftp_path.specs.declared.errors.NoMemory.{NoMemory}
 use Rattle.sftp_tree.specs.declared.causes.Refused.TheVariants as refusals
 use Rattle.sftp_handles.specs.declared.not_opened.NotOpened.{NotOpened}

@@ -4,10 +4,10 @@
 use Rattle.std.specs.Prelude.{◌==◌, ◌&&◌, not, nat_lt, nat_le, ℕ, ◌+◌, min, Bool, true, false, List, length, Option}
 use Rattle.std.specs.Prelude.{Some, None}
 use Rattle.sftp_packets.specs.declared.open_flags.OpenFlags.{OpenFlags}
-use Rattle.sftp_packets.specs.declared.packets.Ask.{Ask}
-use Rattle.sftp_packets.specs.declared.packets.Ask.TheVariants as asks
+use Rattle.sftp_packets.specs.declared.requests.Ask.{Ask}
+use Rattle.sftp_packets.specs.declared.requests.Ask.TheVariants as asks
 use Rattle.sftp_packets.specs.declared.packets.Request.{Request}
-use Rattle.sftp_packets.specs.Spelling.{asked_handle}
+use Rattle.sftp_packets.specs.Requests.{asked_handle}
 use Rattle.sftp_treefile.specs.declared.limits.TreeLimits.{TreeLimits}
 use Rattle.sftp_tree.specs.Tree.{limits}
 use Rattle.sftp_handles.specs.declared.byte_range.ByteRange.{ByteRange}

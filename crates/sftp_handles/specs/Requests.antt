@@ -2,11 +2,11 @@
 -- (draft-ietf-secsh-filexfer-02, section 6; OpenSSH's PROTOCOL, section 4).
 use Rattle.std.specs.Prelude.{ℕ, Bool, List, Option, Some, None}
 use Rattle.std.specs.Option.{option_map}
-use Rattle.sftp_packets.specs.declared.packets.Ask.{Ask}
-use Rattle.sftp_packets.specs.declared.packets.Ask.TheVariants as asks
-use Rattle.sftp_packets.specs.declared.packets.Answer.{Answer}
-use Rattle.sftp_packets.specs.declared.packets.Answer.TheVariants as replies
-use Rattle.sftp_packets.specs.Spelling.{asked_handle}
+use Rattle.sftp_packets.specs.declared.requests.Ask.{Ask}
+use Rattle.sftp_packets.specs.declared.requests.Ask.TheVariants as asks
+use Rattle.sftp_packets.specs.declared.replies.Answer.{Answer}
+use Rattle.sftp_packets.specs.declared.replies.Answer.TheVariants as replies
+use Rattle.sftp_packets.specs.Requests.{asked_handle}
 use Rattle.sftp_tree.specs.Tree.{Tree, limits, with_content}
 use Rattle.sftp_tree.specs.Causes.{CauseSet}
 use Rattle.sftp_tree.specs.Requests as paths

@@ -1,7 +1,7 @@
 -- What a touch, which the code keeps of a request, says of it.
 use Rattle.std.specs.Prelude.{ℕ, List, [], Option, Some, None}
-use Rattle.sftp_packets.specs.declared.packets.Ask.{Ask}
-use Rattle.sftp_packets.specs.Spelling.{asked_handle}
+use Rattle.sftp_packets.specs.declared.requests.Ask.{Ask}
+use Rattle.sftp_packets.specs.Requests.{asked_handle}
 use Rattle.sftp_handles.specs.declared.touch.Touch.{Touch}
 use Rattle.sftp_handles.specs.declared.touch.Touch.TheVariants.{Nothing, ReadsFile, WritesFile, TakesNames, Everything}
 use Rattle.sftp_handles.specs.Clash.{Touched, untouched, reads_file, writes_file, takes_names, everything}

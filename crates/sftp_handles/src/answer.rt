@@ -1,7 +1,7 @@
 //! The answers that this program's own sessions give (draft, sections 6 and 7).
 ghost use Rattle.std.specs.Prelude.{◌≡◌, ◌^◌, ◌<◌, false, Some, IfOk, IfErr, OnErr};
 ghost use Rattle.sftp_packets.specs.declared.packets.Packet.TheVariants.{Reply as reply_packet};
-ghost use Rattle.sftp_packets.specs.Spelling.{HasSpelling};
+ghost use Rattle.sftp_packets.specs.Packets.{HasSpelling};
 ghost use Rattle.sftp_handles.specs.declared.requests.Kind.TheVariants.{Change};
 ghost use Rattle.sftp_handles.specs.Kinds as kinds;
 ghost use Rattle.sftp_handles.specs.Allowed.{Allowed, step};

@@ -1,6 +1,6 @@
 //! Which requests conflict, and so are done in the order asked (draft, section 6.1).
 ghost use Rattle.std.specs.Prelude.{◌≡◌, false, Some};
-ghost use Rattle.sftp_packets.specs.Spelling.{asked_handle};
+ghost use Rattle.sftp_packets.specs.Requests.{asked_handle};
 ghost use Rattle.sftp_path.specs.Place.{same_bytes};
 ghost use Rattle.sftp_handles.specs.Handles.{open_at};
 ghost use Rattle.sftp_handles.specs.Seen.{a_file, a_listing};

@@ -3,9 +3,9 @@
 #![tactic(auto, unfolding(crate::specs::Allowed::step, crate::specs::Allowed::steps, crate::specs::Requests::causes, crate::specs::Requests::answers, crate::specs::Requests::after, crate::specs::Requests::told_to, crate::specs::RequestRows::limits_data, sftp_wire::specs::Examples::hex, crate::specs::Seen::seen, crate::specs::Handles::pins_of, sftp_tree::specs::Requests::led, sftp_tree::specs::Causes::no_causes, sftp_tree::specs::Causes::when, sftp_tree::specs::Causes::joined, sftp_tree::specs::Requests::plain_causes, sftp_tree::specs::Requests::causes, sftp_tree::specs::Requests::outcome, sftp_tree::specs::Listings::children, sftp_tree::specs::Listings::listing, sftp_tree::specs::Walk::meets, sftp_tree::specs::Walk::walk_parts, sftp_tree::specs::Walk::walk, sftp_tree::specs::Walk::reached, sftp_tree::specs::Tree::has_entries, sftp_tree::specs::Tree::fits, sftp_path::specs::Place::components, sftp_path::specs::Place::parts, sftp_path::specs::Place::is_good_path, sftp_path::specs::Table::get, sftp_path::specs::Table::put, sftp_path::specs::Table::without, sftp_path::specs::Table::retain, sftp_path::specs::Table::from_entries))]
 
 ghost use Rattle.std.specs.Prelude.{◌≡◌, ℕ, List, ◌∷◌, [], length, take, Some, None, codes};
-ghost use Rattle.sftp_packets.specs.declared.packets.Ask.TheVariants.{Open, Close, Read, Write, Fstat, Fsetstat};
-ghost use Rattle.sftp_packets.specs.declared.packets.Ask.TheVariants.{Readdir, Remove, Fsync, Limits, Unknown};
-ghost use Rattle.sftp_packets.specs.declared.packets.Answer.TheVariants.{Data, Handle, Name, Attrs, Extended};
+ghost use Rattle.sftp_packets.specs.declared.requests.Ask.TheVariants.{Open, Close, Read, Write, Fstat, Fsetstat};
+ghost use Rattle.sftp_packets.specs.declared.requests.Ask.TheVariants.{Readdir, Remove, Fsync, Limits, Unknown};
+ghost use Rattle.sftp_packets.specs.declared.replies.Answer.TheVariants.{Data, Handle, Name, Attrs, Extended};
 ghost use Rattle.sftp_wire.specs.Examples.{no_attributes, hex};
 ghost use Rattle.sftp_tree.specs.Tree.{raised};
 ghost use Rattle.sftp_tree.specs.Picture.{blank};

@@ -1,6 +1,6 @@
 //! What a request through a handle needs, or why it is refused.
 ghost use Rattle.std.specs.Prelude.{◌≡◌, ◌&&◌, not, ℕ, Ok, Some, is_some, IfOk, OnOk, IsTrue, option_map};
-ghost use Rattle.sftp_packets.specs.declared.packets.Ask.TheVariants.{Close, Read, Write, Fsetstat};
+ghost use Rattle.sftp_packets.specs.declared.requests.Ask.TheVariants.{Close, Read, Write, Fsetstat};
 ghost use Rattle.sftp_tree.specs.Refusals.{in_set};
 ghost use Rattle.sftp_tree.specs.Room.{size_fits};
 ghost use Rattle.sftp_tree.specs.Tree.{HasFile, content_at, limits};

@@ -1,6 +1,6 @@
 //! Which replies of another server a session allows (draft, sections 6 and 7).
 ghost use Rattle.std.specs.Prelude.{◌≡◌, false, None, IsTrue, IfOk, OnErr};
-ghost use Rattle.sftp_packets.specs.declared.packets.Ask.TheVariants.{Readdir};
+ghost use Rattle.sftp_packets.specs.declared.requests.Ask.TheVariants.{Readdir};
 ghost use Rattle.sftp_handles.specs.declared.requests.Kind.TheVariants as variants;
 ghost use Rattle.sftp_handles.specs.Kinds as kinds;
 ghost use Rattle.sftp_handles.specs.State as state;

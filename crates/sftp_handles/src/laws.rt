@@ -1,11 +1,11 @@
 //! Laws of the steps of a session, as theorems on the definitions that the contracts name. The functions do nothing;
 //! each promise is in the contract.
 ghost use Rattle.std.specs.Prelude.{◌≡◌, ◌↔◌, ◌<◌, not, ℕ, List, [], ◌∷◌, Some, None, IsTrue};
-ghost use Rattle.sftp_packets.specs.declared.packets.Ask.{Ask};
+ghost use Rattle.sftp_packets.specs.declared.requests.Ask.{Ask};
 ghost use Rattle.sftp_packets.specs.declared.packets.Request.{Request};
 ghost use Rattle.sftp_packets.specs.declared.packets.Reply.{Reply};
 ghost use Rattle.sftp_packets.specs.declared.packets.Packet.TheVariants.{Request as request_packet};
-ghost use Rattle.sftp_packets.specs.Spelling.{HasSpelling};
+ghost use Rattle.sftp_packets.specs.Packets.{HasSpelling};
 ghost use Rattle.sftp_packets.specs.AskValues.{IsAsk};
 ghost use Rattle.sftp_tree.specs.declared.file_contents.Content.{Content};
 ghost use Rattle.sftp_tree.specs.declared.causes.Cause.TheVariants.{NoRoom};

@@ -1,6 +1,6 @@
 //! What requests change in open files, and CLOSE (draft, sections 6.3, 6.4 and 6.9; OpenSSH's PROTOCOL, section 4.6).
 ghost use Rattle.std.specs.Prelude.{◌≡◌, ℕ, IsTrue, IfErr, OnOk, OnErr};
-ghost use Rattle.sftp_packets.specs.declared.packets.Ask.TheVariants.{Close, Write, Fsetstat, Fsync};
+ghost use Rattle.sftp_packets.specs.declared.requests.Ask.TheVariants.{Close, Write, Fsetstat, Fsync};
 ghost use Rattle.sftp_packets.specs.declared.open_flags.OpenFlags.{OpenFlags};
 ghost use Rattle.sftp_tree.specs.Tree.{is_pinned};
 ghost use Rattle.sftp_tree.specs.FileChanges.{after_unpin};

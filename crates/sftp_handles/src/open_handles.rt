@@ -1,6 +1,6 @@
 //! What requests find under their handles.
 ghost use Rattle.std.specs.Prelude.{◌≡◌, Some, None, IfOk, OnOk, OnErr, option_copied};
-ghost use Rattle.sftp_packets.specs.declared.packets.Ask.TheVariants.{Fstat, Fsync, Readdir};
+ghost use Rattle.sftp_packets.specs.declared.requests.Ask.TheVariants.{Fstat, Fsync, Readdir};
 ghost use Rattle.sftp_tree.specs.Tree.{HasFile};
 ghost use Rattle.sftp_tree.specs.OpenFlags as flags_of;
 ghost use Rattle.sftp_handles.specs.declared.opens.Open.TheVariants as opens;

@@ -2,8 +2,8 @@
 ghost use Rattle.std.specs.Prelude.{◌≡◌, ◌≤◌, [], Some, is_some, length, IfOk, IfSome, OnErr};
 ghost use Rattle.std.specs.Borrow.{Lends, sem};
 ghost use Rattle.std.specs.Vec.{vec_capacity};
-ghost use Rattle.sftp_packets.specs.declared.packets.Ask.TheVariants.{Readdir};
-ghost use Rattle.sftp_packets.specs.declared.packets.Answer.TheVariants as replies;
+ghost use Rattle.sftp_packets.specs.declared.requests.Ask.TheVariants.{Readdir};
+ghost use Rattle.sftp_packets.specs.declared.replies.Answer.TheVariants as replies;
 ghost use Rattle.sftp_listing.specs.contracts.Listing.{the_row};
 ghost use Rattle.sftp_handles.specs.declared.opens.Open.TheVariants as opens;
 ghost use Rattle.sftp_handles.specs.contracts.opens.Open as lender;

@@ -1,9 +1,9 @@
 //! OPEN and OPENDIR (draft, sections 6.3 and 6.7).
 ghost use Rattle.std.specs.Prelude.{◌≡◌, ◌≤◌, ◌&&◌, None, length, nat_le, IsTrue, IfOk, IfErr, OnErr};
 ghost use Rattle.sftp_packets.specs.Spelling.{AreBytes, handle_limit};
-ghost use Rattle.sftp_packets.specs.declared.packets.Ask.{Ask as ask};
-ghost use Rattle.sftp_packets.specs.declared.packets.Ask.TheVariants as asks;
-ghost use Rattle.sftp_packets.specs.declared.packets.Answer.TheVariants as replies;
+ghost use Rattle.sftp_packets.specs.declared.requests.Ask.{Ask as ask};
+ghost use Rattle.sftp_packets.specs.declared.requests.Ask.TheVariants as asks;
+ghost use Rattle.sftp_packets.specs.declared.replies.Answer.TheVariants as replies;
 ghost use Rattle.sftp_handles.specs.declared.not_opened.NotOpened.TheVariants as failures;
 ghost use Rattle.sftp_handles.specs.declared.opens.Open.TheVariants as opens;
 ghost use Rattle.sftp_handles.specs.declared.requests.Kind.TheVariants as variants;

@@ -3,8 +3,8 @@
 #![tactic(auto, unfolding(crate::specs::Clash::touched, crate::specs::Clash::clash, sftp_path::specs::Table::get))]
 
 ghost use Rattle.std.specs.Prelude.{◌≡◌, true, false, codes};
-ghost use Rattle.sftp_packets.specs.declared.packets.Ask.TheVariants.{Close, Write, Fstat, Readdir, Stat, Fsync};
-ghost use Rattle.sftp_packets.specs.declared.packets.Ask.TheVariants.{Opendir, Limits, Unknown};
+ghost use Rattle.sftp_packets.specs.declared.requests.Ask.TheVariants.{Close, Write, Fstat, Readdir, Stat, Fsync};
+ghost use Rattle.sftp_packets.specs.declared.requests.Ask.TheVariants.{Opendir, Limits, Unknown};
 ghost use Rattle.sftp_handles.specs.ClashExamples.{read, write, set, make, clash_there};
 
 /// A request that may change a file conflicts with every other request on it, through whichever handle.

@@ -1,6 +1,6 @@
 //! Queries: the requests that change nothing (draft, sections 6.4, 6.8, 6.10 and 6.11).
 ghost use Rattle.std.specs.Prelude.{◌≡◌, IfOk, IfErr, IfSome};
-ghost use Rattle.sftp_packets.specs.declared.packets.Ask.TheVariants.{Fstat, Limits, Read, Readlink, Realpath};
+ghost use Rattle.sftp_packets.specs.declared.requests.Ask.TheVariants.{Fstat, Limits, Read, Readlink, Realpath};
 ghost use Rattle.sftp_tree.specs.Refusals.{stat_ask};
 ghost use Rattle.sftp_handles.specs.declared.requests.Kind.TheVariants.{Query};
 ghost use Rattle.sftp_handles.specs.Kinds as kinds;

@@ -3,7 +3,7 @@
 #![tactic(auto, unfolding(crate::specs::Ranges::range, crate::specs::Ranges::range_clash, crate::specs::Clash::touched, crate::specs::Clash::clash, crate::specs::Seen::seen, sftp_path::specs::Table::get))]
 
 ghost use Rattle.std.specs.Prelude.{◌≡◌, true, false, Some, None, codes};
-ghost use Rattle.sftp_packets.specs.declared.packets.Ask.TheVariants.{Close, Read, Write, Fstat, Fsetstat};
+ghost use Rattle.sftp_packets.specs.declared.requests.Ask.TheVariants.{Close, Read, Write, Fstat, Fsetstat};
 ghost use Rattle.sftp_wire.specs.Examples.{no_attributes};
 ghost use Rattle.sftp_handles.specs.Ranges.{range_from};
 ghost use Rattle.sftp_handles.specs.RangeExamples.{with_short_reads, read, write, clash_in, clash_there, range_there};

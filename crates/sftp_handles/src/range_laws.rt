@@ -1,7 +1,7 @@
 //! Laws of requests that keep to ranges of one file, as theorems on the definitions of steps. The functions do nothing;
 //! each promise is in the contract.
 ghost use Rattle.std.specs.Prelude.{◌≡◌, ◌≢◌, ◌≤◌, ◌+◌, ◌⊎◌, ℕ, List, length, take, drop, Some, false};
-ghost use Rattle.sftp_packets.specs.declared.packets.Ask.{Ask};
+ghost use Rattle.sftp_packets.specs.declared.requests.Ask.{Ask};
 ghost use Rattle.sftp_packets.specs.declared.packets.Request.{Request};
 ghost use Rattle.sftp_packets.specs.declared.packets.Reply.{Reply};
 ghost use Rattle.sftp_packets.specs.AskValues.{IsAsk};

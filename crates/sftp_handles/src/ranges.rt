@@ -1,7 +1,7 @@
 //! Which requests on one file keep to ranges of it that do not meet, and so need not be done in the order asked (draft,
 //! section 6.1).
 ghost use Rattle.std.specs.Prelude.{◌≡◌, ◌+◌, Some, length, option_map};
-ghost use Rattle.sftp_packets.specs.declared.packets.Ask.TheVariants.{Read, Write};
+ghost use Rattle.sftp_packets.specs.declared.requests.Ask.TheVariants.{Read, Write};
 ghost use Rattle.sftp_tree.specs.Tree.{HasFile, content_at};
 ghost use Rattle.sftp_handles.specs.Ranges as ranges;
 

@@ -1,7 +1,7 @@
 //! What the code knows of each request: its kind, how it uses what is open under its handle, which causes refuse it,
 //! and how it is done if its reply says OK.
 ghost use Rattle.std.specs.Prelude.{◌≡◌, Some, None, IfNone, IfSome, IfOk, IfErr, OnOk, OnErr};
-ghost use Rattle.sftp_packets.specs.Spelling.{asked_handle};
+ghost use Rattle.sftp_packets.specs.Requests.{asked_handle};
 ghost use Rattle.sftp_tree.specs.declared.causes.Cause.{Cause as cause};
 ghost use Rattle.sftp_tree.specs.Refusals.{in_set};
 ghost use Rattle.sftp_handles.specs.declared.requests.Kind.TheVariants.{Change};

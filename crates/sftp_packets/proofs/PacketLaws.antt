@@ -6,3 +6,4 @@ pub mod Requests
 pub mod Replies
 pub mod Packets
 pub mod Values
+pub mod Layouts

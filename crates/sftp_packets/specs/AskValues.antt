@@ -2,8 +2,9 @@
 -- said of lengths, so it holds of more requests than can be encoded.
 use Rattle.std.specs.Prelude.{List, [], ◌∷◌, IfSome}
 use Rattle.sftp_packets.specs.declared.attributes.Attrs.{Attrs}
-use Rattle.sftp_packets.specs.declared.packets.Ask.{Ask}
-use Rattle.sftp_packets.specs.Spelling.{AreBytes, FitsTwo, Field, Text, Attributes, ask_row}
+use Rattle.sftp_packets.specs.declared.requests.Ask.{Ask}
+use Rattle.sftp_packets.specs.Spelling.{AreBytes, FitsTwo, Field, Text, Attributes}
+use Rattle.sftp_packets.specs.Requests.{ask_row}
 
 -- the numbers of the owner, if one is given, have 32 bits
 abbrev pub IsAttrs : Attrs → Type 0

@@ -1,15 +1,16 @@
 -- What a request has that takes memory: its strings, and its attributes. Words of private contracts.
 use Rattle.std.specs.Prelude.{ℕ, List, [], ◌∷◌, Option, Some, None}
 use Rattle.sftp_packets.specs.declared.attributes.Attrs.{Attrs}
-use Rattle.sftp_packets.specs.declared.packets.Ask.{Ask}
-use Rattle.sftp_packets.specs.Spelling.{Field, Text, Handle, Name, Rest, Attributes, ask_row}
+use Rattle.sftp_packets.specs.declared.requests.Ask.{Ask}
+use Rattle.sftp_packets.specs.Spelling.{Field, Text, Handle, ExtensionName, Rest, Attributes}
+use Rattle.sftp_packets.specs.Requests.{ask_row}
 
 -- the strings of fields
 abbrev pub strings_in : List Field → List (List ℕ)
 strings_in [] = []
 strings_in (Text text ∷ fields) = text ∷ strings_in fields
 strings_in (Handle handle ∷ fields) = handle ∷ strings_in fields
-strings_in (Name name ∷ fields) = name ∷ strings_in fields
+strings_in (ExtensionName name ∷ fields) = name ∷ strings_in fields
 strings_in (Rest bytes ∷ fields) = bytes ∷ strings_in fields
 strings_in (other ∷ fields) = strings_in fields
 

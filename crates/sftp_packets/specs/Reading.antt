@@ -1,4 +1,5 @@
--- How packets are read, from left to right and up to the first fault (draft-ietf-secsh-filexfer-02, sections 3 to 8).
+-- How the fields of packets are read, from left to right and up to the first fault (draft-ietf-secsh-filexfer-02,
+-- sections 3 to 8).
 -- This is a second definition of the format beside the encoding; that the two agree is proved.
 use Rattle.std.specs.Prelude.{◌≡◌, ◌==◌, nat_lt, ℕ, zero, suc, Bool, if◌then◌else◌}
 use Rattle.std.specs.Prelude.{List, [], ◌∷◌, length, take, drop, bytes_eq, Option, Some, None, Result, Ok, Err}
@@ -10,15 +11,7 @@ use Rattle.sftp_packets.specs.declared.errors.ReadError.{ReadError}
 use Rattle.sftp_packets.specs.declared.errors.ReadError.TheVariants as reads
 use Rattle.sftp_packets.specs.declared.attributes.Attrs.{Attrs}
 use Rattle.sftp_packets.specs.declared.names.NameItem.{NameItem}
-use Rattle.sftp_packets.specs.declared.packets.Ask.{Ask}
-use Rattle.sftp_packets.specs.declared.packets.Ask.TheVariants as asks
-use Rattle.sftp_packets.specs.declared.packets.Answer.{Answer}
-use Rattle.sftp_packets.specs.declared.packets.Answer.TheVariants as answers
-use Rattle.sftp_packets.specs.declared.packets.Packet.{Packet}
-use Rattle.sftp_packets.specs.declared.packets.Packet.TheVariants.{Init, Version, Request, Reply}
-use Rattle.sftp_packets.specs.declared.packets.Side.{Side}
-use Rattle.sftp_packets.specs.declared.packets.Side.TheVariants.{Client, Server}
-use Rattle.sftp_packets.specs.Spelling.{handle_limit, posix_rename_name, hardlink_name, fsync_name, limits_name}
+use Rattle.sftp_packets.specs.Spelling.{handle_limit}
 
 -- A reader takes a value from the front of the bytes and returns it with the rest, or the first fault.
 abbrev pub Reader : Type 0 → Type 0
@@ -173,80 +166,6 @@ unfoldable pub names_at : Reader (List NameItem)
 names_at bytes = do
   n ← uint32_at bytes
   many_at name_item_at n.0 n.1
-
--- ---- packets
-
--- a request: its id, and what it asks for
-abbrev pub request_at : Reader Ask → Reader Packet
-request_at ask = two uint32_at ask (λ id a. Request (record { id = id; ask = a }))
-
--- a reply: the id of its request, and the answer
-abbrev pub reply_at : Reader Answer → Reader Packet
-reply_at answer = two uint32_at answer (λ id a. Reply (record { id = id; answer = a }))
-
--- the data of an extension, by its name (OpenSSH's PROTOCOL, section 4)
-unfoldable pub extension_data_at : List ℕ → Reader Ask
-extension_data_at name =
-    if bytes_eq name posix_rename_name then two string_at string_at asks.PosixRename else
-    if bytes_eq name hardlink_name then two string_at string_at asks.Hardlink else
-    if bytes_eq name fsync_name then one handle_at asks.Fsync else
-    if bytes_eq name limits_name then none_at asks.Limits else
-    one rest_at (asks.Unknown name)
-
--- an extension: its name, and then its data (draft, section 8)
-unfoldable pub extension_at : Reader Ask
-extension_at bytes = do
-  name ← string_at bytes
-  extension_data_at name.0 name.1
-
--- the fields after the type of a client's packet (draft, sections 4, 6 and 8)
-unfoldable pub client_packet_at : ℕ → Reader Packet
-client_packet_at kind =
-    if kind == 1 then two uint32_at pairs_at Init else
-    if kind == 3 then request_at (three string_at uint32_at attributes_at asks.Open) else
-    if kind == 4 then request_at (one handle_at asks.Close) else
-    if kind == 5 then request_at (three handle_at uint64_at uint32_at asks.Read) else
-    if kind == 6 then request_at (three handle_at uint64_at string_at asks.Write) else
-    if kind == 7 then request_at (one string_at asks.Lstat) else
-    if kind == 8 then request_at (one handle_at asks.Fstat) else
-    if kind == 9 then request_at (two string_at attributes_at asks.Setstat) else
-    if kind == 10 then request_at (two handle_at attributes_at asks.Fsetstat) else
-    if kind == 11 then request_at (one string_at asks.Opendir) else
-    if kind == 12 then request_at (one handle_at asks.Readdir) else
-    if kind == 13 then request_at (one string_at asks.Remove) else
-    if kind == 14 then request_at (two string_at attributes_at asks.Mkdir) else
-    if kind == 15 then request_at (one string_at asks.Rmdir) else
-    if kind == 16 then request_at (one string_at asks.Realpath) else
-    if kind == 17 then request_at (one string_at asks.Stat) else
-    if kind == 18 then request_at (two string_at string_at asks.Rename) else
-    if kind == 19 then request_at (one string_at asks.Readlink) else
-    if kind == 20 then request_at (two string_at string_at asks.Symlink) else
-    if kind == 200 then request_at extension_at else
-    refuse WrongType
-
--- the fields after the type of a server's packet (draft, sections 4, 7 and 8)
-unfoldable pub server_packet_at : ℕ → Reader Packet
-server_packet_at kind =
-    if kind == 2 then two uint32_at pairs_at Version else
-    if kind == 101 then reply_at (three uint32_at string_at string_at answers.Status) else
-    if kind == 102 then reply_at (one handle_at answers.Handle) else
-    if kind == 103 then reply_at (one string_at answers.Data) else
-    if kind == 104 then reply_at (one names_at answers.Name) else
-    if kind == 105 then reply_at (one attributes_at answers.Attrs) else
-    if kind == 201 then reply_at (one rest_at answers.Extended) else
-    refuse WrongType
-
--- the packets of a side, by their type
-abbrev pub packet_at : Side → ℕ → Reader Packet
-packet_at Client kind = client_packet_at kind
-packet_at Server kind = server_packet_at kind
-
--- the packet after a length: its type, its fields, and nothing else
-unfoldable pub packet_of : Side → List ℕ → Result Packet Fault
-packet_of side [] = Err Short
-packet_of side (kind ∷ body) = do
-  packet ← packet_at side kind body
-  if length packet.1 == 0 then Ok packet.0 else Err Trailing
 
 -- ---- what the code returns, beside the readers above
 

@@ -4,13 +4,13 @@ use Rattle.sftp_packets.specs.declared.rows.Field.{Field as Lent}
 use Rattle.sftp_packets.specs.declared.rows.Field.TheVariants as lent
 use Rattle.sftp_packets.specs.declared.rows.Fields.{Fields}
 use Rattle.sftp_packets.specs.declared.rows.Fields.TheVariants.{One, Two, Three}
-use Rattle.sftp_packets.specs.Spelling.{Field, Number, LongNumber, Text, Name, Rest, Attributes, Items}
+use Rattle.sftp_packets.specs.Spelling.{Field, Number, LongNumber, Text, ExtensionName, Rest, Attributes, Items}
 
 abbrev pub seen : Lent → Field
 seen (lent.Number number) = Number number
 seen (lent.LongNumber number) = LongNumber number
 seen (lent.Text text) = Text text.now
-seen (lent.Name name) = Name name.now
+seen (lent.ExtensionName name) = ExtensionName name.now
 seen (lent.Rest bytes) = Rest bytes.now
 seen (lent.Attributes attrs) = Attributes attrs.now
 seen (lent.Items items) = Items items.now

@@ -2,7 +2,8 @@
 use Rattle.std.specs.Prelude.{◌≡◌, ◌⊎◌, ◌<◌, true, ℕ, List, ◌++◌, length}
 use Rattle.std.specs.Option.{IsSomeAnd}
 use Rattle.sftp_packets.specs.declared.packets.Packet.{Packet}
-use Rattle.sftp_packets.specs.Spelling.{packet_limit, handle_limit, handle_of, hides_extension, spelling}
+use Rattle.sftp_packets.specs.Spelling.{packet_limit, handle_limit}
+use Rattle.sftp_packets.specs.Packets.{handle_of, hides_extension, spelling}
 
 -- `new` is `old` with bytes appended
 pub record Extends (old new : List ℕ) : Type 0 where

@@ -9,7 +9,7 @@ ghost use Rattle.sftp_packets.specs.Copying.{owned_by};
 ghost use Rattle.sftp_packets.specs.Spelling.{AreBytes, FitsTwo};
 
 use crate::attributes::Attrs;
-use crate::packets::Ask;
+use crate::requests::Ask;
 use crate::strings::ByteString;
 use std::alloc::AllocError;
 

@@ -4,19 +4,26 @@
 ghost use Rattle.std.specs.Prelude.{◌≡◌, ◌-◌, ◌^◌, ◌<◌, ◌++◌, length, min, IfSome};
 ghost use Rattle.std.specs.List.{flat_map, AllByRecursion};
 ghost use Rattle.sftp_packets.specs.Spelling.{uint32, uint64, two_uint32, string, pair, pairs, counted_pairs, optional};
-ghost use Rattle.sftp_packets.specs.Spelling.{attributes, name_item, names, ask_parts, answer_parts, with_id, contents};
+ghost use Rattle.sftp_packets.specs.Spelling.{attributes, name_item, names, with_id};
+ghost use Rattle.sftp_packets.specs.Requests.{ask_parts};
+ghost use Rattle.sftp_packets.specs.Replies.{answer_parts};
+ghost use Rattle.sftp_packets.specs.Packets.{contents};
 ghost use Rattle.sftp_packets.specs.Spelling.{AreBytes, FitsString, FitsTwo, FitsPair, FitsPairs, FitsCounted};
-ghost use Rattle.sftp_packets.specs.Spelling.{FitsAttrs, FitsNameItem, FitsNames, FitsAsk, FitsAnswer, FitsFields};
+ghost use Rattle.sftp_packets.specs.Spelling.{FitsAttrs, FitsNameItem, FitsNames};
+ghost use Rattle.sftp_packets.specs.Requests.{FitsAsk};
+ghost use Rattle.sftp_packets.specs.Replies.{FitsAnswer};
+ghost use Rattle.sftp_packets.specs.Packets.{FitsFields};
 ghost use Rattle.sftp_packets.specs.Spelling.{field_bytes, fields_bytes, FitsField, Fit};
 ghost use Rattle.sftp_packets.specs.Seen.{seen, all_seen};
 
 use crate::attributes::Attrs;
-use crate::extensions::{FSYNC, HARDLINK, LIMITS, POSIX_RENAME};
 use crate::names::{NameItem, Names};
-use crate::packets::{Answer, Ask, Packet};
-use crate::rows::Field::{Attributes, Items, LongNumber, Name, Number, Rest, Text};
+use crate::packets::Packet;
+use crate::replies::{Answer, with_answered};
+use crate::requests::{Ask, with_asked};
+use crate::rows::Field::{Attributes, ExtensionName, Items, LongNumber, Number, Rest, Text};
 use crate::rows::Fields::{One, Three, Two};
-use crate::rows::{Field, Fields, with_answered, with_asked};
+use crate::rows::{Field, Fields};
 use crate::strings::{ByteString, Pairs};
 
 /// The bytes of a uint32.
@@ -184,7 +191,7 @@ fn field_length(field: &Field<'_>) -> usize
         Number(number) => number_length(*number),
         LongNumber(number) => long_number_length(*number),
         Text(text) => string_length(text),
-        Name(name) => bytes_length(name),
+        ExtensionName(name) => bytes_length(name),
         Rest(bytes) => text_length(bytes),
         Attributes(attrs) => attributes_length(attrs),
         Items(items) => names_length(items),
@@ -207,7 +214,7 @@ fn fields_length(fields: &Fields<'_>) -> usize
 }
 
 /// The bytes of the fields after the id of a request.
-// Slow to prove, with an arm for each shape of a request and none to share.
+// Slow to prove: `with_asked!` has an arm for each shape of a request.
 fn asked_length(ask: &Ask) -> usize
     ensures exact { result ≡ min (length ((ask_parts ask.now).1)) (2 ^ 64 - 1) }
     ensures fits { length ((ask_parts ask.now).1) < 2 ^ 32 → FitsAsk ask.now }

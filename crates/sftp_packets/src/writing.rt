@@ -4,22 +4,24 @@ ghost use Rattle.std.specs.Prelude.{◌≡◌, ◌∷◌, ◌++◌, ◌<◌, ◌
 ghost use Rattle.std.specs.List.{flat_map};
 ghost use Rattle.sftp_packets.specs.Spelling.{uint32, uint64, two_uint32, string, pair, pairs, counted_pairs, optional};
 ghost use Rattle.sftp_packets.specs.Spelling.{attribute_flags, attribute_fields, attributes, name_item, names};
-ghost use Rattle.sftp_packets.specs.Spelling.{ask_parts, answer_parts, with_id, contents, spelling, HasSpelling};
+ghost use Rattle.sftp_packets.specs.Spelling.{with_id};
+ghost use Rattle.sftp_packets.specs.Requests.{ask_parts};
+ghost use Rattle.sftp_packets.specs.Replies.{answer_parts};
+ghost use Rattle.sftp_packets.specs.Packets.{contents, spelling, HasSpelling};
 ghost use Rattle.sftp_packets.specs.Spelling.{field_bytes, fields_bytes};
 ghost use Rattle.sftp_packets.specs.Seen.{seen, all_seen};
 ghost use Rattle.sftp_packets.specs.Writing.{Extends, IsTooLong, IsNotCanonical};
 
 use crate::attributes::{AttrFlags, Attrs};
 use crate::errors::WireError;
-use crate::extensions::{FSYNC, HARDLINK, LIMITS, POSIX_RENAME, hides_extension};
 use crate::measuring::contents_length;
 use crate::names::{NameItem, Names};
-use crate::packets::{Answer, Ask, INIT, PACKET_LIMIT, Packet, VERSION};
-use crate::rows::Field::{Attributes, Items, LongNumber, Name, Number, Rest, Text};
+use crate::packets::{INIT, PACKET_LIMIT, Packet, VERSION, has_long_handle, hides_extension};
+use crate::replies::{Answer, answered_type, with_answered};
+use crate::requests::{Ask, asked_type, with_asked};
+use crate::rows::Field::{Attributes, ExtensionName, Items, LongNumber, Number, Rest, Text};
 use crate::rows::Fields::{One, Three, Two};
-use crate::rows::{
-    Field, Fields, answered_type, asked_type, has_long_handle, with_answered, with_asked,
-};
+use crate::rows::{Field, Fields};
 use crate::strings::{ByteString, Pairs};
 use bitflags::Flags;
 use bytes::BufMut;
@@ -243,7 +245,7 @@ fn put_field(out: &mut Vec<u8>, field: &Field<'_>) -> Result<(), AllocError>
         Number(number) => put_number(out, *number),
         LongNumber(number) => put_long_number(out, *number),
         Text(text) => put_string(out, text),
-        Name(name) => put_bytes(out, name),
+        ExtensionName(name) => put_bytes(out, name),
         Rest(bytes) => put_rest(out, bytes),
         Attributes(attrs) => put_attributes(out, attrs),
         Items(items) => put_names(out, items),
@@ -296,7 +298,7 @@ fn put_first_packet(
 }
 
 /// The fields after the id of a request.
-// Slow to prove, with an arm for each shape of a request and none to share.
+// Slow to prove: `with_asked!` has an arm for each shape of a request.
 fn put_ask_fields(out: &mut Vec<u8>, ask: &Ask) -> Result<(), AllocError>
     ensures ok { OnOk result (out.new.items ≡ out.old.items ++ (ask_parts ask.now).1) }
     ensures err { OnErr result (Extends out.old.items out.new.items) }
@@ -346,7 +348,7 @@ fn put_contents(out: &mut Vec<u8>, packet: &Packet) -> Result<(), AllocError>
     }
 }
 
-#[tactic(auto, unfolding(crate::specs::Spelling::spelling))]
+#[tactic(auto, unfolding(crate::specs::Packets::spelling))]
 fn put_packet(out: &mut Vec<u8>, size: u32, packet: &Packet) -> Result<(), AllocError>
     requires { size ≡ length (contents packet.now) }
     ensures ok { OnOk result (out.new.items ≡ out.old.items ++ spelling packet.now) }
@@ -364,7 +366,7 @@ fn put_packet(out: &mut Vec<u8>, size: u32, packet: &Packet) -> Result<(), Alloc
 /// more than `HANDLE_LIMIT`; `NotCanonical` exactly where an `Unknown` has the name of an extension that has a request
 /// of its own; `NoMemory` if memory runs out. The first two are checked before memory is allocated, so `NoMemory`
 /// comes only for a packet that has an encoding.
-#[tactic(auto, unfolding(crate::specs::Spelling::spelling))]
+#[tactic(auto, unfolding(crate::specs::Packets::spelling))]
 pub fn encode(packet: &Packet, out: &mut Vec<u8>) -> Result<(), WireError>
     ensures ok { OnOk result (out.new.items ≡ out.old.items ++ spelling packet.now) }
     ensures spelled { OnOk result (HasSpelling packet.now) }

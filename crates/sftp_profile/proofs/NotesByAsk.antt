@@ -1,9 +1,9 @@
 -- What is noted, request by request.
 use Rattle.std.proofs.Common.{◌≡◌, ℕ, true, false, List, refl, sym, ap, ◌∙◌}
 use Rattle.sftp_packets.specs.declared.attributes.Attrs.{Attrs}
-use Rattle.sftp_packets.specs.declared.packets.Ask.{Ask}
-use Rattle.sftp_packets.specs.declared.packets.Ask.TheVariants as asks
-use Rattle.sftp_packets.specs.declared.packets.Answer.{Answer}
+use Rattle.sftp_packets.specs.declared.requests.Ask.{Ask}
+use Rattle.sftp_packets.specs.declared.requests.Ask.TheVariants as asks
+use Rattle.sftp_packets.specs.declared.replies.Answer.{Answer}
 use Rattle.sftp_tree.specs.Tree.{Tree}
 use Rattle.sftp_profile.specs.declared.notes.Note.TheVariants as notes
 use Rattle.sftp_profile.specs.Notes.{note_of, opened, shift_of, shift_note, when_done}

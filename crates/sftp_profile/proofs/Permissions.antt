@@ -2,10 +2,10 @@
 use Rattle.std.proofs.Common.{◌≡◌, Bool, true, false, Option, Some, None, refl, sym, ap, subst, ◌∙◌}
 use Rattle.std.proofs.Common.{◌↔◌, IsTrue, IfOk, Result, Ok, Err}
 use Rattle.sftp_path.specs.declared.errors.NoMemory.{NoMemory}
-use Rattle.sftp_packets.specs.declared.packets.Ask.{Ask}
-use Rattle.sftp_packets.specs.declared.packets.Ask.TheVariants as asks
-use Rattle.sftp_packets.specs.declared.packets.Answer.{Answer}
-use Rattle.sftp_packets.specs.declared.packets.Answer.TheVariants as replies
+use Rattle.sftp_packets.specs.declared.requests.Ask.{Ask}
+use Rattle.sftp_packets.specs.declared.requests.Ask.TheVariants as asks
+use Rattle.sftp_packets.specs.declared.replies.Answer.{Answer}
+use Rattle.sftp_packets.specs.declared.replies.Answer.TheVariants as replies
 use Rattle.sftp_packets.specs.declared.names.NameItem.{NameItem}
 use Rattle.std.specs.Prelude.{List, if◌then◌else◌, ◌&&◌, not, unwrap_or}
 use Rattle.sftp_packets.specs.declared.packets.Request.{Request}

@@ -6,7 +6,7 @@ use Rattle.std.specs.Prelude.{◌&&◌, ◌||◌, not, min, nat_eq, nat_le, nat_
 use Rattle.std.proofs.lemmas.List.{length-take, drop-take}
 use Rattle.std.proofs.Math.Seq.{drop-nil}
 use Rattle.std.proofs.lemmas.Bool.{ltb-true, le-leb}
-use Rattle.sftp_packets.specs.declared.packets.Ask.TheVariants.{Read, Fstat}
+use Rattle.sftp_packets.specs.declared.requests.Ask.TheVariants.{Read, Fstat}
 use Rattle.sftp_treefile.specs.declared.limits.TreeLimits.{TreeLimits}
 use Rattle.sftp_path.specs.Place.{same_bytes}
 use Rattle.sftp_tree.specs.declared.causes.Cause.{Cause}

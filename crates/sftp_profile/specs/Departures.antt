@@ -2,10 +2,10 @@
 use Rattle.std.specs.Prelude.{length, nat_lt, ◌&&◌, ◌||◌, not, Bool, false}
 use Rattle.std.specs.List.{list_all}
 use Rattle.sftp_packets.specs.declared.attributes.Attrs.{Attrs}
-use Rattle.sftp_packets.specs.declared.packets.Ask.{Ask}
-use Rattle.sftp_packets.specs.declared.packets.Ask.TheVariants as asks
-use Rattle.sftp_packets.specs.declared.packets.Answer.{Answer}
-use Rattle.sftp_packets.specs.declared.packets.Answer.TheVariants as replies
+use Rattle.sftp_packets.specs.declared.requests.Ask.{Ask}
+use Rattle.sftp_packets.specs.declared.requests.Ask.TheVariants as asks
+use Rattle.sftp_packets.specs.declared.replies.Answer.{Answer}
+use Rattle.sftp_packets.specs.declared.replies.Answer.TheVariants as replies
 use Rattle.std.specs.Prelude.{is_some}
 use Rattle.sftp_tree.specs.Causes.{is_none}
 use Rattle.sftp_handles.specs.State.{State}

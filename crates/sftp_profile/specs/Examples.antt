@@ -1,8 +1,8 @@
 -- What the worked examples name: profiles of one departure, trees with little room, and a listing with `.` and `..`.
 use Rattle.std.specs.Prelude.{ℕ, true, List, [], ◌∷◌, map, codes, Some}
 use Rattle.sftp_packets.specs.declared.attributes.Attrs.{Attrs}
-use Rattle.sftp_packets.specs.declared.packets.Answer.{Answer}
-use Rattle.sftp_packets.specs.declared.packets.Answer.TheVariants.{Name}
+use Rattle.sftp_packets.specs.declared.replies.Answer.{Answer}
+use Rattle.sftp_packets.specs.declared.replies.Answer.TheVariants.{Name}
 use Rattle.sftp_wire.specs.Examples.{no_attributes}
 use Rattle.sftp_treefile.specs.Limits.{usual_limits}
 use Rattle.sftp_tree.specs.declared.nodes.Node.TheVariants.{Dir, Link}

@@ -1,7 +1,7 @@
 -- Requests at which servers with a real file system meet limits of their own (POSIX, PATH_MAX, EFBIG and EINVAL).
 use Rattle.std.specs.Prelude.{◌+◌, ◌^◌, ◌||◌, nat_le, ℕ, Bool, false, List, length, Option, Some, None}
-use Rattle.sftp_packets.specs.declared.packets.Ask.{Ask}
-use Rattle.sftp_packets.specs.declared.packets.Ask.TheVariants as asks
+use Rattle.sftp_packets.specs.declared.requests.Ask.{Ask}
+use Rattle.sftp_packets.specs.declared.requests.Ask.TheVariants as asks
 use Rattle.sftp_tree.specs.Requests.{path_of, new_path_of}
 use Rattle.sftp_profile.specs.Paths.{holds_of}
 

@@ -1,7 +1,7 @@
 -- Paths that end loosely: servers with a real file system may look past the end (POSIX, pathname resolution).
 use Rattle.std.specs.Prelude.{◌==◌, ◌&&◌, ◌||◌, not, nat_eq, ℕ, Bool, false, List, [], ◌∷◌, length, Option, Some, None}
 use Rattle.std.specs.List.{ends_with}
-use Rattle.sftp_packets.specs.declared.packets.Ask.{Ask}
+use Rattle.sftp_packets.specs.declared.requests.Ask.{Ask}
 use Rattle.sftp_path.specs.Place.{components, is_dot, is_dot_dot}
 use Rattle.sftp_tree.specs.Requests.{path_of, new_path_of}
 

@@ -1,7 +1,7 @@
 -- Answers that say that a request was refused, or that it opened something.
 use Rattle.std.specs.Prelude.{◌==◌, ◌||◌, ℕ, Bool, true, false}
-use Rattle.sftp_packets.specs.declared.packets.Answer.{Answer}
-use Rattle.sftp_packets.specs.declared.packets.Answer.TheVariants as replies
+use Rattle.sftp_packets.specs.declared.replies.Answer.{Answer}
+use Rattle.sftp_packets.specs.declared.replies.Answer.TheVariants as replies
 
 -- a code that says that a request was refused (draft, section 7)
 abbrev pub is_refusal_code : ℕ → Bool

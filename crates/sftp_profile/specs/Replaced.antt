@@ -3,8 +3,8 @@
 use Rattle.std.specs.Prelude.{◌-◌, not, ℕ, false, if◌then◌else◌, Option, Some, None, unwrap_or}
 use Rattle.std.specs.Int.RustNames.{bit_and}
 use Rattle.sftp_packets.specs.declared.attributes.Attrs.{Attrs}
-use Rattle.sftp_packets.specs.declared.packets.Ask.{Ask}
-use Rattle.sftp_packets.specs.declared.packets.Ask.TheVariants as asks
+use Rattle.sftp_packets.specs.declared.requests.Ask.{Ask}
+use Rattle.sftp_packets.specs.declared.requests.Ask.TheVariants as asks
 use Rattle.sftp_path.specs.Place.{Place, parent}
 use Rattle.sftp_tree.specs.OpenFlags.{excludes}
 use Rattle.sftp_tree.specs.Requests.{shown_at}

@@ -2,9 +2,9 @@
 -- a link. Which trees have room is this project's own.
 use Rattle.std.specs.Prelude.{◌&&◌, ◌||◌, not, Bool, true, false, Option, Some, None}
 use Rattle.std.specs.List.{list_any, list_all}
-use Rattle.sftp_packets.specs.declared.packets.Ask.{Ask}
-use Rattle.sftp_packets.specs.declared.packets.Ask.TheVariants as asks
-use Rattle.sftp_packets.specs.declared.packets.Answer.{Answer}
+use Rattle.sftp_packets.specs.declared.requests.Ask.{Ask}
+use Rattle.sftp_packets.specs.declared.requests.Ask.TheVariants as asks
+use Rattle.sftp_packets.specs.declared.replies.Answer.{Answer}
 use Rattle.sftp_path.specs.Place.{is_good_path}
 use Rattle.sftp_treefile.specs.TreeFile.{is_target}
 use Rattle.sftp_tree.specs.declared.causes.Cause.{Cause}

@@ -1,8 +1,8 @@
 -- What is shown of the entries of a session. A profile takes from it the fields that it leaves free.
 use Rattle.std.specs.Prelude.{ℕ, if◌then◌else◌, List, Option, Some, None}
 use Rattle.sftp_packets.specs.declared.attributes.Attrs.{Attrs}
-use Rattle.sftp_packets.specs.declared.packets.Ask.{Ask}
-use Rattle.sftp_packets.specs.declared.packets.Ask.TheVariants as asks
+use Rattle.sftp_packets.specs.declared.requests.Ask.{Ask}
+use Rattle.sftp_packets.specs.declared.requests.Ask.TheVariants as asks
 use Rattle.sftp_path.specs.Place.{name_cmp, is_name}
 use Rattle.sftp_path.specs.Table.{get}
 use Rattle.sftp_tree.specs.Tree.{Tree}

@@ -3,10 +3,10 @@
 #![tactic(auto, unfolding(crate::specs::Permitted::permitted, crate::specs::Permitted::forgiven, crate::specs::Departures::is_forgiven, crate::specs::Room::is_outgrown, crate::specs::Names::departure_of, sftp_handles::specs::Allowed::step, sftp_handles::specs::Requests::causes, sftp_handles::specs::Requests::answers, sftp_handles::specs::Requests::after, sftp_handles::specs::Requests::told_to, sftp_handles::specs::Seen::seen, sftp_handles::specs::Handles::pins_of, sftp_tree::specs::Requests::led, sftp_tree::specs::Causes::no_causes, sftp_tree::specs::Causes::when, sftp_tree::specs::Causes::joined, sftp_tree::specs::Requests::plain_causes, sftp_tree::specs::Requests::causes, sftp_tree::specs::Requests::outcome, sftp_tree::specs::Told::text_to, sftp_tree::specs::Told::shown_to, sftp_tree::specs::Listings::children, sftp_tree::specs::Listings::listing, sftp_tree::specs::Walk::meets, sftp_tree::specs::Walk::walk_parts, sftp_tree::specs::Walk::walk, sftp_tree::specs::Walk::reached, sftp_tree::specs::Tree::has_entries, sftp_tree::specs::Tree::fits, sftp_path::specs::Place::components, sftp_path::specs::Place::parts, sftp_path::specs::Place::is_good_path, sftp_path::specs::Table::get, sftp_path::specs::Table::put, sftp_path::specs::Table::without, sftp_path::specs::Table::retain, sftp_path::specs::Table::from_entries))]
 
 ghost use Rattle.std.specs.Prelude.{◌≡◌, ◌∷◌, [], Some, None, true, false, codes};
-ghost use Rattle.sftp_packets.specs.declared.packets.Ask.TheVariants.{Readdir, Remove, Lstat, Stat, Setstat};
-ghost use Rattle.sftp_packets.specs.declared.packets.Ask.TheVariants.{Open, Mkdir, Symlink, Unknown};
-ghost use Rattle.sftp_packets.specs.declared.packets.Ask.TheVariants.{Hardlink, Read, Realpath, Write};
-ghost use Rattle.sftp_packets.specs.declared.packets.Answer.TheVariants.{Attrs, Data, Handle, Name};
+ghost use Rattle.sftp_packets.specs.declared.requests.Ask.TheVariants.{Readdir, Remove, Lstat, Stat, Setstat};
+ghost use Rattle.sftp_packets.specs.declared.requests.Ask.TheVariants.{Open, Mkdir, Symlink, Unknown};
+ghost use Rattle.sftp_packets.specs.declared.requests.Ask.TheVariants.{Hardlink, Read, Realpath, Write};
+ghost use Rattle.sftp_packets.specs.declared.replies.Answer.TheVariants.{Attrs, Data, Handle, Name};
 ghost use Rattle.sftp_wire.specs.Examples.{no_attributes};
 ghost use Rattle.sftp_tree.specs.Picture.{blank};
 ghost use Rattle.sftp_tree.specs.WalkExamples.{with_link, letters};

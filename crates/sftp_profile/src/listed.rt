@@ -4,7 +4,7 @@ ghost use Rattle.std.specs.List.{list_all};
 ghost use Rattle.std.specs.Option.{option_map};
 ghost use Rattle.sftp_path.specs.Place.{absolute as text_of, same_bytes};
 ghost use Rattle.sftp_handles.specs.Replies.{are_distinct, has_attributes, is_among, names_in};
-ghost use Rattle.sftp_packets.specs.declared.packets.Ask.TheVariants.{Lstat};
+ghost use Rattle.sftp_packets.specs.declared.requests.Ask.TheVariants.{Lstat};
 ghost use Rattle.sftp_profile.specs.Shown.{shown_at};
 ghost use Rattle.sftp_profile.specs.Listed as spec;
 

@@ -1,7 +1,7 @@
 //! A judge and the directories that are open.
 ghost use Rattle.std.specs.Prelude.{◌≡◌, ◌==◌, length, IfOk, OnOk, unwrap_or};
 ghost use Rattle.std.specs.Option.{option_map};
-ghost use Rattle.sftp_packets.specs.declared.packets.Answer.TheVariants as replies;
+ghost use Rattle.sftp_packets.specs.declared.replies.Answer.TheVariants as replies;
 ghost use Rattle.sftp_profile.specs.Profiles.{is_stateless};
 ghost use Rattle.sftp_profile.specs.Notes.{note_of, noted};
 ghost use Rattle.sftp_profile.specs.Tellings.{told};

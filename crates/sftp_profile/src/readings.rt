@@ -1,7 +1,7 @@
 //! What a profile takes a request for, where it is not allowed itself.
 ghost use Rattle.std.specs.Prelude.{◌≡◌, IsTrue, IfOk, OnErr};
 ghost use Rattle.std.specs.Option.{option_map};
-ghost use Rattle.sftp_packets.specs.declared.packets.Ask.TheVariants as asks;
+ghost use Rattle.sftp_packets.specs.declared.requests.Ask.TheVariants as asks;
 ghost use Rattle.sftp_profile.specs.Readings as spec;
 
 use crate::flags::{empties, mended_flags};

@@ -1,6 +1,6 @@
 //! READs that give other bytes than strictly (draft, section 6.4).
 ghost use Rattle.std.specs.Prelude.{◌≡◌, ◌≤◌, ◌<◌, ◌+◌, ◌^◌, false, length, min, take, IsTrue, IfOk, IfSome, IfNone};
-ghost use Rattle.sftp_packets.specs.declared.packets.Ask.TheVariants.{Read};
+ghost use Rattle.sftp_packets.specs.declared.requests.Ask.TheVariants.{Read};
 ghost use Rattle.sftp_path.specs.Place.{same_bytes};
 ghost use Rattle.sftp_tree.specs.Tree.{limits};
 ghost use Rattle.sftp_tree.specs.Causes.{is_none};

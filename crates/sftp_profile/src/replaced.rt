@@ -1,6 +1,6 @@
 //! Requests that a profile replaces before they are judged.
 ghost use Rattle.std.specs.Prelude.{◌≡◌, IfOk};
-ghost use Rattle.sftp_packets.specs.declared.packets.Ask.TheVariants as asks;
+ghost use Rattle.sftp_packets.specs.declared.requests.Ask.TheVariants as asks;
 ghost use Rattle.sftp_profile.specs.Notes.{led_to};
 ghost use Rattle.sftp_profile.specs.Replaced as spec;
 

@@ -1,6 +1,6 @@
 //! Answers as they would be strictly, where a profile leaves a part of them free (draft, sections 5 and 7).
 ghost use Rattle.std.specs.Prelude.{◌≡◌, ◌++◌, IfOk, OnOk, option_copied};
-ghost use Rattle.sftp_packets.specs.declared.packets.Answer.TheVariants as replies;
+ghost use Rattle.sftp_packets.specs.declared.replies.Answer.TheVariants as replies;
 ghost use Rattle.sftp_profile.specs.Tellings as spec;
 
 use crate::profiles::Profile;

@@ -3,7 +3,7 @@
 ghost use Rattle.std.specs.Prelude.{◌≡◌, ◌&&◌, if◌then◌else◌, Some, None, IfOk, option_copied};
 ghost use Rattle.sftp_handles.specs.Replies.{has_code};
 ghost use Rattle.std.specs.Option.{option_map};
-ghost use Rattle.sftp_packets.specs.declared.packets.Ask.TheVariants as asks;
+ghost use Rattle.sftp_packets.specs.declared.requests.Ask.TheVariants as asks;
 ghost use Rattle.sftp_profile.specs.Refusals.{is_handle};
 ghost use Rattle.sftp_profile.specs.Through as spec;
 

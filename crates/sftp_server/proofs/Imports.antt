@@ -32,11 +32,14 @@ pub use Rattle.sftp_handles.specs.declared.byte_range.ByteRange.{ByteRange}
 pub use Rattle.sftp_handles.specs.declared.touch.Touch.{Touch}
 pub use Rattle.sftp_handles.specs.declared.touch.Touch.TheVariants.{Everything, Nothing, WritesFile}
 pub use Rattle.sftp_packets.specs.AskValues.{IsAsk}
-pub use Rattle.sftp_packets.specs.Spelling.{HasSpelling, side_of, server_extensions, FitsString, posix_rename_name}
-pub use Rattle.sftp_packets.specs.Spelling.{hardlink_name, fsync_name, limits_name, asked_handle, packet_limit}
-unfoldable pub use Rattle.sftp_packets.specs.Spelling.{spelling}
+pub use Rattle.sftp_packets.specs.Spelling.{FitsString}
+pub use Rattle.sftp_packets.specs.Requests.{server_extensions, posix_rename_name}
+pub use Rattle.sftp_packets.specs.Packets.{HasSpelling, side_of}
+pub use Rattle.sftp_packets.specs.Spelling.{packet_limit}
+pub use Rattle.sftp_packets.specs.Requests.{hardlink_name, fsync_name, limits_name, asked_handle}
+unfoldable pub use Rattle.sftp_packets.specs.Packets.{spelling}
 pub use Rattle.sftp_packets.specs.declared.errors.WireError.TheVariants.{Unreadable}
-pub use Rattle.sftp_packets.specs.declared.packets.Ask.{Ask}
+pub use Rattle.sftp_packets.specs.declared.requests.Ask.{Ask}
 pub use Rattle.sftp_packets.specs.declared.packets.Packet.{Packet}
 pub use Rattle.sftp_packets.specs.declared.packets.Packet.TheVariants.{Reply as reply_packet, Request as request_packet}
 pub use Rattle.sftp_packets.specs.declared.packets.Packet.TheVariants.{Init}

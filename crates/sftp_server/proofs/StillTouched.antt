@@ -8,7 +8,7 @@ use Rattle.sftp_handles.specs.Handles.{Handles, open_at}
 use Rattle.sftp_handles.specs.Requests.{changed, after, after_by}
 use Rattle.sftp_handles.specs.Allowed.{Refuses, Does}
 use Rattle.sftp_handles.specs.Clash.{touched_by, touched_through, may_change}
-use Rattle.sftp_packets.specs.declared.packets.Answer.{Answer}
+use Rattle.sftp_packets.specs.declared.replies.Answer.{Answer}
 use Rattle.sftp_handles.specs.Seen.{seen}
 use Rattle.sftp_handles.specs.RequestRows.{row_of, Change, nothing, change_of}
 use Rattle.sftp_handles.proofs.ClashLaws.Touches.{applied, change-touches, touched-stays}

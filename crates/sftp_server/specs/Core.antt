@@ -3,7 +3,7 @@ use Rattle.std.specs.Prelude.{◌≡◌, nat_lt, ℕ, ◌≤◌, List, length, I
 use Rattle.std.specs.List.{AllByRecursion}
 use Rattle.sftp_packets.specs.declared.packets.Packet.TheVariants.{Reply as reply_packet}
 use Rattle.sftp_packets.specs.declared.packets.Request.{Request}
-use Rattle.sftp_packets.specs.Spelling.{HasSpelling}
+use Rattle.sftp_packets.specs.Packets.{HasSpelling}
 use Rattle.sftp_transcript.specs.declared.events.Event.{Event}
 use Rattle.sftp_transcript.specs.Explained.{window as full_window}
 use Rattle.sftp_handles.specs.State.{State}

@@ -1,7 +1,7 @@
 -- What the worked examples name: a script, and the bytes of sessions.
 use Rattle.std.specs.Prelude.{ℕ, List, [], ◌∷◌, ◌++◌, codes, Some}
 use Rattle.sftp_packets.specs.declared.attributes.Attrs.{Attrs}
-use Rattle.sftp_packets.specs.declared.packets.Ask.TheVariants.{Mkdir, Rmdir}
+use Rattle.sftp_packets.specs.declared.requests.Ask.TheVariants.{Mkdir, Rmdir}
 use Rattle.sftp_wire.specs.Examples.{hex, no_attributes, version_bytes}
 use Rattle.sftp_tree.specs.Picture.{blank}
 use Rattle.sftp_transcript.specs.declared.events.Event.{Event}

@@ -7,7 +7,7 @@ use Rattle.std.specs.Prelude.{length, take, slice_get, Option, Some, None, if◌
 use Rattle.sftp_packets.specs.declared.packets.Packet.TheVariants.{Reply as reply_packet}
 use Rattle.sftp_packets.specs.declared.packets.Request.{Request}
 use Rattle.sftp_packets.specs.declared.packets.Reply.{Reply}
-use Rattle.sftp_packets.specs.Spelling.{HasSpelling}
+use Rattle.sftp_packets.specs.Packets.{HasSpelling}
 use Rattle.sftp_transcript.specs.declared.events.Event.{Event}
 use Rattle.sftp_transcript.specs.declared.events.Event.TheVariants.{Asked, Replied}
 use Rattle.sftp_transcript.specs.Explained.{StepOf}

@@ -4,7 +4,7 @@
 -- So a range may be out of date only behind such a request that is pending, and there nothing can be ready anyway.
 use Rattle.std.specs.Prelude.{◌≡◌, ◌==◌, ◌<◌, ◌&&◌, ◌||◌, not, ℕ, zero, suc, Bool, true, false, if◌then◌else◌}
 use Rattle.std.specs.Prelude.{Option, Some, None}
-use Rattle.sftp_packets.specs.declared.packets.Ask.{Ask}
+use Rattle.sftp_packets.specs.declared.requests.Ask.{Ask}
 use Rattle.sftp_handles.specs.declared.byte_range.ByteRange.{ByteRange}
 use Rattle.sftp_handles.specs.State.{State}
 use Rattle.sftp_handles.specs.Clash.{Touched, reads_file, writes_file, share, touched}

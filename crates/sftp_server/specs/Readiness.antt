@@ -6,8 +6,8 @@ use Rattle.std.specs.Prelude.{◌≡◌, ◌≢◌, ◌<◌, ◌≤◌, ◌+◌,
 use Rattle.std.specs.Prelude.{◌-◌, Option, Some, None, length, get_or, set, max, slice_get, is_some}
 use Rattle.std.specs.Prelude.{if◌then◌else◌}
 use Rattle.std.specs.List.{sum_by}
-use Rattle.sftp_packets.specs.declared.packets.Ask.{Ask}
-use Rattle.sftp_packets.specs.declared.packets.Ask.TheVariants.{Readdir}
+use Rattle.sftp_packets.specs.declared.requests.Ask.{Ask}
+use Rattle.sftp_packets.specs.declared.requests.Ask.TheVariants.{Readdir}
 use Rattle.sftp_handles.specs.declared.byte_range.ByteRange.{ByteRange}
 use Rattle.sftp_handles.specs.declared.touch.Touch.{Touch}
 use Rattle.sftp_handles.specs.declared.touch.Touch.TheVariants.{Nothing, ReadsFile, WritesFile, TakesNames, Everything}

@@ -11,7 +11,8 @@ use Rattle.sftp_packets.specs.declared.packets.Packet.TheVariants.{Init, Version
 use Rattle.sftp_packets.specs.declared.packets.Request.{Request}
 use Rattle.sftp_packets.specs.declared.packets.Side.{Side}
 use Rattle.sftp_packets.specs.declared.packets.Side.TheVariants.{Client, Server}
-use Rattle.sftp_packets.specs.Spelling.{spelling, side_of, HasSpelling, server_extensions}
+use Rattle.sftp_packets.specs.Requests.{server_extensions}
+use Rattle.sftp_packets.specs.Packets.{spelling, side_of, HasSpelling}
 use Rattle.sftp_wire.specs.Fronts.{front_of}
 use Rattle.sftp_wire.specs.Framing.{place_after}
 use Rattle.sftp_transcript.specs.declared.events.Event.{Event}

@@ -7,7 +7,8 @@ use Rattle.std.specs.Io.KnownBytes.{Appends, IsAtEnd, Keeps}
 use Rattle.sftp_packets.specs.declared.errors.WireError.TheVariants.{Unreadable}
 use Rattle.sftp_packets.specs.declared.packets.Packet.{Packet}
 use Rattle.sftp_packets.specs.declared.packets.Side.TheVariants.{Client, Server}
-use Rattle.sftp_packets.specs.Spelling.{packet_limit, spelling}
+use Rattle.sftp_packets.specs.Spelling.{packet_limit}
+use Rattle.sftp_packets.specs.Packets.{spelling}
 use Rattle.sftp_wire.specs.Fronts.{front_of}
 use Rattle.sftp_wire.specs.Framing.{place_after}
 use Rattle.sftp_transcript.specs.declared.events.Event.{Event}

@@ -4,7 +4,7 @@ ghost use Rattle.std.specs.Prelude.{◌≡◌, ◌≢◌, ◌≤◌, [], false, 
 ghost use Rattle.std.specs.Prelude.{IfNone};
 ghost use Rattle.std.specs.Prelude.{◌↔◌, ◌<◌, nat_lt, Some, if◌then◌else◌, slice_get};
 ghost use Rattle.sftp_packets.specs.declared.packets.Packet.TheVariants.{Reply as reply_packet};
-ghost use Rattle.sftp_packets.specs.Spelling.{HasSpelling};
+ghost use Rattle.sftp_packets.specs.Packets.{HasSpelling};
 ghost use Rattle.sftp_transcript.specs.Explained.{window as full_window};
 ghost use Rattle.sftp_handles.specs.State as states;
 ghost use Rattle.sftp_handles.specs.State.{started, closed_tree};

@@ -5,7 +5,8 @@ use Rattle.std.specs.Prelude.{List, [], ◌∷◌, drop, codes, bytes_eq, find}
 use Rattle.std.specs.Prelude.{Option}
 use Rattle.sftp_packets.specs.declared.packets.Side.{Side}
 use Rattle.sftp_packets.specs.declared.packets.Side.TheVariants.{Client, Server}
-use Rattle.sftp_packets.specs.Spelling.{string, posix_rename_name, hardlink_name, fsync_name, limits_name}
+use Rattle.sftp_packets.specs.Spelling.{string}
+use Rattle.sftp_packets.specs.Requests.{posix_rename_name, hardlink_name, fsync_name, limits_name}
 use Rattle.sftp_text.specs.Formats.{Format, nothing, ◌then◌, word, mark, if_found, strip}
 use Rattle.sftp_text.specs.Digits.{number, is_digit}
 use Rattle.sftp_text.specs.Fields.{fields_text, tail_text}

@@ -3,7 +3,8 @@ ghost use Rattle.std.specs.Prelude.{◌≡◌, List, [], ℕ, Some, IsSome, IsTr
 ghost use Rattle.std.specs.List.{AllByRecursion, list_all};
 ghost use Rattle.sftp_packets.specs.declared.packets.Side.{Side};
 ghost use Rattle.sftp_packets.specs.declared.packets.Packet.{Packet};
-ghost use Rattle.sftp_packets.specs.Spelling.{AreBytes, HasSpelling, side_of, spelling};
+ghost use Rattle.sftp_packets.specs.Spelling.{AreBytes};
+ghost use Rattle.sftp_packets.specs.Packets.{HasSpelling, side_of, spelling};
 ghost use Rattle.sftp_text.specs.Formats.{ReadsBack};
 ghost use Rattle.sftp_text.specs.Lines.{is_printable, line_of, line_read, named_line, records_of, text_of, text_read};
 ghost use Rattle.sftp_text.specs.Lines.{transcript_of};

@@ -6,7 +6,8 @@ use Rattle.sftp_transcript.proofs.Imports.{le-ltb, take_at, take-append-le, drop
 use Rattle.sftp_transcript.proofs.Imports.{Fault, Packet, Side, wide32, CutsPacket, ◌||◌, front_of}
 use Rattle.sftp_packets.specs.declared.errors.Fault.TheVariants.{Length}
 use Rattle.sftp_packets.specs.Spelling.{uint32, packet_limit}
-use Rattle.sftp_packets.specs.Reading.{◌>>=◌, packet_of}
+use Rattle.sftp_packets.specs.Reading.{◌>>=◌}
+use Rattle.sftp_packets.specs.Packets.{packet_of}
 use Rattle.sftp_transcript.proofs.Inputs.{same_cons}
 
 -- ---- a fault in front stays, whatever follows

@@ -3,7 +3,8 @@ use Rattle.sftp_transcript.proofs.Imports.{◌≡◌, ℕ, ◌+◌, ◌^◌, ◌
 use Rattle.sftp_transcript.proofs.Imports.{Some, refl, sym, ap, ◌∙◌, append_assoc, arith, take_at}
 use Rattle.sftp_transcript.proofs.Imports.{length-append, same_Some, w32, from_be_bytes}
 use Rattle.sftp_transcript.proofs.Imports.{prepend_known, Packet, wide32, record_text, Ahead, bytes_ahead}
-use Rattle.sftp_packets.specs.Spelling.{uint32, contents, spelling, packet_limit, HasSpelling}
+use Rattle.sftp_packets.specs.Spelling.{uint32, packet_limit}
+use Rattle.sftp_packets.specs.Packets.{contents, spelling, HasSpelling}
 
 -- what is ahead begins with what is held
 pub record Ahead-parts (a : Ahead) (bytes : List ℕ) : Type 0 where

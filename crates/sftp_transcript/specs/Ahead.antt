@@ -4,7 +4,8 @@ use Rattle.std.specs.Io.KnownBytes.{Keeps, IsAtEnd, prepend_known}
 use Rattle.sftp_packets.specs.declared.packets.Packet.{Packet}
 use Rattle.sftp_packets.specs.declared.packets.Side.{Side}
 use Rattle.sftp_wire.specs.Fronts.{front_of}
-use Rattle.sftp_packets.specs.Spelling.{HasSpelling, packet_limit}
+use Rattle.sftp_packets.specs.Spelling.{packet_limit}
+use Rattle.sftp_packets.specs.Packets.{HasSpelling}
 use Rattle.sftp_transcript.specs.Transcript.{transcript_opening, record_text}
 
 -- the bytes held; those left, where they are known; how many calls of the source failed; a number that falls with each

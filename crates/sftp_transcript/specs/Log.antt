@@ -4,7 +4,7 @@ use Rattle.std.specs.Io.KnownBytes.{Appends, Keeps}
 use Rattle.sftp_packets.specs.declared.errors.Fault.TheVariants.{WrongType}
 use Rattle.sftp_packets.specs.declared.packets.Packet.{Packet}
 use Rattle.sftp_packets.specs.declared.packets.Side.{Side}
-use Rattle.sftp_packets.specs.Spelling.{HasSpelling, side_of}
+use Rattle.sftp_packets.specs.Packets.{HasSpelling, side_of}
 use Rattle.sftp_transcript.specs.declared.errors.TranscriptError.{TranscriptError}
 use Rattle.sftp_transcript.specs.declared.errors.TranscriptError.TheVariants.{Wire, Io, NoMemory}
 use Rattle.sftp_transcript.specs.Streams.{one_more, AppendsPart}

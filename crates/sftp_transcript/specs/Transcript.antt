@@ -7,7 +7,7 @@ use Rattle.sftp_packets.specs.declared.packets.Packet.TheVariants.{Init, Version
 use Rattle.sftp_packets.specs.declared.packets.Packet.TheVariants.{Reply as reply_packet}
 use Rattle.sftp_packets.specs.declared.packets.Side.{Side}
 use Rattle.sftp_packets.specs.declared.packets.Side.TheVariants.{Client, Server}
-use Rattle.sftp_packets.specs.Spelling.{spelling, HasSpelling, side_of}
+use Rattle.sftp_packets.specs.Packets.{spelling, HasSpelling, side_of}
 use Rattle.sftp_transcript.specs.declared.events.Event.{Event}
 use Rattle.sftp_transcript.specs.declared.events.Event.TheVariants.{Asked, Replied}
 

@@ -2,7 +2,7 @@
 //! draft-ietf-secsh-filexfer-02, section 4 on.
 ghost use Rattle.std.specs.Prelude.{◌≡◌, ℕ, List, ◌++◌, ◌<◌, length, IfOk, IfErr, IsTrue, false};
 ghost use Rattle.sftp_packets.specs.declared.packets.Packet.{Packet};
-ghost use Rattle.sftp_packets.specs.Spelling.{spelling, HasSpelling, side_of};
+ghost use Rattle.sftp_packets.specs.Packets.{spelling, HasSpelling, side_of};
 ghost use Rattle.sftp_transcript.specs.declared.events.Event.{Event};
 ghost use Rattle.sftp_transcript.specs.Transcript.{transcript_opening, packet_of, event_record, IsEvent, IsRecord};
 ghost use Rattle.sftp_transcript.specs.Records.{side_of_direction, read_fault, Begins, GivesOnly};

@@ -1,7 +1,7 @@
 //! What a reader of a transcript file takes from its input: the opening, an event, and any record.
 ghost use Rattle.std.specs.Prelude.{◌≡◌, ◌⊎◌, ◌<◌, ◌≤◌, List, ℕ, [], Some, None, OnOk, OnErr, IfOk, IfErr};
 ghost use Rattle.std.specs.Prelude.{IfSome, MatchResult, IsTrue, false, length};
-ghost use Rattle.sftp_packets.specs.Spelling.{spelling};
+ghost use Rattle.sftp_packets.specs.Packets.{spelling};
 ghost use Rattle.sftp_transcript.specs.declared.events.Event.{Event};
 ghost use Rattle.sftp_transcript.specs.Ahead.{IsSameAhead, size_of};
 ghost use Rattle.sftp_transcript.specs.Begun.{FaultAhead};

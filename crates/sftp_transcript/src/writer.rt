@@ -3,7 +3,7 @@ ghost use Rattle.std.specs.Prelude.{◌≡◌, ◌∷◌, ◌++◌, [], None, Is
 ghost use Rattle.std.specs.Prelude.{IsTrue, false};
 ghost use Rattle.std.specs.Io.KnownBytes.{Appends};
 ghost use Rattle.sftp_packets.specs.declared.packets.Packet.{Packet};
-ghost use Rattle.sftp_packets.specs.Spelling.{spelling, side_of};
+ghost use Rattle.sftp_packets.specs.Packets.{spelling, side_of};
 ghost use Rattle.sftp_transcript.specs.Streams.{Counts, AppendsPart};
 ghost use Rattle.sftp_transcript.specs.Transcript.{direction_of, record_text};
 ghost use Rattle.sftp_transcript.specs.Log.{Log, opening_before, opened_text, next_number, IsAppended, IsUnwritten};

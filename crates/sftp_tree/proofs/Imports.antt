@@ -78,7 +78,7 @@ pub use Rattle.sftp_treefile.specs.declared.limits.TreeLimits.{TreeLimits}
 unfoldable pub use Rattle.sftp_wire.specs.Examples.{hex}
 pub use Rattle.sftp_packets.specs.Spelling.{AreBytes}
 pub use Rattle.sftp_packets.specs.declared.attributes.Attrs.{Attrs}
-pub use Rattle.sftp_packets.specs.declared.packets.Ask.{Ask}
+pub use Rattle.sftp_packets.specs.declared.requests.Ask.{Ask}
 pub use Rattle.sftp_packets.specs.AskValues.{IsAttrs, IsAsk}
 pub use Rattle.sftp_tree.specs.Asks.{asked, has_room_for, IsPlanAt, IsPlanBetween, HasNode}
 pub use Rattle.sftp_tree.specs.Attributes.{directory_owner, changed_owner, changed_content, resized, file_owner}

@@ -2,8 +2,8 @@
 use Rattle.std.specs.Prelude.{◌≡◌, ◌||◌, Bool, true, if◌then◌else◌, Option, Some, None, Result, Ok, Err, IsTrue}
 use Rattle.sftp_path.specs.Place.{Place}
 use Rattle.sftp_treefile.specs.TreeFile.{IsOwner, are_bytes}
-use Rattle.sftp_packets.specs.declared.packets.Ask as wire
-use Rattle.sftp_packets.specs.declared.packets.Ask.TheVariants as asks
+use Rattle.sftp_packets.specs.declared.requests.Ask as wire
+use Rattle.sftp_packets.specs.declared.requests.Ask.TheVariants as asks
 use Rattle.sftp_tree.specs.declared.asks.PathAsk.{PathAsk}
 use Rattle.sftp_tree.specs.declared.asks.PathAsk.TheVariants.{Mkdir, Rmdir, Remove, Setstat, Stat, Lstat, Realpath}
 use Rattle.sftp_tree.specs.declared.asks.PathAsk.TheVariants.{Readlink, Symlink, Rename, PosixRename, Hardlink}

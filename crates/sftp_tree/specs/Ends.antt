@@ -1,6 +1,6 @@
 -- Where the paths of a request lead, as the code has it.
 use Rattle.std.specs.Prelude.{◌≡◌, Option, Some, None, Result, Ok, IfOk, IfSome}
-use Rattle.sftp_packets.specs.declared.packets.Ask.{Ask}
+use Rattle.sftp_packets.specs.declared.requests.Ask.{Ask}
 use Rattle.sftp_tree.specs.declared.causes.Cause.{Cause}
 use Rattle.sftp_tree.specs.declared.found.Found.{Found}
 use Rattle.sftp_tree.specs.declared.ends.Places.{Places}

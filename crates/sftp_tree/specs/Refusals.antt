@@ -1,8 +1,8 @@
 -- Refusals, and sets of causes as the code has them.
 use Rattle.std.specs.Prelude.{◌==◌, Bool, true, false, List, ℕ, IsTrue}
 use Rattle.std.specs.Int.{bit_at}
-use Rattle.sftp_packets.specs.declared.packets.Ask.{Ask}
-use Rattle.sftp_packets.specs.declared.packets.Ask.TheVariants.{Stat, Lstat}
+use Rattle.sftp_packets.specs.declared.requests.Ask.{Ask}
+use Rattle.sftp_packets.specs.declared.requests.Ask.TheVariants.{Stat, Lstat}
 use Rattle.sftp_tree.specs.declared.causes.Causes.{Causes}
 use Rattle.sftp_tree.specs.declared.causes.Refused.{Refused}
 use Rattle.sftp_tree.specs.declared.causes.Refused.TheVariants.{Cause, NoMemory}

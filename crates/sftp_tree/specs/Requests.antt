@@ -5,11 +5,11 @@
 use Rattle.std.specs.Prelude.{◌&&◌, not, ℕ, Bool, true, false, List, Option, Some, None, is_some, Result, Ok, Err}
 use Rattle.std.specs.Option.{option_map}
 use Rattle.sftp_packets.specs.declared.attributes.Attrs.{Attrs}
-use Rattle.sftp_packets.specs.declared.packets.Ask.{Ask}
-use Rattle.sftp_packets.specs.declared.packets.Ask.TheVariants.{Lstat, Setstat, Remove, Mkdir, Rmdir, Realpath, Stat}
-use Rattle.sftp_packets.specs.declared.packets.Ask.TheVariants.{Rename, Readlink, Symlink, PosixRename, Hardlink}
-use Rattle.sftp_packets.specs.declared.packets.Ask.TheVariants.{Open, Opendir, Close, Read, Write, Fstat, Fsetstat}
-use Rattle.sftp_packets.specs.declared.packets.Ask.TheVariants.{Readdir, Fsync, Limits, Unknown}
+use Rattle.sftp_packets.specs.declared.requests.Ask.{Ask}
+use Rattle.sftp_packets.specs.declared.requests.Ask.TheVariants.{Lstat, Setstat, Remove, Mkdir, Rmdir, Realpath, Stat}
+use Rattle.sftp_packets.specs.declared.requests.Ask.TheVariants.{Rename, Readlink, Symlink, PosixRename, Hardlink}
+use Rattle.sftp_packets.specs.declared.requests.Ask.TheVariants.{Open, Opendir, Close, Read, Write, Fstat, Fsetstat}
+use Rattle.sftp_packets.specs.declared.requests.Ask.TheVariants.{Readdir, Fsync, Limits, Unknown}
 use Rattle.sftp_path.specs.Place.{Name, Place, absolute}
 use Rattle.sftp_path.specs.Table.{Table}
 use Rattle.sftp_tree.specs.declared.nodes.Node.{Node}

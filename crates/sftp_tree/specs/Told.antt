@@ -2,7 +2,7 @@
 -- change is told by it.
 use Rattle.std.specs.Prelude.{ℕ, List, Option, Some, None}
 use Rattle.sftp_packets.specs.declared.attributes.Attrs.{Attrs}
-use Rattle.sftp_packets.specs.declared.packets.Ask.{Ask}
+use Rattle.sftp_packets.specs.declared.requests.Ask.{Ask}
 use Rattle.sftp_path.specs.Place.{Name}
 use Rattle.sftp_path.specs.Table.{Table}
 use Rattle.sftp_tree.specs.Tree.{Tree}

@@ -1,8 +1,8 @@
 //! What requests do to a tree, and what they return (draft, sections 6.3 to 6.11; OpenSSH's PROTOCOL, sections 4.3 and
 //! 4.5). A bad path has the cause `BadPath`, and one that leads nowhere the walk's: `NoEntry`, `NotDir` or `Loop`.
 ghost use Rattle.std.specs.Prelude.{◌≡◌, Some, is_some, IfOk, IfErr, IsTrue, OnOk, OnErr};
-ghost use Rattle.sftp_packets.specs.declared.packets.Ask.TheVariants.{Setstat, Remove, Mkdir, Rmdir, Realpath, Rename};
-ghost use Rattle.sftp_packets.specs.declared.packets.Ask.TheVariants.{Readlink, Symlink, PosixRename, Hardlink, Open};
+ghost use Rattle.sftp_packets.specs.declared.requests.Ask.TheVariants.{Setstat, Remove, Mkdir, Rmdir, Realpath, Rename};
+ghost use Rattle.sftp_packets.specs.declared.requests.Ask.TheVariants.{Readlink, Symlink, PosixRename, Hardlink, Open};
 ghost use Rattle.sftp_tree.specs.declared.nodes.Node.TheVariants.{Link};
 ghost use Rattle.sftp_tree.specs.Tree as tree;
 ghost use Rattle.sftp_tree.specs.Requests as requests;

@@ -2,8 +2,8 @@
 //! the contract.
 ghost use Rattle.std.specs.Prelude.{◌≡◌, ◌↔◌, ◌⊎◌, ◌<◌, ◌≤◌, ◌||◌, ℕ, Bool, if◌then◌else◌};
 ghost use Rattle.std.specs.Prelude.{List, Some, None, Result, Ok, [], ◌∷◌, ◌++◌, true, false, IsTrue};
-ghost use Rattle.sftp_packets.specs.declared.packets.Ask.{Ask};
-ghost use Rattle.sftp_packets.specs.Spelling.{FitsAsk};
+ghost use Rattle.sftp_packets.specs.declared.requests.Ask.{Ask};
+ghost use Rattle.sftp_packets.specs.Requests.{FitsAsk};
 ghost use Rattle.sftp_packets.specs.AskValues.{IsAsk};
 ghost use Rattle.sftp_path.specs.Place.{Name, Place, name_cmp, parent, are_names, is_good_path};
 ghost use Rattle.sftp_path.specs.Table.{InOrder, get};

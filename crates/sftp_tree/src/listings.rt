@@ -1,6 +1,6 @@
 //! What is in a directory (draft, section 6.7).
 ghost use Rattle.std.specs.Prelude.{◌≡◌, [], Some, map, IfOk, IfErr, IfSome, IsTrue, OnOk};
-ghost use Rattle.sftp_packets.specs.declared.packets.Ask.TheVariants.{Opendir};
+ghost use Rattle.sftp_packets.specs.declared.requests.Ask.TheVariants.{Opendir};
 ghost use Rattle.sftp_tree.specs.Tree as tree;
 ghost use Rattle.sftp_tree.specs.Tree.{Names as table};
 ghost use Rattle.sftp_tree.specs.Found.{node_of, IsThere};

@@ -3,9 +3,9 @@
 #![tactic(auto, unfolding(crate::specs::Requests::led, crate::specs::Causes::no_causes, crate::specs::Causes::when, crate::specs::Causes::joined, crate::specs::Requests::plain_causes, crate::specs::Requests::causes, crate::specs::Requests::outcome, crate::specs::Told::shown_to, crate::specs::Told::text_to, crate::specs::Told::file_to, crate::specs::Told::listing_to, crate::specs::Listings::children, crate::specs::Listings::listing, crate::specs::Walk::meets, crate::specs::Walk::walk_parts, crate::specs::Walk::walk, crate::specs::Walk::reached, crate::specs::Tree::has_entries, crate::specs::Tree::fits, sftp_path::specs::Place::components, sftp_path::specs::Place::parts, sftp_path::specs::Place::is_good_path, sftp_path::specs::Table::get, sftp_path::specs::Table::put, sftp_path::specs::Table::without, sftp_path::specs::Table::retain, sftp_path::specs::Table::from_entries, sftp_path::specs::Rekeying::rekeyed))]
 
 ghost use Rattle.std.specs.Prelude.{◌≡◌, true, false, [], ◌∷◌, ◌++◌, Some, None, codes};
-ghost use Rattle.sftp_packets.specs.declared.packets.Ask.TheVariants.{Lstat, Setstat, Remove, Mkdir, Rmdir};
-ghost use Rattle.sftp_packets.specs.declared.packets.Ask.TheVariants.{Realpath, Stat, Rename, Readlink};
-ghost use Rattle.sftp_packets.specs.declared.packets.Ask.TheVariants.{Symlink, PosixRename, Hardlink, Open, Opendir};
+ghost use Rattle.sftp_packets.specs.declared.requests.Ask.TheVariants.{Lstat, Setstat, Remove, Mkdir, Rmdir};
+ghost use Rattle.sftp_packets.specs.declared.requests.Ask.TheVariants.{Realpath, Stat, Rename, Readlink};
+ghost use Rattle.sftp_packets.specs.declared.requests.Ask.TheVariants.{Symlink, PosixRename, Hardlink, Open, Opendir};
 ghost use Rattle.sftp_wire.specs.Examples.{no_attributes};
 ghost use Rattle.sftp_tree.specs.declared.causes.Cause.TheVariants.{BadPath, NoEntry, NotDir, Exists, IsDir};
 ghost use Rattle.sftp_tree.specs.declared.causes.Cause.TheVariants.{NotLink, NotFile, NotEmpty, Root, Inside};

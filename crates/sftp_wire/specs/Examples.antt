@@ -1,15 +1,15 @@
 -- Words of the worked examples: bytes in hexadecimal, packets with their bytes, attributes without a field, and the
 -- server's VERSION.
 use Rattle.std.specs.Prelude.{◌≡◌, ◌==◌, nat_lt, not, ℕ, ◌+◌, ◌-◌, ◌*◌, if◌then◌else◌}
-use Rattle.std.specs.Prelude.{List, [], ◌∷◌, length, filter, codes, Some, None, Ok}
-use Rattle.sftp_packets.specs.declared.attributes.Attrs.{Attrs}
-use Rattle.sftp_packets.specs.declared.packets.Answer.{Answer}
-use Rattle.sftp_packets.specs.declared.packets.Ask.{Ask}
+use Rattle.std.specs.Prelude.{List, [], ◌∷◌, length, filter, codes, Some, Ok}
+use Rattle.sftp_packets.specs.declared.replies.Answer.{Answer}
+use Rattle.sftp_packets.specs.declared.requests.Ask.{Ask}
 use Rattle.sftp_packets.specs.declared.packets.Packet.{Packet}
 use Rattle.sftp_packets.specs.declared.packets.Packet.TheVariants.{Request, Reply}
 use Rattle.sftp_packets.specs.declared.packets.Side.{Side}
 use Rattle.sftp_packets.specs.declared.packets.Side.TheVariants.{Client, Server}
-use Rattle.sftp_packets.specs.Spelling.{spelling}
+pub use Rattle.sftp_packets.specs.Spelling.{no_attributes}
+use Rattle.sftp_packets.specs.Packets.{spelling}
 use Rattle.sftp_wire.specs.Fronts.{front_of}
 
 -- the value of a hexadecimal digit, `0` to `9` or `a` to `f`
@@ -38,10 +38,6 @@ IsAsked text id ask = IsRow Client (hex text) (Request (record { id = id; ask = 
 -- and for a reply with the id of its request
 abbrev pub IsAnswered : List ℕ → ℕ → Answer → Type 0
 IsAnswered text id answer = IsRow Server (hex text) (Reply (record { id = id; answer = answer }))
-
--- attributes without a field
-abbrev pub no_attributes : Attrs
-no_attributes = record { size = None; owner = None; permissions = None; times = None; extended = None }
 
 -- the 124 bytes of the server's VERSION
 abbrev pub version_bytes : List ℕ

@@ -8,7 +8,8 @@ use Rattle.sftp_packets.specs.declared.errors.WireError.{WireError}
 use Rattle.sftp_packets.specs.declared.errors.WireError.TheVariants.{Unreadable, NoMemory}
 use Rattle.sftp_packets.specs.declared.packets.Packet.{Packet}
 use Rattle.sftp_packets.specs.declared.packets.Side.{Side}
-use Rattle.sftp_packets.specs.Spelling.{packet_limit, spelling, AreBytes}
+use Rattle.sftp_packets.specs.Spelling.{packet_limit, AreBytes}
+use Rattle.sftp_packets.specs.Packets.{spelling}
 use Rattle.sftp_wire.specs.Fronts.{front_of}
 
 -- What a buffer holds of a stream: the bytes not yet taken out, the place in the stream of the first of them, and the

@@ -6,7 +6,8 @@ ghost use Rattle.std.specs.Vec.{vec_len, vec_capacity};
 ghost use Rattle.sftp_packets.specs.declared.errors.Fault.{Fault};
 ghost use Rattle.sftp_packets.specs.declared.packets.Packet.{Packet};
 ghost use Rattle.sftp_packets.specs.declared.packets.Side.{Side};
-ghost use Rattle.sftp_packets.specs.Spelling.{HasSpelling, packet_limit, side_of, spelling};
+ghost use Rattle.sftp_packets.specs.Spelling.{packet_limit};
+ghost use Rattle.sftp_packets.specs.Packets.{HasSpelling, side_of, spelling};
 ghost use Rattle.sftp_wire.specs.Framing.{Frames, Step, IsStep, AreSteps, no_frames, place_after, room_of, told_of};
 ghost use Rattle.sftp_wire.specs.Framing.{all_in, all_out, whole_of, lent_of};
 

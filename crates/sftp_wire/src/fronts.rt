@@ -1,8 +1,9 @@
 //! The packet in front of the bytes of a stream (draft, section 3): its length, its type, its fields, and nothing else.
 ghost use Rattle.std.specs.Prelude.{◌≡◌, ◌⊎◌, List, ℕ, ◌++◌, length, IfOk, IfSome};
 ghost use Rattle.sftp_packets.specs.declared.packets.Packet.{Packet};
-ghost use Rattle.sftp_packets.specs.Spelling.{HasSpelling, side_of, spelling};
-ghost use Rattle.sftp_packets.specs.Reading.{Gives, packet_of};
+ghost use Rattle.sftp_packets.specs.Packets.{HasSpelling, side_of, spelling};
+ghost use Rattle.sftp_packets.specs.Reading.{Gives};
+ghost use Rattle.sftp_packets.specs.Packets.{packet_of};
 ghost use Rattle.sftp_wire.specs.Fronts.{IsReading, StandsInFront, front_of};
 
 use sftp_packets::{
@@ -11,7 +12,7 @@ use sftp_packets::{
 use std::alloc::Global;
 
 /// The packet after a length.
-#[tactic(auto, unfolding(sftp_packets::specs::Reading::packet_of))]
+#[tactic(auto, unfolding(sftp_packets::specs::Packets::packet_of))]
 fn whole_packet(alloc: Global, side: Side, bytes: &[u8]) -> Result<Packet, ReadError>
     ensures { Gives result (packet_of side bytes.now) }
 {

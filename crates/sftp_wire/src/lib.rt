@@ -13,5 +13,5 @@ pub use laws::spellings_are_apart;
 pub use sftp_packets::{
     Answer, Ask, AttrFlags, Attrs, ByteString, FSYNC, Fault, HANDLE_LIMIT, HARDLINK, LIMITS,
     NameItem, Names, OpenFlags, PACKET_LIMIT, POSIX_RENAME, Packet, Pairs, Reply, Request, Side,
-    WireError, asked_handle, encode, status, take_number, take_string,
+    WireError, asked_handle, encode, may_get, status, take_number, take_string,
 };

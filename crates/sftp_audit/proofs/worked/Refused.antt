@@ -7,8 +7,8 @@ use Rattle.sftp_transcript.specs.Examples.{mkdir, status}
 use Rattle.sftp_audit.specs.Examples.{auditor_with, with_a, with_a_and_b, three_requests, backward_replies}
 use Rattle.sftp_audit.specs.Examples.{two_backward_replies, removal_done_bytes, last_answered, id_used_again}
 use Rattle.sftp_audit.specs.Examples.{first_answered, second_waits}
-use Rattle.sftp_packets.specs.declared.packets.Ask.TheVariants.{Mkdir, Rmdir}
-use Rattle.sftp_packets.specs.declared.packets.Answer.TheVariants.{Status}
+use Rattle.sftp_packets.specs.declared.requests.Ask.TheVariants.{Mkdir, Rmdir}
+use Rattle.sftp_packets.specs.declared.replies.Answer.TheVariants.{Status}
 use Rattle.sftp_handles.specs.State.{State}
 use Rattle.sftp_audit.specs.declared.errors.Refusal.TheVariants as refusals
 use Rattle.sftp_audit.proofs.auditing.Refusals.{one_refusal}

@@ -2,7 +2,7 @@
 use Rattle.sftp_handles.proofs.Imports.{◌≡◌, ◌&&◌, ℕ, false, [], Some, None, IsTrue, lit<, and_from, not-false, Ask}
 use Rattle.sftp_handles.proofs.Imports.{Answer, Cause, Unknown, CauseSet, allows, allow, State, causes, step, IsDone}
 use Rattle.sftp_handles.proofs.Imports.{IsJudged, refusal_code, kind_of, IsAnswered, status_of}
-use Rattle.sftp_packets.specs.declared.packets.Ask.TheVariants as asks
+use Rattle.sftp_packets.specs.declared.requests.Ask.TheVariants as asks
 use Rattle.sftp_handles.specs.declared.requests.Kind.TheVariants as kinds
 use Rattle.sftp_handles.proofs.Judged.Steps.{done-step}
 use Rattle.sftp_handles.proofs.Judged.Judgements.{some-holds, refused-step, judged-refused, unlike}

@@ -1,7 +1,7 @@
 -- The request for the limits: no cause refuses it, it leaves the state, and its reply has the tree's limits.
 use Rattle.sftp_handles.proofs.Imports.{◌≡◌, ℕ, true, List, refl, sym, subst, Answer, limits, no_causes, is_none, led}
 use Rattle.sftp_handles.proofs.Imports.{outcome, State, Good, causes, after, told_to, limits_data, Carries}
-use Rattle.sftp_packets.specs.declared.packets.Ask.TheVariants as asks
+use Rattle.sftp_packets.specs.declared.requests.Ask.TheVariants as asks
 use Rattle.sftp_handles.specs.Replies.{extends}
 use Rattle.sftp_handles.proofs.Good.GoodStates.{good-settled}
 use Rattle.sftp_handles.proofs.TotalSteps.SaidReplies.{limits-fit}

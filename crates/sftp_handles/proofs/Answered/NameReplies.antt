@@ -5,7 +5,7 @@ use Rattle.sftp_handles.proofs.Imports.{lt-ltb, NameItem, Ask, Answer, Name, Ope
 use Rattle.sftp_handles.proofs.Imports.{State, Good, names_in, refuses, causes, Does, IsJudged, IsSpelledAnswer}
 use Rattle.sftp_handles.proofs.Imports.{IsAnswered, IsListing, gives_names, with_struck, AreFirst, AreFirstNames}
 use Rattle.sftp_handles.proofs.Imports.{IsReplyOf, Readdir}
-use Rattle.sftp_packets.specs.declared.packets.Answer.TheVariants as replies
+use Rattle.sftp_packets.specs.declared.replies.Answer.TheVariants as replies
 use Rattle.sftp_handles.specs.Replies.{lists}
 use Rattle.sftp_handles.proofs.Judged.GivenNames.{has_none, listing-left, given-judged, readdir-ends}
 use Rattle.sftp_handles.proofs.Judged.Judgements.{allow-one}

@@ -3,8 +3,8 @@ use Rattle.sftp_handles.proofs.Imports.{◌≡◌, ◌&&◌, ◌||◌, not, ℕ,
 use Rattle.sftp_handles.proofs.Imports.{◌∙◌, IsTrue, nat_le, leb-true, and_parts, Ask, AreBytes, handle_limit, NoRoom}
 use Rattle.sftp_handles.proofs.Imports.{Refused, CauseSet, is_none, when, State, has_handle_left, Handles, is_open}
 use Rattle.sftp_handles.proofs.Imports.{is_new_handle, causes, with_handle_room, Does, kind_of, IsRefusal, IsAnswered}
-use Rattle.sftp_packets.specs.declared.packets.Ask.TheVariants.{Open, Opendir}
-use Rattle.sftp_packets.specs.declared.packets.Answer.TheVariants as replies
+use Rattle.sftp_packets.specs.declared.requests.Ask.TheVariants.{Open, Opendir}
+use Rattle.sftp_packets.specs.declared.replies.Answer.TheVariants as replies
 use Rattle.sftp_tree.specs.Requests as paths
 use Rattle.sftp_tree.specs.Refusals as refusals_of
 use Rattle.sftp_handles.specs.Replies.{opens}

@@ -3,7 +3,7 @@ use Rattle.sftp_handles.proofs.Imports.{◌≡◌, ◌≢◌, ℕ, if◌then◌e
 use Rattle.sftp_handles.proofs.Imports.{arith, nat_eq, codes, nat_list_eq_equiv, lt-ltb, Ask, Data, same_bytes, get}
 use Rattle.sftp_handles.proofs.Imports.{put, retain, TreeLimits, bytes_at, no_causes, when, State, seen, pins_of, says}
 use Rattle.sftp_handles.proofs.Imports.{causes, answers, after, step}
-use Rattle.sftp_packets.specs.declared.packets.Ask.TheVariants as asks
+use Rattle.sftp_packets.specs.declared.requests.Ask.TheVariants as asks
 use Rattle.std.specs.Cmp.Lexicographic.{unequal}
 use Rattle.sftp_handles.specs.Replies.{gives, ended}
 use Rattle.sftp_handles.specs.Examples.{with_text, reading}

@@ -10,7 +10,7 @@ use Rattle.sftp_handles.proofs.Imports.{with_open, State, Needed, anything, a_fi
 use Rattle.sftp_handles.proofs.Imports.{seen, row_of, Change, nothing, rewrites, leaves, closes, change_of, change_file}
 use Rattle.sftp_handles.proofs.Imports.{changed, Touched, untouched, reads_file, writes_file, takes_names, everything}
 use Rattle.sftp_handles.proofs.Imports.{share, may_change, touched_through, touched_by, touched}
-use Rattle.sftp_packets.specs.declared.packets.Ask.TheVariants as asks
+use Rattle.sftp_packets.specs.declared.requests.Ask.TheVariants as asks
 use Rattle.sftp_path.proofs.Table.Laws.{get-put_elsewhere}
 
 -- ---- what is changed

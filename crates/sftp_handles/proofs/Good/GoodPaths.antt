@@ -13,9 +13,9 @@ use Rattle.sftp_handles.proofs.Imports.{with_open, is_open, pins_of, kept_flags,
 use Rattle.sftp_handles.proofs.Imports.{IsLeft, has_handle_left, is_new_handle, says, causes, answers, after, asked_handle}
 use Rattle.sftp_handles.proofs.Imports.{with_handle_room, told_to, said_by, said_to, flags_of, opened_by, with_new, after_by, causes_by}
 use Rattle.sftp_handles.proofs.Imports.{path_causes, path_said}
-use Rattle.sftp_packets.specs.declared.packets.Ask.TheVariants as asks
-use Rattle.sftp_packets.specs.declared.packets.Ask.TheVariants.{Open, Opendir}
-use Rattle.sftp_packets.specs.declared.packets.Answer.TheVariants as replies
+use Rattle.sftp_packets.specs.declared.requests.Ask.TheVariants as asks
+use Rattle.sftp_packets.specs.declared.requests.Ask.TheVariants.{Open, Opendir}
+use Rattle.sftp_packets.specs.declared.replies.Answer.TheVariants as replies
 use Rattle.sftp_tree.specs.declared.nodes.Node.TheVariants as nodes
 use Rattle.sftp_tree.specs.Changes.{with_opened, with_emptied_file}
 use Rattle.sftp_tree.specs.Requests.{file, number_at}

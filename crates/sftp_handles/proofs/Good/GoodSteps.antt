@@ -9,7 +9,7 @@ use Rattle.sftp_handles.proofs.Imports.{fewer, each-get, bytes-fit, nat_cmp, nat
 use Rattle.sftp_handles.proofs.Imports.{Listing, open_at, State, Good, IsHandle, Needed, anything, a_file, a_listing}
 use Rattle.sftp_handles.proofs.Imports.{seen_file, seen_among, seen, struck, names_given, row_of, start_of}
 use Rattle.sftp_handles.proofs.Imports.{with_file_room, causes_of, change_of, change_file, changed}
-use Rattle.sftp_packets.specs.declared.packets.Ask.TheVariants as asks
+use Rattle.sftp_packets.specs.declared.requests.Ask.TheVariants as asks
 use Rattle.sftp_tree.proofs.WellFormedTrees.Fields.{sized-bytes, changed-content-fits}
 use Rattle.sftp_handles.proofs.Good.GoodStates.{good-again, good-rewritten, good-listing, good-closed, left-struck}
 

@@ -4,7 +4,7 @@ use Rattle.sftp_handles.proofs.Imports.{IsTrue, Ask, bytes_cmp, size, size-put, 
 use Rattle.sftp_handles.proofs.Imports.{CauseSet, is_none, when, outcome, none-each, limits-stay, Opened, open_at}
 use Rattle.sftp_handles.proofs.Imports.{with_open, State, has_handle_left, handles_fit, state_fits, causes}
 use Rattle.sftp_handles.proofs.Imports.{with_handle_room, is_opening, asked_state}
-use Rattle.sftp_packets.specs.declared.packets.Ask.TheVariants.{Open, Opendir}
+use Rattle.sftp_packets.specs.declared.requests.Ask.TheVariants.{Open, Opendir}
 use Rattle.sftp_tree.specs.Requests.{plain_causes, causes as tree_causes}
 use Rattle.sftp_handles.proofs.Good.NewStates.{state_of}
 

@@ -6,8 +6,8 @@ use Rattle.sftp_handles.proofs.Imports.{is_none, opening_causes, excludes, listi
 use Rattle.sftp_handles.proofs.Imports.{outcome, IsFree, free-led, free-at, lost-first, Opened, File, Listing}
 use Rattle.sftp_handles.proofs.Imports.{kept_flags, State, Good, settled, has_handle_left, causes, after, told_to}
 use Rattle.sftp_handles.proofs.Imports.{flags_of, opened_by, with_new, is_opening, IsOpenedBy}
-use Rattle.sftp_packets.specs.declared.packets.Ask.TheVariants.{Open, Opendir}
-use Rattle.sftp_packets.specs.declared.packets.Answer.TheVariants as replies
+use Rattle.sftp_packets.specs.declared.requests.Ask.TheVariants.{Open, Opendir}
+use Rattle.sftp_packets.specs.declared.replies.Answer.TheVariants as replies
 use Rattle.sftp_tree.specs.declared.nodes.Node.TheVariants as nodes
 use Rattle.sftp_tree.specs.Requests.{number_at, file}
 use Rattle.sftp_tree.specs.Requests as paths

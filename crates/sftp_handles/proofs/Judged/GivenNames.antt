@@ -7,7 +7,7 @@ use Rattle.sftp_handles.proofs.Imports.{IsLeft, settled, a_listing, seen, seen_a
 use Rattle.sftp_handles.proofs.Imports.{are_some_left, gives_some, has_code, says, struck, row_of, causes_of, said_of}
 use Rattle.sftp_handles.proofs.Imports.{change_of, causes, answers, after, changed, IsJudged, IsJudgedCode}
 use Rattle.sftp_handles.proofs.Imports.{refusal_code, IsListing, gives_names, with_struck, and-false, Readdir}
-use Rattle.sftp_packets.specs.declared.packets.Answer.TheVariants.{Name}
+use Rattle.sftp_packets.specs.declared.replies.Answer.TheVariants.{Name}
 use Rattle.sftp_path.specs.Place as places
 use Rattle.sftp_handles.specs.Giving.{listing_in}
 use Rattle.sftp_handles.proofs.Good.Pins.{pins-listing_again}

@@ -5,7 +5,7 @@ use Rattle.sftp_handles.proofs.Imports.{handle_limit, asked_handle, Place, Cause
 use Rattle.sftp_handles.proofs.Imports.{led_to, new_led, told_at, follows, IsFree, free-led, lost-first, Handles}
 use Rattle.sftp_handles.proofs.Imports.{is_open, State, has_handle_left, refuses, is_new_handle, causes, said_to}
 use Rattle.sftp_handles.proofs.Imports.{said_by, told_to, Does, IsJudged, refusal_code, kind_of}
-use Rattle.sftp_packets.specs.declared.packets.Ask.TheVariants as asks
+use Rattle.sftp_packets.specs.declared.requests.Ask.TheVariants as asks
 use Rattle.sftp_tree.specs.declared.causes.Refused.TheVariants as refusals
 use Rattle.sftp_tree.specs.Requests as paths
 use Rattle.sftp_handles.specs.Replies.{opens}

@@ -8,7 +8,7 @@ use Rattle.sftp_handles.proofs.Imports.{open_at, State, Good, settled, Needed, a
 use Rattle.sftp_handles.proofs.Imports.{seen_among, seen_file, has_code, Row, row_of, said_of, causes, path_causes}
 use Rattle.sftp_handles.proofs.Imports.{path_said, causes_by, after, after_by, told_to, said_to, said_by, with_new}
 use Rattle.sftp_handles.proofs.Imports.{flags_of, opened_by, IsJudged, IsDone, IsRefusal, refusal_code, kind_of}
-use Rattle.sftp_packets.specs.declared.packets.Ask.TheVariants as asks
+use Rattle.sftp_packets.specs.declared.requests.Ask.TheVariants as asks
 use Rattle.sftp_tree.specs.declared.causes.Refused.TheVariants as refusals
 use Rattle.sftp_tree.specs.Requests as paths
 use Rattle.sftp_tree.specs.Refusals as of_tree

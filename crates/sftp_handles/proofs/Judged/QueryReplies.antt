@@ -9,7 +9,7 @@ use Rattle.sftp_handles.proofs.Imports.{change_file, nothing, causes, answers, a
 use Rattle.sftp_handles.proofs.Imports.{said_to, opened_by, flags_of, with_new, changed, path_said, IsJudged, IsRefusal}
 use Rattle.sftp_handles.proofs.Imports.{refusal_code, kind_of, FitsSaid, Carries, IsReplyOf, IsAnswered, said_in}
 use Rattle.sftp_handles.proofs.Imports.{answer_of}
-use Rattle.sftp_packets.specs.declared.packets.Ask.TheVariants as asks
+use Rattle.sftp_packets.specs.declared.requests.Ask.TheVariants as asks
 use Rattle.sftp_tree.specs.declared.causes.Refused.TheVariants as refusals
 use Rattle.sftp_tree.specs.Requests as paths
 use Rattle.sftp_tree.specs.Requests.{target_of}

@@ -9,7 +9,7 @@ use Rattle.sftp_handles.proofs.Imports.{Listing, Left, Handles, open_at, without
 use Rattle.sftp_handles.proofs.Imports.{a_file, file, seen, seen_among, seen_file, says, row_of, causes_of, said_of}
 use Rattle.sftp_handles.proofs.Imports.{change_of, change_file, start_of, causes, said_to, answers, changed, after}
 use Rattle.sftp_handles.proofs.Imports.{after_by, found_file, IsWritable, IsDone, IsRefusal}
-use Rattle.sftp_packets.specs.declared.packets.Ask.TheVariants as asks
+use Rattle.sftp_packets.specs.declared.requests.Ask.TheVariants as asks
 use Rattle.sftp_tree.specs.declared.causes.Refused.TheVariants as refusals
 use Rattle.sftp_tree.specs.Changes.{with_changed_file}
 use Rattle.sftp_tree.specs.FileChanges.{with_written_file, after_unpin}

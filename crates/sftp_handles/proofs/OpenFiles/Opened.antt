@@ -15,8 +15,8 @@ use Rattle.sftp_handles.proofs.Imports.{each-get, each-put, Open, File, Listing,
 use Rattle.sftp_handles.proofs.Imports.{is_open, pins_of, times_open, opens_file, kept_flags, State, Good}
 use Rattle.sftp_handles.proofs.Imports.{settled, IsOpen, IsHandle, IsLeft, has_handle_left, is_new_handle, says, causes}
 use Rattle.sftp_handles.proofs.Imports.{answers, after, said_by, told_to, opened_by, with_new, Does, IsRefusal}
-use Rattle.sftp_packets.specs.declared.packets.Ask.TheVariants as asks
-use Rattle.sftp_packets.specs.declared.packets.Answer.TheVariants as replies
+use Rattle.sftp_packets.specs.declared.requests.Ask.TheVariants as asks
+use Rattle.sftp_packets.specs.declared.replies.Answer.TheVariants as replies
 use Rattle.sftp_tree.specs.declared.causes.Refused.TheVariants as refusals
 use Rattle.sftp_tree.specs.Refusals as refusals_of
 use Rattle.sftp_tree.specs.declared.nodes.Node.TheVariants as nodes

@@ -9,7 +9,7 @@ use Rattle.sftp_handles.proofs.Imports.{opens_file, times_open, pins_of, State, 
 use Rattle.sftp_handles.proofs.Imports.{seen_file, Row, row_of, causes_of, with_file_room, start_of, may_write}
 use Rattle.sftp_handles.proofs.Imports.{unless_open_for, causes, causes_by, asked_handle, BadHandle}
 use Rattle.sftp_handles.proofs.Imports.{NotOpenFor, NoRoom, found_file, with_room, refusing, granted}
-use Rattle.sftp_packets.specs.declared.packets.Ask.TheVariants as asks
+use Rattle.sftp_packets.specs.declared.requests.Ask.TheVariants as asks
 use Rattle.sftp_tree.proofs.OpenFiles.Written.{size-written}
 use Rattle.sftp_tree.proofs.CauseLaws.Limits.{changed-fits}
 use Rattle.sftp_tree.proofs.Limits.Entries.{content-fits}

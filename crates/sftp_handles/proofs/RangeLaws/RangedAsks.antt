@@ -5,7 +5,7 @@ use Rattle.sftp_handles.proofs.Imports.{OpenFlags, Ask, asked_handle, TreeLimits
 use Rattle.sftp_handles.proofs.Imports.{content_at, limits, ByteRange, Open, File, Listing, open_at, State, Needed}
 use Rattle.sftp_handles.proofs.Imports.{anything, a_file, a_listing, Seen, file, seen_file, seen_among, seen}
 use Rattle.sftp_handles.proofs.Imports.{goes_to_end, row_of, found_file}
-use Rattle.sftp_packets.specs.declared.packets.Ask.TheVariants as asks
+use Rattle.sftp_packets.specs.declared.requests.Ask.TheVariants as asks
 use Rattle.sftp_handles.specs.Ranges.{written_span, span, range_from, range_if, range_within, range_of, range_by, range}
 
 -- ---- what is seen

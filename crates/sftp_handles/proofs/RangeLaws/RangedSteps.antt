@@ -9,7 +9,7 @@ use Rattle.sftp_handles.proofs.Imports.{put, get-put, InOrder-put, same_table, T
 use Rattle.sftp_handles.proofs.Imports.{content_fits, with_content, limits, written_content, is_none, when, State, Good}
 use Rattle.sftp_handles.proofs.Imports.{file, seen, NoRoom, refuses, says, row_of, goes_to_end, start_of, causes_of}
 use Rattle.sftp_handles.proofs.Imports.{said_of, read_from, change_file, step}
-use Rattle.sftp_packets.specs.declared.packets.Ask.TheVariants as asks
+use Rattle.sftp_packets.specs.declared.requests.Ask.TheVariants as asks
 use Rattle.sftp_handles.specs.Replies.{gives, ended, ok}
 use Rattle.sftp_handles.specs.Ranges.{written_span, span}
 use Rattle.sftp_handles.proofs.ClashLaws.Touches.{applied}

@@ -7,7 +7,7 @@ use Rattle.sftp_handles.proofs.Imports.{reached, said, shown, shown_content, no_
 use Rattle.sftp_handles.proofs.Imports.{link_causes, done, led, led_to, told_at, shown_at, IsFree, each-get, each-all}
 use Rattle.sftp_handles.proofs.Imports.{fits-parts, free-at, PathsLeadWell, State, Good, has_handle_left, FitsSaid}
 use Rattle.sftp_handles.proofs.Imports.{said_by, told_to}
-use Rattle.sftp_packets.specs.declared.packets.Ask.TheVariants as asks
+use Rattle.sftp_packets.specs.declared.requests.Ask.TheVariants as asks
 use Rattle.std.specs.Option.{option_map}
 use Rattle.sftp_tree.specs.declared.nodes.Node.TheVariants.{Dir, File, Link}
 use Rattle.sftp_tree.specs.Requests.{target_of}

@@ -9,7 +9,7 @@ use Rattle.sftp_handles.proofs.Imports.{Name, Left, Handles, IsItem, IsLeft, is_
 use Rattle.sftp_handles.proofs.Imports.{names_in_reply, Said, same_attributes, limits_data, FitsSaid, FitsTwice}
 use Rattle.sftp_handles.proofs.Imports.{FitsData, HasNewName, said_in, answer_of, IsSpelledAnswer, IsReplyOf, status_of}
 use Rattle.sftp_handles.proofs.Imports.{only_name}
-use Rattle.sftp_packets.specs.declared.packets.Answer.TheVariants as replies
+use Rattle.sftp_packets.specs.declared.replies.Answer.TheVariants as replies
 use Rattle.sftp_treefile.specs.Limits.{highest_limits}
 use Rattle.sftp_listing.proofs.FirstNames.{Extended, attributes_of, same-itself, first-some}
 use Rattle.sftp_handles.specs.Replies.{ok, shows, names, gives, ended, lists, opens, extends}

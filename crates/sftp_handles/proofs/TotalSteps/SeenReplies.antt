@@ -6,7 +6,7 @@ use Rattle.sftp_handles.proofs.Imports.{bytes_cmp-same, are_bytes, Content, IsCo
 use Rattle.sftp_handles.proofs.Imports.{each-get, bytes-dropped, Open, File, Listing, Left, open_at, State, Good}
 use Rattle.sftp_handles.proofs.Imports.{IsHandle, IsLeft, Needed, anything, a_file, a_listing, seen, seen_among}
 use Rattle.sftp_handles.proofs.Imports.{seen_file, FitsData, FitsSaid, row_of, said_of, seen_by}
-use Rattle.sftp_packets.specs.declared.packets.Ask.TheVariants as asks
+use Rattle.sftp_packets.specs.declared.requests.Ask.TheVariants as asks
 use Rattle.sftp_treefile.specs.Limits.{highest_limits}
 use Rattle.sftp_handles.specs.Replies.{gives, ended}
 use Rattle.sftp_handles.specs.RequestRows.{listed}

@@ -5,7 +5,7 @@ use Rattle.sftp_handles.proofs.Imports.{asked_handle, are_bytes, Cause, NoEntry,
 use Rattle.sftp_handles.proofs.Imports.{CauseSet, every_cause, allows, is_none, path_of, PathsLeadWell, State, Good}
 use Rattle.sftp_handles.proofs.Imports.{has_handle_left, causes, answers, after, said_to, causes_by, path_causes}
 use Rattle.sftp_handles.proofs.Imports.{path_said, FitsSaid, IsAskable, IsAnswerable, status_of}
-use Rattle.sftp_packets.specs.declared.packets.Ask.TheVariants as asks
+use Rattle.sftp_packets.specs.declared.requests.Ask.TheVariants as asks
 use Rattle.sftp_tree.specs.Requests as paths
 use Rattle.sftp_handles.proofs.Good.GoodSteps.{room-of}
 use Rattle.sftp_handles.proofs.TotalSteps.SaidReplies.{reply_of, status-spelled, limits-fit, fits-sayable}

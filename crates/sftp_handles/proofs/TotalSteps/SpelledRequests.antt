@@ -1,7 +1,7 @@
 -- Requests that can be encoded have an id of 32 bits and paths of bytes.
 use Rattle.sftp_handles.proofs.Imports.{IsTrue, IfSome, Ask, request_packet, Request, FitsAsk, HasSpelling, are_bytes}
 use Rattle.sftp_handles.proofs.Imports.{path_of, bytes-fit, IsAskable}
-use Rattle.sftp_packets.specs.declared.packets.Ask.TheVariants as asks
+use Rattle.sftp_packets.specs.declared.requests.Ask.TheVariants as asks
 
 path-bytes : (ask : Ask) → FitsAsk ask → IfSome (path_of ask) (λ path. IsTrue (are_bytes path))
 path-bytes (asks.Close handle) fits = tt

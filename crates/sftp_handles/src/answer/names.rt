@@ -1,6 +1,6 @@
 //! The answers to OPEN, OPENDIR and READDIR (draft, sections 6.3 and 6.7).
 ghost use Rattle.std.specs.Prelude.{◌≡◌, false, IfOk, IfErr, OnOk, OnErr, IsTrue};
-ghost use Rattle.sftp_packets.specs.declared.packets.Ask.TheVariants as asks;
+ghost use Rattle.sftp_packets.specs.declared.requests.Ask.TheVariants as asks;
 ghost use Rattle.sftp_handles.specs.Handles.{open_at};
 ghost use Rattle.sftp_handles.specs.State as state;
 ghost use Rattle.sftp_handles.specs.declared.requests.Kind.TheVariants as variants;

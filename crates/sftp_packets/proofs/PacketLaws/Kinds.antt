@@ -8,7 +8,8 @@ use Rattle.sftp_packets.specs.declared.packets.Packet.TheVariants.{Init, Version
 use Rattle.sftp_packets.specs.declared.packets.Side.{Side}
 use Rattle.sftp_packets.specs.declared.packets.Side.TheVariants.{Client, Server}
 use Rattle.sftp_packets.specs.Spelling.{uint32, pairs, FitsPairs}
-use Rattle.sftp_packets.specs.Reading.{Reader, refuse, two, uint32_at, pairs_at, packet_at, packet_of}
+use Rattle.sftp_packets.specs.Reading.{Reader, refuse, two, uint32_at, pairs_at}
+use Rattle.sftp_packets.specs.Packets.{packet_at, packet_of}
 use Rattle.sftp_packets.proofs.Bytes.Numbers.{Is32}
 use Rattle.sftp_packets.proofs.Readers.Combined.{TakesAs, two_takes, two_again}
 use Rattle.sftp_packets.proofs.FieldLaws.Strings.{uint32_takes, uint32_again}

@@ -7,8 +7,8 @@ use Rattle.sftp_packets.specs.declared.packets.Packet.{Packet}
 use Rattle.sftp_packets.specs.declared.packets.Packet.TheVariants.{Init, Version, Request, Reply}
 use Rattle.sftp_packets.specs.declared.packets.Side.{Side}
 use Rattle.sftp_packets.specs.declared.packets.Side.TheVariants.{Client, Server}
-use Rattle.sftp_packets.specs.Spelling.{contents, side_of, HasSpelling}
-use Rattle.sftp_packets.specs.Reading.{client_packet_at, server_packet_at, packet_at, packet_of}
+use Rattle.sftp_packets.specs.Packets.{contents, side_of, HasSpelling}
+use Rattle.sftp_packets.specs.Packets.{client_packet_at, server_packet_at, packet_at, packet_of}
 use Rattle.sftp_packets.proofs.Bytes.Numbers.{IsBytes, IsBytes-rest}
 use Rattle.sftp_packets.proofs.Readers.Steps.{bind_ok, guard_held, ok_is}
 use Rattle.sftp_packets.proofs.PacketLaws.Rows.{head, fields_of, contents-parts, FitsRow}

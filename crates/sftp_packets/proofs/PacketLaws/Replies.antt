@@ -3,12 +3,17 @@
 use Rattle.std.proofs.Common.{◌≡◌, ℕ, [], ◌++◌, Ok, Err, refl, sym, ap, ◌∙◌, ◌^◌, ◌<◌}
 use Rattle.std.proofs.lemmas.List.{append-nil}
 use Rattle.sftp_packets.specs.declared.errors.Fault.TheVariants.{WrongType}
-use Rattle.sftp_packets.specs.declared.packets.Answer.{Answer}
-use Rattle.sftp_packets.specs.declared.packets.Answer.TheVariants as answers
+use Rattle.sftp_packets.specs.declared.replies.Answer.{Answer}
+use Rattle.sftp_packets.specs.declared.replies.Answer.TheVariants as answers
 use Rattle.sftp_packets.specs.declared.packets.Packet.TheVariants.{Reply}
 use Rattle.sftp_packets.specs.declared.packets.Side.TheVariants.{Client, Server}
-use Rattle.sftp_packets.specs.Spelling.{uint32, string, attributes, names, AreBytes, FitsString, FitsAttrs, FitsNames, answer_parts, with_id, answered_handle, FitsAnswer}
-use Rattle.sftp_packets.specs.Reading.{Reader, one, three, uint32_at, string_at, handle_at, rest_at, attributes_at, names_at, reply_at, client_packet_at, server_packet_at, packet_of}
+use Rattle.sftp_packets.specs.Spelling.{uint32, string, attributes, names, AreBytes, FitsString, FitsAttrs, FitsNames}
+use Rattle.sftp_packets.specs.Spelling.{with_id}
+use Rattle.sftp_packets.specs.Replies.{answer_parts, answered_handle, FitsAnswer}
+use Rattle.sftp_packets.specs.Reading.{Reader, one, three, uint32_at, string_at, handle_at, rest_at, attributes_at}
+use Rattle.sftp_packets.specs.Reading.{names_at}
+use Rattle.sftp_packets.specs.Replies.{reply_at}
+use Rattle.sftp_packets.specs.Packets.{client_packet_at, server_packet_at, packet_of}
 use Rattle.sftp_packets.proofs.Bytes.Numbers.{Is32}
 use Rattle.sftp_packets.proofs.Readers.Combined.{TakesAs, one_takes, two_takes, three_takes, one_again, two_again, three_again}
 use Rattle.sftp_packets.proofs.FieldLaws.Strings.{FitsHandle, as_bytes, uint32_takes, string_takes, handle_takes, rest_takes, uint32_again, string_again, handle_again, rest_again}

@@ -1,12 +1,15 @@
 -- What a row of the packet table says of a packet: its type, the fields after it, and what they fit.
 use Rattle.std.proofs.Common.{◌≡◌, ℕ, ◌≤◌, false, List, [], ◌∷◌, length, refl}
 use Rattle.std.specs.Prelude.{IfSome}
-use Rattle.sftp_packets.specs.declared.packets.Ask.{Ask}
-use Rattle.sftp_packets.specs.declared.packets.Answer.{Answer}
+use Rattle.sftp_packets.specs.declared.requests.Ask.{Ask}
+use Rattle.sftp_packets.specs.declared.replies.Answer.{Answer}
 use Rattle.sftp_packets.specs.declared.packets.Packet.{Packet}
 use Rattle.sftp_packets.specs.declared.packets.Packet.TheVariants.{Init, Version, Request, Reply}
 use Rattle.sftp_packets.specs.declared.packets.Side.{Side}
-use Rattle.sftp_packets.specs.Spelling.{ask_parts, answer_parts, contents, side_of, handle_limit, asked_handle, answered_handle, handle_of, asks_known, hides_extension, FitsAsk, FitsAnswer, FitsFields}
+use Rattle.sftp_packets.specs.Spelling.{handle_limit}
+use Rattle.sftp_packets.specs.Requests.{ask_parts, asked_handle, asks_known, FitsAsk}
+use Rattle.sftp_packets.specs.Replies.{answer_parts, answered_handle, FitsAnswer}
+use Rattle.sftp_packets.specs.Packets.{contents, side_of, handle_of, hides_extension, FitsFields}
 
 -- ---- the type, and what follows it
 

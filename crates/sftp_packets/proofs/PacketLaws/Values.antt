@@ -1,7 +1,8 @@
 -- What can be encoded has values: its bytes are bytes, and the numbers of an owner have 32 bits.
 use Rattle.std.specs.Prelude.{List, [], ◌∷◌}
-use Rattle.sftp_packets.specs.declared.packets.Ask.{Ask}
-use Rattle.sftp_packets.specs.Spelling.{Field, Text, Attributes, ask_row, FitsField, Fit, FitsAsk}
+use Rattle.sftp_packets.specs.declared.requests.Ask.{Ask}
+use Rattle.sftp_packets.specs.Spelling.{Field, Text, Attributes, FitsField, Fit}
+use Rattle.sftp_packets.specs.Requests.{ask_row, FitsAsk}
 use Rattle.sftp_packets.specs.AskValues.{IsValue, AreValues, IsAsk}
 
 encoded-field : (field : Field) → FitsField field → IsValue field

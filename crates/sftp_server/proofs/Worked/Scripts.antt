@@ -12,8 +12,8 @@ use Rattle.sftp_tree.specs.Requests.{led, plain_causes, causes as path_causes, o
 use Rattle.sftp_handles.specs.Requests.{causes, told_to, answers, after}
 use Rattle.sftp_transcript.specs.Examples.{mkdir, rmdir, status}
 use Rattle.sftp_server.specs.Examples.{made_and_removed, answered_backwards, root_attributes, stat_answered}
-use Rattle.sftp_packets.specs.declared.packets.Ask.TheVariants.{Mkdir, Rmdir, Stat}
-use Rattle.sftp_packets.specs.declared.packets.Answer.TheVariants.{Status, Attrs as attributes}
+use Rattle.sftp_packets.specs.declared.requests.Ask.TheVariants.{Mkdir, Rmdir, Stat}
+use Rattle.sftp_packets.specs.declared.replies.Answer.TheVariants.{Status, Attrs as attributes}
 use Rattle.sftp_path.specs.Place.{parts, components, is_good_path}
 use Rattle.sftp_tree.specs.declared.nodes.Node.TheVariants.{Dir}
 use Rattle.sftp_tree.specs.Walk.{meets, walk, walk_parts, reached}

@@ -7,7 +7,7 @@ use Rattle.sftp_transcript.proofs.Imports.{Event, Stage, BeginsRecord, ReadUpTo,
 use Rattle.sftp_transcript.proofs.Imports.{number_after_events, side_of_direction, Begins, IsInit, IsVersion}
 use Rattle.sftp_transcript.proofs.Imports.{transcript_opening, direction_of, record_text, packet_of, event_record}
 use Rattle.sftp_transcript.proofs.Imports.{IsEvent, AreRecords, IsHandshake, IsRecord, front_of}
-use Rattle.sftp_packets.specs.Spelling.{spelling, HasSpelling, side_of}
+use Rattle.sftp_packets.specs.Packets.{spelling, HasSpelling, side_of}
 use Rattle.sftp_wire.proofs.StreamLaws.Front.{front_again}
 use Rattle.sftp_transcript.specs.declared.stage.Stage.TheVariants as stages
 use Rattle.sftp_transcript.specs.Refused.{KindFault, PacketFault, DirectedFault, RecordFault, IsEventPacket, EventFault}

@@ -18,7 +18,7 @@ use Rattle.sftp_tree.specs.Requests.{path_of, new_path_of}
 use Rattle.sftp_tree.proofs.Limits.Entries.{fits-put, fits-without}
 use Rattle.sftp_tree.proofs.Limits.Moves.{fits-moved, nothing-from}
 use Rattle.sftp_tree.proofs.WellFormedTrees.Places.{alone-there}
-use Rattle.sftp_packets.specs.declared.packets.Ask.TheVariants as asks
+use Rattle.sftp_packets.specs.declared.requests.Ask.TheVariants as asks
 use Rattle.sftp_tree.specs.declared.plans.Plan.{Plan}
 use Rattle.sftp_tree.proofs.CauseLaws.Places.{FreeAt, FreeBetween, free-at}
 use Rattle.sftp_tree.proofs.CauseLaws.Limits.{free-place, file-place, name-place, link-place, directory-place}

@@ -7,7 +7,8 @@ use Rattle.sftp_packets.specs.declared.errors.WireError.{WireError}
 use Rattle.sftp_packets.specs.declared.errors.WireError.TheVariants.{Unreadable, NoMemory}
 use Rattle.sftp_packets.specs.declared.packets.Packet.{Packet}
 use Rattle.sftp_packets.specs.declared.packets.Side.{Side}
-use Rattle.sftp_packets.specs.Spelling.{packet_limit, spelling, AreBytes, HasSpelling}
+use Rattle.sftp_packets.specs.Spelling.{packet_limit, AreBytes}
+use Rattle.sftp_packets.specs.Packets.{spelling, HasSpelling}
 use Rattle.sftp_wire.specs.Fronts.{front_of}
 use Rattle.sftp_wire.specs.Framing.{Frames, Step, Push, Next, IsStep, AreSteps, no_frames, room_of, front_unless, told_of, outcome_of, push_of, bytes_in, bytes_out, all_in, all_out, whole_of}
 use Rattle.sftp_packets.proofs.Bytes.Numbers.{IsBytes, IsBytes-take, IsBytes-drop, IsBytes-append, IsBytes-from_all}

@@ -1,7 +1,8 @@
 -- The request cannot be read, and nothing but the INIT is in front of it.
 use Rattle.sftp_server.proofs.Imports.{◌≡◌, ℕ, [], Some, Ok, Err, refl, sym, ap, ◌∙◌, inl, inr, Unreadable, Packet}
 use Rattle.sftp_server.proofs.Imports.{Init, Client, hex, spelling, front_of, Tree, handshake_bytes, sent_by}
-use Rattle.sftp_packets.specs.Reading.{client_packet_at, uint32_at, pairs_at, pair_at, string_at, packet_of}
+use Rattle.sftp_packets.specs.Reading.{uint32_at, pairs_at, pair_at, string_at}
+use Rattle.sftp_packets.specs.Packets.{client_packet_at, packet_of}
 use Rattle.sftp_server.specs.Examples.{remove_and_byte, EndsAfterVersion}
 use Rattle.sftp_packets.specs.declared.errors.Fault.{Fault}
 use Rattle.sftp_packets.specs.declared.errors.Fault.TheVariants.{Trailing, Short}

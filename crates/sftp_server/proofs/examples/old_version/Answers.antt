@@ -1,6 +1,7 @@
 use Rattle.sftp_server.proofs.Imports.{◌≡◌, ◌≤◌, [], Some, Ok, codes, refl, sym, subst, inl, inr, arith, hex, front_of}
 use Rattle.sftp_server.proofs.Imports.{Init, Client, IsNoGreeting}
-use Rattle.sftp_packets.specs.Reading.{client_packet_at, uint32_at, pairs_at, pair_at, string_at, packet_of}
+use Rattle.sftp_packets.specs.Reading.{uint32_at, pairs_at, pair_at, string_at}
+use Rattle.sftp_packets.specs.Packets.{client_packet_at, packet_of}
 use Rattle.sftp_server.proofs.examples.old_version.Goals as goal
 
 too-old : 3 ≤ 2 → ⊥

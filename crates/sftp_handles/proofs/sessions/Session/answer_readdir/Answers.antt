@@ -1,6 +1,6 @@
 use Rattle.sftp_handles.proofs.Imports.{◌≡◌, ◌==◌, true, nat_lt, length, refl, sym, ap, subst, ◌∙◌, Readdir, Answer}
 use Rattle.sftp_handles.proofs.Imports.{State, Good, open_at, names_in, AreFirstNames, IsAnswered}
-use Rattle.sftp_packets.specs.declared.packets.Answer.TheVariants.{Name}
+use Rattle.sftp_packets.specs.declared.replies.Answer.TheVariants.{Name}
 use Rattle.sftp_handles.proofs.Judged.GivenNames.{good-given}
 use Rattle.sftp_handles.proofs.Answered.NameReplies.{some-items, no-items, first-listing, first-given, readdir-answered}
 use Rattle.sftp_handles.proofs.Answered.NameReplies.{readdir-ended}

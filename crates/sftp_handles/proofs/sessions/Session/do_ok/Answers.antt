@@ -1,5 +1,5 @@
 use Rattle.sftp_handles.proofs.Imports.{sym, ap, subst, ◌∙◌, OnOk, Ask, IsDone}
-use Rattle.sftp_packets.specs.declared.packets.Ask.TheVariants as asks
+use Rattle.sftp_packets.specs.declared.requests.Ask.TheVariants as asks
 use Rattle.sftp_handles.proofs.sessions.Session.do_ok.Goals as goal
 
 pub returns-in-Close-clause-done : goal.returns-in-Close-clause-done

@@ -1,5 +1,5 @@
 use Rattle.sftp_handles.proofs.Imports.{◌≡◌, ℕ, List, Some, refl, sym, subst, IsFree, State, Good, Carries}
-use Rattle.sftp_packets.specs.declared.packets.Ask.TheVariants as asks
+use Rattle.sftp_packets.specs.declared.requests.Ask.TheVariants as asks
 use Rattle.sftp_tree.specs.Told as told
 use Rattle.sftp_tree.specs.Refusals as of_tree
 use Rattle.sftp_handles.specs.Replies.{names}

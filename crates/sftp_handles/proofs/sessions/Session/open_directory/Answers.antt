@@ -1,5 +1,5 @@
 use Rattle.sftp_handles.proofs.Imports.{◌≡◌, sym, ap, subst, ◌∙◌, map, Some, entry_of, is_none, State, Good, IsLeft}
-use Rattle.sftp_packets.specs.declared.packets.Ask.TheVariants as asks
+use Rattle.sftp_packets.specs.declared.requests.Ask.TheVariants as asks
 use Rattle.sftp_tree.specs.Requests as paths
 use Rattle.sftp_tree.specs.Told as told
 use Rattle.sftp_handles.proofs.OpenFiles.Opened as opened

@@ -1,7 +1,7 @@
 use Rattle.sftp_handles.proofs.Imports.{◌<◌, ◌^◌, sym, ap, subst, ◌∙◌, Tree, WellFormed, HasFile, times_pinned}
 use Rattle.sftp_handles.proofs.Imports.{pins-stay, State, has_handle_left, Does}
-use Rattle.sftp_packets.specs.declared.packets.Ask.TheVariants as asks
-use Rattle.sftp_packets.specs.declared.packets.Answer.TheVariants as replies
+use Rattle.sftp_packets.specs.declared.requests.Ask.TheVariants as asks
+use Rattle.sftp_packets.specs.declared.replies.Answer.TheVariants as replies
 use Rattle.sftp_handles.proofs.Good.NewStates.{state_of}
 use Rattle.sftp_handles.proofs.OpenFiles.Opened as opened
 use Rattle.sftp_handles.proofs.sessions.Session.open_file.Goals as goal

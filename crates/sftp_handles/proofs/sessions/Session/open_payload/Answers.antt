@@ -1,5 +1,5 @@
 use Rattle.sftp_handles.proofs.Imports.{Some, refl}
-use Rattle.sftp_packets.specs.declared.packets.Ask.TheVariants as asks
+use Rattle.sftp_packets.specs.declared.requests.Ask.TheVariants as asks
 use Rattle.sftp_handles.specs.Replies.{shows}
 use Rattle.sftp_handles.proofs.Judged.QueryReplies.{carries-open}
 use Rattle.sftp_handles.proofs.sessions.Session.open_payload.Goals as goal

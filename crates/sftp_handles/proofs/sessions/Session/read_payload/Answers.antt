@@ -1,5 +1,5 @@
 use Rattle.sftp_handles.proofs.Imports.{refl}
-use Rattle.sftp_packets.specs.declared.packets.Ask.TheVariants as asks
+use Rattle.sftp_packets.specs.declared.requests.Ask.TheVariants as asks
 use Rattle.sftp_handles.specs.Replies.{gives, ended}
 use Rattle.sftp_handles.proofs.Judged.QueryReplies.{carries-open}
 use Rattle.sftp_handles.proofs.sessions.Session.read_payload.Goals as goal

@@ -1,6 +1,6 @@
 use Rattle.sftp_handles.proofs.Imports.{◌+◌, min, Some, length, option_map, refl, sym, ap, ◌∙◌, content_at}
 use Rattle.sftp_handles.proofs.Imports.{limits, State}
-use Rattle.sftp_packets.specs.declared.packets.Ask.TheVariants as asks
+use Rattle.sftp_packets.specs.declared.requests.Ask.TheVariants as asks
 use Rattle.sftp_handles.specs.Ranges.{range_within}
 use Rattle.sftp_handles.proofs.RangeLaws.RangedAsks.{range-found, range-refused}
 use Rattle.sftp_handles.proofs.sessions.Session.read_range.Goals as goal

@@ -1,6 +1,6 @@
 use Rattle.sftp_handles.proofs.Imports.{Ok, refl, sym, ap, ◌≡◌, ◌∙◌, true, not, NotOpenFor, no_causes, when}
 use Rattle.sftp_handles.proofs.Imports.{HasFile, open_at, Good, found_file, refusing}
-use Rattle.sftp_packets.specs.declared.packets.Ask.TheVariants as asks
+use Rattle.sftp_packets.specs.declared.requests.Ask.TheVariants as asks
 use Rattle.sftp_handles.proofs.OpenFiles.SeenCauses.{plain-found, lost, granted-read, granted-has}
 use Rattle.sftp_handles.proofs.sessions.Session.readable_at.Goals as goal
 

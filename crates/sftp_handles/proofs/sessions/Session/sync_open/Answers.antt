@@ -1,7 +1,7 @@
 use Rattle.sftp_handles.proofs.Imports.{◌≡◌, ℕ, List, Option, Some, None, Ok, IsTrue, is_some, refl, sym, OpenFlags}
 use Rattle.sftp_handles.proofs.Imports.{Content, content_at, no_causes, State, Good, open_at, causes, found_file}
 use Rattle.sftp_handles.proofs.Imports.{IsDone}
-use Rattle.sftp_packets.specs.declared.packets.Ask.TheVariants as asks
+use Rattle.sftp_packets.specs.declared.requests.Ask.TheVariants as asks
 use Rattle.sftp_handles.proofs.Good.GoodStates.{good-settled}
 use Rattle.sftp_handles.proofs.OpenFiles.SeenAnswers.{only-holds}
 use Rattle.sftp_handles.proofs.OpenFiles.OpenChanges.{done-file}

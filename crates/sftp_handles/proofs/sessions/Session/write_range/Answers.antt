@@ -1,5 +1,5 @@
 use Rattle.sftp_handles.proofs.Imports.{length, option_map, refl, sym, ap, ◌∙◌, content_at}
-use Rattle.sftp_packets.specs.declared.packets.Ask.TheVariants as asks
+use Rattle.sftp_packets.specs.declared.requests.Ask.TheVariants as asks
 use Rattle.sftp_handles.specs.Ranges.{written_span, range_within}
 use Rattle.sftp_handles.proofs.RangeLaws.RangedAsks.{range-found, range-unwritten, range-refused}
 use Rattle.sftp_handles.proofs.sessions.Session.write_range.Goals as goal

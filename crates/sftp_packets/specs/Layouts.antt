@@ -1,0 +1,130 @@
+-- The layouts of packets, which say of what a packet consists without its values: the same rows once more, for whoever
+-- goes over a packet's bytes field by field. No layout is stated a second time.
+use Rattle.std.specs.Prelude.{ℕ, ◌==◌, ◌&&◌, Bool, true, false, if◌then◌else◌, nat_eq, List, [], ◌∷◌, codes, drop, find, map}
+use Rattle.std.specs.Prelude.{Option, Some, None, bytes_eq}
+use Rattle.std.specs.List.{starts_with}
+use Rattle.sftp_packets.specs.declared.packets.Packet.{Packet}
+use Rattle.sftp_packets.specs.declared.packets.Packet.TheVariants.{Init, Version, Request, Reply}
+use Rattle.sftp_packets.specs.declared.packets.Side.{Side}
+use Rattle.sftp_packets.specs.declared.packets.Side.TheVariants.{Client, Server}
+use Rattle.sftp_packets.specs.declared.layouts.FieldKind.{FieldKind}
+use Rattle.sftp_packets.specs.declared.layouts.FieldKind.TheVariants as kinds
+use Rattle.sftp_packets.specs.declared.layouts.Tail.{Tail}
+use Rattle.sftp_packets.specs.declared.layouts.Tail.TheVariants as tails
+use Rattle.sftp_packets.specs.declared.layouts.Layout.{Layout}
+use Rattle.sftp_packets.specs.Spelling.{Field, Number, LongNumber, Flags, Text, Handle, ExtensionName, Message}
+use Rattle.sftp_packets.specs.Spelling.{Rest, Attributes, Items}
+use Rattle.sftp_packets.specs.Spelling.{Row, string}
+use Rattle.sftp_packets.specs.Requests.{ask_row, every_ask}
+use Rattle.sftp_packets.specs.Replies.{answer_row, every_answer}
+
+-- A layout: the packet's type, whether an id comes after it, the type's name, what stands in the bytes alone (the name
+-- of a known extension), the kinds of the fields, and what comes after them.
+pub record Shape : Type 0 where
+  pub kind : ℕ
+  pub has_id : Bool
+  pub name : List ℕ
+  pub mark : List ℕ
+  pub fields : List FieldKind
+  pub tail : Tail
+
+-- a layout of the code
+abbrev pub shape : Layout → Shape
+shape layout = record {
+  kind = layout.kind;
+  has_id = layout.has_id;
+  name = layout.name.now;
+  mark = layout.mark.now;
+  fields = layout.fields.now;
+  tail = layout.tail;
+}
+
+-- ---- the layout of a packet
+
+-- a field without its value before others: it is of a kind, or is what comes after the fields
+abbrev pub before : Field → List FieldKind × Tail → List FieldKind × Tail
+before (Number number) others = (kinds.Number ∷ others.0, others.1)
+before (LongNumber number) others = (kinds.LongNumber ∷ others.0, others.1)
+before (Flags flags) others = (kinds.Flags ∷ others.0, others.1)
+before (Text text) others = (kinds.Text ∷ others.0, others.1)
+before (Handle handle) others = (kinds.Text ∷ others.0, others.1)
+before (ExtensionName name) others = (kinds.Text ∷ others.0, others.1)
+before (Message message language) others = ([], tails.Message)
+before (Rest bytes) others = ([], tails.Rest)
+before (Attributes attrs) others = ([], tails.Attributes)
+before (Items items) others = ([], tails.Items)
+
+-- fields without their values
+abbrev pub kinds_of : List Field → List FieldKind × Tail
+kinds_of [] = ([], tails.Nothing)
+kinds_of (field ∷ fields) = before field (kinds_of fields)
+
+-- the name of a known extension, as it stands in the bytes
+abbrev pub mark_of : Option (List ℕ) → List ℕ
+mark_of None = []
+mark_of (Some known) = string known
+
+abbrev pub row_shape : Row → Shape
+row_shape row = record {
+  kind = row.kind;
+  has_id = true;
+  name = row.name;
+  mark = mark_of row.extension;
+  fields = (kinds_of row.fields).0;
+  tail = (kinds_of row.fields).1;
+}
+
+-- the first packet of a side: a version, and pairs (draft, section 4)
+abbrev pub opening : ℕ → List ℕ → Shape
+opening kind name = record {
+  kind = kind;
+  has_id = false;
+  name = name;
+  mark = [];
+  fields = kinds.Number ∷ [];
+  tail = tails.Pairs;
+}
+
+abbrev pub packet_shape : Packet → Shape
+packet_shape (Init version extensions) = opening 1 (codes "INIT")
+packet_shape (Version version extensions) = opening 2 (codes "VERSION")
+packet_shape (Request request) = row_shape (ask_row request.ask)
+packet_shape (Reply reply) = row_shape (answer_row reply.answer)
+
+-- ---- all layouts
+
+-- the layouts of what a side sends
+unfoldable pub shapes : Side → List Shape
+shapes Client = opening 1 (codes "INIT") ∷ map (λ ask. row_shape (ask_row ask)) every_ask
+shapes Server = opening 2 (codes "VERSION") ∷ map (λ answer. row_shape (answer_row answer)) every_answer
+
+-- ---- the layout of bytes
+
+-- whether a packet, of whose bytes four are its length, may have the layout: its type is at byte 4, and what stands in
+-- the bytes alone at byte 9
+abbrev pub may_have : List ℕ → Shape → Bool
+may_have bytes s = starts_with nat_eq (drop 4 bytes) (s.kind ∷ []) && starts_with nat_eq (drop 9 bytes) s.mark
+
+-- the layout of a packet's bytes
+unfoldable pub layout_of_bytes : Side → List ℕ → Option Shape
+layout_of_bytes side bytes = find (may_have bytes) (shapes side)
+
+-- ---- names of types
+
+-- an extension has the name of the type that all extensions have
+abbrev pub unless_known : Option (List ℕ) → List ℕ → List ℕ
+unless_known None name = name
+unless_known (Some known) name = codes "EXTENDED"
+
+-- the name of a packet's type (draft, section 3)
+abbrev pub type_name : Packet → List ℕ
+type_name (Init version extensions) = codes "INIT"
+type_name (Version version extensions) = codes "VERSION"
+type_name (Request request) = unless_known (ask_row request.ask).extension (ask_row request.ask).name
+type_name (Reply reply) = unless_known (answer_row reply.answer).extension (answer_row reply.answer).name
+
+-- the name of a type, among layouts: that of the layout which stands for any packet of the type
+abbrev pub name_among : ℕ → List Shape → List ℕ
+name_among kind [] = []
+name_among kind (s ∷ others) =
+    if s.kind == kind && bytes_eq s.mark [] then s.name else name_among kind others

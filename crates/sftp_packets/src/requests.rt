@@ -1,0 +1,358 @@
+//! The requests (draft, sections 6 and 8; OpenSSH's PROTOCOL, section 4): the type of each, its fields, and its handle.
+//! `requests/reading.rt` reads them.
+ghost use Rattle.std.specs.Prelude.{◌≡◌, option_copied};
+ghost use Rattle.sftp_packets.specs.Requests.{ask_parts, asked_handle, is_known_extension, asks_known, reply_type};
+
+use crate::attributes::Attrs;
+use crate::layouts::FieldKind::{Flags, LongNumber, Number, Text};
+use crate::layouts::{Layout, extension, opening, plain};
+use crate::packets::INIT;
+use crate::replies::{ATTRS, DATA, EXTENDED_REPLY, HANDLE, NAME, STATUS};
+use crate::strings::ByteString;
+
+pub(crate) mod reading;
+
+// The types of the packets (draft, section 3).
+pub(crate) const OPEN: u8 = 3;
+
+pub(crate) const CLOSE: u8 = 4;
+
+pub(crate) const READ: u8 = 5;
+
+pub(crate) const WRITE: u8 = 6;
+
+pub(crate) const LSTAT: u8 = 7;
+
+pub(crate) const FSTAT: u8 = 8;
+
+pub(crate) const SETSTAT: u8 = 9;
+
+pub(crate) const FSETSTAT: u8 = 10;
+
+pub(crate) const OPENDIR: u8 = 11;
+
+pub(crate) const READDIR: u8 = 12;
+
+pub(crate) const REMOVE: u8 = 13;
+
+pub(crate) const MKDIR: u8 = 14;
+
+pub(crate) const RMDIR: u8 = 15;
+
+pub(crate) const REALPATH: u8 = 16;
+
+pub(crate) const STAT: u8 = 17;
+
+pub(crate) const RENAME: u8 = 18;
+
+pub(crate) const READLINK: u8 = 19;
+
+pub(crate) const SYMLINK: u8 = 20;
+
+pub(crate) const EXTENDED: u8 = 200;
+
+// The names of the extensions that have requests of their own.
+
+/// Rename as POSIX does (OpenSSH's PROTOCOL, section 4.3).
+pub const POSIX_RENAME: &[u8] = b"posix-rename@openssh.com";
+
+/// Make another name for a file (OpenSSH's PROTOCOL, section 4.5).
+pub const HARDLINK: &[u8] = b"hardlink@openssh.com";
+
+/// Flush an open file to storage (OpenSSH's PROTOCOL, section 4.6).
+pub const FSYNC: &[u8] = b"fsync@openssh.com";
+
+/// The limits of the tree. This profile's own.
+pub const LIMITS: &[u8] = b"limits@sftpv3.test";
+
+/// What a client asks for. A path is any bytes; a handle comes from a HANDLE reply and has at most `HANDLE_LIMIT`
+/// bytes; offsets and lengths are in bytes.
+// `Debug` is slow to prove, with an arm for each request. The tests of packets read its words.
+#[derive(Debug, Drop)]
+pub enum Ask {
+    /// Open a file, or create it (draft, section 6.3). The flags are the bits of `OpenFlags`.
+    Open {
+        path: ByteString,
+        pflags: u32,
+        attrs: Attrs,
+    },
+    /// Close a handle (draft, section 6.3).
+    Close {
+        handle: ByteString,
+    },
+    /// Read from an open file (draft, section 6.4).
+    Read {
+        handle: ByteString,
+        offset: u64,
+        len: u32,
+    },
+    /// Write to an open file (draft, section 6.4).
+    Write {
+        handle: ByteString,
+        offset: u64,
+        bytes: ByteString,
+    },
+    /// The attributes of what a path names; a last link is not followed (draft, section 6.8).
+    Lstat {
+        path: ByteString,
+    },
+    /// The attributes of an open file (draft, section 6.8).
+    Fstat {
+        handle: ByteString,
+    },
+    /// Set the attributes of what a path names (draft, section 6.9).
+    Setstat {
+        path: ByteString,
+        attrs: Attrs,
+    },
+    /// Set the attributes of an open file (draft, section 6.9).
+    Fsetstat {
+        handle: ByteString,
+        attrs: Attrs,
+    },
+    /// Open a directory to read its names (draft, section 6.7).
+    Opendir {
+        path: ByteString,
+    },
+    /// More names of an open directory (draft, section 6.7).
+    Readdir {
+        handle: ByteString,
+    },
+    /// Remove a name of a file or a link (draft, section 6.5).
+    Remove {
+        path: ByteString,
+    },
+    /// Make a directory (draft, section 6.6).
+    Mkdir {
+        path: ByteString,
+        attrs: Attrs,
+    },
+    /// Remove an empty directory (draft, section 6.6).
+    Rmdir {
+        path: ByteString,
+    },
+    /// The absolute path of what a path names (draft, section 6.11).
+    Realpath {
+        path: ByteString,
+    },
+    /// The attributes of what a path names; links are followed (draft, section 6.8).
+    Stat {
+        path: ByteString,
+    },
+    /// Rename; the new name must not exist (draft, section 6.5).
+    Rename {
+        oldpath: ByteString,
+        newpath: ByteString,
+    },
+    /// The target of a symbolic link (draft, section 6.10).
+    Readlink {
+        path: ByteString,
+    },
+    /// Make a symbolic link, the target first (draft, section 6.10; the order is that of OpenSSH's PROTOCOL,
+    /// section 4.1).
+    Symlink {
+        targetpath: ByteString,
+        linkpath: ByteString,
+    },
+    /// Rename as POSIX does: the new name may exist (OpenSSH's PROTOCOL, section 4.3).
+    PosixRename {
+        oldpath: ByteString,
+        newpath: ByteString,
+    },
+    /// Make another name for a file (OpenSSH's PROTOCOL, section 4.5).
+    Hardlink {
+        oldpath: ByteString,
+        newpath: ByteString,
+    },
+    /// Flush an open file to storage (OpenSSH's PROTOCOL, section 4.6).
+    Fsync {
+        handle: ByteString,
+    },
+    /// The limits of the tree, in an `Extended` answer: an extension of this profile's own, without data.
+    Limits,
+    /// Any other extension: its name, and the bytes after it (draft, section 8).
+    Unknown {
+        name: ByteString,
+        rest: ByteString,
+    },
+}
+
+/// Evaluates an expression with the fields of a request.
+// A macro and not a function: wherever it is used, the compiler then knows the kinds of the fields.
+macro_rules! with_asked {
+    ($ask:expr, $fields:ident => $value:expr) => {
+        match $ask {
+            Ask::Lstat { path: text }
+            | Ask::Opendir { path: text }
+            | Ask::Remove { path: text }
+            | Ask::Rmdir { path: text }
+            | Ask::Realpath { path: text }
+            | Ask::Stat { path: text }
+            | Ask::Readlink { path: text }
+            | Ask::Close { handle: text }
+            | Ask::Fstat { handle: text }
+            | Ask::Readdir { handle: text } => {
+                let $fields = One(Text(text));
+                $value
+            }
+            Ask::Setstat { path: text, attrs }
+            | Ask::Mkdir { path: text, attrs }
+            | Ask::Fsetstat { handle: text, attrs } => {
+                let $fields = Two(Text(text), Attributes(attrs));
+                $value
+            }
+            Ask::Open { path, pflags, attrs } => {
+                let $fields = Three(Text(path), Number(*pflags), Attributes(attrs));
+                $value
+            }
+            Ask::Read { handle, offset, len } => {
+                let $fields = Three(Text(handle), LongNumber(*offset), Number(*len));
+                $value
+            }
+            Ask::Write { handle, offset, bytes } => {
+                let $fields = Three(Text(handle), LongNumber(*offset), Text(bytes));
+                $value
+            }
+            Ask::Rename { oldpath: one, newpath: other }
+            | Ask::Symlink { targetpath: one, linkpath: other } => {
+                let $fields = Two(Text(one), Text(other));
+                $value
+            }
+            Ask::PosixRename { oldpath, newpath } => {
+                let $fields = Three(ExtensionName(crate::requests::POSIX_RENAME), Text(oldpath), Text(newpath));
+                $value
+            }
+            Ask::Hardlink { oldpath, newpath } => {
+                let $fields = Three(ExtensionName(crate::requests::HARDLINK), Text(oldpath), Text(newpath));
+                $value
+            }
+            Ask::Fsync { handle } => {
+                let $fields = Two(ExtensionName(crate::requests::FSYNC), Text(handle));
+                $value
+            }
+            Ask::Limits => {
+                let $fields = One(ExtensionName(crate::requests::LIMITS));
+                $value
+            }
+            Ask::Unknown { name, rest } => {
+                let $fields = Two(ExtensionName(name.as_slice()), Rest(rest));
+                $value
+            }
+        }
+    };
+}
+
+pub(crate) use with_asked;
+
+/// The type of a request's packet.
+pub(crate) fn asked_type(ask: &Ask) -> u8
+    ensures { result ≡ (ask_parts ask.now).0 }
+{
+    match ask {
+        Ask::Open { .. } => OPEN,
+        Ask::Close { .. } => CLOSE,
+        Ask::Read { .. } => READ,
+        Ask::Write { .. } => WRITE,
+        Ask::Lstat { .. } => LSTAT,
+        Ask::Fstat { .. } => FSTAT,
+        Ask::Setstat { .. } => SETSTAT,
+        Ask::Fsetstat { .. } => FSETSTAT,
+        Ask::Opendir { .. } => OPENDIR,
+        Ask::Readdir { .. } => READDIR,
+        Ask::Remove { .. } => REMOVE,
+        Ask::Mkdir { .. } => MKDIR,
+        Ask::Rmdir { .. } => RMDIR,
+        Ask::Realpath { .. } => REALPATH,
+        Ask::Stat { .. } => STAT,
+        Ask::Rename { .. } => RENAME,
+        Ask::Readlink { .. } => READLINK,
+        Ask::Symlink { .. } => SYMLINK,
+        Ask::PosixRename { .. }
+        | Ask::Hardlink { .. }
+        | Ask::Fsync { .. }
+        | Ask::Limits
+        | Ask::Unknown { .. } => EXTENDED,
+    }
+}
+
+/// The handle that a request names; `None` if it names none.
+pub fn asked_handle(ask: &Ask) -> Option<&[u8]>
+    ensures { option_copied result ≡ asked_handle ask.now }
+{
+    match ask {
+        Ask::Close { handle }
+        | Ask::Read { handle, .. }
+        | Ask::Write { handle, .. }
+        | Ask::Fstat { handle }
+        | Ask::Fsetstat { handle, .. }
+        | Ask::Readdir { handle }
+        | Ask::Fsync { handle } => Some(handle.as_slice()),
+        // the rows of all others name none, as the proof finds
+        _ => None,
+    }
+}
+
+/// The type of the reply that a request may get; each may get a status beside it, and most get nothing else (draft,
+/// sections 6 and 7).
+pub(crate) fn reply_type(ask: &Ask) -> u8
+    ensures { result ≡ reply_type ask.now }
+{
+    match ask {
+        Ask::Open { .. } | Ask::Opendir { .. } => HANDLE,
+        Ask::Read { .. } => DATA,
+        Ask::Readdir { .. } | Ask::Realpath { .. } | Ask::Readlink { .. } => NAME,
+        Ask::Stat { .. } | Ask::Lstat { .. } | Ask::Fstat { .. } => ATTRS,
+        Ask::Limits => EXTENDED_REPLY,
+        // the rows of all others say so, as the proof finds
+        _ => STATUS,
+    }
+}
+
+/// Whether a name is that of an extension that has a request of its own.
+fn is_known(name: &[u8]) -> bool
+    ensures { result ≡ is_known_extension name.now }
+{
+    name == POSIX_RENAME || name == HARDLINK || name == FSYNC || name == LIMITS
+}
+
+/// Whether it is an `Unknown` with the name of an extension that has a request of its own.
+pub(crate) fn asks_known(ask: &Ask) -> bool
+    ensures { result ≡ asks_known ask.now }
+{
+    match ask {
+        Ask::Unknown { name, .. } => is_known(name.as_slice()),
+        _ => false,
+    }
+}
+
+/// The layouts of what a client sends. Those of the known extensions come before that of any other.
+pub(crate) const CLIENT_LAYOUTS: &[Layout] = &[
+    opening!(INIT, "INIT"),
+    plain!(OPEN, "OPEN", &[Text, Flags], Attributes),
+    plain!(CLOSE, "CLOSE", &[Text], Nothing),
+    plain!(READ, "READ", &[Text, LongNumber, Number], Nothing),
+    plain!(WRITE, "WRITE", &[Text, LongNumber, Text], Nothing),
+    plain!(LSTAT, "LSTAT", &[Text], Nothing),
+    plain!(FSTAT, "FSTAT", &[Text], Nothing),
+    plain!(SETSTAT, "SETSTAT", &[Text], Attributes),
+    plain!(FSETSTAT, "FSETSTAT", &[Text], Attributes),
+    plain!(OPENDIR, "OPENDIR", &[Text], Nothing),
+    plain!(READDIR, "READDIR", &[Text], Nothing),
+    plain!(REMOVE, "REMOVE", &[Text], Nothing),
+    plain!(MKDIR, "MKDIR", &[Text], Attributes),
+    plain!(RMDIR, "RMDIR", &[Text], Nothing),
+    plain!(REALPATH, "REALPATH", &[Text], Nothing),
+    plain!(STAT, "STAT", &[Text], Nothing),
+    plain!(RENAME, "RENAME", &[Text, Text], Nothing),
+    plain!(READLINK, "READLINK", &[Text], Nothing),
+    plain!(SYMLINK, "SYMLINK", &[Text, Text], Nothing),
+    extension!(
+        "POSIX-RENAME",
+        b"\0\0\0\x18posix-rename@openssh.com",
+        &[Text, Text]
+    ),
+    extension!("HARDLINK", b"\0\0\0\x14hardlink@openssh.com", &[Text, Text]),
+    extension!("FSYNC", b"\0\0\0\x11fsync@openssh.com", &[Text]),
+    extension!("LIMITS", b"\0\0\0\x12limits@sftpv3.test", &[]),
+    plain!(EXTENDED, "EXTENDED", &[Text], Rest),
+];
