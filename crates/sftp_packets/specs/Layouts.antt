@@ -1,7 +1,7 @@
--- The layouts of packets, which say of what a packet consists without its values: the same rows once more, for whoever
--- goes over a packet's bytes field by field. No layout is stated a second time.
-use Rattle.std.specs.Prelude.{ℕ, ◌==◌, ◌&&◌, Bool, true, false, if◌then◌else◌, nat_eq, List, [], ◌∷◌, codes, drop, find, map}
-use Rattle.std.specs.Prelude.{Option, Some, None, bytes_eq}
+-- The layouts of packets: what each consists of, without its values, for a reader that goes over a packet's bytes field
+-- by field. All of them follow from the rows.
+use Rattle.std.specs.Prelude.{ℕ, ◌==◌, ◌&&◌, Bool, true, false, if◌then◌else◌, nat_eq, bytes_eq}
+use Rattle.std.specs.Prelude.{List, [], ◌∷◌, codes, drop, find, map, Option, Some, None}
 use Rattle.std.specs.List.{starts_with}
 use Rattle.sftp_packets.specs.declared.packets.Packet.{Packet}
 use Rattle.sftp_packets.specs.declared.packets.Packet.TheVariants.{Init, Version, Request, Reply}

@@ -12,21 +12,25 @@ use Rattle.sftp_packets.specs.Reading.{attributes_at, names_at}
 
 -- ---- how replies are spelled
 
+-- the row of each reply: its type, the name of the type, and the fields after the id
 abbrev pub answer_row : Answer → Row
-answer_row (answers.Status code message language) = plain 101 (codes "STATUS") (Number code ∷ Message message language ∷ [])
+answer_row (answers.Status code message language) =
+    plain 101 (codes "STATUS") (Number code ∷ Message message language ∷ [])
 answer_row (answers.Handle handle) = plain 102 (codes "HANDLE") (Handle handle ∷ [])
 answer_row (answers.Data bytes) = plain 103 (codes "DATA") (Text bytes ∷ [])
 answer_row (answers.Name items) = plain 104 (codes "NAME") (Items items ∷ [])
 answer_row (answers.Attrs attrs) = plain 105 (codes "ATTRS") (Attributes attrs ∷ [])
 answer_row (answers.Extended bytes) = plain 201 (codes "EXTENDED_REPLY") (Rest bytes ∷ [])
 
+-- the type of a reply, and the bytes after its id
 abbrev pub answer_parts : Answer → ℕ × List ℕ
 answer_parts answer = row_parts (answer_row answer)
 
+-- each field is in range
 abbrev pub FitsAnswer : Answer → Type 0
 FitsAnswer answer = Fit (answer_row answer).fields
 
--- the handle that an answer gives
+-- the handle that an answer gives, if it gives one
 abbrev pub answered_handle : Answer → Option (List ℕ)
 answered_handle answer = handle_in (answer_row answer).fields
 

@@ -1,5 +1,5 @@
--- The requests (draft-ietf-secsh-filexfer-02, sections 6 and 8): how each is spelled, how it is read, and which reply it
--- may get.
+-- The requests (draft-ietf-secsh-filexfer-02, sections 6 and 8): how each is spelled, how it is read, and which reply
+-- it may get.
 use Rattle.std.specs.Prelude.{◌==◌, ℕ, Bool, false, if◌then◌else◌, List, [], ◌∷◌, codes, map, bytes_eq}
 use Rattle.std.specs.Prelude.{Option, Ok, Err}
 use Rattle.std.specs.List.{list_any}
@@ -42,6 +42,7 @@ server_extensions = map (λ name. (name, codes "1")) known_extensions
 
 -- ---- how requests are spelled
 
+-- The row of each request: its type, the name of the type, and the fields after the id.
 -- The order of SYMLINK's fields and the data of the known extensions are those of OpenSSH's PROTOCOL, section 4.
 abbrev pub ask_row : Ask → Row
 ask_row (asks.Open path pflags attrs) = plain 3 (codes "OPEN") (Text path ∷ Flags pflags ∷ Attributes attrs ∷ [])
@@ -62,19 +63,22 @@ ask_row (asks.Stat path) = plain 17 (codes "STAT") (Text path ∷ [])
 ask_row (asks.Rename oldpath newpath) = plain 18 (codes "RENAME") (Text oldpath ∷ Text newpath ∷ [])
 ask_row (asks.Readlink path) = plain 19 (codes "READLINK") (Text path ∷ [])
 ask_row (asks.Symlink targetpath linkpath) = plain 20 (codes "SYMLINK") (Text targetpath ∷ Text linkpath ∷ [])
-ask_row (asks.PosixRename oldpath newpath) = extension (codes "POSIX-RENAME") posix_rename_name (Text oldpath ∷ Text newpath ∷ [])
+ask_row (asks.PosixRename oldpath newpath) =
+    extension (codes "POSIX-RENAME") posix_rename_name (Text oldpath ∷ Text newpath ∷ [])
 ask_row (asks.Hardlink oldpath newpath) = extension (codes "HARDLINK") hardlink_name (Text oldpath ∷ Text newpath ∷ [])
 ask_row (asks.Fsync handle) = extension (codes "FSYNC") fsync_name (Handle handle ∷ [])
 ask_row asks.Limits = extension (codes "LIMITS") limits_name []
 ask_row (asks.Unknown name rest) = plain 200 (codes "EXTENDED") (ExtensionName name ∷ Rest rest ∷ [])
 
+-- the type of a request, and the bytes after its id
 abbrev pub ask_parts : Ask → ℕ × List ℕ
 ask_parts ask = row_parts (ask_row ask)
 
+-- each field is in range
 abbrev pub FitsAsk : Ask → Type 0
 FitsAsk ask = Fit (ask_row ask).fields
 
--- the handle that a request names
+-- the handle that a request names, if it names one
 abbrev pub asked_handle : Ask → Option (List ℕ)
 asked_handle ask = handle_in (ask_row ask).fields
 

@@ -99,8 +99,8 @@ pub data Field : Type 0 where
   Attributes : Attrs → Field
   Items : List NameItem → Field
 
--- A packet's type and the type's name, the name of an extension that has a request of its own, and the further fields in
--- their order.
+-- A packet's type and the type's name, the name of an extension that has a request of its own, and the further fields
+-- in their order.
 pub record Row : Type 0 where
   pub kind : ℕ
   pub name : List ℕ
