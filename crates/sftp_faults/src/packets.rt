@@ -2,103 +2,14 @@
 
 use crate::fields::Fields;
 use crate::spots::Spot;
-use sftp_wire::{FSYNC, HANDLE_LIMIT, HARDLINK, LIMITS, POSIX_RENAME};
+use sftp_wire::{FieldKind, HANDLE_LIMIT, Layout, Tail};
 
-/// How a field is read.
-#[derive(Clone, Copy)]
-enum Size {
-    /// A uint32.
-    Number,
-    /// A uint64.
-    Long,
-    /// A string.
-    Text,
-    /// A string that is the name of a handle.
-    Handle,
-    /// Attributes.
-    Attributes,
-    /// A uint32, and as many names.
-    Names,
-    /// Any bytes up to the end.
-    Rest,
-    /// Pairs of strings up to the end.
-    Pairs,
-}
-
-/// A field of a packet.
-type Field = (&'static str, Size);
-
-const PATH: &[Field] = &[("path", Size::Text)];
-
-const PATH_AND_ATTRIBUTES: &[Field] = &[("path", Size::Text), ("attributes", Size::Attributes)];
-
-const HANDLE: &[Field] = &[("handle", Size::Handle)];
-
-const TWO_PATHS: &[Field] = &[("old path", Size::Text), ("new path", Size::Text)];
-
-/// The fields of a packet of this type, behind its type and its id.
-fn fields_of(kind: u8) -> &'static [Field] {
-    match kind {
-        1 | 2 => &[("extensions", Size::Pairs)],
-        3 => &[
-            ("path", Size::Text),
-            ("pflags", Size::Number),
-            ("attributes", Size::Attributes),
-        ],
-        4 | 8 | 12 | 102 => HANDLE,
-        5 => &[
-            ("handle", Size::Handle),
-            ("offset", Size::Long),
-            ("len", Size::Number),
-        ],
-        6 => &[
-            ("handle", Size::Handle),
-            ("offset", Size::Long),
-            ("data", Size::Text),
-        ],
-        7 | 11 | 13 | 15 | 16 | 17 | 19 => PATH,
-        9 | 14 => PATH_AND_ATTRIBUTES,
-        10 => &[("handle", Size::Handle), ("attributes", Size::Attributes)],
-        18 => TWO_PATHS,
-        20 => &[("targetpath", Size::Text), ("linkpath", Size::Text)],
-        101 => &[
-            ("code", Size::Number),
-            ("message", Size::Text),
-            ("language tag", Size::Text),
-        ],
-        103 => &[("data", Size::Text)],
-        104 => &[("names", Size::Names)],
-        105 => &[("attributes", Size::Attributes)],
-        _ => &[("data", Size::Rest)],
-    }
-}
-
-/// The fields of an extension of this name.
-fn fields_of_extension(name: &[u8]) -> &'static [Field] {
-    if name == POSIX_RENAME || name == HARDLINK {
-        TWO_PATHS
-    } else if name == FSYNC {
-        HANDLE
-    } else if name == LIMITS {
-        &[]
-    } else {
-        &[("data", Size::Rest)]
-    }
-}
-
-/// Reads the body of a packet of this type, which goes up to the end of the bytes.
-pub(crate) fn judge_body(kind: u8, fields: &mut Fields<'_>) -> Result<(), Spot> {
-    fields.number(if kind <= 2 { "version" } else { "id" })?;
-    if kind == 200 {
-        let name = fields.text("extended request")?;
-        return judge_fields(fields_of_extension(name), fields);
-    }
-    judge_fields(fields_of(kind), fields)
-}
-
-fn judge_fields(all: &[Field], fields: &mut Fields<'_>) -> Result<(), Spot> {
-    for (name, size) in all {
-        judge_field(name, *size, fields)?;
+/// Reads the body of a packet of this layout, which goes up to the end of the bytes. Without a layout any bytes follow
+/// the id.
+pub(crate) fn judge_body(layout: Option<Layout>, fields: &mut Fields<'_>) -> Result<(), Spot> {
+    match layout {
+        Some(layout) => judge_packet(&layout, fields)?,
+        None => judge_rest_of_unknown(fields)?,
     }
     if fields.rest().is_empty() {
         Ok(())
@@ -107,16 +18,41 @@ fn judge_fields(all: &[Field], fields: &mut Fields<'_>) -> Result<(), Spot> {
     }
 }
 
-fn judge_field(name: &'static str, size: Size, fields: &mut Fields<'_>) -> Result<(), Spot> {
-    match size {
-        Size::Number => fields.pass(4, name),
-        Size::Long => fields.long(name),
-        Size::Text => judge_text(name, fields),
-        Size::Handle => judge_handle(name, fields),
-        Size::Attributes => judge_attributes(fields),
-        Size::Names => judge_names(fields),
-        Size::Pairs => judge_pairs(fields),
-        Size::Rest => fields.pass(fields.rest().len(), name),
+fn judge_rest_of_unknown(fields: &mut Fields<'_>) -> Result<(), Spot> {
+    fields.number("id")?;
+    judge_tail(Tail::Rest, fields)
+}
+
+fn judge_packet(layout: &Layout, fields: &mut Fields<'_>) -> Result<(), Spot> {
+    if layout.has_id {
+        fields.number("id")?;
+    }
+    if !layout.mark.is_empty() {
+        fields.text("extended request")?;
+    }
+    for (name, kind) in layout.field_names.iter().zip(layout.fields) {
+        judge_field(name, *kind, fields)?;
+    }
+    judge_tail(layout.tail, fields)
+}
+
+fn judge_field(name: &'static str, kind: FieldKind, fields: &mut Fields<'_>) -> Result<(), Spot> {
+    match kind {
+        FieldKind::Number | FieldKind::Flags => fields.pass(4, name),
+        FieldKind::LongNumber => fields.long(name),
+        FieldKind::Text => judge_text(name, fields),
+        FieldKind::Handle => judge_handle(name, fields),
+    }
+}
+
+fn judge_tail(tail: Tail, fields: &mut Fields<'_>) -> Result<(), Spot> {
+    match tail {
+        Tail::Nothing => Ok(()),
+        Tail::Attributes => judge_attributes(fields),
+        Tail::Pairs => judge_pairs(fields),
+        Tail::Items => judge_names(fields),
+        Tail::Message => judge_pair("message", "language tag", fields),
+        Tail::Rest => fields.pass(fields.rest().len(), "data"),
     }
 }
 

@@ -4,7 +4,7 @@ use crate::fields::Fields;
 use crate::packets::judge_body;
 use crate::spots::Spot;
 use sftp_transcript::TranscriptError;
-use sftp_wire::Fault;
+use sftp_wire::{Fault, Side, layout_of};
 
 /// The field in which a record has this fault, which is the first one of its file. The bytes are those of the file from
 /// the record on, or more than the longest record has. Its places count from the start of the record. `None` if the
@@ -51,9 +51,13 @@ fn spot_of_fault(fields: &mut Fields<'_>, fault: Fault) -> Spot {
 
 /// Reads a record up to its first fault. Its packet's length is in range.
 fn judge_record(fields: &mut Fields<'_>) -> Result<(), Spot> {
-    fields.byte("direction")?;
+    let side = match fields.byte("direction")? {
+        b'C' => Side::Client,
+        _ => Side::Server,
+    };
+    let packet = fields.rest();
     let length = fields.number("length")?;
     fields.cut(length as usize);
-    let kind = fields.byte("type")?;
-    judge_body(kind, fields)
+    fields.byte("type")?;
+    judge_body(layout_of(side, packet), fields)
 }

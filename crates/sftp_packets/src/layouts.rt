@@ -21,6 +21,8 @@ pub enum FieldKind {
     Flags,
     /// A string.
     Text,
+    /// A string that is a handle.
+    Handle,
 }
 
 /// What comes after the fields.
@@ -50,6 +52,8 @@ pub struct Layout {
     pub name: &'static str,
     /// What comes before the fields in the bytes alone: the extension's name as a string.
     pub mark: &'static [u8],
+    /// What the fields are called in messages.
+    pub field_names: &'static [&'static str],
     pub fields: &'static [FieldKind],
     pub tail: Tail,
 }
@@ -139,6 +143,7 @@ macro_rules! opening {
             has_id: false,
             name: $name,
             mark: b"",
+            field_names: &["version"],
             fields: &[crate::layouts::FieldKind::Number],
             tail: crate::layouts::Tail::Pairs,
         }
@@ -147,13 +152,14 @@ macro_rules! opening {
 
 /// A request or a reply.
 macro_rules! plain {
-    ($kind:expr, $name:expr, $fields:expr, $tail:ident) => {
+    ($kind:expr, $name:expr, [$($field:literal : $field_kind:ident),*], $tail:ident) => {
         crate::layouts::Layout {
             kind: $kind,
             has_id: true,
             name: $name,
             mark: b"",
-            fields: $fields,
+            field_names: &[$($field),*],
+            fields: &[$(crate::layouts::FieldKind::$field_kind),*],
             tail: crate::layouts::Tail::$tail,
         }
     };
@@ -161,13 +167,14 @@ macro_rules! plain {
 
 /// A request of an extension that has one of its own.
 macro_rules! extension {
-    ($name:expr, $mark:expr, $fields:expr) => {
+    ($name:expr, $mark:expr, [$($field:literal : $field_kind:ident),*]) => {
         crate::layouts::Layout {
             kind: crate::requests::EXTENDED,
             has_id: true,
             name: $name,
             mark: $mark,
-            fields: $fields,
+            field_names: &[$($field),*],
+            fields: &[$(crate::layouts::FieldKind::$field_kind),*],
             tail: crate::layouts::Tail::Nothing,
         }
     };

@@ -8,7 +8,6 @@ ghost use Rattle.sftp_packets.specs.Replies.{answer_parts, answered_handle, repl
 use crate::attributes::Attrs;
 use crate::errors::{Fault, ReadError};
 use crate::fields::{attributes, handle, names, number, rest, string};
-use crate::layouts::FieldKind::{Number, Text};
 use crate::layouts::{Layout, opening, plain};
 use crate::names::Names;
 use crate::packets::{Packet, Reply, VERSION};
@@ -107,12 +106,12 @@ pub(crate) fn answered_handle(answer: &Answer) -> Option<&[u8]>
 /// The layouts of what a server sends.
 pub(crate) const SERVER_LAYOUTS: &[Layout] = &[
     opening!(VERSION, "VERSION"),
-    plain!(STATUS, "STATUS", &[Number], Message),
-    plain!(HANDLE, "HANDLE", &[Text], Nothing),
-    plain!(DATA, "DATA", &[Text], Nothing),
-    plain!(NAME, "NAME", &[], Items),
-    plain!(ATTRS, "ATTRS", &[], Attributes),
-    plain!(EXTENDED_REPLY, "EXTENDED_REPLY", &[], Rest),
+    plain!(STATUS, "STATUS", ["code": Number], Message),
+    plain!(HANDLE, "HANDLE", ["handle": Handle], Nothing),
+    plain!(DATA, "DATA", ["data": Text], Nothing),
+    plain!(NAME, "NAME", [], Items),
+    plain!(ATTRS, "ATTRS", [], Attributes),
+    plain!(EXTENDED_REPLY, "EXTENDED_REPLY", [], Rest),
 ];
 
 fn reply(id: u32, answer: Answer) -> Packet

@@ -4,7 +4,6 @@ ghost use Rattle.std.specs.Prelude.{◌≡◌, option_copied};
 ghost use Rattle.sftp_packets.specs.Requests.{ask_parts, asked_handle, is_known_extension, asks_known, reply_type};
 
 use crate::attributes::Attrs;
-use crate::layouts::FieldKind::{Flags, LongNumber, Number, Text};
 use crate::layouts::{Layout, extension, opening, plain};
 use crate::packets::INIT;
 use crate::replies::{ATTRS, DATA, EXTENDED_REPLY, HANDLE, NAME, STATUS};
@@ -328,31 +327,27 @@ pub(crate) fn asks_known(ask: &Ask) -> bool
 /// The layouts of what a client sends. Those of the known extensions come before that of any other.
 pub(crate) const CLIENT_LAYOUTS: &[Layout] = &[
     opening!(INIT, "INIT"),
-    plain!(OPEN, "OPEN", &[Text, Flags], Attributes),
-    plain!(CLOSE, "CLOSE", &[Text], Nothing),
-    plain!(READ, "READ", &[Text, LongNumber, Number], Nothing),
-    plain!(WRITE, "WRITE", &[Text, LongNumber, Text], Nothing),
-    plain!(LSTAT, "LSTAT", &[Text], Nothing),
-    plain!(FSTAT, "FSTAT", &[Text], Nothing),
-    plain!(SETSTAT, "SETSTAT", &[Text], Attributes),
-    plain!(FSETSTAT, "FSETSTAT", &[Text], Attributes),
-    plain!(OPENDIR, "OPENDIR", &[Text], Nothing),
-    plain!(READDIR, "READDIR", &[Text], Nothing),
-    plain!(REMOVE, "REMOVE", &[Text], Nothing),
-    plain!(MKDIR, "MKDIR", &[Text], Attributes),
-    plain!(RMDIR, "RMDIR", &[Text], Nothing),
-    plain!(REALPATH, "REALPATH", &[Text], Nothing),
-    plain!(STAT, "STAT", &[Text], Nothing),
-    plain!(RENAME, "RENAME", &[Text, Text], Nothing),
-    plain!(READLINK, "READLINK", &[Text], Nothing),
-    plain!(SYMLINK, "SYMLINK", &[Text, Text], Nothing),
-    extension!(
-        "POSIX-RENAME",
-        b"\0\0\0\x18posix-rename@openssh.com",
-        &[Text, Text]
-    ),
-    extension!("HARDLINK", b"\0\0\0\x14hardlink@openssh.com", &[Text, Text]),
-    extension!("FSYNC", b"\0\0\0\x11fsync@openssh.com", &[Text]),
-    extension!("LIMITS", b"\0\0\0\x12limits@sftpv3.test", &[]),
-    plain!(EXTENDED, "EXTENDED", &[Text], Rest),
+    plain!(OPEN, "OPEN", ["path": Text, "pflags": Flags], Attributes),
+    plain!(CLOSE, "CLOSE", ["handle": Handle], Nothing),
+    plain!(READ, "READ", ["handle": Handle, "offset": LongNumber, "len": Number], Nothing),
+    plain!(WRITE, "WRITE", ["handle": Handle, "offset": LongNumber, "data": Text], Nothing),
+    plain!(LSTAT, "LSTAT", ["path": Text], Nothing),
+    plain!(FSTAT, "FSTAT", ["handle": Handle], Nothing),
+    plain!(SETSTAT, "SETSTAT", ["path": Text], Attributes),
+    plain!(FSETSTAT, "FSETSTAT", ["handle": Handle], Attributes),
+    plain!(OPENDIR, "OPENDIR", ["path": Text], Nothing),
+    plain!(READDIR, "READDIR", ["handle": Handle], Nothing),
+    plain!(REMOVE, "REMOVE", ["path": Text], Nothing),
+    plain!(MKDIR, "MKDIR", ["path": Text], Attributes),
+    plain!(RMDIR, "RMDIR", ["path": Text], Nothing),
+    plain!(REALPATH, "REALPATH", ["path": Text], Nothing),
+    plain!(STAT, "STAT", ["path": Text], Nothing),
+    plain!(RENAME, "RENAME", ["old path": Text, "new path": Text], Nothing),
+    plain!(READLINK, "READLINK", ["path": Text], Nothing),
+    plain!(SYMLINK, "SYMLINK", ["targetpath": Text, "linkpath": Text], Nothing),
+    extension!("POSIX-RENAME", b"\0\0\0\x18posix-rename@openssh.com", ["old path": Text, "new path": Text]),
+    extension!("HARDLINK", b"\0\0\0\x14hardlink@openssh.com", ["old path": Text, "new path": Text]),
+    extension!("FSYNC", b"\0\0\0\x11fsync@openssh.com", ["handle": Handle]),
+    extension!("LIMITS", b"\0\0\0\x12limits@sftpv3.test", []),
+    plain!(EXTENDED, "EXTENDED", ["extended request": Text], Rest),
 ];

@@ -11,7 +11,8 @@ pub use framing::{FrameBuf, streams};
 pub use fronts::front;
 pub use laws::spellings_are_apart;
 pub use sftp_packets::{
-    Answer, Ask, AttrFlags, Attrs, ByteString, FSYNC, Fault, HANDLE_LIMIT, HARDLINK, LIMITS,
-    NameItem, Names, OpenFlags, PACKET_LIMIT, POSIX_RENAME, Packet, Pairs, Reply, Request, Side,
-    WireError, asked_handle, encode, may_get, status, take_number, take_string,
+    Answer, Ask, AttrFlags, Attrs, ByteString, FSYNC, Fault, FieldKind, HANDLE_LIMIT, HARDLINK,
+    LIMITS, Layout, NameItem, Names, OpenFlags, PACKET_LIMIT, POSIX_RENAME, Packet, Pairs, Reply,
+    Request, Side, Tail, WireError, asked_handle, encode, layout_of, layouts_of, may_get,
+    packet_name, status, take_number, take_string,
 };
