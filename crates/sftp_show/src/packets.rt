@@ -1,55 +1,9 @@
-//! What a line says of a packet: its name, its id or version, and its paths (draft, sections 3 to 8).
+//! What a line says of a packet, beside its name: its id or version, and its paths (draft, sections 3 to 8).
 
 use crate::quoted::Quoted;
 use sftp_tree::{new_path_of, path_of};
 use sftp_wire::{Answer, Ask, Packet};
 use std::fmt;
-
-/// The name of a packet's type (draft, section 3).
-pub(crate) fn name(packet: &Packet) -> &'static str {
-    match packet {
-        Packet::Init { .. } => "INIT",
-        Packet::Version { .. } => "VERSION",
-        Packet::Request(request) => ask_name(&request.ask),
-        Packet::Reply(reply) => answer_name(&reply.answer),
-    }
-}
-
-fn ask_name(ask: &Ask) -> &'static str {
-    match ask {
-        Ask::Open { .. } => "OPEN",
-        Ask::Close { .. } => "CLOSE",
-        Ask::Read { .. } => "READ",
-        Ask::Write { .. } => "WRITE",
-        Ask::Lstat { .. } => "LSTAT",
-        Ask::Fstat { .. } => "FSTAT",
-        Ask::Setstat { .. } => "SETSTAT",
-        Ask::Fsetstat { .. } => "FSETSTAT",
-        Ask::Opendir { .. } => "OPENDIR",
-        Ask::Readdir { .. } => "READDIR",
-        Ask::Remove { .. } => "REMOVE",
-        Ask::Mkdir { .. } => "MKDIR",
-        Ask::Rmdir { .. } => "RMDIR",
-        Ask::Realpath { .. } => "REALPATH",
-        Ask::Stat { .. } => "STAT",
-        Ask::Rename { .. } => "RENAME",
-        Ask::Readlink { .. } => "READLINK",
-        Ask::Symlink { .. } => "SYMLINK",
-        // all requests beyond those of the draft are extensions
-        _ => "EXTENDED",
-    }
-}
-
-fn answer_name(answer: &Answer) -> &'static str {
-    match answer {
-        Answer::Status { .. } => "STATUS",
-        Answer::Handle(_) => "HANDLE",
-        Answer::Data(_) => "DATA",
-        Answer::Name(_) => "NAME",
-        Answer::Attrs(_) => "ATTRS",
-        Answer::Extended(_) => "EXTENDED_REPLY",
-    }
-}
 
 /// The id of a request or a reply, or the version of an INIT or a VERSION.
 pub(crate) fn number(packet: &Packet) -> u32 {

@@ -3,9 +3,9 @@ ghost use Rattle.std.specs.Prelude.{◌<◌, IfOk, IsSome, IsTrue, MatchResult};
 ghost use Rattle.sftp_transcript.specs.Ahead.{size_of};
 
 use crate::errors::ShowError;
-use crate::packets::{name, number, put_details};
+use crate::packets::{number, put_details};
 use sftp_transcript::{Reader, Source, TranscriptError};
-use sftp_wire::{Packet, Side};
+use sftp_wire::{Packet, Side, packet_name};
 use std::fmt;
 use std::io::Write;
 
@@ -23,7 +23,7 @@ pub struct RecordLine<'a> {
 impl fmt::Display for RecordLine<'_> {
     fn fmt<W: fmt::Write>(&self, f: &mut fmt::Formatter<W>) -> fmt::Result {
         let side = letter(self.side);
-        let name = name(self.packet);
+        let name = packet_name(self.packet);
         let id = number(self.packet);
         let record = self.number;
         let length = self.length;

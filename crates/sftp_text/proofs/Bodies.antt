@@ -4,17 +4,17 @@ use Rattle.std.proofs.Common.{Option, Some, None, refl, sym, ap, subst, ◌∙�
 use Rattle.std.specs.Prelude.{IsTrue, IsFalse, ◌==◌, codes, decimal, bytes_eq, find}
 use Rattle.std.specs.List.{list_all}
 use Rattle.std.specs.Str.Parse.{IsNumeral, AllDigits}
-use Rattle.std.proofs.lemmas.Bool.{cond-true, cond-false, cases_Bool, eqb-true, and_parts, and_from}
+use Rattle.std.proofs.lemmas.Bool.{cond-true, cond-false, cases_Bool, eqb-true, and_parts}
 use Rattle.std.proofs.lemmas.Fmt.{decimal_is_IsNumeral}
 use Rattle.std.proofs.lemmas.Slice.Eq.{bytes_eq-Decides}
 use Rattle.sftp_packets.specs.declared.packets.Side.{Side}
 use Rattle.sftp_packets.specs.declared.packets.Side.TheVariants.{Client, Server}
+use Rattle.sftp_packets.specs.Layouts.{Shape, shapes, layout_of_bytes}
 use Rattle.sftp_text.specs.Formats.{Format, nothing, ◌then◌, word, mark}
 use Rattle.sftp_text.specs.Digits.{number, is_digit}
 use Rattle.sftp_text.specs.Fields.{fields_text, tail_text}
-use Rattle.sftp_text.specs.Layouts.{Row, row, every_packet, same_side, id_text, body_text, packet_text, up_to_space, behind_space, name_in, may_have, layout_of_bytes, layout_of_text}
+use Rattle.sftp_text.specs.Layouts.{id_text, body_text, packet_text, up_to_space, behind_space, name_in, layout_of_text}
 use Rattle.sftp_text.specs.Lines.{is_printable}
-use Rattle.sftp_text.specs.declared.table.PacketType.{PacketType}
 use Rattle.sftp_text.proofs.Exact.{some-inj, none-some, IsExact, IsExact-weaken, then-exact, mark-exact, nothing-exact, Behind}
 use Rattle.sftp_text.proofs.Numerals.{NumberFront, number-exact, is_digit-from_value}
 use Rattle.sftp_text.proofs.Repeats.{IsEnd}
@@ -101,40 +101,40 @@ name_in-second (d ∷ ds) name rest numeral is ok =
 abbrev pub NameFront : List ℕ → List ℕ → Type 0
 NameFront name l = name_in (drop 1 l) ≡ name
 
-named-exact : (r : Row) → IsName r.name
-    → IsExact (word (32 ∷ r.name) then mark r.mark then fields_text r.fields then tail_text r.tail) (Behind (32 ∷ r.name) SpaceFront) IsEnd
-named-exact r is =
-    let last = tail_text-exact r.tail in
-    let fields = then-exact (fields_text r.fields) (tail_text r.tail) SpaceFront SpaceFront IsEnd (fields_text-exact r.fields) last in
-    let marked = then-exact (mark r.mark) (fields_text r.fields then tail_text r.tail) SpaceFront SpaceFront IsEnd (mark-exact r.mark SpaceFront) fields in
-    behind_word (32 ∷ r.name) (mark r.mark then fields_text r.fields then tail_text r.tail) SpaceFront IsEnd is.printable marked
+named-exact : (s : Shape) → IsName s.name
+    → IsExact (word (32 ∷ s.name) then mark s.mark then fields_text s.fields then tail_text s.tail) (Behind (32 ∷ s.name) SpaceFront) IsEnd
+named-exact s is =
+    let last = tail_text-exact s.tail in
+    let fields = then-exact (fields_text s.fields) (tail_text s.tail) SpaceFront SpaceFront IsEnd (fields_text-exact s.fields) last in
+    let marked = then-exact (mark s.mark) (fields_text s.fields then tail_text s.tail) SpaceFront SpaceFront IsEnd (mark-exact s.mark SpaceFront) fields in
+    behind_word (32 ∷ s.name) (mark s.mark then fields_text s.fields then tail_text s.tail) SpaceFront IsEnd is.printable marked
 
 -- what stands behind the id
-abbrev named : Row → Format
-named r = word (32 ∷ r.name) then mark r.mark then fields_text r.fields then tail_text r.tail
+abbrev named : Shape → Format
+named s = word (32 ∷ s.name) then mark s.mark then fields_text s.fields then tail_text s.tail
 
-body_text-exact : (r : Row) → IsName r.name → IsExact (body_text r) (NameFront r.name) IsEnd
-body_text-exact r is = go r.has_id
+body_text-exact : (s : Shape) → IsName s.name → IsExact (body_text s) (NameFront s.name) IsEnd
+body_text-exact s is = go s.has_id
   where
-    go : (has_id : Bool) → IsExact (id_text has_id then named r) (NameFront r.name) IsEnd
+    go : (has_id : Bool) → IsExact (id_text has_id then named s) (NameFront s.name) IsEnd
     go false =
-        IsExact-weaken (nothing then named r) (Behind (32 ∷ r.name) SpaceFront) (NameFront r.name) IsEnd IsEnd
-        (λ l b. ap (λ x. name_in (drop 1 x)) b.parts ∙ name_in-first r.name b.rest is b.follows) (λ l e. e)
-        (then-exact nothing (named r) (Behind (32 ∷ r.name) SpaceFront) (Behind (32 ∷ r.name) SpaceFront) IsEnd
-        (nothing-exact (Behind (32 ∷ r.name) SpaceFront)) (named-exact r is))
+        IsExact-weaken (nothing then named s) (Behind (32 ∷ s.name) SpaceFront) (NameFront s.name) IsEnd IsEnd
+        (λ l b. ap (λ x. name_in (drop 1 x)) b.parts ∙ name_in-first s.name b.rest is b.follows) (λ l e. e)
+        (then-exact nothing (named s) (Behind (32 ∷ s.name) SpaceFront) (Behind (32 ∷ s.name) SpaceFront) IsEnd
+        (nothing-exact (Behind (32 ∷ s.name) SpaceFront)) (named-exact s is))
     go true =
-        let N = Behind (32 ∷ r.name) SpaceFront in
+        let N = Behind (32 ∷ s.name) SpaceFront in
         let D = NumberFront decimal (2 ^ 32) N in
-        let id = behind_word (codes " ") number D N refl (number-exact N (λ l b. Behind-ends (32 ∷ r.name) SpaceFront l (λ rest. refl) b)) in
-        IsExact-weaken ((word (codes " ") then number) then named r) (Behind (codes " ") D) (NameFront r.name) IsEnd IsEnd
+        let id = behind_word (codes " ") number D N refl (number-exact N (λ l b. Behind-ends (32 ∷ s.name) SpaceFront l (λ rest. refl) b)) in
+        IsExact-weaken ((word (codes " ") then number) then named s) (Behind (codes " ") D) (NameFront s.name) IsEnd IsEnd
         (λ l b.
         let n = b.follows in
         let numeral = decimal_is_IsNumeral n.value (omega (arith, n.fits)) in
         ap (λ x. name_in (drop 1 x)) b.parts ∙ ap name_in n.parts
         ∙ ap (λ x. name_in (decimal n.value ++ x)) n.follows.parts
-        ∙ name_in-second (decimal n.value) r.name n.follows.rest numeral.0 is n.follows.follows)
+        ∙ name_in-second (decimal n.value) s.name n.follows.rest numeral.0 is n.follows.follows)
         (λ l e. e)
-        (then-exact (word (codes " ") then number) (named r) (Behind (codes " ") D) N IsEnd id (named-exact r is))
+        (then-exact (word (codes " ") then number) (named s) (Behind (codes " ") D) N IsEnd id (named-exact s is))
 
 -- ---- which layout
 
@@ -151,36 +151,26 @@ find-passes p q (y ∷ xs) x e all =
       | inr fails ↦ find-passes p q xs x (sym (cond-false (p y) (Some y) (find p xs) fails) ∙ e) parts.1
     ]
 
-same_side-true : (a b : Side) → same_side a b ≡ true → a ≡ b
-same_side-true Client Client e = refl
-same_side-true Client Server e = cc
-same_side-true Server Client e = cc
-same_side-true Server Server e = refl
+-- whether a layout has this name
+abbrev is_named : List ℕ → Shape → Bool
+is_named name s = bytes_eq s.name name
 
-same_side-self : (side : Side) → same_side side side ≡ true
-same_side-self Client = refl
-same_side-self Server = refl
-
--- whether a packet has this side and this name
-abbrev is_named : Side → List ℕ → PacketType → Bool
-is_named side name packet = same_side (row packet).side side && bytes_eq (row packet).name name
-
--- whether no two packets have one side and one name
-abbrev are_distinct : List PacketType → Bool
+-- whether no two layouts have one name
+abbrev are_distinct : List Shape → Bool
 are_distinct [] = true
-are_distinct (x ∷ xs) = list_all (λ y. not (is_named (row y).side (row y).name x)) xs && are_distinct xs
+are_distinct (x ∷ xs) = list_all (λ y. not (is_named y.name x)) xs && are_distinct xs
 
--- what is found among distinct packets is found by its side and its name
-find-named : (p : PacketType → Bool) (xs : List PacketType) (x : PacketType) → are_distinct xs ≡ true
-    → find p xs ≡ Some x → find (is_named (row x).side (row x).name) xs ≡ Some x
+-- what is found among layouts of distinct names is found by its name
+find-named : (p : Shape → Bool) (xs : List Shape) (x : Shape) → are_distinct xs ≡ true
+    → find p xs ≡ Some x → find (is_named x.name) xs ≡ Some x
 find-named p [] x distinct e = none-some x e
 find-named p (y ∷ xs) x distinct e =
     let parts = and_parts _ _ distinct in
-    let named : PacketType → PacketType → Bool = λ z. is_named (row z).side (row z).name in
+    let named : Shape → Shape → Bool = λ z. is_named z.name in
     elim (cases_Bool (p y)) [
       | inl passes ↦
           let same = some-inj y x (sym (cond-true (p y) (Some y) (find p xs) passes) ∙ e) in
-          let own = and_from _ _ (same_side-self (row y).side) ((bytes_eq-Decides (row y).name (row y).name).1 refl) in
+          let own = (bytes_eq-Decides y.name y.name).1 refl in
           subst (λ z. find (named z) (y ∷ xs) ≡ Some z) same (cond-true (named y y) (Some y) (find (named y) xs) own)
       | inr fails ↦
           let later = sym (cond-false (p y) (Some y) (find p xs) fails) ∙ e in
@@ -188,52 +178,44 @@ find-named p (y ∷ xs) x distinct e =
           cond-false (named x y) (Some y) (find (named x) xs) other ∙ find-named p xs x parts.1 later
     ]
 
--- the packet of a side and a name
-abbrev named_packet : Side → List ℕ → Option PacketType
-named_packet side name = find (is_named side name) every_packet
+-- the layout of a side and a name
+abbrev named_layout : Side → List ℕ → Option Shape
+named_layout side name = find (is_named name) (shapes side)
 
--- the names in the table are names
-all_are_names : list_all (λ packet. is_name (row packet).name) every_packet ≡ true
-unfolding row every_packet
-all_are_names = refl
+-- the names of a side's layouts are names
+all_are_names : (side : Side) → list_all (λ s. is_name s.name) (shapes side) ≡ true
+unfolding shapes
+all_are_names Client = refl
+all_are_names Server = refl
 
--- and no two are one name of one side
-all_are_distinct : are_distinct every_packet ≡ true
-unfolding row every_packet
-all_are_distinct = refl
+-- and no two are one
+all_are_distinct : (side : Side) → are_distinct (shapes side) ≡ true
+unfolding shapes
+all_are_distinct Client = refl
+all_are_distinct Server = refl
 
--- a layout that is found is one that the bytes may have, and its name is a name
-layout-found : (side : Side) (bytes : List ℕ) (packet : PacketType) → layout_of_bytes side bytes ≡ Some packet
-    → (may_have side bytes (row packet) ≡ true) × (is_name (row packet).name ≡ true)
+-- the name of a layout that is found is a name
+layout-IsName : (side : Side) (bytes : List ℕ) (s : Shape) → layout_of_bytes side bytes ≡ Some s → IsName s.name
 unfolding layout_of_bytes
-layout-found side bytes packet found =
-    find-passes _ (λ packet. is_name (row packet).name) every_packet packet found all_are_names
-
--- it is of the side of the bytes
-layout-side : (side : Side) (bytes : List ℕ) (packet : PacketType) → layout_of_bytes side bytes ≡ Some packet
-    → (row packet).side ≡ side
-layout-side side bytes packet found =
-    same_side-true _ _ (and_parts _ _ (and_parts _ _ (layout-found side bytes packet found).0).0).0
+layout-IsName side bytes s found =
+    IsName-from s.name (find-passes _ (λ z. is_name z.name) (shapes side) s found (all_are_names side)).1
 
 -- the text of a packet whose layout is found is read back
-pub packet_text-exact : (side : Side) (bytes : List ℕ) (packet : PacketType) → layout_of_bytes side bytes ≡ Some packet
-    → IsExact (packet_text (row packet)) (NameFront (row packet).name) IsEnd
-packet_text-exact side bytes packet found =
-    let r = row packet in
-    then-exact (mark (r.kind ∷ [])) (body_text r) (NameFront r.name) (NameFront r.name) IsEnd
-    (mark-exact (r.kind ∷ []) (NameFront r.name)) (body_text-exact r (IsName-from r.name (layout-found side bytes packet found).1))
+pub packet_text-exact : (side : Side) (bytes : List ℕ) (s : Shape) → layout_of_bytes side bytes ≡ Some s
+    → IsExact (packet_text s) (NameFront s.name) IsEnd
+packet_text-exact side bytes s found =
+    then-exact (mark (s.kind ∷ [])) (body_text s) (NameFront s.name) (NameFront s.name) IsEnd
+    (mark-exact (s.kind ∷ []) (NameFront s.name)) (body_text-exact s (layout-IsName side bytes s found))
 
--- a line that begins with the name of a packet whose layout was found is read in that packet's layout
-pub layout_of_text-named : (side : Side) (bytes text : List ℕ) (packet : PacketType)
-    → layout_of_bytes side bytes ≡ Some packet → NameFront (row packet).name text → layout_of_text side text ≡ Some packet
+-- a line that begins with the name of a layout that was found is read in that layout
+pub layout_of_text-named : (side : Side) (bytes text : List ℕ) (s : Shape)
+    → layout_of_bytes side bytes ≡ Some s → NameFront s.name text → layout_of_text side text ≡ Some s
 unfolding layout_of_bytes layout_of_text
-layout_of_text-named side bytes text packet found name_is =
-    ap (named_packet side) name_is
-    ∙ ap (λ s. named_packet s (row packet).name) (sym (layout-side side bytes packet found))
-    ∙ find-named _ every_packet packet all_are_distinct found
+layout_of_text-named side bytes text s found name_is =
+    ap (named_layout side) name_is ∙ find-named _ (shapes side) s (all_are_distinct side) found
 
 -- no packet has the name `raw`
-pub no_raw : (side : Side) → named_packet side (codes "raw") ≡ None
-unfolding row every_packet
+pub no_raw : (side : Side) → named_layout side (codes "raw") ≡ None
+unfolding shapes
 no_raw Client = refl
 no_raw Server = refl

@@ -12,17 +12,6 @@ pub above :
 above most None take_it large refuses = refl
 above most (Some f) take_it large refuses = refuses f large
 
--- a digit in front goes on with the number
-pub digits_from-digit :
-    (base n c : ℕ) (rest : List ℕ) → is_digit base c ≡ true
-    → digits_from base n (c ∷ rest) ≡ digits_from base (n * base + (c - 48)) rest
-digits_from-digit base n c rest is = rw is
-
--- any other character ends it
-pub digits_from-other :
-    (base n c : ℕ) (rest : List ℕ) → is_digit base c ≡ false → digits_from base n (c ∷ rest) ≡ (n, c ∷ rest)
-digits_from-other base n c rest is = rw is
-
 grows-step :
     (base n c : ℕ) (rest : List ℕ) (b : Bool) → is_digit base c ≡ b → 1 ≤ base
     → n * base + (c - 48) ≤ (digits_from base (n * base + (c - 48)) rest).0

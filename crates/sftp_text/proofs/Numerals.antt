@@ -30,13 +30,6 @@ abbrev pub EndsWord : List ℕ → Type 0
 EndsWord l = IsTrue (ends_word l)
 
 -- such a character is neither a digit, nor a letter, nor `|`
-abbrev is_other : ℕ → Bool
-is_other c = not (is_digit 10 c) && not (is_digit 8 c) && not (is_letter c) && not (c == 124)
-
-ends_or_other : ℕ → Bool
-ends_or_other c = not (c == 32 || c == 44 || c == 59 || c == 61) || is_other c
-
--- what the first character is, where one ends a word
 data Ends (c : ℕ) : Type 0 where
   ends : is_digit 10 c ≡ false → is_digit 8 c ≡ false → is_letter c ≡ false → (c == 124) ≡ false → Ends c
 

@@ -52,9 +52,6 @@ after-takes s t xs ys one two text rest =
 pub after-all : (s t : Step) (xs ys : List ℕ) → Takes s xs → TakesAll t ys → TakesAll (after s t) (xs ++ ys)
 after-all s t xs ys one two text = go_on s t text (xs ++ ys) ys [] (one text ys) two
 
-pub word-takes : (w : List ℕ) → Takes (word w).show []
-word-takes w text rest = record { more = text ++ w; is = refl }
-
 pub word_then-takes : (w : List ℕ) (f : Format) (bytes : List ℕ) → Takes f.show bytes → Takes (word w then f).show bytes
 word_then-takes w f bytes takes text rest =
     let goes = takes (text ++ w) rest in record { more = goes.more; is = goes.is }

@@ -4,15 +4,15 @@ use Rattle.std.proofs.Common.{Option, Some, None, refl, sym, ap, subst, ◌∙�
 use Rattle.std.specs.Prelude.{IsTrue, IsFalse, ◌==◌, codes}
 use Rattle.std.proofs.lemmas.Bool.{eqb-true, and_parts}
 use Rattle.std.proofs.lemmas.List.{append-nil}
+use Rattle.sftp_packets.specs.declared.layouts.FieldKind.{FieldKind}
+use Rattle.sftp_packets.specs.declared.layouts.FieldKind.TheVariants.{Number, LongNumber, Flags, Text, Handle}
+use Rattle.sftp_packets.specs.declared.layouts.Tail.{Tail}
+use Rattle.sftp_packets.specs.declared.layouts.Tail.TheVariants.{Nothing, Attributes, Pairs, Items, Message, Rest}
 use Rattle.sftp_packets.specs.Spelling.{AreBytes}
 use Rattle.sftp_text.specs.Formats.{nothing, ◌then◌, word, strip, begins_with, if_found, if_any, listed}
 use Rattle.sftp_text.specs.Quoted.{string_text, rest_text}
 use Rattle.sftp_text.specs.Fields.{pairs, attributes, name_item, names, no_message, two_texts, message}
 use Rattle.sftp_text.specs.Fields.{field_text, tail_text, fields_text}
-use Rattle.sftp_text.specs.declared.layouts.Field.{Field}
-use Rattle.sftp_text.specs.declared.layouts.Field.TheVariants.{Number, Long, Flags, Text}
-use Rattle.sftp_text.specs.declared.layouts.Tail.{Tail}
-use Rattle.sftp_text.specs.declared.layouts.Tail.TheVariants.{Nothing, Attrs, Pairs, Names, Message, Rest}
 use Rattle.sftp_text.proofs.Exact.{some-inj, strip-some, Shown, IsExact, IsExact-weaken, then-exact, nothing-exact, Behind, ahead-exact}
 use Rattle.sftp_text.proofs.Numerals.{EndsWord, number-exact, long-exact, flags-exact}
 use Rattle.sftp_text.proofs.Strings.{StartsQuoted, string_text-exact, rest_text-exact}
@@ -144,11 +144,11 @@ unfolding tail_text
 tail_text-exact Nothing =
     IsExact-weaken nothing IsEnd SpaceFront IsEnd IsEnd (λ l e. subst SpaceFront (sym e) refl) (λ l e. e)
     (nothing-exact IsEnd)
-tail_text-exact Attrs =
+tail_text-exact Attributes =
     IsExact-weaken attributes _ SpaceFront IsEnd IsEnd (labels-space attribute_initials) (λ l e. e)
     (attributes-exact IsEnd end-fields)
 tail_text-exact Pairs = IsExact-weaken pairs _ SpaceFront IsEnd IsEnd ends-space (λ l e. e) pairs-exact
-tail_text-exact Names = IsExact-weaken names _ SpaceFront IsEnd IsEnd list-space (λ l e. e) names-exact
+tail_text-exact Items = IsExact-weaken names _ SpaceFront IsEnd IsEnd list-space (λ l e. e) names-exact
 tail_text-exact Message = message-exact
 tail_text-exact Rest =
     IsExact-weaken (word (codes " ") then rest_text) _ SpaceFront IsEnd IsEnd (space-behind StartsQuoted []) (λ l e. e)
@@ -160,18 +160,20 @@ pub space-ends : (l : List ℕ) → SpaceFront l → EndsWord l
 space-ends [] e = refl
 space-ends (c ∷ l) e = subst (λ b. EndsWord (b ∷ l)) (sym (eqb-true c 32 e)) refl
 
-field_text-exact : (field : Field) → IsExact (field_text field) Anything SpaceFront
+field_text-exact : (field : FieldKind) → IsExact (field_text field) Anything SpaceFront
 unfolding field_text
 field_text-exact Number =
     IsExact-weaken _ _ Anything SpaceFront SpaceFront (λ l a. tt) (λ l e. e) (number-exact SpaceFront space-ends)
-field_text-exact Long =
+field_text-exact LongNumber =
     IsExact-weaken _ _ Anything SpaceFront SpaceFront (λ l a. tt) (λ l e. e) (long-exact SpaceFront space-ends)
 field_text-exact Flags =
     IsExact-weaken _ _ Anything SpaceFront SpaceFront (λ l a. tt) (λ l e. e) (flags-exact SpaceFront space-ends)
 field_text-exact Text =
     IsExact-weaken _ _ Anything SpaceFront SpaceFront (λ l a. tt) (λ l e. e) (string_text-exact SpaceFront)
+field_text-exact Handle =
+    IsExact-weaken _ _ Anything SpaceFront SpaceFront (λ l a. tt) (λ l e. e) (string_text-exact SpaceFront)
 
-pub fields_text-exact : (fields : List Field) → IsExact (fields_text fields) SpaceFront SpaceFront
+pub fields_text-exact : (fields : List FieldKind) → IsExact (fields_text fields) SpaceFront SpaceFront
 fields_text-exact [] = nothing-exact SpaceFront
 fields_text-exact (field ∷ fields) =
     let one =

@@ -1,30 +1,17 @@
 -- Texts of several lines, a line at a time.
 use Rattle.std.proofs.Common.{◌≡◌, ◌==◌, ℕ, ◌-◌, ◌≤◌, List, [], ◌∷◌, ◌++◌, take, drop, length, Option, Some, None, Bool}
-use Rattle.std.proofs.Common.{Err, true, false, if◌then◌else◌, refl, sym, ap, ◌∙◌, append_assoc, arith, inl, inr}
+use Rattle.std.proofs.Common.{true, false, if◌then◌else◌, refl, sym, ap, ◌∙◌, append_assoc, arith, inl, inr}
 use Rattle.std.specs.Prelude.{option_and_then, flat_map}
 use Rattle.std.proofs.lemmas.Bool.{cond-true, cond-false, cases_Bool}
 use Rattle.std.proofs.lemmas.List.{append-nil, length-append}
 use Rattle.sftp_packets.specs.declared.packets.Side.{Side}
-use Rattle.sftp_text.specs.declared.errors.Fault.{Fault}
-use Rattle.sftp_text.specs.declared.errors.Fault.TheVariants as faults
-use Rattle.sftp_text.specs.declared.errors.TextFault.{TextFault}
-use Rattle.sftp_text.specs.Faults.{IsInLine}
 use Rattle.sftp_text.specs.declared.due.Due.{Due}
 use Rattle.sftp_text.specs.declared.due.Due.TheVariants as dues
 use Rattle.sftp_text.specs.Lines.{line_read, side_letter, is_blank, and_others, with_line, lines_read, transcript_opening}
 use Rattle.sftp_text.specs.Lines.{whole, with_said, said_lines}
 use Rattle.sftp_text.specs.Trees.{bytes_and, entry_text, root_text, head_text, entries_read}
 use Rattle.sftp_text.specs.Texts.{first_line, behind_line, onto, line_bytes, records_onto, transcript_onto}
-use Rattle.sftp_text.specs.Texts.{form_of, due_after, lines_from, GivesLine, GivesText}
-
--- ---- faults
-
--- where a line has no bytes, its fault is the text's
-pub fault_told : (fault : Fault) (line : ℕ) (failure : TextFault) (told all : Option (List ℕ)) (now later : List ℕ)
-    → IsInLine fault line failure → GivesLine {A = Unit {0}} (Err fault) now told → (told ≡ None → all ≡ None)
-    → GivesText {A = Unit {0}} (Err failure) later all
-fault_told faults.NoMemory line failure told all now later is gives fails = rw is (tt {0})
-fault_told (faults.Unread column expected) line failure told all now later is gives fails = rw is (fails gives)
+use Rattle.sftp_text.specs.Texts.{form_of, due_after, lines_from}
 
 -- ---- cutting a text
 

@@ -9,12 +9,12 @@ use Rattle.std.proofs.lemmas.List.{append-nil}
 use Rattle.sftp_packets.specs.declared.packets.Side.{Side}
 use Rattle.sftp_packets.specs.declared.packets.Side.TheVariants.{Client, Server}
 use Rattle.sftp_packets.specs.Spelling.{AreBytes}
+use Rattle.sftp_packets.specs.Layouts.{Shape, layout_of_bytes}
 use Rattle.sftp_packets.proofs.Bytes.Numbers.{wide32}
 use Rattle.sftp_text.specs.Formats.{front_uint32, if_found}
-use Rattle.sftp_text.specs.Layouts.{row, packet_text, layout_of_bytes, layout_of_text}
+use Rattle.sftp_text.specs.Layouts.{packet_text, layout_of_text}
 use Rattle.sftp_text.specs.Lines.{is_printable, whole, digits_text, raw_text, digits_read, raw_read, side_letter, show_whole, show_packet, named_line, line_of}
 use Rattle.sftp_text.specs.Lines.{side_of_letter, with_length, read_packet, bytes_of_text, line_read}
-use Rattle.sftp_text.specs.declared.table.PacketType.{PacketType}
 use Rattle.sftp_text.proofs.Exact.{some-inj, none-some, AreBytes-behind, printable-append, front_number-some}
 use Rattle.sftp_text.proofs.Strings.{hex_onto-text, hex_text-printable}
 use Rattle.sftp_text.proofs.Bodies.{packet_text-exact, layout_of_text-named, no_raw}
@@ -77,11 +77,11 @@ whole-some (Some (done, [])) all e = ap (λ d. Some (d, [])) (some-inj done all 
 whole-some (Some (done, b ∷ left)) all e = none-some all e
 
 -- the text of a packet is read as its length and its body
-bytes_of_text-named : (side : Side) (bytes : List ℕ) (packet : PacketType) (n : ℕ) (body shown : List ℕ) → n < 2 ^ 32
-    → to_be_bytes w32 n ++ body ≡ bytes → n ≡ length body → layout_of_text side shown ≡ Some packet
-    → (packet_text (row packet)).read [] shown ≡ Some (body, []) → bytes_of_text side shown ≡ Some bytes
+bytes_of_text-named : (side : Side) (bytes : List ℕ) (layout : Shape) (n : ℕ) (body shown : List ℕ) → n < 2 ^ 32
+    → to_be_bytes w32 n ++ body ≡ bytes → n ≡ length body → layout_of_text side shown ≡ Some layout
+    → (packet_text layout).read [] shown ≡ Some (body, []) → bytes_of_text side shown ≡ Some bytes
 unfolding bytes_of_text
-bytes_of_text-named side bytes packet n body shown fits parts len named back =
+bytes_of_text-named side bytes layout n body shown fits parts len named back =
     let small : length body < 2 ^ 32 = omega (arith, fits, len) in
     let read_whole : Option (List ℕ × List ℕ) → Option (List ℕ) = λ o. option_and_then with_length (whole o) in
     ap (λ o. if_found o (read_packet shown) (raw_read shown)) named ∙ ap read_whole back
@@ -89,43 +89,43 @@ bytes_of_text-named side bytes packet n body shown fits parts len named back =
     (lt-ltb (length body) (2 ^ 32) small)
     ∙ ap (λ (k : ℕ). Some (to_be_bytes w32 k ++ body)) (sym len) ∙ ap (λ l. Some l) parts
 
-named-line : (side : Side) (bytes line : List ℕ) (packet : PacketType) → AreBytes bytes
-    → layout_of_bytes side bytes ≡ Some packet → show_packet side bytes packet ≡ Some line → IsLine side bytes line
-named-line side bytes line packet are layout_is shows = framed (front_uint32 bytes) refl shows
+named-line : (side : Side) (bytes line : List ℕ) (layout : Shape) → AreBytes bytes
+    → layout_of_bytes side bytes ≡ Some layout → show_packet side bytes layout ≡ Some line → IsLine side bytes line
+named-line side bytes line layout are layout_is shows = framed (front_uint32 bytes) refl shows
   where
     exact : (n : ℕ) (body : List ℕ) → n < 2 ^ 32 → to_be_bytes w32 n ++ body ≡ bytes → AreBytes body → n ≡ length body
-        → show_whole side (packet_text (row packet)) body ≡ Some line → IsLine side bytes line
+        → show_whole side (packet_text layout) body ≡ Some line → IsLine side bytes line
     exact n body fits parts fit len e =
         let s =
-        (packet_text-exact side bytes packet layout_is).exact (side_letter side ∷ []) body line [] fit
-        (whole-some ((packet_text (row packet)).show (side_letter side ∷ []) body) line e)
+        (packet_text-exact side bytes layout layout_is).exact (side_letter side ∷ []) body line [] fit
+        (whole-some ((packet_text layout).show (side_letter side ∷ []) body) line e)
         in
         let alone : s.shown ++ [] ≡ s.shown = append-nil s.shown in
         let taken_is : s.taken ≡ body = sym (s.bytes_are ∙ append-nil s.taken) in
         let named =
         ap (layout_of_text side) (sym alone)
-        ∙ layout_of_text-named side bytes (s.shown ++ []) packet layout_is (s.front [] refl)
+        ∙ layout_of_text-named side bytes (s.shown ++ []) layout layout_is (s.front [] refl)
         in
         let back =
-        ap ((packet_text (row packet)).read []) (sym alone) ∙ s.back [] [] refl ∙ ap (λ l. Some (l, [])) taken_is
+        ap ((packet_text layout).read []) (sym alone) ∙ s.back [] [] refl ∙ ap (λ l. Some (l, [])) taken_is
         in
         record {
           back =
               ap line_read s.text_is
-              ∙ line_read-text side s.shown bytes (bytes_of_text-named side bytes packet n body s.shown fits parts len named back);
+              ∙ line_read-text side s.shown bytes (bytes_of_text-named side bytes layout n body s.shown fits parts len named back);
           printable = ap (list_all is_printable) s.text_is ∙ letter-printable side s.shown s.printable;
         }
 
     framed : (front : Option (ℕ × List ℕ)) → front_uint32 bytes ≡ front
-        → show_packet side bytes packet ≡ Some line → IsLine side bytes line
+        → show_packet side bytes layout ≡ Some line → IsLine side bytes line
     framed None none e =
         let next : ℕ × List ℕ → Option (List ℕ) =
-        λ f. cond (f.0 == length f.1) (show_whole side (packet_text (row packet)) f.1) None
+        λ f. cond (f.0 == length f.1) (show_whole side (packet_text layout) f.1) None
         in
         none-some line (sym (ap (option_and_then next) none) ∙ e)
     framed (Some (n, body)) some e =
         let next : ℕ × List ℕ → Option (List ℕ) =
-        λ f. cond (f.0 == length f.1) (show_whole side (packet_text (row packet)) f.1) None
+        λ f. cond (f.0 == length f.1) (show_whole side (packet_text layout) f.1) None
         in
         let here : next (n, body) ≡ Some line = sym (ap (option_and_then next) some) ∙ e in
         let number = front_number-some w32 4 (2 ^ 32) wide32 refl bytes n body are some in
@@ -134,9 +134,9 @@ named-line side bytes line packet are layout_is shows = framed (front_uint32 byt
         elim (cases_Bool (n == length body)) [
           | inl right ↦
               exact n body number.fits parts fit (eqb-true n (length body) right)
-              (sym (cond-true (n == length body) (show_whole side (packet_text (row packet)) body) None right) ∙ here)
+              (sym (cond-true (n == length body) (show_whole side (packet_text layout) body) None right) ∙ here)
           | inr wrong ↦
-              none-some line (sym (cond-false (n == length body) (show_whole side (packet_text (row packet)) body) None wrong) ∙ here)
+              none-some line (sym (cond-false (n == length body) (show_whole side (packet_text layout) body) None wrong) ∙ here)
         ]
 
 -- ---- every line
@@ -145,16 +145,16 @@ pub line-IsLine : (side : Side) (bytes : List ℕ) → AreBytes bytes → IsLine
 unfolding line_of named_line
 line-IsLine side bytes are = by_layout (layout_of_bytes side bytes) refl
   where
-    by_line : (packet : PacketType) → layout_of_bytes side bytes ≡ Some packet → (shown : Option (List ℕ))
-        → show_packet side bytes packet ≡ shown → IsLine side bytes (if_found shown (λ line. line) (side_letter side ∷ raw_text bytes))
-    by_line packet layout_is None e = raw-line side bytes are
-    by_line packet layout_is (Some line) e = named-line side bytes line packet are layout_is e
+    by_line : (layout : Shape) → layout_of_bytes side bytes ≡ Some layout → (shown : Option (List ℕ))
+        → show_packet side bytes layout ≡ shown → IsLine side bytes (if_found shown (λ line. line) (side_letter side ∷ raw_text bytes))
+    by_line layout layout_is None e = raw-line side bytes are
+    by_line layout layout_is (Some line) e = named-line side bytes line layout are layout_is e
 
-    by_layout : (layout : Option PacketType) → layout_of_bytes side bytes ≡ layout
+    by_layout : (layout : Option Shape) → layout_of_bytes side bytes ≡ layout
         → IsLine side bytes (if_found (option_and_then (show_packet side bytes) (layout_of_bytes side bytes)) (λ line. line) (side_letter side ∷ raw_text bytes))
     by_layout None none =
         subst (λ o. IsLine side bytes (if_found (option_and_then (show_packet side bytes) o) (λ line. line) (side_letter side ∷ raw_text bytes)))
         (sym none) (raw-line side bytes are)
-    by_layout (Some packet) some =
+    by_layout (Some layout) some =
         subst (λ o. IsLine side bytes (if_found (option_and_then (show_packet side bytes) o) (λ line. line) (side_letter side ∷ raw_text bytes)))
-        (sym some) (by_line packet some (show_packet side bytes packet) refl)
+        (sym some) (by_line layout some (show_packet side bytes layout) refl)

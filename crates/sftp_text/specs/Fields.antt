@@ -1,15 +1,15 @@
 -- The fields of packets (draft-ietf-secsh-filexfer-02, sections 3 to 7).
 use Rattle.std.specs.Prelude.{ℕ, ◌+◌, if◌then◌else◌, List, [], ◌∷◌, ◌++◌, codes}
 use Rattle.std.specs.Prelude.{Option, Some, None, option_and_then, replicate}
+use Rattle.sftp_packets.specs.declared.layouts.FieldKind.{FieldKind}
+use Rattle.sftp_packets.specs.declared.layouts.FieldKind.TheVariants.{Number, LongNumber, Flags, Text, Handle}
+use Rattle.sftp_packets.specs.declared.layouts.Tail.{Tail}
+use Rattle.sftp_packets.specs.declared.layouts.Tail.TheVariants.{Nothing, Attributes, Pairs, Items, Message, Rest}
 use Rattle.sftp_packets.specs.Reading.{has_flag, are_known}
 use Rattle.sftp_text.specs.Formats.{Step, Format, Counted, stay, after, nothing, ◌then◌, strip, word, ahead}
 use Rattle.sftp_text.specs.Formats.{if_found, if_any, listed, to_end}
 use Rattle.sftp_text.specs.Digits.{number, long, octal, flags}
 use Rattle.sftp_text.specs.Quoted.{string_text, rest_text}
-use Rattle.sftp_text.specs.declared.layouts.Field.{Field}
-use Rattle.sftp_text.specs.declared.layouts.Field.TheVariants.{Number, Long, Flags, Text}
-use Rattle.sftp_text.specs.declared.layouts.Tail.{Tail}
-use Rattle.sftp_text.specs.declared.layouts.Tail.TheVariants.{Nothing, Attrs, Pairs, Names, Message, Rest}
 
 -- ---- lists
 
@@ -115,21 +115,22 @@ message = record {
 
 -- ---- the fields of a layout
 
-unfoldable pub field_text : Field → Format
+unfoldable pub field_text : FieldKind → Format
 field_text Number = number
-field_text Long = long
+field_text LongNumber = long
 field_text Flags = flags
 field_text Text = string_text
+field_text Handle = string_text
 
 unfoldable pub tail_text : Tail → Format
 tail_text Nothing = nothing
-tail_text Attrs = attributes
+tail_text Attributes = attributes
 tail_text Pairs = pairs
-tail_text Names = names
+tail_text Items = names
 tail_text Message = message
 tail_text Rest = word (codes " ") then rest_text
 
 -- fields, each after a space, and then what comes after them
-abbrev pub fields_text : List Field → Format
+abbrev pub fields_text : List FieldKind → Format
 fields_text [] = nothing
 fields_text (field ∷ fields) = (word (codes " ") then field_text field) then fields_text fields

@@ -7,7 +7,6 @@ pub mod Layouts
 pub mod Lines
 pub mod Trees
 pub mod Moves
-pub mod Seen
 pub mod Reads
 pub mod Faults
 pub mod Wholes

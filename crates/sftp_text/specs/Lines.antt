@@ -5,10 +5,10 @@ use Rattle.std.specs.Prelude.{Option, Some, None, option_and_then}
 use Rattle.std.specs.Int.{w32, to_be_bytes}
 use Rattle.sftp_packets.specs.declared.packets.Side.{Side}
 use Rattle.sftp_packets.specs.declared.packets.Side.TheVariants.{Client, Server}
+use Rattle.sftp_packets.specs.Layouts.{Shape, layout_of_bytes}
 use Rattle.sftp_text.specs.Formats.{Format, if_found, if_any, strip, front_uint32}
 use Rattle.sftp_text.specs.Quoted.{hex_text, hex_onto}
-use Rattle.sftp_text.specs.Layouts.{row, packet_text, layout_of_bytes, layout_of_text}
-use Rattle.sftp_text.specs.declared.table.PacketType.{PacketType}
+use Rattle.sftp_text.specs.Layouts.{packet_text, layout_of_text}
 
 -- what is done, where nothing is left
 abbrev pub whole : Option (List ℕ × List ℕ) → Option (List ℕ)
@@ -45,11 +45,10 @@ abbrev pub show_whole : Side → Format → List ℕ → Option (List ℕ)
 show_whole side format bytes = whole (format.show (side_letter side ∷ []) bytes)
 
 -- the line of a packet with this layout, if its length is right
-abbrev pub show_packet : Side → List ℕ → PacketType → Option (List ℕ)
-show_packet side bytes packet =
+abbrev pub show_packet : Side → List ℕ → Shape → Option (List ℕ)
+show_packet side bytes layout =
     option_and_then
-    (λ front.
-    if front.0 == length front.1 then show_whole side (packet_text (row packet)) front.1 else None)
+    (λ front. if front.0 == length front.1 then show_whole side (packet_text layout) front.1 else None)
     (front_uint32 bytes)
 
 -- the line of a record by its layout, if it has one
@@ -68,8 +67,8 @@ abbrev pub with_length : List ℕ → Option (List ℕ)
 with_length bytes = if nat_lt (length bytes) (2 ^ 32) then Some (to_be_bytes w32 (length bytes) ++ bytes) else None
 
 -- the bytes of a packet with this layout
-abbrev pub read_packet : List ℕ → PacketType → Option (List ℕ)
-read_packet text packet = option_and_then with_length (whole ((packet_text (row packet)).read [] text))
+abbrev pub read_packet : List ℕ → Shape → Option (List ℕ)
+read_packet text layout = option_and_then with_length (whole ((packet_text layout).read [] text))
 
 -- the bytes of a line after its side
 unfoldable pub bytes_of_text : Side → List ℕ → Option (List ℕ)

@@ -8,41 +8,41 @@ ghost use Rattle.sftp_text.specs.Moves.{Moves};
 use crate::attributes::{put_attributes, read_attributes};
 use crate::errors::{Expected, Stop};
 use crate::flags::{put_flags, read_flags};
-use crate::layouts::{Field, Tail};
 use crate::lists::{
     Name, put_counted, put_message, put_pairs, read_counted, read_message, read_pairs,
 };
 use crate::numbers::{put_long, put_number, read_long, read_number};
 use crate::quoted::{put_rest, put_string, read_quoted, read_string};
 use crate::words::read_word;
+use sftp_wire::{FieldKind, Tail};
 
 #[tactic(auto, unfolding(crate::specs::Fields::field_text))]
-fn put_field(field: Field, bytes: &mut &[u8], text: &mut Vec<u8>) -> Result<(), Stop>
+fn put_field(field: FieldKind, bytes: &mut &[u8], text: &mut Vec<u8>) -> Result<(), Stop>
     ensures { Moves result text.new.items bytes.new.now ((field_text field).show text.old.items bytes.old.now) }
 {
     match field {
-        Field::Number => put_number(bytes, text),
-        Field::Long => put_long(bytes, text),
-        Field::Flags => put_flags(bytes, text),
-        Field::Text => put_string(bytes, text),
+        FieldKind::Number => put_number(bytes, text),
+        FieldKind::LongNumber => put_long(bytes, text),
+        FieldKind::Flags => put_flags(bytes, text),
+        FieldKind::Text | FieldKind::Handle => put_string(bytes, text),
     }
 }
 
 #[tactic(auto, unfolding(crate::specs::Fields::field_text))]
-fn read_field(field: Field, line: &mut &[u8], bytes: &mut Vec<u8>) -> Result<(), Stop>
+fn read_field(field: FieldKind, line: &mut &[u8], bytes: &mut Vec<u8>) -> Result<(), Stop>
     ensures { Moves result bytes.new.items line.new.now ((field_text field).read bytes.old.items line.old.now) }
 {
     match field {
-        Field::Number => read_number(line, bytes),
-        Field::Long => read_long(line, bytes),
-        Field::Flags => read_flags(line, bytes),
-        Field::Text => read_string(line, bytes),
+        FieldKind::Number => read_number(line, bytes),
+        FieldKind::LongNumber => read_long(line, bytes),
+        FieldKind::Flags => read_flags(line, bytes),
+        FieldKind::Text | FieldKind::Handle => read_string(line, bytes),
     }
 }
 
 /// Shows these fields, each after a space.
 pub(crate) fn put_fields(
-    fields: &[Field],
+    fields: &[FieldKind],
     bytes: &mut &[u8],
     text: &mut Vec<u8>,
 ) -> Result<(), Stop>
@@ -59,7 +59,7 @@ pub(crate) fn put_fields(
 
 /// Reads these fields, each after a space.
 pub(crate) fn read_fields(
-    fields: &[Field],
+    fields: &[FieldKind],
     line: &mut &[u8],
     bytes: &mut Vec<u8>,
 ) -> Result<(), Stop>
@@ -99,9 +99,9 @@ pub(crate) fn put_tail(tail: Tail, bytes: &mut &[u8], text: &mut Vec<u8>) -> Res
 {
     match tail {
         Tail::Nothing => Ok(()),
-        Tail::Attrs => put_attributes(bytes, text),
+        Tail::Attributes => put_attributes(bytes, text),
         Tail::Pairs => put_pairs(bytes, text),
-        Tail::Names => put_counted::<Name>(b';', bytes, text),
+        Tail::Items => put_counted::<Name>(b';', bytes, text),
         Tail::Message => put_message(bytes, text),
         Tail::Rest => put_any(bytes, text),
     }
@@ -114,9 +114,9 @@ pub(crate) fn read_tail(tail: Tail, line: &mut &[u8], bytes: &mut Vec<u8>) -> Re
 {
     match tail {
         Tail::Nothing => Ok(()),
-        Tail::Attrs => read_attributes(line, bytes),
+        Tail::Attributes => read_attributes(line, bytes),
         Tail::Pairs => read_pairs(line, bytes),
-        Tail::Names => read_counted::<Name>(b' ', b';', line, bytes),
+        Tail::Items => read_counted::<Name>(b' ', b';', line, bytes),
         Tail::Message => read_message(line, bytes),
         Tail::Rest => read_any(line, bytes),
     }

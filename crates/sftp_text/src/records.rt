@@ -1,6 +1,7 @@
 //! The line of a record: its side, its id if it has one, its packet's name and its fields, or `raw` and its bytes in
 //! hexadecimal.
 ghost use Rattle.std.specs.Prelude.{◌≡◌, [], ◌∷◌, ◌++◌, OnOk, option_and_then};
+ghost use Rattle.sftp_packets.specs.Layouts.{shape};
 ghost use Rattle.sftp_text.specs.Formats.{◌then◌, mark, word, skip, strip};
 ghost use Rattle.sftp_text.specs.Fields.{fields_text, tail_text};
 ghost use Rattle.sftp_text.specs.Layouts.{id_text, packet_text};
@@ -8,19 +9,16 @@ ghost use Rattle.sftp_text.specs.Lines.{side_letter, side_of_letter, named_line,
 ghost use Rattle.sftp_text.specs.Lines.{raw_read, whole, with_length, bytes_of_text, line_of, line_read};
 ghost use Rattle.sftp_text.specs.Moves.{Moves, MovesOver, Makes};
 ghost use Rattle.sftp_text.specs.Reads.{ReadsLine, GivesRecord, show_with};
-ghost use Rattle.sftp_text.specs.Seen.{seen};
 
 use crate::errors::{Expected, Fault, Stop};
 use crate::fields::{put_fields, put_tail, read_fields, read_tail};
-use crate::layouts::Layout;
-use crate::names::{behind, from_name, packet_named, packet_shown};
+use crate::names::{behind, from_name, layout_named};
 use crate::numbers::{put_number, read_number};
 use crate::octets::{put_octets, read_octets};
 use crate::quoted::append_numbered;
-use crate::table::layout_of;
 use crate::words::{after_word, read_end, read_word};
 use bytes::Buf;
-use sftp_wire::Side;
+use sftp_wire::{Layout, Side, layout_of};
 use std::alloc::AllocError;
 
 /// How a line names a side.
@@ -50,7 +48,7 @@ fn put_name(layout: &Layout, bytes: &mut &[u8], text: &mut Vec<u8>) -> Result<()
         (skip layout.now.mark.now (text.old.items ++ (32 ∷ layout.now.name.now)) bytes.old.now) }
 {
     text.push(b' ')?;
-    text.extend_from_slice(layout.name)?;
+    text.extend_from_slice(layout.name.as_bytes())?;
     read_word(layout.mark, Expected::Name, bytes)
 }
 
@@ -66,7 +64,7 @@ fn put_parts(layout: &Layout, bytes: &mut &[u8], text: &mut Vec<u8>) -> Result<(
 /// Shows a packet after its length.
 fn put_contents(layout: &Layout, bytes: &mut &[u8], text: &mut Vec<u8>) -> Result<(), Stop>
     ensures { Moves result text.new.items bytes.new.now
-        ((packet_text (seen layout.now)).show text.old.items bytes.old.now) }
+        ((packet_text (shape layout.now)).show text.old.items bytes.old.now) }
 {
     read_word(&[layout.kind], Expected::Name, bytes)?;
     put_id(layout.has_id, bytes, text)?;
@@ -76,7 +74,7 @@ fn put_contents(layout: &Layout, bytes: &mut &[u8], text: &mut Vec<u8>) -> Resul
 
 /// Shows a packet after its length, which has to be all of these bytes.
 fn put_whole(layout: &Layout, bytes: &[u8], text: &mut Vec<u8>) -> Result<(), Stop>
-    ensures { Makes result text.new.items (whole ((packet_text (seen layout.now)).show text.old.items bytes.now)) }
+    ensures { Makes result text.new.items (whole ((packet_text (shape layout.now)).show text.old.items bytes.now)) }
 {
     let mut rest = bytes;
     put_contents(layout, &mut rest, text)?;
@@ -85,7 +83,7 @@ fn put_whole(layout: &Layout, bytes: &[u8], text: &mut Vec<u8>) -> Result<(), St
 
 /// Shows a packet with a layout.
 fn put_packet(layout: &Layout, bytes: &[u8], text: &mut Vec<u8>) -> Result<(), Stop>
-    ensures { Makes result text.new.items (show_with (packet_text (seen layout.now)) text.old.items bytes.now) }
+    ensures { Makes result text.new.items (show_with (packet_text (shape layout.now)) text.old.items bytes.now) }
 {
     let mut rest = bytes;
     let length = rest.try_get_u32()?;
@@ -101,8 +99,8 @@ fn put_named(side: Side, bytes: &[u8], text: &mut Vec<u8>) -> Result<(), Stop>
     requires { text.old.items ≡ side_letter side ∷ [] }
     ensures { Makes result text.new.items (named_line side bytes.now) }
 {
-    match packet_shown(side, bytes) {
-        Some(packet) => put_packet(&layout_of(packet), bytes, text),
+    match layout_of(side, bytes) {
+        Some(layout) => put_packet(&layout, bytes, text),
         None => Err(Stop::Unfit(Expected::Name)),
     }
 }
@@ -166,7 +164,7 @@ fn read_name(layout: &Layout, line: &mut &[u8], bytes: &mut Vec<u8>) -> Result<(
     ensures { Moves result bytes.new.items line.new.now
         ((word (32 ∷ layout.now.name.now) then mark layout.now.mark.now).read bytes.old.items line.old.now) }
 {
-    read_spaced(layout.name, line)?;
+    read_spaced(layout.name.as_bytes(), line)?;
     bytes.extend_from_slice(layout.mark)?;
     Ok(())
 }
@@ -191,7 +189,7 @@ fn read_parts(layout: &Layout, line: &mut &[u8], bytes: &mut Vec<u8>) -> Result<
 /// Reads a packet without its length.
 fn read_contents(layout: &Layout, line: &mut &[u8], bytes: &mut Vec<u8>) -> Result<(), Stop>
     ensures { Moves result bytes.new.items line.new.now
-        ((packet_text (seen layout.now)).read bytes.old.items line.old.now) }
+        ((packet_text (shape layout.now)).read bytes.old.items line.old.now) }
 {
     bytes.push(layout.kind)?;
     read_id(layout.has_id, line, bytes)?;
@@ -202,7 +200,7 @@ fn read_contents(layout: &Layout, line: &mut &[u8], bytes: &mut Vec<u8>) -> Resu
 /// Reads a packet without its length, up to the end of the line.
 fn read_whole(layout: &Layout, line: &mut &[u8], bytes: &mut Vec<u8>) -> Result<(), Stop>
     requires { bytes.old.items ≡ [] }
-    ensures { Makes result bytes.new.items (whole ((packet_text (seen layout.now)).read [] line.old.now)) }
+    ensures { Makes result bytes.new.items (whole ((packet_text (shape layout.now)).read [] line.old.now)) }
 {
     read_contents(layout, line, bytes)?;
     read_end(line)
@@ -224,7 +222,7 @@ fn append_packet(packet: &[u8], bytes: &mut Vec<u8>) -> Result<(), Stop>
 fn read_packet(layout: &Layout, line: &mut &[u8], bytes: &mut Vec<u8>) -> Result<(), Stop>
     requires { bytes.old.items ≡ [] }
     ensures { Makes result bytes.new.items (option_and_then with_length
-        (whole ((packet_text (seen layout.now)).read [] line.old.now))) }
+        (whole ((packet_text (shape layout.now)).read [] line.old.now))) }
 {
     let mut packet = Vec::new(*bytes.allocator());
     read_whole(layout, line, &mut packet)?;
@@ -262,8 +260,8 @@ fn read_any(side: Side, line: &mut &[u8], bytes: &mut Vec<u8>) -> Result<(), Sto
     requires { bytes.old.items ≡ [] }
     ensures { Makes result bytes.new.items (bytes_of_text side line.old.now) }
 {
-    match packet_named(side, line) {
-        Some(packet) => read_packet(&layout_of(packet), line, bytes),
+    match layout_named(side, line) {
+        Some(layout) => read_packet(&layout, line, bytes),
         None => read_raw(line, bytes),
     }
 }

@@ -1,5 +1,5 @@
 -- Each packet has the layout that is found by its bytes, and its name is found by its type.
-use Rattle.std.proofs.Common.{◌≡◌, ℕ, ◌^◌, ◌<◌, Bool, true, false, List, [], ◌∷◌, ◌++◌, length, take, drop, Some, refl, sym, ap, subst, ◌∙◌, arith, inl, inr}
+use Rattle.std.proofs.Common.{◌≡◌, ℕ, ◌^◌, ◌<◌, Bool, true, false, List, [], ◌∷◌, ◌++◌, length, take, drop, Some, refl, sym, ap, ◌∙◌, inl, inr}
 use Rattle.std.specs.Prelude.{◌&&◌, bytes_eq, nat_eq, nat_lt}
 use Rattle.std.specs.List.{list_all, list_any, starts_with, AllByRecursion}
 use Rattle.std.specs.Int.{w32, from_be_bytes}
@@ -17,7 +17,7 @@ use Rattle.sftp_packets.specs.declared.packets.Side.TheVariants.{Client, Server}
 use Rattle.sftp_packets.specs.Spelling.{uint32, string, with_id}
 use Rattle.sftp_packets.specs.Requests.{known_extensions, asks_known, FitsAsk}
 use Rattle.sftp_packets.specs.Packets.{contents, side_of, hides_extension, FitsFields}
-use Rattle.sftp_packets.specs.Spelling.{Field, Number, LongNumber, Flags, Text, Handle, ExtensionName, Message, Rest, Attributes, Items}
+use Rattle.sftp_packets.specs.Spelling.{Field, Message, Rest, Attributes, Items}
 use Rattle.sftp_packets.specs.Requests.{ask_row, ask_parts}
 use Rattle.sftp_packets.specs.Replies.{answer_row, answer_parts}
 use Rattle.sftp_packets.specs.Layouts.{row_shape, packet_shape, shapes, layout_of_bytes, unless_known, name_among}

@@ -1,6 +1,5 @@
-use Rattle.std.proofs.Common.{refl, sym, ap, ◌∙◌}
-use Rattle.sftp_packets.specs.declared.packets.Side.TheVariants.{Client, Server}
-use Rattle.sftp_packets.specs.Layouts.{shapes, name_among}
+use Rattle.std.proofs.Common.{◌∙◌}
+use Rattle.sftp_packets.specs.Layouts.{shapes}
 use Rattle.sftp_packets.proofs.PacketLaws.Layouts.{ask_name, answer_name}
 use Rattle.sftp_packets.proofs.layouts.packet_name.Goals as goal
 

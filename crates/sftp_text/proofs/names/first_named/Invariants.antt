@@ -1,12 +1,11 @@
-use Rattle.std.proofs.Common.{◌≡◌, ◌&&◌, length}
+use Rattle.std.proofs.Common.{◌≡◌, length, map}
 use Rattle.std.specs.Prelude.{find, bytes_eq}
-use Rattle.sftp_text.specs.Layouts.{row, same_side}
+use Rattle.sftp_packets.specs.Layouts.{shape}
 use Rattle.sftp_text.proofs.names.first_named.Given as goal
 
-abbrev pub invariant-packets : goal.invariant-packets
-invariant-packets l =
-    find (λ packet. same_side (row packet).side l.side && bytes_eq (row packet).name l.name) l.left
-    ≡ find (λ packet. same_side (row packet).side l.side && bytes_eq (row packet).name l.name) l.fn.packets
+abbrev pub invariant-layouts : goal.invariant-layouts
+invariant-layouts l =
+    find (λ s. bytes_eq s.name l.name) (map shape l.left) ≡ find (λ s. bytes_eq s.name l.name) (map shape l.fn.layouts)
 
-abbrev pub decreases-packets : goal.decreases-packets
-decreases-packets l = length l.left
+abbrev pub decreases-layouts : goal.decreases-layouts
+decreases-layouts l = length l.left

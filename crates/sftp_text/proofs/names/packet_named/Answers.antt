@@ -1,6 +1,0 @@
-use Rattle.sftp_text.specs.Layouts.{layout_of_text}
-use Rattle.sftp_text.proofs.names.packet_named.Goals as goal
-
-pub returns : goal.returns
-unfolding layout_of_text
-returns c = rw c.name_of.ensures at (rw c.every_packet.ensures at c.first_named.ensures)
