@@ -31,14 +31,15 @@ pub same_cons : (a b : ℕ) (x y : List ℕ) → a ∷ x ≡ b ∷ y → (a ≡ 
 same_cons a b x y e = (cc, cc)
 
 -- the number after the direction is the length of what follows it in the record
-pub record_length : (packet : Packet) (direction size : ℕ) (after more rest : List ℕ) → HasSpelling packet → size < 2 ^ 32
-    → (direction ∷ (uint32 size ++ after)) ++ more ≡ record_text packet ++ rest
+pub record_length : (packet : Packet) (held : List ℕ) (direction size : ℕ) (after more rest : List ℕ) → HasSpelling packet
+    → held ≡ direction ∷ (uint32 size ++ after) → size < 2 ^ 32 → held ++ more ≡ record_text packet ++ rest
     → (length (record_text packet) ≡ size + 5) × (size + 4 ≤ packet_limit)
 unfolding spelling
-record_length packet direction size after more rest is fits e =
+record_length packet held direction size after more rest is parts fits e =
     let body = contents packet in
     let len : length (spelling packet) ≡ length body + 4 = omega (arith, length-append (uint32 (length body)) body, wide32.len (length body)) in
+    let whole : (direction ∷ (uint32 size ++ after)) ++ more ≡ record_text packet ++ rest = ap (λ (l : List ℕ). l ++ more) (sym parts) ∙ e in
     let behind : uint32 size ++ (after ++ more) ≡ uint32 (length body) ++ (body ++ rest) =
-    sym (append_assoc (uint32 size) after more) ∙ (same_cons _ _ _ _ e).1 ∙ append_assoc (uint32 (length body)) body rest in
+    sym (append_assoc (uint32 size) after more) ∙ (same_cons _ _ _ _ whole).1 ∙ append_assoc (uint32 (length body)) body rest in
     let same : size ≡ length body = same_number size (length body) (after ++ more) (body ++ rest) fits (omega (arith, len, is.whole)) behind in
     (omega (arith, len, same), omega (arith, len, same, is.whole))

@@ -181,43 +181,37 @@ record GivenUpTo (stage : Stage) (bytes : List ℕ) (events : List Event) (numbe
   pub read : ReadUpTo (stage_after stage) bytes (with_given events (event_from packet)) rest
   pub behind : number_past stage number ≡ number_after_events (with_given events (event_from packet))
 
+module _ (stage : Stage) (bytes : List ℕ) (events : List Event) (number : ℕ) (packet : Packet) (rest : List ℕ) where
+  -- the packet gives this event, or none
+  up_to : (given : Option Event) → event_from packet ≡ given → ReadUpTo (stage_after stage) bytes (with_given events given) rest
+      → number_past stage number ≡ number_after_events (with_given events given) → GivenUpTo stage bytes events number packet rest
+  up_to given is read behind = record {
+    read = subst (λ (o : Option Event). ReadUpTo (stage_after stage) bytes (with_given events o) rest) (sym is) read;
+    behind = behind ∙ ap (λ (o : Option Event). number_after_events (with_given events o)) (sym is);
+  }
+
 given_up_to : (stage : Stage) (bytes : List ℕ) (events : List Event) (number : ℕ) (before : List ℕ) (packet : Packet) (rest : List ℕ)
     → number ≡ number_after_events events → ReadUpTo stage bytes events before → BeginsNext stage before packet rest
     → GivenUpTo stage bytes events number packet rest
 given_up_to stages.Opening bytes events number before packet rest is read n =
     let opened = opening_read bytes events before n.records read n.opened in
     let init = greeting_read stages.Init refl bytes events n.records rest opened (record { packet = packet; is_kind = n.may_come; begins = n.begins }) in
-    let none : event_from packet ≡ None = event_of_init packet n.may_come in
-    record {
-      read = subst (λ (o : Option Event). ReadUpTo stages.Version bytes (with_given events o) rest) (sym none) init;
-      behind = is ∙ ap (λ (o : Option Event). number_after_events (with_given events o)) (sym none);
-    }
+    up_to stages.Opening bytes events number packet rest None (event_of_init packet n.may_come) init is
 given_up_to stages.Init bytes events number before packet rest is read n =
     let begins : Begins before packet rest = subst (λ (l : List ℕ). Begins l packet rest) n.opened n.begins in
     let init = greeting_read stages.Init refl bytes events before rest read (record { packet = packet; is_kind = n.may_come; begins = begins }) in
-    let none : event_from packet ≡ None = event_of_init packet n.may_come in
-    record {
-      read = subst (λ (o : Option Event). ReadUpTo stages.Version bytes (with_given events o) rest) (sym none) init;
-      behind = is ∙ ap (λ (o : Option Event). number_after_events (with_given events o)) (sym none);
-    }
+    up_to stages.Init bytes events number packet rest None (event_of_init packet n.may_come) init is
 given_up_to stages.Version bytes events number before packet rest is read n =
     let begins : Begins before packet rest = subst (λ (l : List ℕ). Begins l packet rest) n.opened n.begins in
     let version = greeting_read stages.Version refl bytes events before rest read (record { packet = packet; is_kind = n.may_come; begins = begins }) in
-    let none : event_from packet ≡ None = event_of_version packet n.may_come in
-    record {
-      read = subst (λ (o : Option Event). ReadUpTo stages.Events bytes (with_given events o) rest) (sym none) version;
-      behind = is ∙ ap (λ (o : Option Event). number_after_events (with_given events o)) (sym none);
-    }
+    up_to stages.Version bytes events number packet rest None (event_of_version packet n.may_come) version is
 given_up_to stages.Events bytes events number before packet rest is read n =
     let event = n.may_come.0 in
     let begins : Begins before (packet_of event) rest =
     subst (λ (p : Packet). Begins before p rest) n.may_come.1 (subst (λ (l : List ℕ). Begins l packet rest) n.opened n.begins) in
     let more = event_read event bytes events before rest read (begins.spelled, begins.bytes_are) in
     let some : event_from packet ≡ Some event = ap event_from n.may_come.1 ∙ event_back event in
-    record {
-      read = subst (λ (o : Option Event). ReadUpTo stages.Events bytes (with_given events o) rest) (sym some) more;
-      behind = number_more events event number is ∙ ap (λ (o : Option Event). number_after_events (with_given events o)) (sym some);
-    }
+    up_to stages.Events bytes events number packet rest (Some event) some more (number_more events event number is)
 
 pub given_next : (old new : Reading) (given : Option GivenRecord) → new.number ≡ number_then old.stage old.number given
     → new.fault ≡ old.fault → ((before : List ℕ) → HasAhead old.ahead before → GivesNext old.stage before given new)
