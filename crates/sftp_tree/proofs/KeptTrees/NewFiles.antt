@@ -6,7 +6,7 @@ use Rattle.sftp_tree.proofs.Imports.{nat_cmp, nat_cmp-IsAntisymmetric, AllByRecu
 use Rattle.sftp_tree.proofs.Imports.{Attrs, IsAttrs, Place, place_cmp, parent, are_names, place_cmp-total, Table}
 use Rattle.sftp_tree.proofs.Imports.{InOrder, get, put, retain, get-put_here, get-put_elsewhere, InOrder-put}
 use Rattle.sftp_tree.proofs.Imports.{same_table, get-with_values, with_values-put, TreeLimits, Content, Stored, Node}
-use Rattle.sftp_tree.proofs.Imports.{Dir, File, Link, Names, Files, Tree, WellFormed, IsKept, IsNode, IsPin, IsContent}
+use Rattle.sftp_tree.proofs.Imports.{Dir, File, Link, Names, Files, Tree, WellFormed, IsKept, IsNode, IsContent}
 use Rattle.sftp_tree.proofs.Imports.{limits, fits, depth_fits, content_fits, is_directory, node_at, with_node}
 use Rattle.sftp_tree.proofs.Imports.{content_at, with_content, names_file, times_named, is_named, is_pinned, is_held}
 use Rattle.sftp_tree.proofs.Imports.{contents, pins_of, pin_count_at, seen, AreCounted, IsChanged, without_a_name}
@@ -19,7 +19,7 @@ use Rattle.sftp_tree.proofs.WellFormedTrees.Names.{names-of, names-put, well-for
 use Rattle.sftp_tree.proofs.Limits.Tests.{fits-parts}
 use Rattle.sftp_tree.proofs.Limits.Changes.{entries-with, depths-with, links-with, files-with}
 use Rattle.sftp_tree.proofs.KeptTrees.Trims.{named-there}
-use Rattle.sftp_tree.proofs.KeptTrees.Values.{node-content, still-there}
+use Rattle.sftp_tree.proofs.KeptTrees.Values.{well-formed-given}
 use Rattle.sftp_tree.proofs.KeptTrees.Entries.{named-put, or_weaker}
 use Rattle.sftp_tree.proofs.KeptTrees.Files.{not-given}
 use Rattle.sftp_tree.proofs.KeptTrees.Counts.{files-in_order}
@@ -32,36 +32,9 @@ use Rattle.sftp_tree.proofs.FileCounts.Names.{count-at, at-entries, one-here, on
 abbrev with_file : Tree → Content → Tree
 with_file t content = record t { files = with_content t.files t.made content; made = t.made + 1 }
 
-next : (n : ℕ) → n < n + 1
-next n = omega arith
-
-later : (n m : ℕ) → n < m → n < m + 1
-later n m early = omega arith
-
 well-formed-file : (t : Tree) (content : Content) → WellFormed t → IsContent content → WellFormed (with_file t content)
-well-formed-file t content well is_content = record {
-  ordered = well.ordered;
-  named = well.named;
-  nodes = each-weaker (λ e. IsNode t.files e.1) (λ e. IsNode (with_content t.files t.made content) e.1)
-      (λ e. node-content t.files t.made content e.1) t.names well.nodes;
-  root = well.root;
-  parents = well.parents;
-  numbered = InOrder-put nat_cmp nat_cmp_total t.files t.made content well.numbered;
-  contents =
-      each-put nat_cmp nat_cmp-IsAntisymmetric nat_cmp_total (λ e. IsContent e.1) t.files t.made content well.numbered
-      is_content well.contents;
-  given =
-      each-put nat_cmp nat_cmp-IsAntisymmetric nat_cmp_total (λ e. e.0 < t.made + 1) t.files t.made content well.numbered
-      (next t.made)
-      (each-weaker (λ e. e.0 < t.made) (λ e. e.0 < t.made + 1) (λ e early. later e.0 t.made early) t.files well.given);
-  pins = well.pins;
-  pinned = each-weaker (λ e. IsPin t.files e) (λ e. IsPin (with_content t.files t.made content) e)
-      (λ e pin. (pin.0, still-there t.files t.made content e.0 pin.1)) t.pins well.pinned;
-  limits = well.limits;
-  home = well.home;
-  uid = well.uid;
-  gid = well.gid;
-}
+well-formed-file t content well is_content =
+    well-formed-given t t.made (t.made + 1) content well is_content (omega arith) (omega arith)
 
 pub well-formed-new : (t : Tree) (place : Place) (content : Content) → WellFormed t → IsTrue (are_names place)
     → node_at t.names place ≡ None → IsTrue (is_directory (node_at t.names (parent place))) → IsContent content

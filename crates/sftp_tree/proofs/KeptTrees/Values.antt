@@ -1,5 +1,5 @@
 -- A tree with another owner of a directory, or another content of a file: it stays a tree within the limits.
-use Rattle.sftp_tree.proofs.Imports.{◌≡◌, ◌+◌, ◌<◌, ℕ, Bool, true, false, cond, ◌||◌, refl, ap, ◌∙◌, arith, Option}
+use Rattle.sftp_tree.proofs.Imports.{◌≡◌, ◌+◌, ◌<◌, ◌≤◌, ℕ, Bool, true, false, cond, ◌||◌, refl, ap, ◌∙◌, arith, Option}
 use Rattle.sftp_tree.proofs.Imports.{Some, None, is_some, nat_lt, IsTrue, nat_cmp, is_eq, nat_cmp-IsAntisymmetric}
 use Rattle.sftp_tree.proofs.Imports.{Attrs, Place, place_cmp, InOrder, place_cmp-total, get-put, InOrder-put}
 use Rattle.sftp_tree.proofs.Imports.{count-put_again, Owner, IsOwner, Content, Node, Dir, File, Names, Files, Tree}
@@ -57,7 +57,7 @@ kept-owner-there t place owner kept directory is_owner = by (node_at t.names pla
 -- ---- another content of a file
 
 -- a number that has a file has one still
-pub still-there : (files : Files) (number : ℕ) (content : Content) (other : ℕ) → IsTrue (is_some (content_at files other)) → IsTrue (is_some (content_at (with_content files number content) other))
+still-there : (files : Files) (number : ℕ) (content : Content) (other : ℕ) → IsTrue (is_some (content_at files other)) → IsTrue (is_some (content_at (with_content files number content) other))
 still-there files number content other there =
     ap is_some (get-put nat_cmp nat_cmp_total files number content other) ∙ by (is_eq (nat_cmp other number))
   where
@@ -69,8 +69,11 @@ pub node-content : (files : Files) (number : ℕ) (content : Content) (it : Node
 node-content files number content (File other) is_node = still-there files number content other is_node
 node-content files number content other is_node = is_node
 
-pub well-formed-content : (t : Tree) (number : ℕ) (before content : Content) → WellFormed t → content_at t.files number ≡ Some before → IsContent content → WellFormed (record t { files = with_content t.files number content })
-well-formed-content t number before content well there is_content = record {
+-- a tree with this content for a file of a number that was given, perhaps only now
+pub well-formed-given : (t : Tree) (number made : ℕ) (content : Content) → WellFormed t → IsContent content
+    → number < made → t.made ≤ made
+    → WellFormed (record t { files = with_content t.files number content; made = made })
+well-formed-given t number made content well is_content given more = record {
   ordered = well.ordered;
   named = well.named;
   nodes = each-weaker (λ e. IsNode t.files e.1) (λ e. IsNode (with_content t.files number content) e.1) (λ e. node-content t.files number content e.1) t.names well.nodes;
@@ -79,8 +82,8 @@ well-formed-content t number before content well there is_content = record {
   numbered = InOrder-put nat_cmp nat_cmp_total t.files number content well.numbered;
   contents = each-put nat_cmp nat_cmp-IsAntisymmetric nat_cmp_total (λ e. IsContent e.1) t.files number content well.numbered is_content well.contents;
   given =
-      each-put nat_cmp nat_cmp-IsAntisymmetric nat_cmp_total (λ e. e.0 < t.made) t.files number content well.numbered
-      (each-get nat_cmp nat_cmp-IsAntisymmetric (λ e. e.0 < t.made) t.files number before well.given there) well.given;
+      each-put nat_cmp nat_cmp-IsAntisymmetric nat_cmp_total (λ e. e.0 < made) t.files number content well.numbered given
+      (each-weaker (λ e. e.0 < t.made) (λ e. e.0 < made) (λ e early. later e.0 t.made made early more) t.files well.given);
   pins = well.pins;
   pinned = each-weaker (λ e. IsPin t.files e) (λ e. IsPin (with_content t.files number content) e)
       (λ e pin. (pin.0, still-there t.files number content e.0 pin.1)) t.pins well.pinned;
@@ -89,6 +92,14 @@ well-formed-content t number before content well there is_content = record {
   uid = well.uid;
   gid = well.gid;
 }
+  where
+    later : (n low high : ℕ) → n < low → low ≤ high → n < high
+    later n low high early more = omega arith
+
+pub well-formed-content : (t : Tree) (number : ℕ) (before content : Content) → WellFormed t → content_at t.files number ≡ Some before → IsContent content → WellFormed (record t { files = with_content t.files number content })
+well-formed-content t number before content well there is_content =
+    well-formed-given t number t.made content well is_content
+    (each-get nat_cmp nat_cmp-IsAntisymmetric (λ e. e.0 < t.made) t.files number before well.given there) (omega arith)
 
 pub kept-content-within : (t : Tree) (number : ℕ) (before content : Content) → IsKept t → content_at t.files number ≡ Some before → IsContent content → IsTrue (fits (record t { files = with_content t.files number content })) → IsKept (record t { files = with_content t.files number content })
 kept-content-within t number before content kept there is_content within = record {

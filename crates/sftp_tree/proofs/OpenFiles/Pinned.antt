@@ -52,9 +52,10 @@ pins-of_files t number often well there =
         by true some is = subst (λ n. 0 < n) (same_Some often count is) (ltb-true 0 often some)
         by false none is = absurd cc
 
-well-formed-pins : (t : Tree) (number often : ℕ) → WellFormed t → HasFile t.files number
-    → WellFormed (record t { pins = with_pins t.pins number often })
-well-formed-pins t number often well there = record {
+-- a tree with other pins is one, where they are pins of its files
+pub well-formed-pins : (t : Tree) (pins : Pins) → WellFormed t → InOrder nat_cmp pins
+    → AllByRecursion (λ e. IsPin t.files e) pins → WellFormed (record t { pins = pins })
+well-formed-pins t pins well order of_files = record {
   ordered = well.ordered;
   named = well.named;
   nodes = well.nodes;
@@ -63,13 +64,20 @@ well-formed-pins t number often well there = record {
   numbered = well.numbered;
   contents = well.contents;
   given = well.given;
-  pins = InOrder-with_pins t.pins number often well.pins;
-  pinned = pins-of_files t number often well there;
+  pins = order;
+  pinned = of_files;
   limits = well.limits;
   home = well.home;
   uid = well.uid;
   gid = well.gid;
 }
+
+-- with a file pinned so often
+well-formed-with_pins : (t : Tree) (number often : ℕ) → WellFormed t → HasFile t.files number
+    → WellFormed (record t { pins = with_pins t.pins number often })
+well-formed-with_pins t number often well there =
+    well-formed-pins t (with_pins t.pins number often) well (InOrder-with_pins t.pins number often well.pins)
+    (pins-of_files t number often well there)
 
 pub fits-pins : (t : Tree) (pins : Pins) → IsTrue (fits t) → IsTrue (fits (record t { pins = pins }))
 fits-pins t pins within =
@@ -86,7 +94,7 @@ fits-pins t pins within =
 -- with a pin less
 pub kept-unpin : (t : Tree) (number : ℕ) → IsKept t → HasFile t.files number → IsKept (after_unpin t number)
 kept-unpin t number kept there = kept-trim (record t { pins = without_pin t.pins number })
-    (well-formed-pins t number (times_pinned t.pins number - 1) kept.well_formed there)
+    (well-formed-with_pins t number (times_pinned t.pins number - 1) kept.well_formed there)
     (fits-pins t (without_pin t.pins number) kept.within_limits)
 
 -- with a pin more each file is held still
@@ -102,7 +110,7 @@ held-pinned t number other order held =
 
 pub kept-pin : (t : Tree) (number : ℕ) → IsKept t → HasFile t.files number → IsKept (after_pin t number)
 kept-pin t number kept there = record {
-  well_formed = well-formed-pins t number (times_pinned t.pins number + 1) kept.well_formed there;
+  well_formed = well-formed-with_pins t number (times_pinned t.pins number + 1) kept.well_formed there;
   within_limits = fits-pins t (with_pin t.pins number) kept.within_limits;
   trimmed = each-weaker (λ e. IsTrue (is_held t e.0)) (λ e. IsTrue (is_held (after_pin t number) e.0))
       (λ e held. held-pinned t number e.0 kept.well_formed.pins held) t.files kept.trimmed;

@@ -1,32 +1,15 @@
 -- The tree without any pins: it stays one within the limits.
 use Rattle.sftp_tree.proofs.Imports.{◌≡◌, ℕ, [], ◌∙◌, ap, subst, sym, nat_cmp, Place, Table, TreeLimits, Stored, Names}
-use Rattle.sftp_tree.proofs.Imports.{Tree, WellFormed, IsKept, trim, contents, pins_of, seen, AreCounted, unpinned}
+use Rattle.sftp_tree.proofs.Imports.{Tree, IsKept, trim, contents, pins_of, seen, AreCounted, unpinned}
 use Rattle.sftp_path.proofs.Table.Laws.{InOrder-empty}
 use Rattle.sftp_tree.proofs.FileCounts.Unpinned.{unpinned-pins, unpinned-counted, unpinned-contents}
 use Rattle.sftp_tree.proofs.KeptTrees.Trims.{kept-trim}
-use Rattle.sftp_tree.proofs.OpenFiles.Pinned.{fits-pins}
-
-well-formed-unpinned : (t : Tree) → WellFormed t → WellFormed (record t { pins = [] })
-well-formed-unpinned t well = record {
-  ordered = well.ordered;
-  named = well.named;
-  nodes = well.nodes;
-  root = well.root;
-  parents = well.parents;
-  numbered = well.numbered;
-  contents = well.contents;
-  given = well.given;
-  pins = InOrder-empty ℕ nat_cmp;
-  pinned = tt;
-  limits = well.limits;
-  home = well.home;
-  uid = well.uid;
-  gid = well.gid;
-}
+use Rattle.sftp_tree.proofs.OpenFiles.Pinned.{well-formed-pins, fits-pins}
 
 pub kept-unpinned : (t : Tree) → IsKept t → IsKept (trim (record t { pins = [] }))
 kept-unpinned t kept =
-    kept-trim (record t { pins = [] }) (well-formed-unpinned t kept.well_formed) (fits-pins t [] kept.within_limits)
+    kept-trim (record t { pins = [] }) (well-formed-pins t [] kept.well_formed (InOrder-empty ℕ nat_cmp) tt)
+    (fits-pins t [] kept.within_limits)
 
 pub unpinned-parts : (names : Names) (files : Table ℕ Stored) (made : ℕ) (limits : TreeLimits) (home : Place) (uid gid : ℕ)
     → AreCounted names files → (after : Table ℕ Stored) → after ≡ unpinned files
