@@ -39,7 +39,7 @@ pub record FitsData (bytes : List ℕ) : Type 0 where
   pub string : FitsString bytes
   pub short : length bytes ≤ highest_limits.read_bytes
 
--- a listing has a name left, and each name that it has left can be given
+-- a listing has a name left, and all that it has left are in order and can be given
 abbrev pub FitsListed : Left → Type 0
 FitsListed [] = ⊥
 FitsListed (e ∷ es) = IsLeft (e ∷ es)

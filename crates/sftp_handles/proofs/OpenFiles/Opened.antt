@@ -335,17 +335,16 @@ module _ (s : State) (path : List ℕ) (pflags : ℕ) (attrs : Attrs) (n : ℕ) 
       pin ∙ ap (λ t. after_pin t n) after_it in
       λ i. record { tree = tree i; handles = whole i }
 
-  pub good-end : IsKept pinned → Good (state_of pinned handles)
-  good-end is_kept =
-      subst Good (sym end-is)
-      (good-file s path pflags attrs n handle good number short absent room
-      (subst IsKept (ap (λ (x : State). x.tree) end-is) is_kept))
-
-  pub does-end : is_none (paths.causes s.tree (asks.Open path pflags attrs)) ≡ true
-      → Does s (asks.Open path pflags attrs) (replies.Handle handle) (state_of pinned handles)
-  does-end free =
-      subst (Does s (asks.Open path pflags attrs) (replies.Handle handle)) (sym end-is)
-      (does-file s path pflags attrs n handle good number short absent room free)
+  pub opened-end : IsKept pinned → is_none (paths.causes s.tree (asks.Open path pflags attrs)) ≡ true
+      → Good (state_of pinned handles)
+      × Does s (asks.Open path pflags attrs) (replies.Handle handle) (state_of pinned handles)
+  opened-end is_kept free = (
+    subst Good (sym end-is)
+        (good-file s path pflags attrs n handle good number short absent room
+        (subst IsKept (ap (λ (x : State). x.tree) end-is) is_kept)),
+    subst (Does s (asks.Open path pflags attrs) (replies.Handle handle)) (sym end-is)
+        (does-file s path pflags attrs n handle good number short absent room free),
+  )
 
 -- ---- OPENDIR, by what opening the listing returned
 

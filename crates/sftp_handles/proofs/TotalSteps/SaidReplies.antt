@@ -91,7 +91,7 @@ unfolding spelling
 names-length id items = omega arith
 
 names-spelled : (items : List NameItem) → length items ≤ names_in_reply → AllByRecursion FitsNameItem items
-    → length (flat_map name_item items) ≤ 33294 → IsSpelledAnswer (replies.Name items)
+    → 13 + length (flat_map name_item items) ≤ packet_limit → IsSpelledAnswer (replies.Name items)
 names-spelled items few fit short id small = record {
   fields = (small, (omega (arith, few), fit));
   whole = omega (arith, names-length id items, short);
@@ -107,15 +107,17 @@ only-length : (text : List ℕ)
 only-length text = grind (arith, length-append)
 
 reply-name : (text : List ℕ) → FitsTwice text → IsReplyOf (names (Some text)) (only_name text)
-reply-name text fits =
-    let none = record { size = tt; owner = tt; permissions = tt; times = tt; extended = tt } in
-    record {
-      says = nat_list_eq_equiv.refl text;
-      spelled =
-          names-spelled (record { filename = text; longname = text; attrs = no_attributes } ∷ []) (lit≤ tt)
-          (record { filename = fits.string; longname = fits.string; attrs = none }, tt)
-          (omega (arith, only-length text, fits.short));
-    }
+reply-name text fits = record {
+  says = nat_list_eq_equiv.refl text;
+  spelled =
+      names-spelled (record { filename = text; longname = text; attrs = no_attributes } ∷ []) (lit≤ tt)
+      (record {
+        filename = fits.string;
+        longname = fits.string;
+        attrs = record { size = tt; owner = tt; permissions = tt; times = tt; extended = tt };
+      }, tt)
+      (omega (arith, only-length text, fits.short));
+}
 
 -- the first names of a listing
 

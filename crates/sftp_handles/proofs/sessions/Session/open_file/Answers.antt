@@ -1,9 +1,10 @@
 use Rattle.sftp_handles.proofs.Imports.{◌<◌, ◌^◌, sym, ap, subst, ◌∙◌, Tree, WellFormed, HasFile, times_pinned}
-use Rattle.sftp_handles.proofs.Imports.{pins-stay, State, has_handle_left, Does}
+use Rattle.sftp_handles.proofs.Imports.{pins-stay, State, has_handle_left, Does, Good}
 use Rattle.sftp_packets.specs.declared.requests.Ask.TheVariants as asks
 use Rattle.sftp_packets.specs.declared.replies.Answer.TheVariants as replies
 use Rattle.sftp_handles.proofs.Good.NewStates.{state_of}
 use Rattle.sftp_handles.proofs.OpenFiles.Opened as opened
+use Rattle.sftp_handles.proofs.sessions.Session.open_file.Given as given
 use Rattle.sftp_handles.proofs.sessions.Session.open_file.Goals as goal
 
 pub pin-requires-clause-file : goal.pin-requires-clause-file
@@ -22,35 +23,33 @@ pin-requires-clause-few g c =
     (opened.few-pins (state_of c.self.inside.tree (g.T.HandleTable.handles c.self.inside.table)) file.file
     c.self.invariant)
 
-pub invariant_of-self : goal.invariant_of-self
-invariant_of-self g c =
+-- the state at the end is good, and the request led to it
+ended : (g : given.Over) (c : goal.After-put_reserved g)
+    → Good (state_of c.pin.new.self (g.T.HandleTable.handles c.put_reserved.new.self))
+    × Does (state_of c.self.inside.tree (g.T.HandleTable.handles c.self.inside.table))
+    (asks.Open c.args.path.now c.args.pflags c.args.attrs.now) (replies.Handle c.in-Ok.name.items)
+    (state_of c.pin.new.self (g.T.HandleTable.handles c.put_reserved.new.self))
+ended g c =
     let name = c.in-Ok in
     let file = c.in-Ok-open_file in
-    opened.good-end (state_of c.self.inside.tree (g.T.HandleTable.handles c.self.inside.table)) c.args.path.now
+    opened.opened-end (state_of c.self.inside.tree (g.T.HandleTable.handles c.self.inside.table)) c.args.path.now
     c.args.pflags c.args.attrs.now file.file c.open_file.new.self c.pin.new.self
     (g.T.HandleTable.handles c.reserve.new.self) (g.T.HandleTable.handles c.put_reserved.new.self) name.name.items
     (g.T.HandleTable.name_for c.reserve.new.self c.args.want.items) c.kept_flags-flags.result c.self.invariant
     name.ensures.short name.ensures.closed (ap has_handle_left c.self.view_is ∙ c.requires.room) file.ensures.number
     file.ensures.done c.pin.ensures.pinned name.ensures.kept
     (name.ensures.named ∙ ap (g.T.HandleTable.name_for c.reserve.new.self) c.as_slice.ensures.value)
-    c.kept_flags-flags.ensures c.put_reserved.ensures c.pin.ensures.valid
+    c.kept_flags-flags.ensures c.put_reserved.ensures c.pin.ensures.valid file.ensures.free
+
+pub invariant_of-self : goal.invariant_of-self
+invariant_of-self g c = (ended g (goal.at.invariant_of-self g c).After-put_reserved).0
 
 pub returns-in-Ok-open_file-clause-done : goal.returns-in-Ok-open_file-clause-done
 returns-in-Ok-open_file-clause-done g c =
-    let name = c.in-Ok in
-    let file = c.in-Ok-open_file in
     subst
-    (λ s. Does s (asks.Open c.args.path.now c.args.pflags c.args.attrs.now) (replies.Handle name.name.items)
+    (λ s. Does s (asks.Open c.args.path.now c.args.pflags c.args.attrs.now) (replies.Handle c.in-Ok.name.items)
     (state_of c.pin.new.self (g.T.HandleTable.handles c.put_reserved.new.self)))
-    c.self.view_is
-    (opened.does-end (state_of c.self.inside.tree (g.T.HandleTable.handles c.self.inside.table)) c.args.path.now
-    c.args.pflags c.args.attrs.now file.file c.open_file.new.self c.pin.new.self
-    (g.T.HandleTable.handles c.reserve.new.self) (g.T.HandleTable.handles c.put_reserved.new.self) name.name.items
-    (g.T.HandleTable.name_for c.reserve.new.self c.args.want.items) c.kept_flags-flags.result c.self.invariant
-    name.ensures.short name.ensures.closed (ap has_handle_left c.self.view_is ∙ c.requires.room) file.ensures.number
-    file.ensures.done c.pin.ensures.pinned name.ensures.kept
-    (name.ensures.named ∙ ap (g.T.HandleTable.name_for c.reserve.new.self) c.as_slice.ensures.value)
-    c.kept_flags-flags.ensures c.put_reserved.ensures file.ensures.free)
+    c.self.view_is (ended g (goal.at.returns-in-Ok-open_file-clause-done g c).After-put_reserved).1
 
 pub returns-in-Ok-clause-failed : goal.returns-in-Ok-clause-failed
 returns-in-Ok-clause-failed g c =
