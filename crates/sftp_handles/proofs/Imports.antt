@@ -74,9 +74,8 @@ pub use Rattle.sftp_treefile.specs.TreeFile.{are_bytes}
 pub use Rattle.sftp_treefile.specs.declared.limits.TreeLimits.{TreeLimits}
 pub use Rattle.sftp_wire.specs.Examples.{no_attributes}
 pub use Rattle.sftp_packets.specs.Spelling.{string, attributes, name_item, FitsString, FitsNameItem, AreBytes}
-pub use Rattle.sftp_packets.specs.Requests.{FitsAsk}
+pub use Rattle.sftp_packets.specs.Requests.{FitsAsk, asked_handle}
 pub use Rattle.sftp_packets.specs.Spelling.{handle_limit, uint32, uint64, packet_limit}
-pub use Rattle.sftp_packets.specs.Requests.{asked_handle}
 pub use Rattle.sftp_packets.specs.Packets.{HasSpelling}
 unfoldable pub use Rattle.sftp_packets.specs.Packets.{spelling}
 pub use Rattle.sftp_packets.specs.declared.attributes.Attrs.{Attrs}

@@ -12,9 +12,8 @@ use Rattle.sftp_packets.specs.declared.layouts.FieldKind.TheVariants as kinds
 use Rattle.sftp_packets.specs.declared.layouts.Tail.{Tail}
 use Rattle.sftp_packets.specs.declared.layouts.Tail.TheVariants as tails
 use Rattle.sftp_packets.specs.declared.layouts.Layout.{Layout}
-use Rattle.sftp_packets.specs.Spelling.{Field, Number, LongNumber, Flags, Text, Handle, ExtensionName, Message}
-use Rattle.sftp_packets.specs.Spelling.{Rest, Attributes, Items}
-use Rattle.sftp_packets.specs.Spelling.{Row, string}
+use Rattle.sftp_packets.specs.Spelling.{Field, Number, LongNumber, Flags, Text, Handle, ExtensionName, Message, Rest}
+use Rattle.sftp_packets.specs.Spelling.{Attributes, Items, Row, string}
 use Rattle.sftp_packets.specs.Requests.{ask_row, every_ask}
 use Rattle.sftp_packets.specs.Replies.{answer_row, every_answer}
 

@@ -1,7 +1,7 @@
--- The packets (draft-ietf-secsh-filexfer-02, sections 3 to 8): how each is spelled, which reply a request may get, which
--- packets have an encoding, and how they are read.
+-- The packets (draft-ietf-secsh-filexfer-02, sections 3 to 8): how each is spelled, which reply a request may get,
+-- which packets have an encoding, and how they are read.
 use Rattle.std.specs.Prelude.{◌≡◌, ◌==◌, ◌||◌, ◌^◌, ◌<◌, ◌≤◌, ℕ, Bool, false, if◌then◌else◌}
-use Rattle.std.specs.Prelude.{List, [], ◌∷◌, ◌++◌, length, Option, Some, None, IfSome, Result, Ok, Err}
+use Rattle.std.specs.Prelude.{List, [], ◌∷◌, ◌++◌, length, Option, None, IfSome, Result, Ok, Err}
 use Rattle.sftp_packets.specs.declared.errors.Fault.{Fault}
 use Rattle.sftp_packets.specs.declared.errors.Fault.TheVariants.{Short, Trailing}
 use Rattle.sftp_packets.specs.declared.requests.Ask.{Ask}

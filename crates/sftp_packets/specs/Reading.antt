@@ -2,11 +2,11 @@
 -- sections 3 to 8).
 -- This is a second definition of the format beside the encoding; that the two agree is proved.
 use Rattle.std.specs.Prelude.{◌≡◌, ◌==◌, nat_lt, ℕ, zero, suc, Bool, if◌then◌else◌}
-use Rattle.std.specs.Prelude.{List, [], ◌∷◌, length, take, drop, bytes_eq, Option, Some, None, Result, Ok, Err}
+use Rattle.std.specs.Prelude.{List, [], ◌∷◌, length, take, drop, Option, Some, None, Result, Ok, Err}
 use Rattle.std.specs.Int.{w32, w64, Width, byte_len, from_be_bytes}
 use Rattle.std.specs.Int.RustNames.{bit_and}
 use Rattle.sftp_packets.specs.declared.errors.Fault.{Fault}
-use Rattle.sftp_packets.specs.declared.errors.Fault.TheVariants.{WrongType, Short, Trailing, Flags, HandleTooLong}
+use Rattle.sftp_packets.specs.declared.errors.Fault.TheVariants.{Short, Flags, HandleTooLong}
 use Rattle.sftp_packets.specs.declared.errors.ReadError.{ReadError}
 use Rattle.sftp_packets.specs.declared.errors.ReadError.TheVariants as reads
 use Rattle.sftp_packets.specs.declared.attributes.Attrs.{Attrs}

@@ -1,7 +1,7 @@
 -- The requests (draft-ietf-secsh-filexfer-02, sections 6 and 8): how each is spelled, how it is read, and which reply
 -- it may get.
 use Rattle.std.specs.Prelude.{◌==◌, ℕ, Bool, false, if◌then◌else◌, List, [], ◌∷◌, codes, map, bytes_eq}
-use Rattle.std.specs.Prelude.{Option, Ok, Err}
+use Rattle.std.specs.Prelude.{Option}
 use Rattle.std.specs.List.{list_any}
 use Rattle.sftp_packets.specs.declared.errors.Fault.TheVariants.{WrongType}
 use Rattle.sftp_packets.specs.declared.requests.Ask.{Ask}

@@ -1,9 +1,8 @@
 //! Readers of the fields of packets (draft, sections 3 to 5). Each reader moves `body` past what it read. After an
 //! error `body` may begin anywhere.
 ghost use Rattle.sftp_packets.specs.Reading.{Reads, optional_at, uint32_at, uint64_at, two_uint32_at, bytes_at};
-ghost use Rattle.sftp_packets.specs.Reading.{string_at};
-ghost use Rattle.sftp_packets.specs.Reading.{handle_at, rest_at, name_item_at, names_at, pair_at, pairs_at, many_at};
-ghost use Rattle.sftp_packets.specs.Reading.{counted_pairs_at, attribute_fields_at, attributes_at};
+ghost use Rattle.sftp_packets.specs.Reading.{string_at, handle_at, rest_at, name_item_at, names_at, pair_at, pairs_at};
+ghost use Rattle.sftp_packets.specs.Reading.{many_at, counted_pairs_at, attribute_fields_at, attributes_at};
 
 use crate::attributes::{AttrFlags, Attrs};
 use crate::errors::{Fault, ReadError};

@@ -1,5 +1,6 @@
-//! The layouts of packets: what each consists of, without its values, for a reader that goes over a packet's bytes field
-//! by field (draft, sections 3 to 8; OpenSSH's PROTOCOL, section 4). The tables are in `requests.rt` and `replies.rt`.
+//! The layouts of packets: what each consists of, without its values, for a reader that goes over a packet's bytes
+//! field by field (draft, sections 3 to 8; OpenSSH's PROTOCOL, section 4). The tables are in `requests.rt` and
+//! `replies.rt`.
 ghost use Rattle.std.specs.Prelude.{◌≡◌, drop, find, map, nat_eq};
 ghost use Rattle.std.specs.List.{starts_with};
 ghost use Rattle.std.specs.Option.{option_map};

@@ -4,16 +4,12 @@
 ghost use Rattle.std.specs.Prelude.{◌≡◌, ◌-◌, ◌^◌, ◌<◌, ◌++◌, length, min, IfSome};
 ghost use Rattle.std.specs.List.{flat_map, AllByRecursion};
 ghost use Rattle.sftp_packets.specs.Spelling.{uint32, uint64, two_uint32, string, pair, pairs, counted_pairs, optional};
-ghost use Rattle.sftp_packets.specs.Spelling.{attributes, name_item, names, with_id};
-ghost use Rattle.sftp_packets.specs.Requests.{ask_parts};
-ghost use Rattle.sftp_packets.specs.Replies.{answer_parts};
-ghost use Rattle.sftp_packets.specs.Packets.{contents};
-ghost use Rattle.sftp_packets.specs.Spelling.{AreBytes, FitsString, FitsTwo, FitsPair, FitsPairs, FitsCounted};
-ghost use Rattle.sftp_packets.specs.Spelling.{FitsAttrs, FitsNameItem, FitsNames};
-ghost use Rattle.sftp_packets.specs.Requests.{FitsAsk};
-ghost use Rattle.sftp_packets.specs.Replies.{FitsAnswer};
-ghost use Rattle.sftp_packets.specs.Packets.{FitsFields};
-ghost use Rattle.sftp_packets.specs.Spelling.{field_bytes, fields_bytes, FitsField, Fit};
+ghost use Rattle.sftp_packets.specs.Spelling.{attributes, name_item, names, AreBytes, FitsString, FitsTwo, FitsPair};
+ghost use Rattle.sftp_packets.specs.Spelling.{FitsPairs, FitsCounted, FitsAttrs, FitsNameItem, FitsNames, field_bytes};
+ghost use Rattle.sftp_packets.specs.Spelling.{fields_bytes, FitsField, Fit};
+ghost use Rattle.sftp_packets.specs.Requests.{ask_parts, FitsAsk};
+ghost use Rattle.sftp_packets.specs.Replies.{answer_parts, FitsAnswer};
+ghost use Rattle.sftp_packets.specs.Packets.{contents, FitsFields};
 ghost use Rattle.sftp_packets.specs.Seen.{seen, all_seen};
 
 use crate::attributes::Attrs;

@@ -3,12 +3,11 @@
 ghost use Rattle.std.specs.Prelude.{◌≡◌, ◌∷◌, ◌++◌, ◌<◌, ◌^◌, ◌↔◌, ◌⊎◌, length, OnOk, OnErr, IfErr, IsErrOf};
 ghost use Rattle.std.specs.List.{flat_map};
 ghost use Rattle.sftp_packets.specs.Spelling.{uint32, uint64, two_uint32, string, pair, pairs, counted_pairs, optional};
-ghost use Rattle.sftp_packets.specs.Spelling.{attribute_flags, attribute_fields, attributes, name_item, names};
-ghost use Rattle.sftp_packets.specs.Spelling.{with_id};
+ghost use Rattle.sftp_packets.specs.Spelling.{attribute_flags, attribute_fields, attributes, name_item, names, with_id};
+ghost use Rattle.sftp_packets.specs.Spelling.{field_bytes, fields_bytes};
 ghost use Rattle.sftp_packets.specs.Requests.{ask_parts};
 ghost use Rattle.sftp_packets.specs.Replies.{answer_parts};
 ghost use Rattle.sftp_packets.specs.Packets.{contents, spelling, HasSpelling};
-ghost use Rattle.sftp_packets.specs.Spelling.{field_bytes, fields_bytes};
 ghost use Rattle.sftp_packets.specs.Seen.{seen, all_seen};
 ghost use Rattle.sftp_packets.specs.Writing.{Extends, IsTooLong, IsNotCanonical};
 

@@ -1,5 +1,6 @@
 -- The text of a packet by its layout (sftp_packets/specs/Layouts.antt), and the layout of a line by the name in it.
-use Rattle.std.specs.Prelude.{ℕ, ◌==◌, Bool, true, false, if◌then◌else◌, List, [], ◌∷◌, drop, codes, bytes_eq, find, Option}
+use Rattle.std.specs.Prelude.{ℕ, ◌==◌, Bool, true, false, if◌then◌else◌, List, [], ◌∷◌, drop, codes, bytes_eq}
+use Rattle.std.specs.Prelude.{find, Option}
 use Rattle.sftp_packets.specs.declared.packets.Side.{Side}
 use Rattle.sftp_packets.specs.Layouts.{Shape, shapes}
 use Rattle.sftp_text.specs.Formats.{Format, nothing, ◌then◌, word, mark}

@@ -9,9 +9,8 @@ use Rattle.sftp_packets.specs.declared.errors.WireError.TheVariants as wires
 use Rattle.sftp_packets.specs.declared.packets.Packet.{Packet}
 use Rattle.sftp_packets.specs.declared.packets.Side.{Side}
 use Rattle.sftp_packets.specs.Spelling.{packet_limit}
-use Rattle.sftp_packets.specs.Packets.{spelling, side_of, HasSpelling}
+use Rattle.sftp_packets.specs.Packets.{spelling, side_of, HasSpelling, packet_of}
 use Rattle.sftp_packets.specs.Reading.{◌>>=◌}
-use Rattle.sftp_packets.specs.Packets.{packet_of}
 
 -- The packet in front of the bytes of a stream, and how many bytes it takes; `None` where not all of them have come. A
 -- length out of range is a fault as soon as its four bytes have come.

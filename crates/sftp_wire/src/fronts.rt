@@ -1,9 +1,8 @@
 //! The packet in front of the bytes of a stream (draft, section 3): its length, its type, its fields, and nothing else.
 ghost use Rattle.std.specs.Prelude.{◌≡◌, ◌⊎◌, List, ℕ, ◌++◌, length, IfOk, IfSome};
 ghost use Rattle.sftp_packets.specs.declared.packets.Packet.{Packet};
-ghost use Rattle.sftp_packets.specs.Packets.{HasSpelling, side_of, spelling};
+ghost use Rattle.sftp_packets.specs.Packets.{HasSpelling, side_of, spelling, packet_of};
 ghost use Rattle.sftp_packets.specs.Reading.{Gives};
-ghost use Rattle.sftp_packets.specs.Packets.{packet_of};
 ghost use Rattle.sftp_wire.specs.Fronts.{IsReading, StandsInFront, front_of};
 
 use sftp_packets::{

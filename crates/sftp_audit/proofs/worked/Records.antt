@@ -5,11 +5,9 @@ use Rattle.sftp_audit.proofs.Imports.{no_attributes, Event, ltb-true}
 use Rattle.sftp_transcript.specs.Examples.{mkdir, rmdir, status, handshake_bytes}
 use Rattle.sftp_transcript.specs.Transcript.{IsEvent, IsRecord, event_record, transcript_opening, packet_of}
 use Rattle.sftp_packets.specs.declared.packets.Packet.TheVariants.{Init, Version}
-use Rattle.sftp_packets.specs.Spelling.{packet_limit, AreBytes, FitsString, FitsPair}
+use Rattle.sftp_packets.specs.Spelling.{packet_limit, AreBytes, FitsString, FitsPair, FitsAttrs}
 use Rattle.sftp_packets.specs.Requests.{server_extensions}
-use Rattle.sftp_packets.specs.Packets.{spelling}
-use Rattle.sftp_packets.specs.Spelling.{FitsAttrs}
-use Rattle.sftp_packets.specs.Packets.{HasSpelling}
+use Rattle.sftp_packets.specs.Packets.{spelling, HasSpelling}
 use Rattle.sftp_audit.specs.Examples.{backward_replies, backward_replies_bytes, removal_done_bytes, limits_session}
 use Rattle.sftp_audit.specs.Examples.{usual_limits_told, limits_bytes}
 

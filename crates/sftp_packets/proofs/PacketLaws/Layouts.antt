@@ -14,11 +14,9 @@ use Rattle.sftp_packets.specs.declared.replies.Answer.TheVariants as answers
 use Rattle.sftp_packets.specs.declared.packets.Packet.{Packet}
 use Rattle.sftp_packets.specs.declared.packets.Packet.TheVariants.{Init, Version, Request, Reply}
 use Rattle.sftp_packets.specs.declared.packets.Side.TheVariants.{Client, Server}
-use Rattle.sftp_packets.specs.Spelling.{uint32, string, with_id}
-use Rattle.sftp_packets.specs.Requests.{known_extensions, asks_known, FitsAsk}
+use Rattle.sftp_packets.specs.Spelling.{uint32, string, with_id, Field, Message, Rest, Attributes, Items}
+use Rattle.sftp_packets.specs.Requests.{known_extensions, asks_known, FitsAsk, ask_row, ask_parts}
 use Rattle.sftp_packets.specs.Packets.{contents, side_of, hides_extension, FitsFields}
-use Rattle.sftp_packets.specs.Spelling.{Field, Message, Rest, Attributes, Items}
-use Rattle.sftp_packets.specs.Requests.{ask_row, ask_parts}
 use Rattle.sftp_packets.specs.Replies.{answer_row, answer_parts}
 use Rattle.sftp_packets.specs.Layouts.{row_shape, packet_shape, shapes, layout_of_bytes, unless_known, name_among}
 use Rattle.sftp_packets.proofs.Bytes.Numbers.{wide32}

@@ -9,10 +9,9 @@ use Rattle.sftp_packets.specs.declared.packets.Packet.TheVariants.{Reply}
 use Rattle.sftp_packets.specs.declared.packets.Side.TheVariants.{Client, Server}
 use Rattle.sftp_packets.specs.Spelling.{uint32, string, attributes, names, AreBytes, FitsString, FitsAttrs, FitsNames}
 use Rattle.sftp_packets.specs.Spelling.{with_id}
-use Rattle.sftp_packets.specs.Replies.{answer_parts, answered_handle, FitsAnswer}
+use Rattle.sftp_packets.specs.Replies.{answer_parts, answered_handle, FitsAnswer, reply_at}
 use Rattle.sftp_packets.specs.Reading.{Reader, one, three, uint32_at, string_at, handle_at, rest_at, attributes_at}
 use Rattle.sftp_packets.specs.Reading.{names_at}
-use Rattle.sftp_packets.specs.Replies.{reply_at}
 use Rattle.sftp_packets.specs.Packets.{client_packet_at, server_packet_at, packet_of}
 use Rattle.sftp_packets.proofs.Bytes.Numbers.{Is32}
 use Rattle.sftp_packets.proofs.Readers.Combined.{TakesAs, one_takes, two_takes, three_takes, one_again, two_again, three_again}

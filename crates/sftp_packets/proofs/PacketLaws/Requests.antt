@@ -9,10 +9,9 @@ use Rattle.sftp_packets.specs.declared.requests.Ask.TheVariants as asks
 use Rattle.sftp_packets.specs.declared.packets.Packet.TheVariants.{Request}
 use Rattle.sftp_packets.specs.declared.packets.Side.TheVariants.{Client}
 use Rattle.sftp_packets.specs.Spelling.{uint32, uint64, string, attributes, FitsString, FitsAttrs, with_id}
-use Rattle.sftp_packets.specs.Requests.{ask_parts, asked_handle, asks_known, FitsAsk}
+use Rattle.sftp_packets.specs.Requests.{ask_parts, asked_handle, asks_known, FitsAsk, extension_at, request_at}
 use Rattle.sftp_packets.specs.Reading.{Reader, one, two, three, uint32_at, uint64_at, string_at, handle_at}
 use Rattle.sftp_packets.specs.Reading.{attributes_at}
-use Rattle.sftp_packets.specs.Requests.{extension_at, request_at}
 use Rattle.sftp_packets.specs.Packets.{client_packet_at, packet_of}
 use Rattle.sftp_packets.proofs.Bytes.Numbers.{Is32, Is64}
 use Rattle.sftp_packets.proofs.Readers.Combined.{TakesAs, one_takes, two_takes, three_takes, one_again, two_again, three_again}

@@ -13,9 +13,8 @@ use Rattle.sftp_packets.specs.declared.packets.Packet.{Packet}
 use Rattle.sftp_packets.specs.declared.packets.Side.{Side}
 use Rattle.sftp_packets.specs.declared.packets.Side.TheVariants.{Client, Server}
 use Rattle.sftp_packets.specs.Spelling.{uint32, packet_limit}
-use Rattle.sftp_packets.specs.Packets.{contents, spelling, side_of, HasSpelling}
+use Rattle.sftp_packets.specs.Packets.{contents, spelling, side_of, HasSpelling, packet_of}
 use Rattle.sftp_packets.specs.Reading.{◌>>=◌}
-use Rattle.sftp_packets.specs.Packets.{packet_of}
 use Rattle.sftp_wire.specs.Fronts.{IsReading, StandsInFront, front_of}
 use Rattle.sftp_packets.proofs.Bytes.Numbers.{IsBytes, IsBytes-take, IsBytes-drop, wide32}
 use Rattle.sftp_packets.proofs.Readers.Steps.{bind_ok, guard_ok, ok_is}
