@@ -9,7 +9,7 @@ use sftp_wire::{FieldKind, HANDLE_LIMIT, Layout, Tail};
 pub(crate) fn judge_body(layout: Option<Layout>, fields: &mut Fields<'_>) -> Result<(), Spot> {
     match layout {
         Some(layout) => judge_packet(&layout, fields)?,
-        None => judge_rest_of_unknown(fields)?,
+        None => judge_unknown(fields)?,
     }
     if fields.rest().is_empty() {
         Ok(())
@@ -18,7 +18,7 @@ pub(crate) fn judge_body(layout: Option<Layout>, fields: &mut Fields<'_>) -> Res
     }
 }
 
-fn judge_rest_of_unknown(fields: &mut Fields<'_>) -> Result<(), Spot> {
+fn judge_unknown(fields: &mut Fields<'_>) -> Result<(), Spot> {
     fields.number("id")?;
     judge_tail(Tail::Rest, fields)
 }
