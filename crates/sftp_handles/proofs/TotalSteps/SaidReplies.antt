@@ -3,12 +3,11 @@
 use Rattle.sftp_handles.proofs.Imports.{◌≡◌, nat_lt, ℕ, zero, suc, ◌+◌, ◌*◌, ◌^◌, ◌<◌, ◌≤◌, true, List, [], ◌∷◌, ◌++◌}
 use Rattle.sftp_handles.proofs.Imports.{length, Option, Some, None, refl, arith, lit<, lit≤, AllByRecursion, flat_map}
 use Rattle.sftp_handles.proofs.Imports.{nat_list_eq_equiv, lt-ltb, length-append, Attrs, NameItem, Answer, Reply}
-use Rattle.sftp_handles.proofs.Imports.{reply_packet, spelling, string, uint32, uint64, attributes, name_item, AreBytes}
-use Rattle.sftp_handles.proofs.Imports.{FitsString, FitsNameItem, packet_limit, handle_limit, no_attributes, TreeLimits}
-use Rattle.sftp_handles.proofs.Imports.{Name, Left, Handles, IsItem, IsLeft, is_plain, item_of, first_items}
-use Rattle.sftp_handles.proofs.Imports.{names_in_reply, Said, same_attributes, limits_data, FitsSaid, FitsTwice}
-use Rattle.sftp_handles.proofs.Imports.{FitsData, HasNewName, said_in, answer_of, IsSpelledAnswer, IsReplyOf, status_of}
-use Rattle.sftp_handles.proofs.Imports.{only_name}
+use Rattle.sftp_handles.proofs.Imports.{reply_packet, spelling, uint32, attributes, name_item, AreBytes, FitsString}
+use Rattle.sftp_handles.proofs.Imports.{FitsNameItem, packet_limit, handle_limit, no_attributes, Name, Left, Handles}
+use Rattle.sftp_handles.proofs.Imports.{IsItem, IsLeft, is_plain, item_of, first_items, names_in_reply, Said}
+use Rattle.sftp_handles.proofs.Imports.{same_attributes, FitsSaid, FitsTwice, FitsData, HasNewName, said_in, answer_of}
+use Rattle.sftp_handles.proofs.Imports.{IsSpelledAnswer, IsReplyOf, status_of, only_name}
 use Rattle.sftp_packets.specs.declared.replies.Answer.TheVariants as replies
 use Rattle.sftp_treefile.specs.Limits.{highest_limits}
 use Rattle.sftp_listing.proofs.FirstNames.{Extended, attributes_of, same-itself, first-some}
@@ -16,7 +15,7 @@ use Rattle.sftp_handles.specs.Replies.{ok, shows, names, gives, ended, lists, op
 use Rattle.sftp_handles.specs.declared.payloads.Payload.{Payload}
 use Rattle.sftp_handles.specs.declared.payloads.Payload.TheVariants as payloads
 use Rattle.sftp_handles.proofs.OpenFiles.Opened.{new-handle}
-use Rattle.sftp_handles.proofs.TotalSteps.PlaceTexts.{name-parts, bytes-joined, number-bytes}
+use Rattle.sftp_handles.proofs.TotalSteps.PlaceTexts.{name-parts, number-bytes}
 use Rattle.sftp_handles.proofs.TotalSteps.NewHandles.{name-left}
 
 abbrev pub reply_of : ℕ → Answer → Reply
@@ -202,31 +201,6 @@ reply-extended bytes fits = record {
         canonical = refl;
       };
 }
-
--- the limits
-
-limits-bytes : (bounds : TreeLimits) → AreBytes (limits_data bounds)
-unfolding limits_data
-limits-bytes bounds =
-    bytes-joined (uint64 packet_limit)
-    (uint64 bounds.read_bytes ++ (uint64 bounds.read_bytes ++ uint64 bounds.open_handles))
-    (number-bytes 8 packet_limit)
-    (bytes-joined (uint64 bounds.read_bytes) (uint64 bounds.read_bytes ++ uint64 bounds.open_handles)
-    (number-bytes 8 bounds.read_bytes)
-    (bytes-joined (uint64 bounds.read_bytes) (uint64 bounds.open_handles) (number-bytes 8 bounds.read_bytes)
-    (number-bytes 8 bounds.open_handles)))
-
-limits-length : (bounds : TreeLimits) → length (limits_data bounds) ≡ 32
-unfolding limits_data
-limits-length bounds = refl
-
-pub limits-fit : (bounds : TreeLimits) → FitsData (limits_data bounds)
-limits-fit bounds =
-    let count = limits-length bounds in
-    record {
-      string = record { bytes_fit = limits-bytes bounds; length_fits = omega (arith, count) };
-      short = omega (arith, count);
-    }
 
 -- ---- a new handle
 

@@ -8,7 +8,8 @@ use Rattle.sftp_handles.proofs.Imports.{path_said, FitsSaid, IsAskable, IsAnswer
 use Rattle.sftp_packets.specs.declared.requests.Ask.TheVariants as asks
 use Rattle.sftp_tree.specs.Requests as paths
 use Rattle.sftp_handles.proofs.Good.GoodSteps.{room-of}
-use Rattle.sftp_handles.proofs.TotalSteps.SaidReplies.{reply_of, status-spelled, limits-fit, fits-sayable}
+use Rattle.sftp_handles.proofs.Answered.LimitsAnswers.{limits-fit}
+use Rattle.sftp_handles.proofs.TotalSteps.SaidReplies.{reply_of, status-spelled, fits-sayable}
 use Rattle.sftp_handles.proofs.TotalSteps.SeenReplies.{seen-fits}
 use Rattle.sftp_handles.proofs.TotalSteps.PathReplies.{path-fits, stat-fits, lstat-fits, target-fits, place-fits}
 use Rattle.sftp_handles.proofs.TotalSteps.PathReplies.{handles-fit}
