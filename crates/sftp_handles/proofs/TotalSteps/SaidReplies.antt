@@ -109,12 +109,14 @@ reply-name : (text : List ℕ) → FitsTwice text → IsReplyOf (names (Some tex
 reply-name text fits = record {
   says = nat_list_eq_equiv.refl text;
   spelled =
-      names-spelled (record { filename = text; longname = text; attrs = no_attributes } ∷ []) (lit≤ tt)
-      (record {
-        filename = fits.string;
-        longname = fits.string;
-        attrs = record { size = tt; owner = tt; permissions = tt; times = tt; extended = tt };
-      }, tt)
+      names-spelled (record { filename = text; longname = text; attrs = no_attributes } ∷ []) (lit≤ tt) (
+        record {
+          filename = fits.string;
+          longname = fits.string;
+          attrs = record { size = tt; owner = tt; permissions = tt; times = tt; extended = tt };
+        },
+        tt,
+      )
       (omega (arith, only-length text, fits.short));
 }
 

@@ -42,14 +42,14 @@ ended g c =
     c.kept_flags-flags.ensures c.put_reserved.ensures c.pin.ensures.valid file.ensures.free
 
 pub invariant_of-self : goal.invariant_of-self
-invariant_of-self g c = (ended g (goal.at.invariant_of-self g c).After-put_reserved).0
+invariant_of-self g c = (ended g c).0
 
 pub returns-in-Ok-open_file-clause-done : goal.returns-in-Ok-open_file-clause-done
 returns-in-Ok-open_file-clause-done g c =
     subst
     (λ s. Does s (asks.Open c.args.path.now c.args.pflags c.args.attrs.now) (replies.Handle c.in-Ok.name.items)
     (state_of c.pin.new.self (g.T.HandleTable.handles c.put_reserved.new.self)))
-    c.self.view_is (ended g (goal.at.returns-in-Ok-open_file-clause-done g c).After-put_reserved).1
+    c.self.view_is (ended g c).1
 
 pub returns-in-Ok-clause-failed : goal.returns-in-Ok-clause-failed
 returns-in-Ok-clause-failed g c =
