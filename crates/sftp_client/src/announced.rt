@@ -62,7 +62,7 @@ impl Announced {
             Ask::Hardlink { .. } => self.hardlink,
             Ask::Fsync { .. } => self.fsync,
             Ask::Limits => self.limits,
-            // all others may always be sent: their rows have no `name`, as the proof finds
+            // all others may always be sent: their rows have no `extension`, as the proof finds
             _ => true,
         }
     }

@@ -1,5 +1,5 @@
 -- The layouts of packets: what each consists of, without its values, for a reader that goes over a packet's bytes field
--- by field. All of them follow from the rows.
+-- by field. Those of requests and replies follow from their rows.
 use Rattle.std.specs.Prelude.{ℕ, ◌==◌, ◌&&◌, Bool, true, false, if◌then◌else◌, nat_eq, bytes_eq}
 use Rattle.std.specs.Prelude.{List, [], ◌∷◌, codes, drop, find, map, Option, Some, None}
 use Rattle.std.specs.List.{starts_with}
@@ -17,8 +17,8 @@ use Rattle.sftp_packets.specs.Spelling.{Attributes, Items, Row, string}
 use Rattle.sftp_packets.specs.Requests.{ask_row, every_ask}
 use Rattle.sftp_packets.specs.Replies.{answer_row, every_answer}
 
--- A layout: the packet's type, whether an id comes after it, the type's name, what stands in the bytes alone (the name
--- of a known extension), the kinds of the fields, and what comes after them.
+-- A layout: the packet's type, whether an id comes after it, the type's name, the name of a known extension as a string
+-- (the mark, which is empty in every other layout), the kinds of the fields, and what comes after them.
 pub record Shape : Type 0 where
   pub kind : ℕ
   pub has_id : Bool
@@ -58,7 +58,7 @@ abbrev pub kinds_of : List Field → List FieldKind × Tail
 kinds_of [] = ([], tails.Nothing)
 kinds_of (field ∷ fields) = before field (kinds_of fields)
 
--- the name of a known extension, as it stands in the bytes
+-- the name of a known extension as a string
 abbrev pub mark_of : Option (List ℕ) → List ℕ
 mark_of None = []
 mark_of (Some known) = string known
@@ -99,8 +99,7 @@ shapes Server = opening 2 (codes "VERSION") ∷ map (λ answer. row_shape (answe
 
 -- ---- the layout of bytes
 
--- whether a packet, of whose bytes four are its length, may have the layout: its type is at byte 4, and what stands in
--- the bytes alone at byte 9
+-- whether a packet's bytes, its length included, have the layout's type at byte 4 and its mark at byte 9
 abbrev pub may_have : List ℕ → Shape → Bool
 may_have bytes s = starts_with nat_eq (drop 4 bytes) (s.kind ∷ []) && starts_with nat_eq (drop 9 bytes) s.mark
 
@@ -122,7 +121,7 @@ type_name (Version version extensions) = codes "VERSION"
 type_name (Request request) = unless_known (ask_row request.ask).extension (ask_row request.ask).name
 type_name (Reply reply) = unless_known (answer_row reply.answer).extension (answer_row reply.answer).name
 
--- the name of a type, among layouts: that of the layout which stands for any packet of the type
+-- the name of a type: that of its layout without a mark
 abbrev pub name_among : ℕ → List Shape → List ℕ
 name_among kind [] = []
 name_among kind (s ∷ others) =

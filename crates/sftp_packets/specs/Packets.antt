@@ -38,7 +38,7 @@ side_of (Reply reply) = Server
 
 -- ---- which replies a request may get
 
--- a status, and what its reply is
+-- a STATUS, or a reply of the request's own type
 abbrev pub may_get : Ask → Answer → Bool
 may_get ask answer = (answer_parts answer).0 == 101 || (answer_parts answer).0 == reply_type ask
 

@@ -99,7 +99,7 @@ every_ask =
 -- ---- which replies they may get
 
 -- The type of the reply that a request may get; each may get a status beside it, of the type 101 (draft, sections 6 and
--- 7). That the other extensions get no more than a status is this profile's own, as is the last of these.
+-- 7). That LIMITS gets 201, and every other extension no more than a status, is this profile's own.
 abbrev pub reply_type : Ask → ℕ
 reply_type (asks.Open path pflags attrs) = 102
 reply_type (asks.Opendir path) = 102

@@ -199,7 +199,7 @@ FitsField (Rest bytes) = AreBytes bytes
 FitsField (Attributes attrs) = FitsAttrs attrs
 FitsField (Items items) = FitsNames items
 
--- so of each field of a row
+-- each field of a row is in range
 abbrev pub Fit : List Field → Type 0
 Fit [] = Unit {0}
 Fit (field ∷ []) = FitsField field

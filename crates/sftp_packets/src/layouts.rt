@@ -51,11 +51,13 @@ pub struct Layout {
     pub has_id: bool,
     /// The name of the type, or of an extension that has a request of its own.
     pub name: &'static str,
-    /// What comes before the fields in the bytes alone: the extension's name as a string.
+    /// The name of a known extension as a string, which follows the id; empty in every other layout.
     pub mark: &'static [u8],
-    /// What the fields are called in messages.
+    /// What messages call the fields: one name for each of `fields`.
     pub field_names: &'static [&'static str],
+    /// The fields after the id and the mark, in order.
     pub fields: &'static [FieldKind],
+    /// What follows the fields.
     pub tail: Tail,
 }
 
@@ -69,7 +71,7 @@ fn comes_after(count: usize, word: &[u8], bytes: &[u8]) -> bool
     }
 }
 
-/// Whether a packet may have a layout.
+/// Whether the bytes of a packet have the layout's type and mark.
 fn may_have(layout: &Layout, bytes: &[u8]) -> bool
     ensures { result ≡ table.may_have bytes.now (shape layout.now) }
 {
@@ -90,8 +92,8 @@ fn first_fit(layouts: &[Layout], bytes: &[u8]) -> Option<Layout>
     None
 }
 
-/// The layout of a packet that a side sent, by its type at byte 4 and the name of an extension at byte 9. The packet is
-/// not judged beyond that.
+/// The layout of a packet that a side sent, by its type at byte 4 and the name of an extension at byte 9. The bytes
+/// begin with the packet's length, and are not judged any further. `None` if no layout of this side fits.
 #[tactic(auto, unfolding(crate::specs::Layouts::layout_of_bytes))]
 pub fn layout_of(side: Side, bytes: &[u8]) -> Option<Layout>
     ensures { option_map shape result ≡ layout_of_bytes side bytes.now }
@@ -99,7 +101,7 @@ pub fn layout_of(side: Side, bytes: &[u8]) -> Option<Layout>
     first_fit(layouts_of(side), bytes)
 }
 
-/// The name of a type among layouts, or nothing if none of them has the type.
+/// The name of a type among layouts; empty if none of them has the type, which no packet gets.
 fn name_of(kind: u8, layouts: &[Layout]) -> &'static str
     ensures { result.now ≡ name_among kind (map shape layouts.now) }
 {

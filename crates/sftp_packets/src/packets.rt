@@ -1,4 +1,5 @@
-//! The packets (draft, sections 3 to 7). Each request has its rows in `requests.rt`, each reply in `replies.rt`.
+//! The packets of both sides, their limits, and which reply a request may get (draft, sections 3 to 7). Requests are in
+//! `requests.rt`, replies in `replies.rt`.
 ghost use Rattle.std.specs.Prelude.{◌≡◌, ◌<◌, ◌↔◌, IsTrue, length, option_copied};
 ghost use Rattle.std.specs.Option.{IsSomeAnd};
 ghost use Rattle.sftp_packets.specs.Spelling.{handle_limit};
@@ -51,7 +52,8 @@ pub enum Packet {
     Reply(Reply),
 }
 
-/// Whether a request may get an answer of this kind: a status, or what its reply is (draft, sections 6 and 7).
+/// Whether an answer of this type may be the reply to a request: each may get a STATUS, and some one other type (draft,
+/// sections 6 and 7).
 pub fn may_get(ask: &Ask, answer: &Answer) -> bool
     ensures { result ≡ may_get ask.now answer.now }
 {

@@ -1,5 +1,4 @@
 //! Readers of packets (draft, sections 3 to 8): each reads from left to right, up to the first fault.
-ghost use Rattle.std.specs.Prelude.{◌≡◌};
 ghost use Rattle.sftp_packets.specs.declared.packets.Packet.{Packet};
 ghost use Rattle.sftp_packets.specs.Reading.{Reads, two, uint32_at, pairs_at};
 ghost use Rattle.sftp_packets.specs.Packets.{client_packet_at, server_packet_at, packet_at};

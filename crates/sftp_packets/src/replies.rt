@@ -1,4 +1,4 @@
-//! The replies (draft, sections 7 and 8): the type of each, its fields, its handle, and how it is read.
+//! The replies (draft, sections 7 and 8): the type of each, its fields, its handle, its layout, and how it is read.
 ghost use Rattle.std.specs.Prelude.{◌≡◌, option_copied};
 ghost use Rattle.sftp_packets.specs.declared.replies.Answer.{Answer};
 ghost use Rattle.sftp_packets.specs.Reading.{Reads, one, three, uint32_at, string_at, handle_at, rest_at};
@@ -14,7 +14,7 @@ use crate::packets::{Packet, Reply, VERSION};
 use crate::strings::ByteString;
 use std::alloc::Global;
 
-// The types of the packets (draft, section 3).
+// The types of replies (draft, section 3).
 pub(crate) const STATUS: u8 = 101;
 
 pub(crate) const HANDLE: u8 = 102;
@@ -177,7 +177,7 @@ fn extended_reply(alloc: Global, body: &mut &[u8]) -> Result<Packet, ReadError>
     Ok(reply(id, Answer::Extended(bytes)))
 }
 
-/// The fields after the type of a reply.
+/// The fields after the type of a reply. Inlined into `server_packet`, which is then one `match` over all types.
 #[inline(always)]
 pub(crate) fn reply_packet(alloc: Global, kind: u8, body: &mut &[u8]) -> Result<Packet, ReadError>
     ensures { Reads result body.new.now (reply_packet_at kind body.old.now) }

@@ -1,5 +1,5 @@
-//! The requests (draft, sections 6 and 8; OpenSSH's PROTOCOL, section 4): the type of each, its fields, and its handle.
-//! `requests/reading.rt` reads them.
+//! The requests (draft, sections 6 and 8; OpenSSH's PROTOCOL, section 4): the type of each, its fields, its handle, the
+//! type of its reply, and its layout; and the names of extensions. `requests/reading.rt` reads requests.
 ghost use Rattle.std.specs.Prelude.{◌≡◌, option_copied};
 ghost use Rattle.sftp_packets.specs.Requests.{ask_parts, asked_handle, is_known_extension, asks_known, reply_type};
 
@@ -11,7 +11,7 @@ use crate::strings::ByteString;
 
 pub(crate) mod reading;
 
-// The types of the packets (draft, section 3).
+// The types of requests (draft, section 3).
 pub(crate) const OPEN: u8 = 3;
 
 pub(crate) const CLOSE: u8 = 4;
@@ -302,7 +302,7 @@ pub(crate) fn reply_type(ask: &Ask) -> u8
         Ask::Readdir { .. } | Ask::Realpath { .. } | Ask::Readlink { .. } => NAME,
         Ask::Stat { .. } | Ask::Lstat { .. } | Ask::Fstat { .. } => ATTRS,
         Ask::Limits => EXTENDED_REPLY,
-        // the rows of all others say so, as the proof finds
+        // all others get no more than a status
         _ => STATUS,
     }
 }

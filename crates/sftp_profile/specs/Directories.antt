@@ -1,7 +1,7 @@
 -- Directories that are open, and what becomes of them when names change (POSIX, open, readdir and rename).
 use Rattle.std.specs.Prelude.{◌==◌, ◌+◌, ◌&&◌, not, ℕ, Bool, if◌then◌else◌, List, [], ◌∷◌, ◌++◌, length, drop}
 use Rattle.std.specs.Prelude.{Option, Some, None, slice_get, filter}
-use Rattle.sftp_wire.specs.Examples.{no_attributes}
+use Rattle.sftp_packets.specs.Spelling.{no_attributes}
 use Rattle.sftp_path.specs.Place.{Name, Place, name_cmp, same_bytes, begins, is_name}
 use Rattle.sftp_path.specs.Table.{put, without}
 use Rattle.sftp_profile.specs.declared.directories.Directory.{Directory}

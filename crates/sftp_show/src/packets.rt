@@ -34,7 +34,7 @@ fn put_code<W: fmt::Write>(answer: &Answer, f: &mut fmt::Formatter<W>) -> fmt::R
     }
 }
 
-/// The paths in the order in which they are sent: those that are walked, and before them the target of a new link.
+/// The paths in the packet's order. The target of SYMLINK, which is not walked, comes first.
 fn put_paths<W: fmt::Write>(ask: &Ask, f: &mut fmt::Formatter<W>) -> fmt::Result {
     if let Ask::Symlink { targetpath, .. } = ask {
         put_path(targetpath.as_slice(), f)?;

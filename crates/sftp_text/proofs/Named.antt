@@ -1,5 +1,5 @@
--- Each packet that has a spelling is shown by its name: its layout is found by its bytes, and takes them all. No packet
--- is named here; what is shown is any list of fields.
+-- Each packet that has a spelling is shown by its name: its layout is found by its bytes, and takes them all. No
+-- request or reply is named here; what is shown is any list of fields.
 use Rattle.std.proofs.Common.{◌≡◌, ℕ, ◌^◌, ◌<◌, ◌≤◌, true, List, [], ◌∷◌, ◌++◌, length}
 use Rattle.std.proofs.Common.{Option, Some, None, refl, sym, ap, subst, ◌∙◌, arith, cond}
 use Rattle.std.specs.Prelude.{IsSome, option_and_then, ◌==◌, codes}
@@ -106,14 +106,14 @@ named-takes s bytes fields text =
 body-takes : (s : Shape) (bytes : List ℕ) → TakesAll (body_text s).show bytes → TakesAll (packet_text s).show (s.kind ∷ bytes)
 body-takes s bytes body = after-all (mark (s.kind ∷ [])).show (body_text s).show (s.kind ∷ []) bytes (mark-takes (s.kind ∷ [])) body
 
--- what stands in the bytes alone comes before the fields
+-- the mark comes before the fields
 named_bytes-parts : (extension : Option (List ℕ)) (fields : List wire.Field)
     → mark_of extension ++ wire.fields_bytes fields ≡ wire.named_bytes extension fields
 named_bytes-parts None fields = refl
 named_bytes-parts (Some name) [] = append-nil (wire.string name)
 named_bytes-parts (Some name) (field ∷ fields) = refl
 
--- a request or a reply: its type, its id, what stands in the bytes alone, and its fields
+-- a request or a reply: its type, its id, its mark, and its fields
 row-takes : (row : wire.Row) (id : ℕ) → ends_last row.fields ≡ true → id < 2 ^ 32 → wire.Fit row.fields
     → TakesAll (packet_text (row_shape row)).show (wire.with_id id (wire.row_parts row))
 row-takes row id last lt fits =

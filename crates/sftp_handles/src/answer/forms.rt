@@ -1,7 +1,7 @@
 //! Answers as this program writes them (draft, section 7).
 ghost use Rattle.std.specs.Prelude.{◌≡◌, ◌^◌, ◌<◌, IfOk};
 ghost use Rattle.sftp_packets.specs.declared.replies.Answer.TheVariants as replies;
-ghost use Rattle.sftp_wire.specs.Examples.{no_attributes};
+ghost use Rattle.sftp_packets.specs.Spelling.{no_attributes};
 ghost use Rattle.sftp_handles.specs.Replies as spec;
 ghost use Rattle.sftp_handles.specs.Answered.{status_of, only_name};
 

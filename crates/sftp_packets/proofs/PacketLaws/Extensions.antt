@@ -8,8 +8,8 @@ use Rattle.std.proofs.lemmas.Slice.Eq.{bytes_eq-Decides}
 use Rattle.sftp_packets.specs.declared.requests.Ask.{Ask}
 use Rattle.sftp_packets.specs.declared.requests.Ask.TheVariants as asks
 use Rattle.sftp_packets.specs.Spelling.{string, AreBytes, FitsString}
-use Rattle.sftp_packets.specs.Requests.{posix_rename_name, hardlink_name, fsync_name, limits_name, is_known_extension}
 use Rattle.sftp_packets.specs.Reading.{Reader, none_at, one, two, string_at, handle_at, rest_at}
+use Rattle.sftp_packets.specs.Requests.{posix_rename_name, hardlink_name, fsync_name, limits_name, is_known_extension}
 use Rattle.sftp_packets.specs.Requests.{extension_data_at, extension_at}
 use Rattle.sftp_packets.proofs.Readers.Steps.{bind_ok, Takes, Takes-then}
 use Rattle.sftp_packets.proofs.Readers.Combined.{TakesAs, none_takes, one_takes, one_again, two_takes, two_again}

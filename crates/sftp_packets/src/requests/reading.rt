@@ -266,7 +266,7 @@ fn extended(alloc: Global, body: &mut &[u8]) -> Result<Packet, ReadError>
     Ok(request(id, ask))
 }
 
-/// The fields after the type of a request.
+/// The fields after the type of a request. Inlined into `client_packet`, which is then one `match` over all types.
 // Slow to prove, with an arm for each type of a packet.
 #[inline(always)]
 pub(crate) fn request_packet(alloc: Global, kind: u8, body: &mut &[u8]) -> Result<Packet, ReadError>

@@ -1,4 +1,4 @@
-//! The auditor, event by event: what it keeps, and which refusal it returns when, from then on.
+//! The auditor, event by event: what it keeps, and which refusal it returns from the first one on.
 use super::{BLANK, DONE, MAKE_A, recorded};
 use sftp_audit::{Auditor, Refusal};
 use sftp_transcript::{Memory, Reader};
