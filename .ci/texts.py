@@ -1,5 +1,6 @@
 """What is checked of scripts and documents without the built program: that scripts can be read, that links and file
-names lead to files, and that lines are within 120 columns. Each check yields a line for each mistake."""
+names lead to files, that lines are within 120 columns, and that benches import definitions that are there. Each check
+yields a line for each mistake."""
 import re
 import shutil
 import subprocess
@@ -144,6 +145,19 @@ def wrong_names(pages, names):
                     yield f"{name}:{number}: no file {word}"
 
 
+def wrong_imports(names):
+    """Finds definitions that programs of bench/crates import, where the gate does not look, and that are not there."""
+    form = re.compile(r"(?m)^(?:ghost )?use Rattle\.(sftp_\w+)\.specs\.((?!declared)[\w.]+)\.\{([^}]*)\}")
+    for name in names:
+        if name.startswith("bench/crates/"):
+            for crate, module, words in form.findall(text(name)):
+                path = f"crates/{crate}/specs/{module.replace('.', '/')}.antt"
+                has = text(path) if (TOP / path).is_file() else ""
+                for word in (it.split(" as ")[0].strip() for it in words.split(",")):
+                    if not re.search(rf"\bpub (?:data |record )?{re.escape(word)}\s", has):
+                        yield f"{name}: {path} has no {word}"
+
+
 def skipped():
     """Yields a line for each program that is not there, and what is therefore not checked."""
     if not shutil.which("shellcheck"):
@@ -164,7 +178,7 @@ def mistakes():
     names = files()
     pages = [it for it in names if it.endswith(".md")]
     found = [*wrong_python(names), *wrong_shell(names), *wrong_columns(names), *wrong_links(pages),
-             *wrong_names(pages, names), *wrong_quotes(pages), *unlisted(pages),
+             *wrong_names(pages, names), *wrong_quotes(pages), *unlisted(pages), *wrong_imports(names),
              *wrong_manual()]
     count = sum(len(scripts(names, it)) for it in ("python", "sh", "bash"))
     return found, f"{count} scripts, {len(pages)} documents and the columns of {len(names)} files"
