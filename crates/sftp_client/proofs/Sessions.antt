@@ -14,8 +14,7 @@ use Rattle.sftp_packets.specs.declared.requests.Ask.{Ask}
 use Rattle.sftp_packets.specs.declared.packets.Packet.{Packet}
 use Rattle.sftp_packets.specs.declared.packets.Request.{Request}
 use Rattle.sftp_packets.specs.declared.packets.Reply.{Reply}
-use Rattle.sftp_client.specs.declared.announced.Announced.{Announced}
-use Rattle.sftp_client.specs.Announced.{may_be_sent}
+use Rattle.sftp_client.specs.Announced.{Announced, may_be_sent}
 use Rattle.sftp_client.specs.Client.{Client, new_client, session_with, OpenRequests, open_limit, id_after, IsFirstFree}
 use Rattle.sftp_client.specs.Client.{send_error_of, IsKept, IsStarted, IsSent, IsPaired}
 use Rattle.sftp_client.specs.Runs.{Call, Started, Sent, Paired, Refused, Takes, Runs, sent, paired, unanswered}

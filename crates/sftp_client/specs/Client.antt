@@ -9,10 +9,9 @@ use Rattle.sftp_packets.specs.declared.replies.Answer.{Answer}
 use Rattle.sftp_packets.specs.declared.packets.Packet.{Packet}
 use Rattle.sftp_packets.specs.declared.packets.Request.{Request}
 use Rattle.sftp_packets.specs.declared.packets.Reply.{Reply}
-use Rattle.sftp_client.specs.declared.announced.Announced.{Announced}
 use Rattle.sftp_client.specs.declared.errors.ClientError.{ClientError}
 use Rattle.sftp_client.specs.declared.errors.ClientError.TheVariants as errors
-use Rattle.sftp_client.specs.Announced.{announced_by, may_be_sent}
+use Rattle.sftp_client.specs.Announced.{Announced, announced_by, may_be_sent}
 use Rattle.sftp_packets.specs.Packets.{may_get}
 
 -- the requests that have no reply yet, by their ids, in the order sent

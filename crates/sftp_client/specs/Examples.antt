@@ -1,22 +1,23 @@
 -- Words of the worked examples.
-use Rattle.std.specs.Prelude.{ℕ, true, false, [], Some, codes}
+use Rattle.std.specs.Prelude.{ℕ, true, false, [], map, Some, codes}
 use Rattle.sftp_packets.specs.declared.requests.Ask.{Ask}
 use Rattle.sftp_packets.specs.declared.requests.Ask.TheVariants.{Stat, Read}
 use Rattle.sftp_packets.specs.declared.packets.Packet.{Packet}
 use Rattle.sftp_packets.specs.declared.packets.Packet.TheVariants.{Version}
 use Rattle.sftp_packets.specs.declared.packets.Reply.{Reply}
 use Rattle.sftp_packets.specs.declared.replies.Answer.TheVariants.{Data, Attrs, Status, Extended}
+use Rattle.sftp_packets.specs.Requests.{known_extensions}
 use Rattle.sftp_wire.specs.Examples.{no_attributes}
-use Rattle.sftp_client.specs.declared.announced.Announced.{Announced}
+use Rattle.sftp_client.specs.Announced.{Announced}
 use Rattle.sftp_client.specs.Client.{Client, OpenRequests, session_with}
 
 -- no extension with a request of its own
 abbrev pub nothing : Announced
-nothing = record { posix_rename = false; hardlink = false; fsync = false; limits = false }
+nothing = map (λ name. (name, false)) known_extensions
 
 -- each of them
 abbrev pub everything : Announced
-everything = record { posix_rename = true; hardlink = true; fsync = true; limits = true }
+everything = map (λ name. (name, true)) known_extensions
 
 -- a VERSION 3 without extensions
 abbrev pub plain_version : Packet

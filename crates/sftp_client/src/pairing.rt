@@ -122,7 +122,7 @@ impl Pairing {
         ensures no_memory { IfErr result (λ e. e ≡ NoMemory → send_error self.old ask.now ≡ None) }
         ensures kept { OnErr result (self.new ≡ self.old) }
     {
-        let Some(announced) = self.announced else {
+        let Some(announced) = &self.announced else {
             return Err(ClientError::NotStarted);
         };
         if self.open_requests.len() >= OPEN_LIMIT {

@@ -74,8 +74,8 @@ row_shape row = record {
 }
 
 -- the first packet of a side: a version, and pairs (draft, section 4)
-abbrev pub opening : ℕ → List ℕ → Shape
-opening kind name = record {
+abbrev pub first_packet : ℕ → List ℕ → Shape
+first_packet kind name = record {
   kind = kind;
   has_id = false;
   name = name;
@@ -85,8 +85,8 @@ opening kind name = record {
 }
 
 abbrev pub packet_shape : Packet → Shape
-packet_shape (Init version extensions) = opening 1 (codes "INIT")
-packet_shape (Version version extensions) = opening 2 (codes "VERSION")
+packet_shape (Init version extensions) = first_packet 1 (codes "INIT")
+packet_shape (Version version extensions) = first_packet 2 (codes "VERSION")
 packet_shape (Request request) = row_shape (ask_row request.ask)
 packet_shape (Reply reply) = row_shape (answer_row reply.answer)
 
@@ -94,8 +94,8 @@ packet_shape (Reply reply) = row_shape (answer_row reply.answer)
 
 -- the layouts of what a side sends
 unfoldable pub shapes : Side → List Shape
-shapes Client = opening 1 (codes "INIT") ∷ map (λ ask. row_shape (ask_row ask)) every_ask
-shapes Server = opening 2 (codes "VERSION") ∷ map (λ answer. row_shape (answer_row answer)) every_answer
+shapes Client = first_packet 1 (codes "INIT") ∷ map (λ ask. row_shape (ask_row ask)) every_ask
+shapes Server = first_packet 2 (codes "VERSION") ∷ map (λ answer. row_shape (answer_row answer)) every_answer
 
 -- ---- the layout of bytes
 
@@ -109,20 +109,18 @@ layout_of_bytes side bytes = find (may_have bytes) (shapes side)
 
 -- ---- names of types
 
--- an extension has the name of the type that all extensions have
-abbrev pub unless_known : Option (List ℕ) → List ℕ → List ℕ
-unless_known None name = name
-unless_known (Some known) name = codes "EXTENDED"
+-- the name of a layout's type (draft, section 3): all extensions have the type EXTENDED
+abbrev pub type_name_of : Shape → List ℕ
+type_name_of s = if bytes_eq s.mark [] then s.name else codes "EXTENDED"
 
--- the name of a packet's type (draft, section 3)
+-- the name of a packet's type
 abbrev pub type_name : Packet → List ℕ
-type_name (Init version extensions) = codes "INIT"
-type_name (Version version extensions) = codes "VERSION"
-type_name (Request request) = unless_known (ask_row request.ask).extension (ask_row request.ask).name
-type_name (Reply reply) = unless_known (answer_row reply.answer).extension (answer_row reply.answer).name
+type_name packet = type_name_of (packet_shape packet)
 
--- the name of a type: that of its layout without a mark
-abbrev pub name_among : ℕ → List Shape → List ℕ
-name_among kind [] = []
-name_among kind (s ∷ others) =
-    if s.kind == kind && bytes_eq s.mark [] then s.name else name_among kind others
+-- whether a layout is that of a type, and of no known extension
+abbrev pub is_of_type : ℕ → Shape → Bool
+is_of_type kind s = s.kind == kind && bytes_eq s.mark []
+
+abbrev pub name_in : Option Shape → List ℕ
+name_in None = []
+name_in (Some s) = s.name

@@ -1,9 +1,9 @@
 -- The fields of packets as the code lends them. Words of private contracts.
 use Rattle.std.specs.Prelude.{List, [], ◌∷◌}
-use Rattle.sftp_packets.specs.declared.rows.Field.{Field as Lent}
-use Rattle.sftp_packets.specs.declared.rows.Field.TheVariants as lent
-use Rattle.sftp_packets.specs.declared.rows.Fields.{Fields}
-use Rattle.sftp_packets.specs.declared.rows.Fields.TheVariants.{One, Two, Three}
+use Rattle.sftp_packets.specs.declared.lent_fields.Field.{Field as Lent}
+use Rattle.sftp_packets.specs.declared.lent_fields.Field.TheVariants as lent
+use Rattle.sftp_packets.specs.declared.lent_fields.Fields.{Fields}
+use Rattle.sftp_packets.specs.declared.lent_fields.Fields.TheVariants.{One, Two, Three}
 use Rattle.sftp_packets.specs.Spelling.{Field, Number, LongNumber, Text, ExtensionName, Rest, Attributes, Items}
 
 abbrev pub seen : Lent → Field

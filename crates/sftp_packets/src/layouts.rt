@@ -5,7 +5,7 @@ ghost use Rattle.std.specs.Prelude.{◌≡◌, drop, find, map, nat_eq};
 ghost use Rattle.std.specs.List.{starts_with};
 ghost use Rattle.std.specs.Option.{option_map};
 ghost use Rattle.sftp_packets.specs.Layouts as table;
-ghost use Rattle.sftp_packets.specs.Layouts.{shape, shapes, layout_of_bytes, name_among, type_name};
+ghost use Rattle.sftp_packets.specs.Layouts.{shape, shapes, layout_of_bytes, is_of_type, name_in, type_name};
 
 use crate::packets::{INIT, Packet, Side, VERSION};
 use crate::replies::{SERVER_LAYOUTS, answered_type};
@@ -103,7 +103,7 @@ pub fn layout_of(side: Side, bytes: &[u8]) -> Option<Layout>
 
 /// The name of a type among layouts; empty if none of them has the type, which no packet gets.
 fn name_of(kind: u8, layouts: &[Layout]) -> &'static str
-    ensures { result.now ≡ name_among kind (map shape layouts.now) }
+    ensures { result.now ≡ name_in (find (is_of_type kind) (map shape layouts.now)) }
 {
     let mut left = layouts;
     'layouts: while let Some((layout, rest)) = left.split_first() {
@@ -139,7 +139,7 @@ pub fn layouts_of(side: Side) -> &'static [Layout]
 }
 
 /// INIT or VERSION.
-macro_rules! opening {
+macro_rules! first_packet {
     ($kind:expr, $name:expr) => {
         crate::layouts::Layout {
             kind: $kind,
@@ -170,7 +170,7 @@ macro_rules! plain {
 
 /// A request of an extension that has one of its own.
 macro_rules! extension {
-    ($name:expr, $mark:expr, [$($field:literal : $field_kind:ident),*]) => {
+    ($name:expr, $mark:expr, [$($field:literal : $field_kind:ident),*], $tail:ident) => {
         crate::layouts::Layout {
             kind: crate::requests::EXTENDED,
             has_id: true,
@@ -178,11 +178,11 @@ macro_rules! extension {
             mark: $mark,
             field_names: &[$($field),*],
             fields: &[$(crate::layouts::FieldKind::$field_kind),*],
-            tail: crate::layouts::Tail::Nothing,
+            tail: crate::layouts::Tail::$tail,
         }
     };
 }
 
 pub(crate) use extension;
-pub(crate) use opening;
+pub(crate) use first_packet;
 pub(crate) use plain;

@@ -13,13 +13,13 @@ ghost use Rattle.sftp_packets.specs.Packets.{contents, FitsFields};
 ghost use Rattle.sftp_packets.specs.Seen.{seen, all_seen};
 
 use crate::attributes::Attrs;
+use crate::lent_fields::Field::{Attributes, ExtensionName, Items, LongNumber, Number, Rest, Text};
+use crate::lent_fields::Fields::{One, Three, Two};
+use crate::lent_fields::{Field, Fields};
 use crate::names::{NameItem, Names};
 use crate::packets::Packet;
 use crate::replies::{Answer, with_answered};
 use crate::requests::{Ask, with_asked};
-use crate::rows::Field::{Attributes, ExtensionName, Items, LongNumber, Number, Rest, Text};
-use crate::rows::Fields::{One, Three, Two};
-use crate::rows::{Field, Fields};
 use crate::strings::{ByteString, Pairs};
 
 /// The bytes of a uint32.
@@ -59,7 +59,7 @@ fn string_length(text: &ByteString) -> usize
     ensures exact { result ≡ min (length (string text.now)) (2 ^ 64 - 1) }
     ensures fits { length (string text.now) < 2 ^ 32 → FitsString text.now }
 {
-    text_length(text).saturating_add(4)
+    bytes_length(text.as_slice())
 }
 
 fn two_strings_length(first: &ByteString, second: &ByteString) -> usize

@@ -8,7 +8,7 @@ ghost use Rattle.sftp_packets.specs.Replies.{answer_parts, answered_handle, repl
 use crate::attributes::Attrs;
 use crate::errors::{Fault, ReadError};
 use crate::fields::{attributes, handle, names, number, rest, string};
-use crate::layouts::{Layout, opening, plain};
+use crate::layouts::{Layout, first_packet, plain};
 use crate::names::Names;
 use crate::packets::{Packet, Reply, VERSION};
 use crate::strings::ByteString;
@@ -105,7 +105,7 @@ pub(crate) fn answered_handle(answer: &Answer) -> Option<&[u8]>
 
 /// The layouts of what a server sends.
 pub(crate) const SERVER_LAYOUTS: &[Layout] = &[
-    opening!(VERSION, "VERSION"),
+    first_packet!(VERSION, "VERSION"),
     plain!(STATUS, "STATUS", ["code": Number], Message),
     plain!(HANDLE, "HANDLE", ["handle": Handle], Nothing),
     plain!(DATA, "DATA", ["data": Text], Nothing),

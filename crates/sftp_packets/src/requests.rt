@@ -1,10 +1,12 @@
 //! The requests (draft, sections 6 and 8; OpenSSH's PROTOCOL, section 4): the type of each, its fields, its handle, the
 //! type of its reply, and its layout; and the names of extensions. `requests/reading.rt` reads requests.
-ghost use Rattle.std.specs.Prelude.{◌≡◌, option_copied};
-ghost use Rattle.sftp_packets.specs.Requests.{ask_parts, asked_handle, is_known_extension, asks_known, reply_type};
+ghost use Rattle.std.specs.Prelude.{◌≡◌, bytes_eq, option_copied};
+ghost use Rattle.std.specs.List.{list_any};
+ghost use Rattle.sftp_packets.specs.Requests.{ask_row, ask_parts, asked_handle, is_known_extension, asks_known};
+ghost use Rattle.sftp_packets.specs.Requests.{reply_type};
 
 use crate::attributes::Attrs;
-use crate::layouts::{Layout, extension, opening, plain};
+use crate::layouts::{Layout, extension, first_packet, plain};
 use crate::packets::INIT;
 use crate::replies::{ATTRS, DATA, EXTENDED_REPLY, HANDLE, NAME, STATUS};
 use crate::strings::ByteString;
@@ -50,19 +52,22 @@ pub(crate) const SYMLINK: u8 = 20;
 
 pub(crate) const EXTENDED: u8 = 200;
 
-// The names of the extensions that have requests of their own.
+// The names of the known extensions.
 
 /// Rename as POSIX does (OpenSSH's PROTOCOL, section 4.3).
-pub const POSIX_RENAME: &[u8] = b"posix-rename@openssh.com";
+pub(crate) const POSIX_RENAME: &[u8] = b"posix-rename@openssh.com";
 
 /// Make another name for a file (OpenSSH's PROTOCOL, section 4.5).
-pub const HARDLINK: &[u8] = b"hardlink@openssh.com";
+pub(crate) const HARDLINK: &[u8] = b"hardlink@openssh.com";
 
 /// Flush an open file to storage (OpenSSH's PROTOCOL, section 4.6).
-pub const FSYNC: &[u8] = b"fsync@openssh.com";
+pub(crate) const FSYNC: &[u8] = b"fsync@openssh.com";
 
 /// The limits of the tree. This profile's own.
-pub const LIMITS: &[u8] = b"limits@sftpv3.test";
+pub(crate) const LIMITS: &[u8] = b"limits@sftpv3.test";
+
+/// The names of the extensions that have requests of their own, in the order in which the server announces them.
+pub const KNOWN_EXTENSIONS: [&[u8]; 4] = [POSIX_RENAME, HARDLINK, FSYNC, LIMITS];
 
 /// What a client asks for. A path is any bytes; a handle comes from a HANDLE reply and has at most `HANDLE_LIMIT`
 /// bytes; offsets and lengths are in bytes.
@@ -291,6 +296,20 @@ pub fn asked_handle(ask: &Ask) -> Option<&[u8]>
     }
 }
 
+/// The name of a known extension, if a request is one; `None` for a request of the draft, and for `Unknown`.
+pub fn extension_name(ask: &Ask) -> Option<&'static [u8]>
+    ensures { option_copied result ≡ (ask_row ask.now).extension }
+{
+    match ask {
+        Ask::PosixRename { .. } => Some(POSIX_RENAME),
+        Ask::Hardlink { .. } => Some(HARDLINK),
+        Ask::Fsync { .. } => Some(FSYNC),
+        Ask::Limits => Some(LIMITS),
+        // the rows of all others have none, as the proof finds
+        _ => None,
+    }
+}
+
 /// The type of the reply that a request may get; each may get a status beside it, and most get nothing else (draft,
 /// sections 6 and 7).
 pub(crate) fn reply_type(ask: &Ask) -> u8
@@ -307,11 +326,18 @@ pub(crate) fn reply_type(ask: &Ask) -> u8
     }
 }
 
+/// Whether a name is one of these.
+fn is_among(name: &[u8], names: &[&[u8]]) -> bool
+    ensures { result ≡ list_any (λ known. bytes_eq name.now known.now) names.now }
+{
+    names.iter().any(|known| name == *known)
+}
+
 /// Whether a name is that of an extension that has a request of its own.
 fn is_known(name: &[u8]) -> bool
     ensures { result ≡ is_known_extension name.now }
 {
-    name == POSIX_RENAME || name == HARDLINK || name == FSYNC || name == LIMITS
+    is_among(name, &KNOWN_EXTENSIONS)
 }
 
 /// Whether it is an `Unknown` with the name of an extension that has a request of its own.
@@ -326,7 +352,7 @@ pub(crate) fn asks_known(ask: &Ask) -> bool
 
 /// The layouts of what a client sends. Those of the known extensions come before that of any other.
 pub(crate) const CLIENT_LAYOUTS: &[Layout] = &[
-    opening!(INIT, "INIT"),
+    first_packet!(INIT, "INIT"),
     plain!(OPEN, "OPEN", ["path": Text, "pflags": Flags], Attributes),
     plain!(CLOSE, "CLOSE", ["handle": Handle], Nothing),
     plain!(READ, "READ", ["handle": Handle, "offset": LongNumber, "len": Number], Nothing),
@@ -345,9 +371,9 @@ pub(crate) const CLIENT_LAYOUTS: &[Layout] = &[
     plain!(RENAME, "RENAME", ["old path": Text, "new path": Text], Nothing),
     plain!(READLINK, "READLINK", ["path": Text], Nothing),
     plain!(SYMLINK, "SYMLINK", ["targetpath": Text, "linkpath": Text], Nothing),
-    extension!("POSIX-RENAME", b"\0\0\0\x18posix-rename@openssh.com", ["old path": Text, "new path": Text]),
-    extension!("HARDLINK", b"\0\0\0\x14hardlink@openssh.com", ["old path": Text, "new path": Text]),
-    extension!("FSYNC", b"\0\0\0\x11fsync@openssh.com", ["handle": Handle]),
-    extension!("LIMITS", b"\0\0\0\x12limits@sftpv3.test", []),
+    extension!("POSIX-RENAME", b"\0\0\0\x18posix-rename@openssh.com", ["old path": Text, "new path": Text], Nothing),
+    extension!("HARDLINK", b"\0\0\0\x14hardlink@openssh.com", ["old path": Text, "new path": Text], Nothing),
+    extension!("FSYNC", b"\0\0\0\x11fsync@openssh.com", ["handle": Handle], Nothing),
+    extension!("LIMITS", b"\0\0\0\x12limits@sftpv3.test", [], Nothing),
     plain!(EXTENDED, "EXTENDED", ["extended request": Text], Rest),
 ];

@@ -13,14 +13,14 @@ ghost use Rattle.sftp_packets.specs.Writing.{Extends, IsTooLong, IsNotCanonical}
 
 use crate::attributes::{AttrFlags, Attrs};
 use crate::errors::WireError;
+use crate::lent_fields::Field::{Attributes, ExtensionName, Items, LongNumber, Number, Rest, Text};
+use crate::lent_fields::Fields::{One, Three, Two};
+use crate::lent_fields::{Field, Fields};
 use crate::measuring::contents_length;
 use crate::names::{NameItem, Names};
 use crate::packets::{INIT, PACKET_LIMIT, Packet, VERSION, has_long_handle, hides_extension};
 use crate::replies::{Answer, answered_type, with_answered};
 use crate::requests::{Ask, asked_type, with_asked};
-use crate::rows::Field::{Attributes, ExtensionName, Items, LongNumber, Number, Rest, Text};
-use crate::rows::Fields::{One, Three, Two};
-use crate::rows::{Field, Fields};
 use crate::strings::{ByteString, Pairs};
 use bitflags::Flags;
 use bytes::BufMut;

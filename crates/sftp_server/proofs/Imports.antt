@@ -32,10 +32,10 @@ pub use Rattle.sftp_handles.specs.declared.byte_range.ByteRange.{ByteRange}
 pub use Rattle.sftp_handles.specs.declared.touch.Touch.{Touch}
 pub use Rattle.sftp_handles.specs.declared.touch.Touch.TheVariants.{Everything, Nothing, WritesFile}
 pub use Rattle.sftp_packets.specs.AskValues.{IsAsk}
+pub use Rattle.sftp_packets.proofs.PacketLaws.Extensions.{version_spelled}
 pub use Rattle.sftp_packets.specs.Spelling.{FitsString, packet_limit}
-pub use Rattle.sftp_packets.specs.Requests.{server_extensions, posix_rename_name}
+pub use Rattle.sftp_packets.specs.Requests.{server_extensions, asked_handle}
 pub use Rattle.sftp_packets.specs.Packets.{HasSpelling, side_of}
-pub use Rattle.sftp_packets.specs.Requests.{hardlink_name, fsync_name, limits_name, asked_handle}
 unfoldable pub use Rattle.sftp_packets.specs.Packets.{spelling}
 pub use Rattle.sftp_packets.specs.declared.errors.WireError.TheVariants.{Unreadable}
 pub use Rattle.sftp_packets.specs.declared.requests.Ask.{Ask}

@@ -1,10 +1,10 @@
 //! The server's VERSION (draft, section 4).
-ghost use Rattle.std.specs.Prelude.{◌≡◌, ◌∷◌, [], ◌++◌, codes, IfOk, IfErr, OnOk};
+ghost use Rattle.std.specs.Prelude.{◌≡◌, ◌∷◌, [], ◌++◌, codes, map, IfOk, IfErr, OnOk};
 ghost use Rattle.sftp_server.specs.declared.ends.Stop.TheVariants as stops;
 ghost use Rattle.sftp_server.specs.Served.{our_version};
 
 use crate::ends::Stop;
-use sftp_wire::{ByteString, FSYNC, HARDLINK, LIMITS, POSIX_RENAME, Packet, Pairs};
+use sftp_wire::{ByteString, KNOWN_EXTENSIONS, Packet, Pairs};
 use std::alloc::Global;
 
 /// The version of the protocol.
@@ -18,15 +18,22 @@ pub(crate) fn our_version(alloc: Global) -> Result<Packet, Stop>
     ensures ok { IfOk result (λ packet. packet ≡ our_version) }
     ensures err { IfErr result (λ stop. stop ≡ stops.NoMemory) }
 {
-    let mut extensions = Vec::new(alloc);
-    push_extension(alloc, &mut extensions, POSIX_RENAME)?;
-    push_extension(alloc, &mut extensions, HARDLINK)?;
-    push_extension(alloc, &mut extensions, FSYNC)?;
-    push_extension(alloc, &mut extensions, LIMITS)?;
     Ok(Packet::Version {
         version: VERSION,
-        extensions: Pairs::new(extensions),
+        extensions: Pairs::new(extensions_of(alloc, &KNOWN_EXTENSIONS)?),
     })
+}
+
+/// The extensions of these names.
+fn extensions_of(alloc: Global, names: &[&[u8]]) -> Result<Vec<(ByteString, ByteString)>, Stop>
+    ensures ok { IfOk result (λ extensions. extensions.items ≡ map (λ name. (name.now, codes "1")) names.now) }
+    ensures err { IfErr result (λ stop. stop ≡ stops.NoMemory) }
+{
+    let mut extensions = Vec::new(alloc);
+    for name in names {
+        push_extension(alloc, &mut extensions, name)?;
+    }
+    Ok(extensions)
 }
 
 /// Adds the extension of this name.

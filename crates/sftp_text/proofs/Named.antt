@@ -16,7 +16,7 @@ use Rattle.sftp_packets.specs.Spelling as wire
 use Rattle.sftp_packets.specs.Requests.{ask_row}
 use Rattle.sftp_packets.specs.Replies.{answer_row}
 use Rattle.sftp_packets.specs.Packets as packets
-use Rattle.sftp_packets.specs.Layouts.{Shape, before, kinds_of, mark_of, row_shape, opening, packet_shape, layout_of_bytes}
+use Rattle.sftp_packets.specs.Layouts.{Shape, before, kinds_of, mark_of, row_shape, first_packet, packet_shape, layout_of_bytes}
 use Rattle.sftp_packets.proofs.PacketLaws.Layouts.{has_others, ends_last, ask_ends_last, answer_ends_last, packet_layout}
 use Rattle.sftp_text.specs.Formats.{Format, nothing as no_text, ◌then◌, word, mark}
 use Rattle.sftp_text.specs.Digits as digits
@@ -128,12 +128,12 @@ row-takes row id last lt fits =
     (named_bytes-parts row.extension row.fields) (body-takes s (wire.uint32 id ++ bytes) numbered)
 
 -- a first packet: its type, its version, and pairs
-opening-takes : (kind : ℕ) (name : List ℕ) (version : ℕ) (extensions : List (List ℕ × List ℕ)) → version < 2 ^ 32
+first_packet-takes : (kind : ℕ) (name : List ℕ) (version : ℕ) (extensions : List (List ℕ × List ℕ)) → version < 2 ^ 32
     → wire.FitsPairs extensions
-    → TakesAll (packet_text (opening kind name)).show (kind ∷ (wire.uint32 version ++ wire.pairs extensions))
+    → TakesAll (packet_text (first_packet kind name)).show (kind ∷ (wire.uint32 version ++ wire.pairs extensions))
 unfolding field_text tail_text
-opening-takes kind name version extensions lt fits =
-    let s = opening kind name in
+first_packet-takes kind name version extensions lt fits =
+    let s = first_packet kind name in
     let bytes = wire.uint32 version ++ wire.pairs extensions in
     let fields =
     one_field Number ([], Pairs) (wire.uint32 version) (wire.pairs extensions) (number-takes version lt)
@@ -145,8 +145,8 @@ opening-takes kind name version extensions lt fits =
     body-takes s bytes body
 
 packet-takes : (packet : Packet) → packets.FitsFields packet → TakesAll (packet_text (packet_shape packet)).show (packets.contents packet)
-packet-takes (Init version extensions) fits = opening-takes 1 (codes "INIT") version extensions fits.0 fits.1
-packet-takes (Version version extensions) fits = opening-takes 2 (codes "VERSION") version extensions fits.0 fits.1
+packet-takes (Init version extensions) fits = first_packet-takes 1 (codes "INIT") version extensions fits.0 fits.1
+packet-takes (Version version extensions) fits = first_packet-takes 2 (codes "VERSION") version extensions fits.0 fits.1
 packet-takes (Request request) fits = row-takes (ask_row request.ask) request.id (ask_ends_last request.ask) fits.0 fits.1
 packet-takes (Reply reply) fits = row-takes (answer_row reply.answer) reply.id (answer_ends_last reply.answer) fits.0 fits.1
 

@@ -230,9 +230,6 @@ flags_in-decimal (c ∷ text) rest all = cond-true (is_digit 10 c) _ _ (is_digit
 flags-read : IsRead flags_text flags_in (2 ^ 32)
 flags-read = record { back = back; printable = printable }
   where
-    named : (n : ℕ) → Bool
-    named n = nat_le 1 n && nat_lt n 64
-
     back : (n : ℕ) (rest : List ℕ) → n < 2 ^ 32 → EndsWord rest → flags_in (flags_text n ++ rest) ≡ Some (n, rest)
     back n rest lt ok =
         elim (cases_Bool (nat_le 1 n && nat_lt n 64)) [

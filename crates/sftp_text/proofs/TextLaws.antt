@@ -211,11 +211,6 @@ part-nothing : (part others : Option (List ℕ)) (bytes : List ℕ) → onto byt
 part-nothing None others bytes is = refl
 part-nothing (Some b) others bytes is = absurd (cc)
 
-nothing-behind : (part : Option (List ℕ))
-    → option_and_then (λ (b : List ℕ). option_and_then (λ (more : List ℕ). Some (b ++ more)) None) part ≡ None
-nothing-behind None = refl
-nothing-behind (Some b) = refl
-
 -- a line of the form that is due leaves the others
 due-onto : (due : Due) (line : List ℕ) (lines : List (List ℕ)) (bytes new : List ℕ)
     → onto bytes (whole ((form_of due).read [] line)) ≡ Some new

@@ -11,8 +11,8 @@ pub use framing::{FrameBuf, streams};
 pub use fronts::front;
 pub use laws::spellings_are_apart;
 pub use sftp_packets::{
-    Answer, Ask, AttrFlags, Attrs, ByteString, FSYNC, Fault, FieldKind, HANDLE_LIMIT, HARDLINK,
-    LIMITS, Layout, NameItem, Names, OpenFlags, PACKET_LIMIT, POSIX_RENAME, Packet, Pairs, Reply,
-    Request, Side, Tail, WireError, asked_handle, encode, layout_of, layouts_of, may_get,
-    packet_name, status, take_number, take_string,
+    Answer, Ask, AttrFlags, Attrs, ByteString, Fault, FieldKind, HANDLE_LIMIT, KNOWN_EXTENSIONS,
+    Layout, NameItem, Names, OpenFlags, PACKET_LIMIT, Packet, Pairs, Reply, Request, Side, Tail,
+    WireError, asked_handle, encode, extension_name, layout_of, layouts_of, may_get, packet_name,
+    status, take_number, take_string,
 };

@@ -5,9 +5,10 @@ use Rattle.sftp_audit.proofs.Imports.{no_attributes, Event, ltb-true}
 use Rattle.sftp_transcript.specs.Examples.{mkdir, rmdir, status, handshake_bytes}
 use Rattle.sftp_transcript.specs.Transcript.{IsEvent, IsRecord, event_record, transcript_opening, packet_of}
 use Rattle.sftp_packets.specs.declared.packets.Packet.TheVariants.{Init, Version}
-use Rattle.sftp_packets.specs.Spelling.{packet_limit, AreBytes, FitsString, FitsPair, FitsAttrs}
+use Rattle.sftp_packets.specs.Spelling.{packet_limit, AreBytes, FitsString, FitsAttrs}
 use Rattle.sftp_packets.specs.Requests.{server_extensions}
 use Rattle.sftp_packets.specs.Packets.{spelling, HasSpelling}
+use Rattle.sftp_packets.proofs.PacketLaws.Extensions.{version_spelled}
 use Rattle.sftp_audit.specs.Examples.{backward_replies, backward_replies_bytes, removal_done_bytes, limits_session}
 use Rattle.sftp_audit.specs.Examples.{usual_limits_told, limits_bytes}
 
@@ -41,28 +42,9 @@ status_spelled : (id code : ℕ) → id < 2 ^ 32 → code < 2 ^ 32 → length (s
 status_spelled id code small code_small whole =
     record { fields = (small, (code_small, (empty, empty))); whole = whole; handle = tt; canonical = refl }
 
-one : FitsString (codes "1")
-one = string_by (codes "1") refl (lit< tt)
-
-extensions_fit : AllByRecursion FitsPair server_extensions
-extensions_fit = (
-  (string_by (codes "posix-rename@openssh.com") refl (lit< tt), one),
-  (
-    (string_by (codes "hardlink@openssh.com") refl (lit< tt), one),
-    (
-      (string_by (codes "fsync@openssh.com") refl (lit< tt), one),
-      ((string_by (codes "limits@sftpv3.test") refl (lit< tt), one), tt),
-    ),
-  ),
-)
-
 init_spelled : HasSpelling (Init 3 [])
 unfolding spelling
 init_spelled = record { fields = (lit< tt, tt); whole = lit≤ tt; handle = tt; canonical = refl }
-
-version_spelled : HasSpelling (Version 3 server_extensions)
-unfolding spelling
-version_spelled = record { fields = (lit< tt, extensions_fit); whole = lit≤ tt; handle = tt; canonical = refl }
 
 backward_spelled : (code : ℕ) → IsEvent (status 3 code) → AllByRecursion IsEvent (backward_replies code)
 unfolding spelling

@@ -14,6 +14,7 @@ use Rattle.std.proofs.lemmas.Bool.Decides.{nat_tests}
 use Rattle.sftp_tree.proofs.KeptTrees.Trims.{kept-trim}
 use Rattle.sftp_tree.proofs.KeptTrees.Values.{well-formed-content, node-content}
 use Rattle.sftp_tree.proofs.Limits.Changes.{files-again}
+use Rattle.sftp_tree.proofs.OpenFiles.Pinned.{well-formed-pins}
 use Rattle.sftp_tree.specs.declared.nodes.Node.TheVariants as nodes
 use Rattle.sftp_handles.proofs.Good.Pins.{pins-times, pins-order, pins-positive, pins-listing_again}
 use Rattle.sftp_handles.proofs.Good.NewStates.{settled-already}
@@ -54,31 +55,13 @@ pins-exist files handles exist =
 
 -- ---- a state that is settled is good
 
-well-pinned : (t : Tree) (handles : Handles) → WellFormed t → OpensExist t.files handles
-    → WellFormed (record t { pins = pins_of handles })
-well-pinned t handles well exist = record {
-  ordered = well.ordered;
-  named = well.named;
-  nodes = well.nodes;
-  root = well.root;
-  parents = well.parents;
-  numbered = well.numbered;
-  contents = well.contents;
-  given = well.given;
-  pins = pins-order handles;
-  pinned = pins-exist t.files handles exist;
-  limits = well.limits;
-  home = well.home;
-  uid = well.uid;
-  gid = well.gid;
-}
-
 pub good-by : (t : Tree) (handles : Handles) → WellFormed t → IsTrue (fits t) → OpensExist t.files handles
     → InOrder bytes_cmp handles → AllByRecursion IsHandle handles
     → IsTrue (nat_le (size handles) (limits t).open_handles) → Good (settled t handles)
 unfolding fits
 good-by t handles well within exist order each few = record {
-  tree = kept-trim (record t { pins = pins_of handles }) (well-pinned t handles well exist) within;
+  tree = kept-trim (record t { pins = pins_of handles })
+      (well-formed-pins t (pins_of handles) well (pins-order handles) (pins-exist t.files handles exist)) within;
   pinned = refl;
   ordered = order;
   handles = each;

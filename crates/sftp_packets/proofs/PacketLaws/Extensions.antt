@@ -1,15 +1,19 @@
 -- Extensions: the name decides what is read after it. What is read is spelled so, and what is spelled so is read
 -- again.
-use Rattle.std.proofs.Common.{◌≡◌, ℕ, ◌^◌, ◌<◌, Bool, true, false, cond, List, [], ◌∷◌, ◌++◌, length, Ok, refl, sym, ap, subst, ◌∙◌, append_assoc, arith}
-use Rattle.std.specs.Prelude.{◌||◌, bytes_eq}
+use Rattle.std.proofs.Common.{◌≡◌, ℕ, ◌^◌, ◌<◌, true, false, cond, codes, List, [], ◌∷◌, ◌++◌, length, map, Ok, refl, sym, ap, subst, ◌∙◌, append_assoc, arith}
+use Rattle.std.specs.Prelude.{◌&&◌, bytes_eq, nat_lt}
 use Rattle.std.specs.Simd.Lanes.{all_below}
-use Rattle.std.proofs.lemmas.Bool.{ltb-true, and_parts, or_from, cond_both}
+use Rattle.std.proofs.lemmas.Bool.{ltb-true, and_parts, or_from, or_parts, cond_both}
+use Rattle.std.specs.List.{AllByRecursion, list_all, list_any}
 use Rattle.std.proofs.lemmas.Slice.Eq.{bytes_eq-Decides}
 use Rattle.sftp_packets.specs.declared.requests.Ask.{Ask}
 use Rattle.sftp_packets.specs.declared.requests.Ask.TheVariants as asks
-use Rattle.sftp_packets.specs.Spelling.{string, AreBytes, FitsString}
+use Rattle.sftp_packets.specs.Spelling.{string, AreBytes, FitsString, FitsPairs}
 use Rattle.sftp_packets.specs.Reading.{Reader, none_at, one, two, string_at, handle_at, rest_at}
-use Rattle.sftp_packets.specs.Requests.{posix_rename_name, hardlink_name, fsync_name, limits_name, is_known_extension}
+use Rattle.sftp_packets.specs.declared.packets.Packet.TheVariants.{Version}
+use Rattle.sftp_packets.specs.Packets.{spelling, HasSpelling}
+use Rattle.sftp_packets.specs.Requests.{posix_rename_name, hardlink_name, fsync_name, limits_name, known_extensions}
+use Rattle.sftp_packets.specs.Requests.{is_known_extension, server_extensions}
 use Rattle.sftp_packets.specs.Requests.{extension_data_at, extension_at}
 use Rattle.sftp_packets.proofs.Readers.Steps.{bind_ok, Takes, Takes-then}
 use Rattle.sftp_packets.proofs.Readers.Combined.{TakesAs, none_takes, one_takes, one_again, two_takes, two_again}
@@ -48,19 +52,38 @@ limits_takes = none_takes asks.Limits data_of (IsExtension limits_name) refl ((t
 unknown_takes : (name : List ℕ) → FitsString name → is_known_extension name ≡ false → TakesExtension name (one rest_at (asks.Unknown name))
 unknown_takes name fits unknown = one_takes rest_at (asks.Unknown name) as_bytes data_of AreBytes (IsExtension name) rest_takes (λ a. refl) (λ a f. (((fits, f), tt, unknown, refl), refl))
 
--- the data of a known extension is read where the name is its own
-by_name : (name known : List ℕ) (row others : Reader Ask) → TakesExtension known row → (bytes_eq name known ≡ false → TakesExtension name others) → TakesExtension name (cond (bytes_eq name known) row others)
-by_name name known row others row_takes others_take =
-    cond_both (bytes_eq name known) row others (TakesExtension name) (λ same. subst (λ (n : List ℕ). TakesExtension n row) (sym ((bytes_eq-Decides name known).0 same)) row_takes) others_take
+-- a known extension: its name, and how its data is read
+abbrev Known : Type 0
+Known = List ℕ × Reader Ask
+
+abbrev known : List Known
+known =
+    (posix_rename_name, two string_at string_at asks.PosixRename)
+    ∷ (hardlink_name, two string_at string_at asks.Hardlink)
+    ∷ (fsync_name, one handle_at asks.Fsync)
+    ∷ (limits_name, none_at asks.Limits)
+    ∷ []
+
+known_take : AllByRecursion (λ k. TakesExtension k.0 k.1) known
+known_take = (posix_rename_takes, (hardlink_takes, (fsync_takes, (limits_takes, tt))))
+
+-- the data of the first of these that has the name, and else all that is left
+abbrev data_among : List ℕ → List Known → Reader Ask
+data_among name [] = one rest_at (asks.Unknown name)
+data_among name (k ∷ others) = cond (bytes_eq name k.0) k.1 (data_among name others)
+
+-- it is the data of the extension whose name it is
+among_takes : (name : List ℕ) (ks : List Known) → AllByRecursion (λ k. TakesExtension k.0 k.1) ks → (list_any (λ k. bytes_eq name k.0) ks ≡ false → TakesExtension name (one rest_at (asks.Unknown name)))
+    → TakesExtension name (data_among name ks)
+among_takes name [] take others = others refl
+among_takes name (k ∷ ks) take others =
+    cond_both (bytes_eq name k.0) k.1 (data_among name ks) (TakesExtension name)
+    (λ same. subst (λ (n : List ℕ). TakesExtension n k.1) (sym ((bytes_eq-Decides name k.0).0 same)) take.0)
+    (λ not_this. among_takes name ks take.1 (λ none. others (or_from _ _ not_this none)))
 
 extension_data_takes : (name : List ℕ) → FitsString name → TakesExtension name (extension_data_at name)
 unfolding extension_data_at
-extension_data_takes name fits =
-    by_name name posix_rename_name _ _ posix_rename_takes (λ not_posix_rename.
-    by_name name hardlink_name _ _ hardlink_takes (λ not_hardlink.
-    by_name name fsync_name _ _ fsync_takes (λ not_fsync.
-    by_name name limits_name _ _ limits_takes (λ not_limits.
-    unknown_takes name fits (or_from _ _ not_posix_rename (or_from _ _ not_hardlink (or_from _ _ not_fsync (or_from _ _ not_limits refl))))))))
+extension_data_takes name fits = among_takes name known known_take (unknown_takes name fits)
 
 pub extension_takes : TakesAs extension_at ask_fields (FitsAskOf 200)
 unfolding extension_at
@@ -87,6 +110,19 @@ are_bytes (b ∷ bytes) e = let p = and_parts _ _ e in (ltb-true b 256 p.0, are_
 fits_name : (name : List ℕ) → all_below 256 name ≡ true → length name < 2 ^ 32 → FitsString name
 fits_name name bytes short = record { bytes_fit = are_bytes name bytes; length_fits = short }
 
+-- what the server announces can be encoded
+announced_fit : (names : List (List ℕ)) → list_all (λ name. all_below 256 name && nat_lt (length name) (2 ^ 32)) names ≡ true → FitsPairs (map (λ name. (name, codes "1")) names)
+announced_fit [] fit = tt
+announced_fit (name ∷ names) fit =
+    let fits = and_parts _ _ fit in
+    let this = and_parts _ _ fits.0 in
+    ((fits_name name this.0 (ltb-true (length name) (2 ^ 32) this.1), fits_name (codes "1") refl (omega arith)), announced_fit names fits.1)
+
+pub version_spelled : HasSpelling (Version 3 server_extensions)
+unfolding spelling
+version_spelled =
+    record { fields = (omega arith, announced_fit known_extensions refl); whole = omega arith; handle = tt; canonical = refl }
+
 two_paths_again : (name : List ℕ) (make : List ℕ → List ℕ → Ask) (oldpath newpath : List ℕ) → FitsString name → extension_data_at name ≡ two string_at string_at make → FitsString oldpath × FitsString newpath
     → extension_at ((string name ++ (string oldpath ++ string newpath)) ++ []) ≡ Ok (make oldpath newpath, [])
 two_paths_again name make oldpath newpath fits_name is fits =
@@ -112,19 +148,14 @@ pub limits_again : extension_at (string limits_name ++ []) ≡ Ok (asks.Limits, 
 unfolding extension_data_at
 limits_again = named_again limits_name [] (fits_name limits_name refl (omega arith))
 
-none_held : (a b c d : Bool) (x y z w others : Reader Ask) → (a || (b || (c || (d || false)))) ≡ false → cond a x (cond b y (cond c z (cond d w others))) ≡ others
-none_held false false false false x y z w others e = refl
-none_held true b c d x y z w others e = absurd cc
-none_held false true c d x y z w others e = absurd cc
-none_held false false true d x y z w others e = absurd cc
-none_held false false false true x y z w others e = absurd cc
-
 -- after any other name all that is left is read
+none_among : (name : List ℕ) (ks : List Known) → list_any (λ k. bytes_eq name k.0) ks ≡ false → data_among name ks ≡ one rest_at (asks.Unknown name)
+none_among name [] none = refl
+none_among name (k ∷ ks) none = let others = or_parts (bytes_eq name k.0) (list_any (λ k. bytes_eq name k.0) ks) none in rw (others.0) (none_among name ks others.1)
+
 unknown_data_again : (name : List ℕ) → is_known_extension name ≡ false → extension_data_at name ≡ one rest_at (asks.Unknown name)
 unfolding extension_data_at
-unknown_data_again name unknown =
-    none_held (bytes_eq name posix_rename_name) (bytes_eq name hardlink_name) (bytes_eq name fsync_name) (bytes_eq name limits_name)
-    (two string_at string_at asks.PosixRename) (two string_at string_at asks.Hardlink) (one handle_at asks.Fsync) (none_at asks.Limits) (one rest_at (asks.Unknown name)) unknown
+unknown_data_again name unknown = none_among name known unknown
 
 pub unknown_again : (name rest : List ℕ) → FitsString name → is_known_extension name ≡ false → extension_at ((string name ++ rest) ++ []) ≡ Ok (asks.Unknown name rest, [])
 unknown_again name rest fits unknown =

@@ -1,6 +1,6 @@
 -- Each packet has the layout that is found by its bytes, and its name is found by its type.
-use Rattle.std.proofs.Common.{◌≡◌, ℕ, ◌^◌, ◌<◌, Bool, true, false, List, [], ◌∷◌, ◌++◌, length, take, drop, Some, refl, sym, ap, ◌∙◌, inl, inr}
-use Rattle.std.specs.Prelude.{◌&&◌, bytes_eq, nat_eq, nat_lt}
+use Rattle.std.proofs.Common.{◌≡◌, ℕ, zero, suc, ◌^◌, ◌<◌, Bool, true, false, List, [], ◌∷◌, ◌++◌, length, take, drop, Some, refl, sym, ap, ◌∙◌, inl, inr}
+use Rattle.std.specs.Prelude.{◌&&◌, bytes_eq, find, nat_eq, nat_lt}
 use Rattle.std.specs.List.{list_all, list_any, starts_with, AllByRecursion}
 use Rattle.std.specs.Int.{w32, from_be_bytes}
 use Rattle.std.proofs.lemmas.Bool.{cases_Bool, and_parts, or_parts, ltb-true, true≢false}
@@ -18,7 +18,7 @@ use Rattle.sftp_packets.specs.Spelling.{uint32, string, with_id, Field, Message,
 use Rattle.sftp_packets.specs.Requests.{known_extensions, asks_known, FitsAsk, ask_row, ask_parts}
 use Rattle.sftp_packets.specs.Packets.{contents, side_of, hides_extension, FitsFields}
 use Rattle.sftp_packets.specs.Replies.{answer_row, answer_parts}
-use Rattle.sftp_packets.specs.Layouts.{row_shape, packet_shape, shapes, layout_of_bytes, unless_known, name_among}
+use Rattle.sftp_packets.specs.Layouts.{row_shape, packet_shape, shapes, may_have, layout_of_bytes, type_name_of, is_of_type, name_in}
 use Rattle.sftp_packets.proofs.Bytes.Numbers.{wide32}
 
 -- ---- names of extensions in front of bytes
@@ -52,11 +52,17 @@ all_not_begun name rest lt (k ∷ known) short unknown =
 
 -- ---- the layout of bytes
 
+-- what none of the first values has is found behind them
+find_after : {A : Type 0} (has : A → Bool) (count : ℕ) (values : List A) → AllByRecursion (λ a. has a ≡ false) (take count values) → find has values ≡ find has (drop count values)
+find_after has zero values none = refl
+find_after has (suc count) [] none = refl
+find_after has (suc count) (a ∷ values) none = rw (none.0) (find_after has count values none.1)
+
 ask_layout : (id : ℕ) (ask : Ask) → FitsAsk ask → asks_known ask ≡ false → layout_of_bytes Client (string (with_id id (ask_parts ask))) ≡ Some (row_shape (ask_row ask))
 unfolding layout_of_bytes shapes
 ask_layout id (asks.Unknown name rest) fits unknown =
-    let no = all_not_begun name rest fits.0.length_fits known_extensions refl unknown in
-    rw (no.0, no.1.0, no.1.1.0, no.1.1.1.0) refl
+    find_after (may_have (string (with_id id (ask_parts (asks.Unknown name rest))))) (length known_extensions) (drop 19 (shapes Client))
+    (all_not_begun name rest fits.0.length_fits known_extensions refl unknown)
 ask_layout id other fits unknown = refl
 
 answer_layout : (id : ℕ) (answer : Answer) → layout_of_bytes Server (string (with_id id (answer_parts answer))) ≡ Some (row_shape (answer_row answer))
@@ -98,12 +104,12 @@ answer_ends_last other = refl
 
 -- ---- names of types
 
-pub ask_name : (ask : Ask) → name_among (ask_row ask).kind (shapes Client) ≡ unless_known (ask_row ask).extension (ask_row ask).name
+pub ask_name : (ask : Ask) → name_in (find (is_of_type (ask_row ask).kind) (shapes Client)) ≡ type_name_of (row_shape (ask_row ask))
 unfolding shapes
 ask_name asks.Limits = refl
 ask_name other = refl
 
-pub answer_name : (answer : Answer) → name_among (answer_row answer).kind (shapes Server) ≡ unless_known (answer_row answer).extension (answer_row answer).name
+pub answer_name : (answer : Answer) → name_in (find (is_of_type (answer_row answer).kind) (shapes Server)) ≡ type_name_of (row_shape (answer_row answer))
 unfolding shapes
 answer_name (answers.Handle handle) = refl
 answer_name other = refl

@@ -1,6 +1,5 @@
 -- Values that are read one after the other, as loops read them.
 use Rattle.std.proofs.Common.{◌≡◌, ℕ, zero, suc, ◌-◌, ◌+◌, ◌≤◌, ◌<◌, List, [], ◌∷◌, ◌++◌, length, Result, Ok, Err, refl, sym, ap, ◌∙◌, append_assoc, arith}
-use Rattle.std.proofs.lemmas.List.{append-nil}
 use Rattle.sftp_packets.specs.declared.errors.Fault.{Fault}
 use Rattle.sftp_packets.specs.declared.errors.ReadError.{ReadError}
 use Rattle.sftp_packets.specs.declared.errors.ReadError.TheVariants as reads
@@ -31,13 +30,6 @@ many-fails read (reads.Fault fault) front count i bytes after total lt fails so_
     let one : with_front front (many_at read (count - i) bytes) ≡ Err fault = rw (k, fails) refl in
     sym so_far ∙ one
 
-pub many-is_done : {A : Type 0} (read : Reader A) (front : List A) (count i : ℕ) (bytes : List ℕ) (total : Result (List A × List ℕ) Fault)
-    → count ≤ i → with_front front (many_at read (count - i) bytes) ≡ total → total ≡ Ok (front, bytes)
-many-is_done {A = A} read front count i bytes total le so_far =
-    let k : count - i ≡ 0 = omega arith in
-    let one : with_front front (many_at read (count - i) bytes) ≡ Ok (front, bytes) = rw k (ap (λ (xs : List A). Ok (xs, bytes)) (append-nil front)) in
-    sym so_far ∙ one
-
 -- ---- up to the end
 
 -- what is still to be read, where at most so many values may come
@@ -64,25 +56,3 @@ ReadsOn-goes_on read front (b ∷ bytes) n after total shorter is on = ReadsOn-g
     ReadsOn-goes_on_by read front b bytes n after total (suc most) shorter enough is so_far =
         let one : with_front front (up_to_end read (suc most) (b ∷ bytes)) ≡ with_front (front ++ n ∷ []) (up_to_end read most after) = rw is (regroup front n (up_to_end read most after)) in
         record { most = most; enough = omega arith; so_far = sym one ∙ so_far }
-
-pub ReadsOn-fails : {A : Type 0} (read : Reader A) (error : ReadError) (front : List A) (bytes after : List ℕ) (total : Result (List A × List ℕ) Fault)
-    → 0 < length bytes → Reads {A = A} (Err error) after (read bytes) → ReadsOn read front bytes total → Reads {A = List A} (Err error) after total
-ReadsOn-fails read error front [] after total there fails on = absurd (omega arith)
-ReadsOn-fails read error front (b ∷ bytes) after total there fails on = by_most read error front b bytes after total on.most on.enough fails on.so_far
-  where
-    by_most : {A : Type 0} (read : Reader A) (error : ReadError) (front : List A) (b : ℕ) (bytes after : List ℕ) (total : Result (List A × List ℕ) Fault) (most : ℕ)
-        → length (b ∷ bytes) ≤ most → Reads {A = A} (Err error) after (read (b ∷ bytes)) → with_front front (up_to_end read most (b ∷ bytes)) ≡ total → Reads {A = List A} (Err error) after total
-    by_most read error front b bytes after total zero enough fails so_far = absurd (omega arith)
-    by_most read reads.NoMemory front b bytes after total (suc most) enough fails so_far = tt
-    by_most read (reads.Fault fault) front b bytes after total (suc most) enough fails so_far =
-        let one : with_front front (up_to_end read (suc most) (b ∷ bytes)) ≡ Err fault = rw fails refl in
-        sym so_far ∙ one
-
-pub ReadsOn-is_done : {A : Type 0} (read : Reader A) (front : List A) (bytes : List ℕ) (total : Result (List A × List ℕ) Fault)
-    → length bytes ≡ 0 → ReadsOn read front bytes total → total ≡ Ok (front, bytes)
-ReadsOn-is_done {A = A} read front (b ∷ bytes) total none on = absurd (omega arith)
-ReadsOn-is_done {A = A} read front [] total none on = sym on.so_far ∙ by_most on.most
-  where
-    by_most : (most : ℕ) → with_front front (up_to_end read most []) ≡ Ok (front, [])
-    by_most zero = ap (λ (xs : List A). Ok (xs, [])) (append-nil front)
-    by_most (suc most) = ap (λ (xs : List A). Ok (xs, [])) (append-nil front)

@@ -1,9 +1,8 @@
 -- The log of a session is a transcript.
 use Rattle.sftp_server.proofs.Imports.{◌≡◌, ℕ, ◌≤◌, List, [], ◌∷◌, ◌++◌, refl, sym, ap, ◌∙◌, subst, map, flat_map}
-use Rattle.sftp_server.proofs.Imports.{append-nil, Packet, Init, HasSpelling, server_extensions, Event, packet_of}
-use Rattle.sftp_server.proofs.Imports.{record_text, our_version, IsGreeting, IsOpened}
+use Rattle.sftp_server.proofs.Imports.{append-nil, Packet, Init, HasSpelling, version_spelled, server_extensions, Event}
+use Rattle.sftp_server.proofs.Imports.{packet_of, record_text, our_version, IsGreeting, IsOpened}
 use Rattle.sftp_transcript.specs.Transcript.{event_record, IsRecord}
-use Rattle.sftp_server.proofs.Sessions.Opened.{version-spelled}
 
 records-are : (events : List Event) → flat_map record_text (map packet_of events) ≡ flat_map event_record events
 records-are [] = refl
@@ -36,7 +35,7 @@ log-is-transcript input output log init events rest opened =
         told = server_extensions;
         high_enough = parts.high_enough;
         init = subst HasSpelling parts.init_is opened.greeting.1;
-        answer = version-spelled;
+        answer = version_spelled;
         bytes_are = ap (λ (p : Packet). record_text p ++ (record_text our_version ++ flat_map record_text (map packet_of events))) parts.init_is
             ∙ ap (λ (bytes : List ℕ). record_text (Init parts.version parts.extensions) ++ (record_text our_version ++ bytes)) (records-are events);
       };

@@ -1,17 +1,16 @@
 -- A session is opened.
-use Rattle.sftp_server.proofs.Imports.{◌≡◌, ◌⊎◌, ℕ, ◌<◌, ◌≤◌, List, [], ◌∷◌, ◌++◌, length, take, drop, codes, Option}
-use Rattle.sftp_server.proofs.Imports.{Some, None, Result, Ok, Err, OnOk, IfErr, IfSome, refl, sym, ap, subst, ◌∙◌, inl}
-use Rattle.sftp_server.proofs.Imports.{inr, append-nil, arith, lit<, lit≤, take_at, length-append, Appends, Consumes}
-use Rattle.sftp_server.proofs.Imports.{Keeps, Appends-trans, Packet, Init, Side, Client, Server, spelling, side_of}
-use Rattle.sftp_server.proofs.Imports.{HasSpelling, FitsString, posix_rename_name, hardlink_name, fsync_name}
-use Rattle.sftp_server.proofs.Imports.{limits_name, front_of, StandsInFront, place_after, none-leaves_room, AppendsPart}
-use Rattle.sftp_server.proofs.Imports.{Log, opened_text, record_text, transcript_opening, BeginsFrom, turn_after}
-use Rattle.sftp_server.proofs.Imports.{in_window, exchanges_of, leading_pairs, window, Tree, State, Good, settled}
-use Rattle.sftp_server.proofs.Imports.{Allowed, bytes-by, Stop, at_start, started, our_version, sent_by, spelled_if}
-use Rattle.sftp_server.proofs.Imports.{recorded, IsGreeting, IsNoGreeting, IsListed, IsCutInLast, StreamBytes}
-use Rattle.sftp_server.proofs.Imports.{stream_bytes, Passed, AreDone, Stops, tree_left, IsLogging, Ahead, IsRunning}
-use Rattle.sftp_server.proofs.Imports.{IsUnopenedYet, FailsToSend, MatchResult, drop_at, input_limit, ahead_without}
-use Rattle.sftp_server.proofs.Imports.{BeginsWithGreeting, First, Keeps-refl, IsLeftAfter}
+use Rattle.sftp_server.proofs.Imports.{◌≡◌, ◌⊎◌, ℕ, ◌<◌, ◌≤◌, List, [], ◌∷◌, ◌++◌, length, take, drop, Option, Some}
+use Rattle.sftp_server.proofs.Imports.{None, Result, Ok, Err, OnOk, IfErr, IfSome, refl, sym, ap, subst, ◌∙◌, inl, inr}
+use Rattle.sftp_server.proofs.Imports.{append-nil, arith, take_at, length-append, Appends, Consumes, Keeps}
+use Rattle.sftp_server.proofs.Imports.{Appends-trans, Packet, Init, Side, Client, Server, spelling, side_of, front_of}
+use Rattle.sftp_server.proofs.Imports.{StandsInFront, place_after, none-leaves_room, AppendsPart, Log, opened_text}
+use Rattle.sftp_server.proofs.Imports.{record_text, transcript_opening, BeginsFrom, turn_after, in_window, exchanges_of}
+use Rattle.sftp_server.proofs.Imports.{leading_pairs, window, Tree, State, Good, settled, Allowed, Stop, at_start}
+use Rattle.sftp_server.proofs.Imports.{started, our_version, sent_by, spelled_if, recorded, IsGreeting, IsNoGreeting}
+use Rattle.sftp_server.proofs.Imports.{IsListed, IsCutInLast, StreamBytes, stream_bytes, Passed, AreDone, Stops}
+use Rattle.sftp_server.proofs.Imports.{tree_left, IsLogging, Ahead, IsRunning, IsUnopenedYet, FailsToSend, MatchResult}
+use Rattle.sftp_server.proofs.Imports.{drop_at, input_limit, ahead_without, BeginsWithGreeting, First, Keeps-refl}
+use Rattle.sftp_server.proofs.Imports.{IsLeftAfter}
 use Rattle.sftp_packets.specs.declared.packets.Packet.TheVariants.{Version, Request, Reply}
 use Rattle.sftp_server.specs.Opening.{IsFirst, IsInFront, IsGreetingOf}
 use Rattle.std.specs.Result.{IsErrAnd}
@@ -202,31 +201,6 @@ init-no_memory {start} {init} {ahead = ahead} logged =
 
 pub version-server : side_of our_version ≡ Server
 version-server = refl
-
-one-fits : FitsString (codes "1")
-one-fits = record { bytes_fit = bytes-by (codes "1") refl; length_fits = lit< tt }
-
-pub version-spelled : HasSpelling our_version
-unfolding spelling
-version-spelled =
-    record {
-      fields = (
-        lit< tt,
-        (
-          (record { bytes_fit = bytes-by posix_rename_name refl; length_fits = lit< tt }, one-fits),
-          (
-            (record { bytes_fit = bytes-by hardlink_name refl; length_fits = lit< tt }, one-fits),
-            (
-              (record { bytes_fit = bytes-by fsync_name refl; length_fits = lit< tt }, one-fits),
-              ((record { bytes_fit = bytes-by limits_name refl; length_fits = lit< tt }, one-fits), tt),
-            ),
-          ),
-        ),
-      );
-      whole = lit≤ tt;
-      handle = tt;
-      canonical = refl;
-    }
 
 -- no events begin an explained session
 pub none-begin : (start : State) → BeginsFrom Allowed start []

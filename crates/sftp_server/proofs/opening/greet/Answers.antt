@@ -1,6 +1,6 @@
-use Rattle.sftp_server.proofs.Imports.{sym, subst, HasSpelling, Stop, stream_bytes, Stops}
+use Rattle.sftp_server.proofs.Imports.{sym, subst, HasSpelling, version_spelled, Stop, stream_bytes, Stops}
 use Rattle.sftp_server.proofs.Sessions.Opened.{IsInitLogged, init-client, init-taken, init-logged, init-unlogged}
-use Rattle.sftp_server.proofs.Sessions.Opened.{init-no_memory, stopped-so, version-spelled, version-done, first_left}
+use Rattle.sftp_server.proofs.Sessions.Opened.{init-no_memory, stopped-so, version-done, first_left}
 use Rattle.sftp_server.proofs.opening.greet.Goals as goal
 
 pub returns-in_err-log_init-clause-running : goal.returns-in_err-log_init-clause-running
@@ -30,7 +30,7 @@ returns-in_err-version-clause-running g c = λ start past left good unopened.
     (init-taken c.args.input.now.held c.args.count whole).0))))
 
 pub send-sent-requires-clause-spelled : goal.send-sent-requires-clause-spelled
-send-sent-requires-clause-spelled g c = subst HasSpelling (sym c.in_ok-version.ensures.ok) version-spelled
+send-sent-requires-clause-spelled g c = subst HasSpelling (sym c.in_ok-version.ensures.ok) version_spelled
 
 pub returns-clause-running : goal.returns-clause-running
 returns-clause-running g c = λ start past left good unopened.
