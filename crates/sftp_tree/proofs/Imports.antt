@@ -120,7 +120,7 @@ pub use Rattle.sftp_tree.specs.StoredFiles.{AreCounted, file_named, IsChangedWhe
 pub use Rattle.sftp_tree.specs.StoredFiles.{with_content_made, without_pins, unpinned, seen, with_attributes_set}
 pub use Rattle.sftp_tree.specs.StoredFiles.{with_a_pin, without_a_pin, with_bytes_written}
 unfoldable pub use Rattle.sftp_tree.specs.Told.{listing_to, shown_to, text_to, file_to}
-pub use Rattle.sftp_tree.specs.Trail.{IsAt, IsLentAt, Standing, root_of, AreAlong, IsDirAt}
+pub use Rattle.sftp_tree.specs.Trail.{IsAt, IsLentAt, Standing, root_of, AreAlong, LeadTo, IsDirAt}
 pub use Rattle.sftp_tree.specs.Tree.{Tree, WellFormed, IsKept, limits, node_at, content_at, is_taken, is_directory}
 pub use Rattle.sftp_tree.specs.Tree.{is_link, Names, with_node, without_node, names_file, times_named, with_content}
 pub use Rattle.sftp_tree.specs.Tree.{times_pinned, is_pinned, Pins, is_named, with_pins, IsContent, trim, raised}

@@ -31,6 +31,11 @@ AreAlong (dir ∷ above) [] here = ⊥
 AreAlong (dir ∷ above) (name ∷ names) here =
     IsAt dir.now (name ∷ []) (root_of above here).now × AreAlong above names here
 
+-- by the names of the place one goes from the root through the directories between to the one where the walk stands
+abbrev pub LeadTo : Bor Names → List (Bor Names) → Place → Bor Names → Type 0
+LeadTo root between [] here = (between ≡ []) × (here ≡ root)
+LeadTo root between (name ∷ names) here = AreAlong (root ∷ between) (name ∷ names) here
+
 -- a directory that is lent is the one at this place
 abbrev pub IsDirAt : Names → Place → Seen → Type 0
 IsDirAt names place (Dir owner dir) = IsAt names place dir.now

@@ -12,8 +12,10 @@ use std::marker::Model;
 /// How far a walk has come: the directory that it has reached, and those that lead there.
 #[derive(Drop)]
 pub(crate) struct Trail<'a> {
-    /// The directories above, the root first.
-    above: Vec<&'a Dir>,
+    root: &'a Dir,
+    /// The directories between the root and the one that it has reached, from the top down. There are none for a path
+    /// such as `/d/f`, so its walk allocates nothing for them.
+    between: Vec<&'a Dir>,
     /// The directory that it has reached.
     here: &'a Dir,
     /// The place of that directory.
@@ -21,13 +23,13 @@ pub(crate) struct Trail<'a> {
 }
 
 impl<'a> Model for Trail<'a> {
-    ghost use Rattle.sftp_tree.specs.Trail.{Standing, root_of, AreAlong};
+    ghost use Rattle.sftp_tree.specs.Trail.{Standing, LeadTo};
 
     ghost Value = { Standing };
 
-    ghost view = { λ trail. record { names = (root_of trail.above.items trail.here).now; at = trail.at } };
+    ghost view = { λ trail. record { names = trail.root.now; at = trail.at } };
 
-    ghost invariant = { λ trail. AreAlong trail.above.items trail.at trail.here };
+    ghost invariant = { λ trail. LeadTo trail.root trail.between.items trail.at trail.here };
 }
 
 impl<'a> Trail<'a> {
@@ -36,7 +38,8 @@ impl<'a> Trail<'a> {
         ensures { result ≡ record { names = root.now; at = [] } }
     {
         Trail {
-            above: Vec::new(alloc),
+            root,
+            between: Vec::new(alloc),
             here: root,
             at: Place::root(alloc),
         }
@@ -76,8 +79,13 @@ impl<'a> Trail<'a> {
         ensures ok { OnOk result (self.new ≡ record self.old { at = self.old.at ++ name ∷ [] }) }
         ensures err { OnErr result (self.new ≡ self.old) }
     {
+        let is_at_root = self.at.depth() == 0;
         self.at.enter(name)?;
-        match self.above.push(self.here) {
+        if is_at_root {
+            self.here = dir;
+            return Ok(());
+        }
+        match self.between.push(self.here) {
             Ok(()) => {
                 self.here = dir;
                 Ok(())
@@ -93,9 +101,10 @@ impl<'a> Trail<'a> {
     pub(crate) fn leave(&mut self)
         ensures { self.new ≡ record self.old { at = parent self.old.at } }
     {
-        if let Some(dir) = self.above.pop() {
-            self.here = dir;
-            self.at.leave();
+        self.at.leave();
+        match self.between.pop() {
+            Some(dir) => self.here = dir,
+            None => self.here = self.root,
         }
     }
 
@@ -103,10 +112,8 @@ impl<'a> Trail<'a> {
     pub(crate) fn go_to_root(&mut self)
         ensures { self.new ≡ record self.old { at = [] } }
     {
-        if let Some(root) = self.above.as_slice().first() {
-            self.here = *root;
-        }
-        self.above.clear();
+        self.here = self.root;
+        self.between.clear();
         self.at = Place::root(self.at.allocator());
     }
 
