@@ -149,6 +149,7 @@ impl<R: Source> Reader<R> {
     }
 
     /// Whether an INIT or a VERSION is next, and no opening before it.
+    #[inline(always)]
     fn greets(&self) -> bool
         ensures { result ≡ is_greeting self.now.stage }
     {
@@ -161,6 +162,7 @@ impl<R: Source> Reader<R> {
     }
 
     /// Takes the client's INIT or the server's VERSION, whichever is next.
+    #[inline(always)]
     fn take_greeting(&mut self) -> Result<(), TranscriptError>
         requires { 1 ≤ rank self.old.stage }
         ensures same { RecordsSame self.old self.new }
@@ -181,6 +183,7 @@ impl<R: Source> Reader<R> {
     }
 
     /// Takes what comes before the events.
+    #[inline(always)]
     fn take_start(&mut self) -> Result<(), TranscriptError>
         ensures same { RecordsSame self.old self.new }
         ensures only { (events : List Event) → Records self.old events → MatchResult result (λ _. ⊤) IsExcuse }
