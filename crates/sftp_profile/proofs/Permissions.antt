@@ -98,7 +98,7 @@ not-replaced profile t (asks.Symlink targetpath linkpath) made draft =
     ap (λ b. if b then Some (asks.Symlink linkpath targetpath) else None) draft
 not-replaced profile t other made draft = refl
 
-put-same : (profile : Profile) (t : Tree) (ask : Ask) → IsTrue (keeps_requests profile) → put profile t ask ≡ ask
+pub put-same : (profile : Profile) (t : Tree) (ask : Ask) → IsTrue (keeps_requests profile) → put profile t ask ≡ ask
 put-same profile t ask keeps =
     let parts = both-not profile.made profile.symlink_draft keeps in
     ap (λ o. unwrap_or o ask) (not-replaced profile t ask parts.0 parts.1)

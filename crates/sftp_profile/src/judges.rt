@@ -87,6 +87,7 @@ impl Judge {
     ///
     /// `NoMemory` if memory runs out. If the profile has `flags`, or a use for the directories that are open, the
     /// session may then have changed.
+    #[inline(always)]
     pub fn accept(&mut self, request: &Request, reply: &Reply) -> Result<bool, NoMemory>
         ensures allowed { IfOk result (λ ok. IsTrue ok → Permitted self.old request.now reply.now self.new) }
         ensures refused { IfOk result
@@ -106,10 +107,14 @@ impl Judge {
     /// # Errors
     ///
     /// `NoMemory` if memory runs out.
+    #[inline(always)]
     fn step(&mut self, request: &Request, reply: &Reply) -> Result<bool, NoMemory>
         requires { reply.now.id ≡ request.now.id }
         ensures { IfOk result (λ ok. IsStep self.old request.now.ask reply.now.answer ok self.new) }
     {
+        if self.profile.keeps_requests() {
+            return self.judge(request, reply);
+        }
         let Some(ask) = self.replaced(&request.ask)? else {
             return self.judge(request, reply);
         };
@@ -174,6 +179,7 @@ impl Judge {
     /// # Errors
     ///
     /// `NoMemory` if memory runs out; the session is unchanged, unless the profile has `flags`.
+    #[inline(always)]
     pub(crate) fn permit(&mut self, request: &Request, reply: &Reply) -> Result<bool, NoMemory>
         requires { reply.now.id ≡ request.now.id }
         ensures ok { IfOk result (λ ok. IsPermitted self.old request.now.ask reply.now.answer ok self.new) }
@@ -190,6 +196,7 @@ impl Judge {
     /// # Errors
     ///
     /// `NoMemory` if memory runs out; the session is unchanged.
+    #[inline(always)]
     pub(crate) fn judge_strictly(
         &mut self,
         request: &Request,

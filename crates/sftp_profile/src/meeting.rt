@@ -24,6 +24,7 @@ impl Judge {
     /// # Errors
     ///
     /// `NoMemory` if memory runs out.
+    #[inline(always)]
     pub(crate) fn judge(&mut self, request: &Request, reply: &Reply) -> Result<bool, NoMemory>
         requires { reply.now.id ≡ request.now.id }
         ensures { IfOk result (λ ok. IsJudged self.old request.now.ask reply.now.answer ok self.new) }

@@ -94,6 +94,13 @@ impl Profile {
         }
     }
 
+    /// Whether the profile judges each request itself, and replaces none.
+    pub(crate) fn keeps_requests(self) -> bool
+        ensures { result ≡ spec.keeps_requests self }
+    {
+        !self.made && !self.symlink_draft
+    }
+
     /// Whether the profile has no use for the directories that are open.
     pub(crate) fn is_stateless(self) -> bool
         ensures { result ≡ spec.is_stateless self }
