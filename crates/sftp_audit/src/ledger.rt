@@ -62,13 +62,14 @@ impl Ledger {
     /// # Errors
     ///
     /// `IdInUse` if an unanswered request has the same id, `Window` if `WINDOW` exchanges are kept, and `NoMemory` if
-    /// memory runs out.
+    /// memory runs out. On error no exchange is kept.
     pub(crate) fn ask(&mut self, request: Request, number: u64) -> Result<(), Refusal>
         ensures noted { OnOk result
             (self.new ≡ self.old ++ record { request = request; number = number; reply = None } ∷ []) }
         ensures apart { OnOk result (is_open request.id self.old ≡ false) }
         ensures in_time { OnOk result (length self.old < window) }
         ensures refused { IfErr result (RefusesRequest self.old request number) }
+        ensures cleared { OnErr result (self.new ≡ []) }
         ensures few { length self.new ≤ window }
     {
         match enter(
@@ -88,6 +89,7 @@ impl Ledger {
             }
             Err(refusal) => {
                 drop(request);
+                forget_all(&mut self.exchanges, &mut self.unanswered);
                 Err(refusal)
             }
         }
@@ -141,9 +143,17 @@ impl Ledger {
     pub(crate) fn clear(&mut self)
         ensures { self.new ≡ [] }
     {
-        self.exchanges.clear();
-        self.unanswered.clear();
+        forget_all(&mut self.exchanges, &mut self.unanswered);
     }
+}
+
+/// Forgets the exchanges, and the ids in the index.
+fn forget_all(exchanges: &mut VecDeque<Exchange>, unanswered: &mut IndexMap<u32, u64>)
+    ensures exchanges { exchanges.new.items ≡ [] }
+    ensures index { unanswered.new.entries ≡ [] }
+{
+    exchanges.clear();
+    unanswered.clear();
 }
 
 /// Makes room for the exchange of a request, and puts its id into the index. The exchange itself has to follow.
@@ -151,7 +161,7 @@ impl Ledger {
 /// # Errors
 ///
 /// `IdInUse` if an unanswered request has the same id, `Window` if `WINDOW` exchanges are kept, and `NoMemory` if
-/// memory runs out.
+/// memory runs out. On error the index may have another ordinal for the id, so it has to be cleared.
 fn enter(
     exchanges: &mut VecDeque<Exchange>,
     unanswered: &mut IndexMap<u32, u64>,
@@ -167,19 +177,22 @@ fn enter(
         unanswered.new.entries first) }
     ensures apart { OnOk result (is_open request.now.id exchanges.old.items ≡ false) }
     ensures in_time { OnOk result (length exchanges.old.items < window) }
-    ensures unchanged { OnErr result (unanswered.new.entries ≡ unanswered.old.entries) }
     ensures refused { IfErr result (RefusesRequest exchanges.old.items request.now number) }
 {
-    if unanswered.contains_key(&request.id) {
-        return Err(Refusal::IdInUse { record: number });
-    }
     if exchanges.len() >= WINDOW {
-        return Err(Refusal::Window { record: number });
+        return Err(if unanswered.contains_key(&request.id) {
+            Refusal::IdInUse { record: number }
+        } else {
+            Refusal::Window { record: number }
+        });
     }
     exchanges.reserve(1)?;
     let ordinal = first.wrapping_add(exchanges.len() as u64);
-    unanswered.insert(request.id, ordinal)?;
-    Ok(())
+    // The old value shows whether the id is in use, so the id is looked up once.
+    match unanswered.insert(request.id, ordinal)? {
+        None => Ok(()),
+        Some(_) => Err(Refusal::IdInUse { record: number }),
+    }
 }
 
 /// The position of the exchange with this ordinal, given the ordinal of the first one.
