@@ -3,6 +3,7 @@ use Rattle.sftp_server.proofs.Imports.{◌≡◌, ◌≢◌, ◌==◌, ◌&&◌,
 use Rattle.sftp_server.proofs.Imports.{◌∷◌, Option, inl, inr, length, set, max, refl, sym, ap, subst, ◌∙◌, arith}
 use Rattle.sftp_server.proofs.Imports.{true≢false, eqb-true, eqb-false, length-set, get_or-set_same, get_or-set_other}
 use Rattle.sftp_server.proofs.Imports.{sum_by-set, sum_by-cons, slice_get_read, get_or, ByteRange, Touch, touched}
+use Rattle.sftp_server.proofs.Imports.{Ask, not, share}
 use Rattle.sftp_server.proofs.Imports.{range, touched_as, State, Entry, Note, blank, note_at, ask_at, touched_at}
 use Rattle.sftp_server.proofs.Imports.{is_in_way, only_reads, as_count, possible_count, IsNoted, IsPlaced, portion_at}
 use Rattle.sftp_server.proofs.Imports.{pending_by, is_late, portion_now, Portion, portions_clash, IsPortion}
@@ -10,6 +11,8 @@ use Rattle.sftp_server.proofs.Imports.{is_behind_by, is_behind, get_or_from_slic
 use Rattle.sftp_server.proofs.Imports.{IsMarked, AreAlike, IsStopped, HaveTheirRanges, IsMarkedAsked, IsFreeFrom}
 use Rattle.sftp_server.specs.Readiness.{IsMarkedBut, is_all, IsBlockedBack, AreBlocked, IsShut, held, raised}
 use Rattle.std.proofs.Math.Nat.{le-max_left, le-max_right}
+use Rattle.sftp_handles.specs.declared.touch.Touch.TheVariants.{Nothing, ReadsFile, WritesFile, TakesNames, Everything}
+use Rattle.sftp_handles.specs.Ranges.{are_apart}
 use Rattle.sftp_server.proofs.RangedNotes.{behind-local}
 use Rattle.sftp_server.proofs.StillRanged.{portion-sound}
 
@@ -442,6 +445,55 @@ free-lower queue notes k from lower is free none j later before =
     by_place j lower (is_in_way queue notes j (portion_at queue notes k) ≡ false)
     (λ at. subst (λ (i : ℕ). is_in_way queue notes i (portion_at queue notes k) ≡ false) (sym at) none)
     (λ apart. free j (let past = beyond j lower later apart in omega (arith, past, is)) before)
+
+-- one that is not pending
+pub not-pending : (queue : List Entry) (notes : List Note) (j : ℕ) (at : Portion) → (note_at notes j).pending ≡ false
+    → is_in_way queue notes j at ≡ false
+not-pending queue notes j at none = ap (λ b. b && portions_clash (portion_at queue notes j) at) none
+
+-- one that does not conflict
+pub no-conflict : (queue : List Entry) (notes : List Note) (j : ℕ) (at : Portion)
+    → portions_clash (portion_at queue notes j) at ≡ false → is_in_way queue notes j at ≡ false
+no-conflict queue notes j at none = by (note_at notes j).pending refl
+  where
+    by : (b : Bool) → (note_at notes j).pending ≡ b → is_in_way queue notes j at ≡ false
+    by true is = ap (λ b. b && portions_clash (portion_at queue notes j) at) is ∙ none
+    by false is = not-pending queue notes j at is
+
+-- requests that only read do not conflict
+readers-share : (first second : Touch) (one other : Ask) → only_reads first ≡ true → only_reads second ≡ true
+    → share (touched_as first one) (touched_as second other) ≡ false
+readers-share Nothing Nothing one other reads too = refl
+readers-share Nothing (ReadsFile number) one other reads too = refl
+readers-share (ReadsFile number) Nothing one other reads too = refl
+readers-share (ReadsFile number) (ReadsFile another) one other reads too = refl
+readers-share Nothing (WritesFile number) one other reads too = absurd cc
+readers-share Nothing TakesNames one other reads too = absurd cc
+readers-share Nothing Everything one other reads too = absurd cc
+readers-share (ReadsFile number) (WritesFile another) one other reads too = absurd cc
+readers-share (ReadsFile number) TakesNames one other reads too = absurd cc
+readers-share (ReadsFile number) Everything one other reads too = absurd cc
+readers-share (WritesFile number) second one other reads too = absurd cc
+readers-share TakesNames second one other reads too = absurd cc
+readers-share Everything second one other reads too = absurd cc
+
+-- one that is not a pending writer is not in the way of one that only reads
+pub no-writer : (queue : List Entry) (notes : List Note) (j k : ℕ) → only_reads (note_at notes k).touch ≡ true
+    → ((note_at notes j).pending && not (only_reads (note_at notes j).touch)) ≡ false
+    → is_in_way queue notes j (portion_at queue notes k) ≡ false
+no-writer queue notes j k reads none = by (note_at notes j).pending (only_reads (note_at notes j).touch) refl refl
+  where
+    at : Portion
+    at = portion_at queue notes k
+
+    by : (b r : Bool) → (note_at notes j).pending ≡ b → only_reads (note_at notes j).touch ≡ r
+        → is_in_way queue notes j at ≡ false
+    by false r is _ = not-pending queue notes j at is
+    by true true _ too = no-conflict queue notes j at
+        (ap (λ b. b && not (are_apart (note_at notes j).range (note_at notes k).range))
+        (readers-share (note_at notes j).touch (note_at notes k).touch (ask_at queue j) (ask_at queue k) too reads))
+    by true false is writes = absurd
+        (true≢false (sym (ap (λ b. b && not (only_reads (note_at notes j).touch)) is ∙ ap not writes) ∙ none))
 
 pub shut-at : (notes : List Note) (o : ℕ) (note : Note) → 0 < o → o ≤ length notes
     → note ≡ get_or notes (o - 1) note → note.pending ≡ true → is_all note.touch ≡ true → IsShut notes o

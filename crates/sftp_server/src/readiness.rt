@@ -1,18 +1,18 @@
 //! Which requests of a queue are ready, without a search through the requests before each.
 ghost use Rattle.std.specs.Prelude.{◌≡◌, ◌≢◌, ◌+◌, ◌-◌, ◌<◌, ◌≤◌, ◌&&◌, ◌++◌, ℕ, suc, [], ◌∷◌, true, false};
-ghost use Rattle.std.specs.Prelude.{OnOk, length, take, drop, set};
+ghost use Rattle.std.specs.Prelude.{OnOk, not, length, take, drop, set};
 ghost use Rattle.std.specs.VecDeque.{deque_len, deque_capacity};
 ghost use Rattle.sftp_handles.specs.Clash.{touched, share};
 ghost use Rattle.sftp_handles.specs.Ranges as ranges;
 ghost use Rattle.sftp_handles.specs.Ranges.{range};
 ghost use Rattle.sftp_handles.specs.Touch.{touched_as};
-ghost use Rattle.sftp_server.specs.Readiness.{blank, note_at, portion_at, ask_at, is_in_way, IsFree, IsBlockedBack};
+ghost use Rattle.sftp_server.specs.Readiness.{blank, note_at, portion_at, ask_at, IsFree, IsBlockedBack};
 ghost use Rattle.sftp_server.specs.Readiness.{IsPlaced, AreAlike, possible_count, IsNoted, AreBlocked, AreBlockedBut};
 ghost use Rattle.sftp_server.specs.Readiness.{IsShut, AreNotes, IsOpened, IsTouched};
 ghost use Rattle.sftp_server.specs.Readiness.{CanRefresh, IsSettling, IsSettled, IsMarkedBut, AreNotReadyOn};
 ghost use Rattle.sftp_server.specs.Readiness.{AreBlockedButOn};
 ghost use Rattle.sftp_server.specs.Readiness as words;
-ghost use Rattle.sftp_server.specs.RangedNotes.{resizes};
+ghost use Rattle.sftp_server.specs.RangedNotes.{resizes, portions_clash};
 
 use crate::queue::Queue;
 use sftp_handles::{ByteRange, Session, SlabTable, Touch};
@@ -509,46 +509,83 @@ impl Readiness {
         if k <= self.first_pending {
             return 0;
         }
-        let later = &self.notes[k];
+        if self.only_reads(k) {
+            self.look_for_writer(queue, k)
+        } else {
+            self.look_for_any(queue, k)
+        }
+    }
+
+    /// The same as `look`, where the request at `k` only reads: others that only read are not in its way.
+    fn look_for_writer(&self, queue: &Queue, k: usize) -> usize
+        requires within { k < self.now.opened }
+        requires noted { IsNoted queue.now self.now.notes.items self.now.first_pending self.now.opened self.now.writers
+            self.now.possible }
+        requires reads { words.only_reads (note_at self.now.notes.items k).touch ≡ true }
+        ensures free { result ≡ 0 → IsFree queue.now self.now.notes.items k }
+        ensures blocked { result ≢ 0 → IsBlockedBack queue.now self.now.notes.items k result }
+    {
+        let later = self.notes[k];
         let mut j = self.start(k);
         'down: while j > self.first_pending {
             j -= 1;
-            if self.is_in_way(queue, j, k, later) {
+            if self.is_pending_writer(j) && self.conflict(queue, j, k, &later) {
                 return k - j;
             }
         }
         0
     }
 
-    /// A position up to `k` such that each request that may conflict with the one at `k` comes before it.
-    fn start(&self, k: usize) -> usize
-        requires { k < length self.now.notes.items }
-        ensures most { result ≤ k }
-        ensures rest { (j : ℕ) → result ≤ j → j < k
-            → (self.now.writers ≤ j) × (words.only_reads (note_at self.now.notes.items k).touch ≡ true) }
+    /// The same as `look`, whatever the request at `k` touches.
+    fn look_for_any(&self, queue: &Queue, k: usize) -> usize
+        requires within { k < self.now.opened }
+        requires noted { IsNoted queue.now self.now.notes.items self.now.first_pending self.now.opened self.now.writers
+            self.now.possible }
+        ensures free { result ≡ 0 → IsFree queue.now self.now.notes.items k }
+        ensures blocked { result ≢ 0 → IsBlockedBack queue.now self.now.notes.items k result }
     {
-        if self.only_reads(k) && self.writers < k {
-            self.writers
-        } else {
-            k
+        let later = self.notes[k];
+        let mut j = k;
+        'down: while j > self.first_pending {
+            j -= 1;
+            if self.notes[j].pending && self.conflict(queue, j, k, &later) {
+                return k - j;
+            }
         }
+        0
     }
 
-    /// Whether the request at position `j` is pending and conflicts with the one at `k`, whose note is `later`.
-    fn is_in_way(&self, queue: &Queue, j: usize, k: usize, later: &Note) -> bool
+    /// A position up to `k` from which on no open request changes what it touches.
+    fn start(&self, k: usize) -> usize
+        ensures most { result ≤ k }
+        ensures rest { (j : ℕ) → result ≤ j → j < k → self.now.writers ≤ j }
+    {
+        if self.writers < k { self.writers } else { k }
+    }
+
+    /// Whether, by its note, the request at this position is pending and does more than read.
+    fn is_pending_writer(&self, j: usize) -> bool
+        requires { j < length self.now.notes.items }
+        ensures { result ≡ ((note_at self.now.notes.items j).pending
+            && not (words.only_reads (note_at self.now.notes.items j).touch)) }
+    {
+        let note = &self.notes[j];
+        // Joined before the branch: out of order the processor would often guess a branch by `pending` alone wrong.
+        note.pending & !only_reads(&note.touch)
+    }
+
+    /// Whether the requests at two positions conflict, where `later` is the note of the one at `k`.
+    fn conflict(&self, queue: &Queue, j: usize, k: usize, later: &Note) -> bool
         requires within { j < length queue.now }
         requires there { k < length queue.now }
         requires same { length self.now.notes.items ≡ length queue.now }
         requires later { later.now ≡ note_at self.now.notes.items k }
-        ensures { result
-            ≡ is_in_way queue.now self.now.notes.items j (portion_at queue.now self.now.notes.items k) }
+        ensures { result ≡ portions_clash (portion_at queue.now self.now.notes.items j)
+            (portion_at queue.now self.now.notes.items k) }
     {
         let earlier = &self.notes[j];
         // Ranges are compared first: while one file is transferred, most of them are apart.
-        if !earlier.pending || are_apart(earlier.range, later.range) {
-            return false;
-        }
-        shares(queue, j, k, earlier.touch, later.touch)
+        !are_apart(earlier.range, later.range) && shares(queue, j, k, earlier.touch, later.touch)
     }
 
     /// Moves the first pending position past the requests at the front that are not pending.

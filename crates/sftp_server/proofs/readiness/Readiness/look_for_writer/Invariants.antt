@@ -1,5 +1,5 @@
 use Rattle.sftp_server.proofs.Imports.{◌-◌, ◌≤◌, IsFreeFrom}
-use Rattle.sftp_server.proofs.readiness.Readiness.look.Given as goal
+use Rattle.sftp_server.proofs.readiness.Readiness.look_for_writer.Given as goal
 
 abbrev pub invariant-down : goal.invariant-down
 invariant-down l = (l.j ≤ l.k) × IsFreeFrom l.queue l.self.notes.items l.k l.j
