@@ -575,6 +575,7 @@ impl Readiness {
     }
 
     /// Whether the requests at two positions conflict, where `later` is the note of the one at `k`.
+    #[inline(always)]
     fn conflict(&self, queue: &Queue, j: usize, k: usize, later: &Note) -> bool
         requires within { j < length queue.now }
         requires there { k < length queue.now }
