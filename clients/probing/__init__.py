@@ -1,6 +1,6 @@
 """The parts of clients/probe. In the order in which they are used:
 
-trees       tree files: reading, writing, the tree that a probe starts from, the folder of a tree
+trees       tree files: reading, writing, the tree that a probe starts from
 model       what the planner believes the server's tree to be
 spelling    many paths that lead to one place
 planner     the plan of a session: draws scenes, and keeps the account of handles

@@ -1,5 +1,4 @@
 """Tree files: docs/FORMATS.md has the format."""
-import os
 import struct
 
 # A file of the second kind has limits of its own.
@@ -147,24 +146,3 @@ def usual():
     ]
     many = [Entry(b"/many/%03d" % number, FILE, b"", permissions=0o644) for number in range(130)]
     return Tree(entries + many, limits=ROOMY)
-
-
-def build(tree, folder):
-    """Makes what the tree has in an empty folder. Owners other than one's own need root."""
-    below = os.fsencode(folder)
-    for entry in tree.entries:
-        place = below + entry.path
-        if entry.kind == DIRECTORY:
-            os.mkdir(place)
-        elif entry.kind == LINK:
-            os.symlink(entry.content, place)
-        elif entry.kind == FURTHER:
-            os.link(below + entry.content, place)
-        else:
-            with open(place, "wb") as file:
-                file.write(entry.content)
-    own = [entry for entry in [tree.root] + tree.entries if entry.kind in (DIRECTORY, FILE)]
-    for entry in reversed(own):
-        place = below + (b"" if entry is tree.root else entry.path)
-        os.chown(place, entry.uid, entry.gid)
-        os.chmod(place, entry.permissions)

@@ -1,9 +1,11 @@
 """Starts a server whose root is a folder that has what a tree file says, without SSH.
 
-The folder is made for one session and removed behind it. The server's program is not part of the tree, so it stands in
-the folder, with its libraries, a line of passwd and /dev/null, only until the server has answered INIT; what the client
-sends after that is passed on once they are gone. Changing the root, and the owners of files, needs root.
+The folder is made for one session and removed behind it (folders.py). The server's program is not part of the tree, so
+it stands in the folder, with its libraries, a line of passwd and /dev/null, only until the server has answered INIT;
+what the client sends after that is passed on once they are gone. Changing the root, and the owners of files, needs
+root.
 """
+import contextlib
 import os
 import re
 import resource
@@ -12,13 +14,13 @@ import signal
 import stat
 import subprocess
 import sys
-import tempfile
 import threading
 
 HERE = os.path.dirname(os.path.realpath(__file__))
 sys.path.insert(0, os.path.dirname(HERE))
 
-from probing import trees  # noqa: E402 (the folder above is not searched before)
+import folders  # noqa: E402 (the folder above is not searched before)
+import mounts  # noqa: E402
 
 # Where the program stands for a moment.
 ASIDE = ".sftpv3-start"
@@ -29,51 +31,52 @@ def fail(text):
     sys.exit(3)
 
 
-def tree_of(arguments, package, program):
-    """The tree that the first word names, if all that is needed is there."""
+def folder_of(arguments, package, program):
+    """The folder of the tree that the first word names, if all that is needed is there."""
     if len(arguments) < 2:
         fail("usage: clients/servers/" + os.path.basename(arguments[0]) + " TREE [ARGUMENT ...]")
     if os.geteuid() != 0:
         fail("needs root, to change its root folder and the owners of files")
     if not os.path.exists(program):
         fail(f"{program} is not there: apt-get install {package}")
+    signal.signal(signal.SIGTERM, lambda *_: sys.exit(1))
     try:
-        return trees.read(arguments[1])
-    except (OSError, trees.Bad) as error:
-        fail(f"{arguments[1]}: {error}")
+        return folders.Folder(arguments[1])
+    except (OSError, folders.Bad) as error:
+        return fail(f"{arguments[1]}: {error}")
 
 
-class Folder:
-    """The folder of a tree, while it is needed."""
-
-    def __init__(self, tree):
-        self.name = tempfile.mkdtemp(prefix="sftpv3-root-")
-        signal.signal(signal.SIGTERM, lambda *_: sys.exit(1))
-        trees.build(tree, self.name)
-
-    def __enter__(self):
-        return self.name
-
-    def __exit__(self, *_):
-        shutil.rmtree(self.name, ignore_errors=True)
-
-
-def put_file(source, target):
+@contextlib.contextmanager
+def directory_below(above, name):
+    """A descriptor of a directory of this name, which is not reached through a link."""
+    held = os.open(name, folders.DIRECTORY, dir_fd=above)
     try:
-        os.link(os.path.realpath(source), target)
-    except OSError:
-        shutil.copy(source, target)
+        yield held
+    finally:
+        os.close(held)
+
+
+def put_file(source, directory, name):
+    with open(source, "rb") as file, open(os.open(name, folders.NEW_FILE, 0o700, dir_fd=directory), "wb") as copy:
+        shutil.copyfileobj(file, copy)
+
+
+def libraries_of(program):
+    needs = subprocess.run(["ldd", program], capture_output=True, text=True, check=False)
+    return re.findall(r"(/\S+) \(0x", needs.stdout) if needs.returncode == 0 else []
 
 
 def put_program(folder, program):
     """Puts the program and its libraries aside in the folder. Gives the words that run it there."""
-    aside = os.path.join(folder, ASIDE)
-    os.mkdir(aside)
-    put_file(program, os.path.join(aside, "server"))
-    needs = subprocess.run(["ldd", program], capture_output=True, text=True, check=False)
-    libraries = re.findall(r"(/\S+) \(0x", needs.stdout) if needs.returncode == 0 else []
-    for library in libraries:
-        put_file(library, os.path.join(aside, os.path.basename(library)))
+    try:
+        os.mkdir(ASIDE, 0o700, dir_fd=folder.root)
+    except FileExistsError:
+        fail(f"the tree has /{ASIDE}, where the server's program has to stand until it has answered INIT")
+    libraries = libraries_of(program)
+    with directory_below(folder.root, ASIDE) as aside:
+        put_file(program, aside, "server")
+        for library in libraries:
+            put_file(library, aside, os.path.basename(library))
     loader = [os.path.basename(library) for library in libraries if "/ld-" in library]
     if not loader:
         return [f"/{ASIDE}/server"]
@@ -81,26 +84,49 @@ def put_program(folder, program):
 
 
 class Lent:
-    """What a program may look for when it starts, unless the tree has it: a line for root in /etc/passwd, /dev/null."""
+    """What a program may look for when it starts, unless the tree has it: a line for root in /etc/passwd, /dev/null.
+    Where the tree has another thing than a directory at /etc or /dev, nothing is lent there."""
 
     def __init__(self, folder):
-        self.made = []
-        for place in ("etc", "dev"):
-            if not os.path.lexists(os.path.join(folder, place)):
-                os.mkdir(os.path.join(folder, place))
-                self.made.append((os.rmdir, os.path.join(folder, place)))
-        passwd, null = os.path.join(folder, "etc", "passwd"), os.path.join(folder, "dev", "null")
-        if not os.path.lexists(passwd):
-            with open(passwd, "w", encoding="ascii") as file:
-                file.write("root:x:0:0:root:/:/bin/sh\n")
-            self.made.append((os.remove, passwd))
-        if not os.path.lexists(null):
-            os.mknod(null, 0o600 | stat.S_IFCHR, os.makedev(1, 3))
-            self.made.append((os.remove, null))
+        self.folder, self.made = folder, []
+        self.lend("etc", "passwd", self.put_passwd, os.remove)
+        self.lend("dev", "null", self.put_null, self.remove_null)
+
+    def lend(self, place, name, put, remove):
+        with contextlib.suppress(FileExistsError):
+            os.mkdir(place, 0o755, dir_fd=self.folder.root)
+            self.made.append(lambda: os.rmdir(place, dir_fd=self.folder.root))
+        with contextlib.suppress(OSError), directory_below(self.folder.root, place) as directory:
+            put(directory, name)
+            self.made.append(lambda: self.take_back(place, name, remove))
+
+    def take_back(self, place, name, remove):
+        with directory_below(self.folder.root, place) as directory:
+            remove(name, dir_fd=directory)
+
+    @staticmethod
+    def put_passwd(directory, name):
+        with open(os.open(name, folders.NEW_FILE, 0o644, dir_fd=directory), "w", encoding="ascii") as file:
+            file.write("root:x:0:0:root:/:/bin/sh\n")
+
+    def put_null(self, directory, name):
+        """A device has no effect on a mount of the folder's own: there the system's is bound to a file."""
+        if self.folder.has_mount:
+            with open(os.open(name, folders.NEW_FILE, 0o600, dir_fd=directory), "wb") as file:
+                mounts.bind("/dev/null", f"/proc/self/fd/{file.fileno()}")
+        else:
+            os.mknod(name, 0o600 | stat.S_IFCHR, os.makedev(1, 3), dir_fd=directory)
+
+    def remove_null(self, name, dir_fd):
+        if self.folder.has_mount:
+            held = os.open(name, os.O_PATH | os.O_NOFOLLOW, dir_fd=dir_fd)
+            mounts.unmount(f"/proc/self/fd/{held}")
+            os.close(held)
+        os.remove(name, dir_fd=dir_fd)
 
     def remove(self):
-        for remover, place in reversed(self.made):
-            remover(place)
+        for take_back in reversed(self.made):
+            take_back()
 
 
 def read_packet(source):
@@ -108,7 +134,7 @@ def read_packet(source):
     data = b""
     while len(data) < 4 or len(data) < 4 + int.from_bytes(data[:4], "big"):
         wanted = 4 if len(data) < 4 else 4 + int.from_bytes(data[:4], "big")
-        piece = os.read(source, wanted - len(data))
+        piece = os.read(source, min(wanted - len(data), 1 << 16))
         if not piece:
             break
         data += piece
@@ -122,6 +148,7 @@ def write_all(target, data):
 
 
 def pass_on(source, target):
+    """Passes on what comes until one of both ends, and closes both: neither end waits for one that is gone."""
     try:
         data = os.read(source, 1 << 16)
         while data:
@@ -130,34 +157,46 @@ def pass_on(source, target):
     except OSError:
         pass
     finally:
+        os.close(source)
         os.close(target)
 
 
 def enter(folder):
     """Makes the folder this process's root. Files get the permissions that are asked for without those of 022."""
-    os.chroot(folder)
+    os.chroot(folder.name)
     os.chdir("/")
     os.umask(0o022)
     resource.setrlimit(resource.RLIMIT_CORE, (0, 0))
 
 
-def run(folder, program, arguments):
-    """Runs the program until it ends, and gives its status as subprocess does."""
-    lent = Lent(folder)
-    words = put_program(folder, program) + arguments
-    server = subprocess.Popen(words, stdin=subprocess.PIPE, stdout=subprocess.PIPE, bufsize=0, env={"LC_ALL": "C"},
-                              preexec_fn=lambda: enter(folder))
+def version_of(folder, server):
+    """Passes INIT on, and gives what the server answers."""
     try:
         first = read_packet(0)
         write_all(server.stdin.fileno(), first)
-        version = read_packet(server.stdout.fileno()) if first else b""
+        return read_packet(server.stdout.fileno()) if first else b""
+    except BrokenPipeError:
+        return b""
     finally:
-        shutil.rmtree(os.path.join(folder, ASIDE))
+        shutil.rmtree(os.path.join(folder.name, ASIDE))
+
+
+def run(folder, program, arguments):
+    """Runs the program until it ends, and gives its status as subprocess does."""
+    lent = Lent(folder)
+    try:
+        words = put_program(folder, program) + arguments
+        server = subprocess.Popen(words, stdin=subprocess.PIPE, stdout=subprocess.PIPE, bufsize=0,
+                                  env={"LC_ALL": "C"}, preexec_fn=lambda: enter(folder))
+        version = version_of(folder, server)
+    finally:
         lent.remove()
     write_all(1, version)
-    threading.Thread(target=pass_on, args=(0, os.dup(server.stdin.fileno())), daemon=True).start()
+    asked = os.dup(server.stdin.fileno())
+    threading.Thread(target=pass_on, args=(os.dup(0), asked), daemon=True).start()
     server.stdin.close()
-    pass_on(server.stdout.fileno(), os.dup(1))
+    pass_on(os.dup(server.stdout.fileno()), os.dup(1))
+    server.stdout.close()
     return server.wait()
 
 
@@ -173,7 +212,6 @@ def end(status):
 
 def serve(program, package, fixed=()):
     """The whole of a script: `SCRIPT TREE [ARGUMENT ...]`."""
-    tree = tree_of(sys.argv, package, program)
-    with Folder(tree) as folder:
+    with folder_of(sys.argv, package, program) as folder:
         status = run(folder, program, list(fixed) + sys.argv[2:])
     end(status)

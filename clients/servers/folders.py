@@ -1,0 +1,196 @@
+"""The folder of a tree file, for one session.
+
+`sftpv3 export` reads the tree file, so what the program refuses is refused here. The folder is made through descriptors
+of its directories, and no link is followed: whatever a tree has, nothing is made outside. It stands below a folder of
+mode 0700, so that nobody else reaches it, and, where the system allows, on a mount of this process alone on which
+set-id bits and devices have no effect; elsewhere set-id bits are left out. What a killed run left is removed by the
+next.
+"""
+import fcntl
+import os
+import shutil
+import stat
+import subprocess
+import sys
+import tarfile
+import tempfile
+import time
+
+import mounts
+from probing import program
+
+PREFIX = "sftpv3-root-"
+SET_ID = stat.S_ISUID | stat.S_ISGID
+
+# How old, in seconds, a folder is at least that is taken for one that a killed run left.
+LEFT = 60
+
+DIRECTORY = os.O_RDONLY | os.O_DIRECTORY | os.O_NOFOLLOW
+NEW_FILE = os.O_WRONLY | os.O_CREAT | os.O_EXCL | os.O_NOFOLLOW
+
+
+class Bad(Exception):
+    """A tree that cannot be made into a folder."""
+
+
+class Builder:
+    """Makes entries below a root directory, which is given by its descriptor."""
+
+    def __init__(self, root, with_set_id):
+        self.root, self.with_set_id = root, with_set_id
+        self.left_out = 0
+
+    def open(self, names):
+        """A descriptor of the directory of these names."""
+        at = os.dup(self.root)
+        for name in names:
+            try:
+                below = os.open(name, DIRECTORY, dir_fd=at)
+            finally:
+                os.close(at)
+            at = below
+        return at
+
+    def names(self, path):
+        names = [name for name in os.fsencode(path).split(b"/") if name not in (b"", b".")]
+        if b".." in names:
+            raise Bad(f"{path!r} leads out of the tree")
+        return names
+
+    def put(self, member, content):
+        """Makes an entry as an archive's member has it; `content` is a file of its bytes."""
+        names = self.names(member.name)
+        if not names:
+            return
+        parent = self.open(names[:-1])
+        try:
+            if member.isdir():
+                os.mkdir(names[-1], 0o700, dir_fd=parent)
+            elif member.issym():
+                os.symlink(os.fsencode(member.linkname), names[-1], dir_fd=parent)
+            elif member.islnk():
+                self.link(self.names(member.linkname), parent, names[-1])
+            else:
+                self.put_file(parent, names[-1], member, content)
+        finally:
+            os.close(parent)
+
+    def link(self, first, parent, name):
+        of_first = self.open(first[:-1])
+        try:
+            os.link(first[-1], name, src_dir_fd=of_first, dst_dir_fd=parent, follow_symlinks=False)
+        finally:
+            os.close(of_first)
+
+    def put_file(self, parent, name, member, content):
+        with open(os.open(name, NEW_FILE, 0o600, dir_fd=parent), "wb") as file:
+            shutil.copyfileobj(content, file)
+            self.own(file.fileno(), member)
+
+    def own(self, descriptor, member):
+        """Gives a file or directory its owner and permissions."""
+        permissions = member.mode & 0o7777
+        if permissions & SET_ID and not self.with_set_id:
+            permissions &= ~SET_ID
+            self.left_out += 1
+        os.fchown(descriptor, member.uid, member.gid)
+        os.fchmod(descriptor, permissions)
+
+    def own_directory(self, member):
+        directory = self.open(self.names(member.name))
+        try:
+            self.own(directory, member)
+        finally:
+            os.close(directory)
+
+
+def fill(builder, tree_file):
+    """Makes all that the tree file has."""
+    words = [program.program(), "export", tree_file]
+    with subprocess.Popen(words, stdin=subprocess.DEVNULL, stdout=subprocess.PIPE, stderr=subprocess.PIPE) as exported:
+        source = {"fileobj": exported.stdout, "encoding": "utf-8", "errors": "surrogateescape"}
+        try:
+            with tarfile.open(mode="r|", **source) as members:
+                directories = put_all(builder, members)
+        except tarfile.ReadError:
+            directories = []
+        said = exported.stderr.read().decode(errors="replace").strip()
+    if exported.returncode != 0:
+        raise Bad(said)
+    for member in reversed(directories):
+        builder.own_directory(member)
+
+
+def put_all(builder, members):
+    """Makes the members of an archive, and gives those that are directories: they get their owners last."""
+    directories = []
+    for member in members:
+        builder.put(member, members.extractfile(member) if member.isreg() else None)
+        if member.isdir():
+            directories.append(member)
+    return directories
+
+
+def remove_left(folder):
+    """Removes what killed runs of this user left: folders that no run holds locked."""
+    for name in os.listdir(folder):
+        place = os.path.join(folder, name)
+        try:
+            if not name.startswith(PREFIX) or time.time() - os.lstat(place).st_mtime < LEFT:
+                continue
+            held = os.open(place, DIRECTORY)
+        except OSError:
+            continue
+        try:
+            state = os.fstat(held)
+            if state.st_uid == os.geteuid() and stat.S_IMODE(state.st_mode) == 0o700:
+                fcntl.flock(held, fcntl.LOCK_EX | fcntl.LOCK_NB)
+                shutil.rmtree(place, ignore_errors=True)
+        except OSError:
+            pass
+        finally:
+            os.close(held)
+
+
+class Folder:
+    """The folder of a tree file, while it is needed: `root` is a descriptor of it, `name` its path."""
+
+    def __init__(self, tree_file):
+        remove_left(tempfile.gettempdir())
+        self.above = tempfile.mkdtemp(prefix=PREFIX)
+        self.lock = os.open(self.above, DIRECTORY)
+        fcntl.flock(self.lock, fcntl.LOCK_EX)
+        self.name = os.path.join(self.above, "root")
+        self.root = -1
+        self.has_mount = False
+        try:
+            self.make(tree_file)
+        except BaseException:
+            self.remove()
+            raise
+
+    def make(self, tree_file):
+        os.mkdir(self.name, 0o755)
+        if mounts.own_namespace():
+            mounts.without_set_id(self.name)
+            self.has_mount = True
+        self.root = os.open(self.name, DIRECTORY)
+        builder = Builder(self.root, self.has_mount)
+        fill(builder, tree_file)
+        if builder.left_out:
+            print(f"{os.path.basename(sys.argv[0])}: set-id bits left out: {builder.left_out} (this system gives no "
+                  "mounts of one's own)", file=sys.stderr)
+
+    def remove(self):
+        if self.root >= 0:
+            os.close(self.root)
+        if self.has_mount:
+            mounts.unmount(self.name)
+        shutil.rmtree(self.above, ignore_errors=True)
+        os.close(self.lock)
+
+    def __enter__(self):
+        return self
+
+    def __exit__(self, *_):
+        self.remove()
