@@ -13,13 +13,14 @@ FIELDS = [("size", "size"), ("uid", "user"), ("gid", "group"), ("permissions", "
 
 
 class Group:
-    """Differences that are alike, the seeds of their sessions, and the first of them with its plan."""
+    """Differences that are alike, the seeds of their sessions, and the first of them (`first`) with its plan
+    (`steps`). `shortest` is what shrinking shows: steps, tree and difference; None if there is nothing."""
 
     def __init__(self, key, allowed):
         self.request, self.causes, self.expected, self.found = key
         self.allowed = allowed
         self.count, self.seeds = 0, []
-        self.steps, self.kept, self.shortest = None, None, None
+        self.first, self.steps, self.kept, self.shortest = None, None, None, None
 
     def title(self):
         return f"{self.request}: {self.found}"
@@ -36,14 +37,14 @@ class Groups:
     def __init__(self):
         self.by_key = {}
 
-    def add(self, seed, steps, difference):
+    def add(self, steps, difference):
         key = key_of(difference)
         group = self.by_key.setdefault(key, Group(key, difference.verdict.lines.get("allowed by")))
         group.count += 1
-        if group.steps is None:
-            group.steps = steps
-        if seed not in group.seeds:
-            group.seeds.append(seed)
+        if group.first is None:
+            group.first, group.steps = difference, steps
+        if difference.seed not in group.seeds:
+            group.seeds.append(difference.seed)
         return group
 
     def all(self):
@@ -55,9 +56,9 @@ def key_of(difference):
     """What differences of one group have in common: the request, the causes, what is expected, and what was found."""
     verdict = difference.verdict
     if verdict.kind == "Unanswered":
-        return difference.name, (), "a reply", difference.end or "none"
+        return difference.name, (), difference.expected, difference.found
     if verdict.kind not in JUDGED:
-        return difference.name, (), "a reply that can be read, and one", verdict.kind
+        return difference.name, (), difference.expected, verdict.kind
     causes = [words.split()[0] for words in verdict.lines.get("causes", "none").split(", ")]
     expected, found = verdict.lines.get("expected", ""), verdict.lines.get("found")
     found = found or of_reply(verdict.lines.get("reply", ""))

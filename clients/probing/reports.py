@@ -4,25 +4,10 @@ import os
 import re
 import shlex
 import subprocess
-import sys
 from xml.sax import saxutils
 
 import sftp3
 from probing import trees
-
-
-class Progress:
-    """A line on a terminal that says how far the probe is; elsewhere nothing."""
-
-    def __init__(self):
-        self.shown = sys.stderr.isatty()
-
-    def say(self, text):
-        if self.shown:
-            print(f"\r\x1b[K{text}", end="", file=sys.stderr, flush=True)
-
-    def clear(self):
-        self.say("")
 
 
 def text_of(program, name):

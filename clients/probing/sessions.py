@@ -1,55 +1,52 @@
 """Plays a plan against a server, and records the session."""
 import os
 import selectors
-import shlex
-import signal
-import subprocess
 import time
+from collections import deque
+from dataclasses import dataclass, field
+from typing import List, Optional, Tuple
 
 import sftp3
+from probing import servers
+from probing.servers import NotStarted, Server  # noqa: F401 (callers have them from here)
 
-# Seconds to wait for VERSION, for a reply, and for a server to end after its input did.
-START, PATIENCE, PARTING = 120, 10, 2
+# Seconds to wait for a reply, and how many times as long for VERSION.
+TIMEOUT, OPENING = 10, 12
 
 # The most bytes of a packet that are taken in; docs/PROTOCOL.md allows fewer.
 LARGEST = 1 << 20
 
-
-class NotStarted(Exception):
-    """The server could not be started: there was no VERSION 3."""
-
-
-class Server:
-    """How to start the server. `{tree}` in a word of its command or of `reset` stands for the name of the tree file."""
-
-    def __init__(self, command, reset=None, errors=subprocess.DEVNULL):
-        self.command, self.reset, self.errors = command, reset, errors
-
-    def takes_tree(self):
-        return any("{tree}" in word for word in self.command + [self.reset or ""])
-
-    def start(self, tree_file):
-        environment = dict(os.environ, SFTPV3_TREE=tree_file)
-        if self.reset:
-            command = self.reset.replace("{tree}", shlex.quote(tree_file))
-            done = subprocess.run(command, shell=True, env=environment, stdin=subprocess.DEVNULL, stdout=self.errors,
-                                  stderr=subprocess.PIPE, check=False)
-            if done.returncode != 0:
-                said = done.stderr.decode(errors="replace").strip()
-                raise NotStarted(f"--reset ended with status {done.returncode}: {said}")
-        words = [word.replace("{tree}", tree_file) for word in self.command]
-        try:
-            return subprocess.Popen(words, stdin=subprocess.PIPE, stdout=subprocess.PIPE, stderr=self.errors, bufsize=0,
-                                    env=environment, start_new_session=True)
-        except OSError as error:
-            raise NotStarted(str(error)) from error
+# How many requests behind one without a reply are asked at most: the audit refuses a client that asks more.
+WINDOW = 1000
 
 
+# After how many replies to nothing a session ends.
+UNWANTED = 100
+
+
+class Stopped(Exception):
+    """The run is to end: nobody waits for this session."""
+
+
+@dataclass
 class Session:
-    """What happened: the records, and how the session ended. Without an `end` each request has its reply."""
+    """What happened. Without an `end` each request has its reply."""
 
-    def __init__(self):
-        self.records, self.end = [(b"C", sftp3.init())], None
+    # The most requests without a reply.
+    in_flight: int = 1
+    # Pairs of `b"C"` or `b"S"` and a packet, in the order in which they passed. The last may not be whole.
+    records: List[Tuple[bytes, bytes]] = field(default_factory=list)
+    # For each record the seconds from the start of the server: of a request when it went to the pipe, of a reply when
+    # it was there whole.
+    times: List[float] = field(default_factory=list)
+    # How the session ended before each request had its reply, or why it went no further.
+    end: Optional[str] = None
+    # How many requests of the plan were not asked. Those of extensions that VERSION does not announce do not count.
+    unasked: int = 0
+    # The last 64 KiB of what the server wrote to standard error.
+    errors: bytes = b""
+    # The server's exit status, below 0 for a signal; None if it did not end by itself and was stopped.
+    status: Optional[int] = None
 
     def transcript(self):
         return sftp3.put_records(self.records)
@@ -58,57 +55,80 @@ class Session:
         """Whether it ended since no reply came in time."""
         return bool(self.end) and "no reply" in self.end
 
+    def ending(self):
+        """How the server ended: `with status 0`, `by signal SIGSEGV`, `only when it was stopped`."""
+        return servers.ending(self.status)
+
+    def asked(self):
+        """How many requests were asked."""
+        return sum(side == b"C" for side, _ in self.records) - 1
+
+    def told(self, why):
+        """Why it was no session, how the server ended, and the last lines that it wrote to standard error."""
+        how = "" if self.status is None else f"; it ended {self.ending()}"
+        return "\n".join([why + how] + [f"  standard error: {line}" for line in self.last_words()])
+
+    def last_words(self, count=5):
+        """The last lines that the server wrote to standard error."""
+        return self.errors.decode(errors="replace").splitlines()[-count:]
+
 
 class Player:
     """Sends the steps, with up to `in_flight` of them unanswered, and records all that passes. Extensions that VERSION
-    does not announce are left out."""
+    does not announce are left out. `stop` is an event that ends it."""
 
-    def __init__(self, process, steps, in_flight):
-        self.process, self.in_flight = process, in_flight
-        self.waiting = list(steps)
-        self.session = Session()
+    def __init__(self, running, steps, in_flight, timeout, stop):
+        self.running, self.in_flight, self.timeout, self.stop = running, in_flight, timeout, stop
+        self.waiting = deque(steps)
+        self.session = Session(in_flight)
         self.unanswered, self.handles = {}, {}
-        self.leaving, self.arrived = b"", b""
-        self.heard, self.patience = time.monotonic(), START
+        self.asked = self.unwanted = 0
+        self.leaving, self.arrived = deque(), Arrived()
         self.selector = selectors.DefaultSelector()
-        os.set_blocking(process.stdin.fileno(), False)
-        self.selector.register(process.stdout, selectors.EVENT_READ)
+        for stream in (running.process.stdout, running.process.stderr):
+            self.selector.register(stream, selectors.EVENT_READ)
+        # when a reply came that was waited for, or what is waited for was asked
+        self.heard, self.patience = time.monotonic(), timeout * OPENING
+
+    def record(self, side, packet):
+        self.session.records.append((side, packet))
+        self.session.times.append(time.monotonic() - self.running.started)
+
+    def give(self, packet):
+        self.record(b"C", packet)
+        self.leaving.append(memoryview(packet))
 
     def opening(self):
         """Sends INIT and waits for VERSION 3."""
-        self.leaving = sftp3.init()
+        self.give(sftp3.init())
         packet = None
         while packet is None:
             self.exchange()
-            if self.session.end:
-                raise NotStarted(f"no VERSION came: {self.session.end}")
             packet = self.next_packet()
+            if packet is None and self.session.end:
+                raise NotStarted(f"no VERSION came: {self.session.end}")
+        self.record(b"S", packet)
         try:
             number, pairs = sftp3.version_of(packet)
         except sftp3.Malformed as error:
             raise NotStarted(f"the first packet is not right: {error}") from error
         if number != 3:
             raise NotStarted(f"the server speaks version {number}, not 3")
-        self.session.records.append((b"S", packet))
-        self.patience = PATIENCE
+        self.patience, self.heard = self.timeout, time.monotonic()
         announced = {name for name, _ in pairs}
-        self.waiting = [step for step in self.waiting
-                        if sftp3.EXTENSIONS.get(step.name) in announced | {None}]
+        self.waiting = deque(step for step in self.waiting
+                             if sftp3.EXTENSIONS.get(step.name) in announced | {None})
 
     def play(self):
         self.opening()
         while not self.session.end and (self.waiting or self.unanswered):
             self.ask()
             self.exchange()
-            packet = self.next_packet()
-            while packet is not None:
-                self.take(packet)
-                packet = self.next_packet()
-        return self.session
+            self.take_all()
 
     def ask(self):
         """Asks what may be asked now. A request is recorded before it is sent."""
-        while self.waiting and len(self.unanswered) < self.in_flight:
+        while self.waiting and len(self.unanswered) < self.in_flight and not self.far_behind():
             step = self.waiting[0]
             given = step.fields
             if hasattr(step.handle(), "step"):
@@ -116,101 +136,138 @@ class Player:
                     return
                 known = self.handles.get(step.handle().step, b"never given %d" % step.handle().step)
                 given = [known] + given[1:]
-            self.waiting.pop(0)
-            packet = sftp3.encode(sftp3.Request(step.number, step.name, given))
-            self.session.records.append((b"C", packet))
-            self.unanswered[step.number] = step
-            self.leaving += packet
+            self.waiting.popleft()
+            if not self.unanswered:
+                self.heard = time.monotonic()
+            self.asked += 1
+            self.unanswered[step.number] = self.asked
+            self.give(sftp3.encode(sftp3.Request(step.number, step.name, given)))
+
+    def far_behind(self):
+        return bool(self.unanswered) and self.asked - next(iter(self.unanswered.values())) >= WINDOW
 
     def exchange(self):
         """Writes what can be written, and reads what is there; waits until one of both can be done."""
         if self.leaving:
             self.send()
-        events = selectors.EVENT_WRITE if self.leaving else 0
-        if events:
-            self.selector.register(self.process.stdin, events)
-        ready = self.selector.select(self.patience)
-        if events:
-            self.selector.unregister(self.process.stdin)
-        if any(key.fileobj is self.process.stdout for key, _ in ready):
-            self.receive()
-        elif not ready and time.monotonic() - self.heard >= self.patience:
-            self.session.end = f"no reply within {self.patience} seconds"
+        blocked = bool(self.leaving)
+        if blocked:
+            self.selector.register(self.running.process.stdin, selectors.EVENT_WRITE)
+        left = self.heard + self.patience - time.monotonic()
+        ready = [key.fileobj for key, _ in self.selector.select(max(0, min(left, 0.2)))]
+        if blocked:
+            self.selector.unregister(self.running.process.stdin)
+        if self.stop and self.stop.is_set():
+            raise Stopped()
+        if self.running.process.stderr in ready and not self.running.listen():
+            self.selector.unregister(self.running.process.stderr)
+        if self.running.process.stdout in ready:
+            if not self.receive(self.running.read()):
+                self.session.end = "the server ended"
+        elif left <= 0 and not self.session.end:
+            self.session.end = f"no reply within {self.patience:g} seconds"
 
     def send(self):
         try:
-            count = os.write(self.process.stdin.fileno(), self.leaving)
-            self.leaving = self.leaving[count:]
-            self.heard = time.monotonic()
+            while self.leaving:
+                count = os.write(self.running.process.stdin.fileno(), self.leaving[0])
+                if count < len(self.leaving[0]):
+                    self.leaving[0] = self.leaving[0][count:]
+                    return
+                self.leaving.popleft()
         except BlockingIOError:
             pass
         except OSError:
             # what the server wrote before it ended is read first
-            self.leaving = b""
+            self.leaving.clear()
 
-    def receive(self):
-        data = os.read(self.process.stdout.fileno(), 1 << 16)
-        self.arrived += data
-        self.heard = time.monotonic()
-        if not data:
-            self.session.end = "the server ended"
+    def receive(self, data):
+        """Takes what came, and says whether more may come and is wanted."""
+        self.arrived.add(data)
+        return bool(data) and len(self.arrived) <= 4 * LARGEST
 
     def next_packet(self):
-        count = sftp3.length(self.arrived)
-        if count is None or count > LARGEST or count > len(self.arrived):
-            if count is not None and count > LARGEST:
-                self.session.records.append((b"S", self.arrived[:4]))
-                self.session.end = f"a packet has {count} bytes"
-                self.arrived = b""
-            return None
-        packet, self.arrived = self.arrived[:count], self.arrived[count:]
-        return packet
+        count = self.arrived.length()
+        if count is not None and count > LARGEST and not self.session.end:
+            self.session.end = f"a packet has {count} bytes"
+        return self.arrived.take(count) if count is not None and count <= min(LARGEST, len(self.arrived)) else None
+
+    def take_all(self):
+        packet = self.next_packet()
+        while packet is not None:
+            self.take(packet)
+            packet = self.next_packet()
 
     def take(self, packet):
         """Records a reply, and keeps the handle in it."""
-        self.session.records.append((b"S", packet))
+        self.record(b"S", packet)
         try:
             reply = sftp3.Reply(packet)
         except sftp3.Malformed:
             self.session.end = self.session.end or "a reply is malformed"
             return
-        self.unanswered.pop(reply.number, None)
+        if self.unanswered.pop(reply.number, None):
+            self.heard = time.monotonic()
+        else:
+            self.unwanted += 1
+            if self.unwanted > UNWANTED:
+                self.session.end = self.session.end or f"{self.unwanted} replies are to no request"
         if reply.handle is not None:
             self.handles[reply.number] = reply.handle
 
-
-def ending(process, session):
-    """Lets the server end, and says how it did if it ended too early."""
-    for stream in (process.stdin, process.stdout):
-        stream.close()
-    try:
-        status = process.wait(0.5 if session.silent() else PARTING)
-    except subprocess.TimeoutExpired:
-        stop(process)
-        process.wait()
-        return
-    if session.end == "the server ended":
-        how = f"by signal {signal.Signals(-status).name}" if status < 0 else f"with status {status}"
-        session.end = f"the server ended {how}"
-
-
-def stop(process):
-    """Ends the server, with the processes that it started: it is asked to, and then killed."""
-    for sent in (signal.SIGTERM, signal.SIGKILL):
-        try:
-            os.killpg(process.pid, sent)
-            process.wait(1)
-        except (ProcessLookupError, subprocess.TimeoutExpired):
-            pass
+    def part(self):
+        """Lets the server end, and records what it still writes."""
+        session = self.session
+        self.selector.close()
+        session.status = self.running.part(servers.SILENT_PARTING if session.silent() else servers.PARTING,
+                                           self.receive)
+        self.take_all()
+        if len(self.arrived):
+            # no packet, or not the whole of one
+            self.record(b"S", self.arrived.take(min(len(self.arrived), LARGEST)))
+        session.errors, session.unasked = bytes(self.running.said), len(self.waiting)
+        if session.end == "the server ended":
+            session.end = f"the server ended {session.ending()}" if session.status is not None else \
+                "the server closed its output"
 
 
-def play(server, tree_file, steps, in_flight):
+class Arrived:
+    """Bytes that came, from which packets are taken. Nothing is copied more than twice."""
+
+    def __init__(self):
+        self.data, self.place = bytearray(), 0
+
+    def __len__(self):
+        return len(self.data) - self.place
+
+    def add(self, data):
+        if self.place > len(self.data) // 2:
+            del self.data[:self.place]
+            self.place = 0
+        self.data += data
+
+    def length(self):
+        return sftp3.length(bytes(self.data[self.place:self.place + 4]))
+
+    def take(self, count):
+        self.place += count
+        return bytes(memoryview(self.data)[self.place - count:self.place])
+
+
+def play(server, tree_file, steps, in_flight, timeout=TIMEOUT, stop=None):
     """The session of these steps."""
-    process = server.start(tree_file)
-    session = Session()
+    running = server.start(tree_file)
+    player = Player(running, steps, in_flight, timeout, stop)
+    why = None
     try:
-        player = Player(process, steps, in_flight)
-        session = player.session
-        return player.play()
+        player.play()
+    except NotStarted as error:
+        why = str(error)
+    except BaseException:
+        running.stop()
+        raise
     finally:
-        ending(process, session)
+        player.part()
+    if why:
+        raise NotStarted(player.session.told(why), player.session)
+    return player.session

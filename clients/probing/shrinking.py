@@ -20,8 +20,8 @@ class Shown:
 class Shrinker:
     """Shrinks the session of one group."""
 
-    def __init__(self, server, auditor, folder, in_flight, group, progress):
-        self.server, self.auditor, self.in_flight = server, auditor, in_flight
+    def __init__(self, server, auditor, folder, group, progress):
+        self.server, self.auditor, self.in_flight = server, auditor, group.first.in_flight
         self.key = (group.request, group.causes, group.expected, group.found)
         self.tree_file = os.path.join(folder, "shrunk.tree")
         self.played, self.progress = 0, progress

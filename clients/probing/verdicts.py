@@ -2,8 +2,12 @@
 import os
 import re
 import subprocess
+from dataclasses import dataclass
+from typing import Dict, List, Optional, Tuple
 
 import sftp3
+from probing import servers
+from probing.sessions import Session
 
 # The options of a profile, which are passed on if the program has them.
 PROFILE_OPTIONS = ["--profile", "--umask", "--new-owner", "--allow", "--except", "--symlink"]
@@ -13,20 +17,28 @@ class Trouble(Exception):
     """The program did not audit."""
 
 
+@dataclass
 class Verdict:
-    """What the audit says: `accepted`, or the kind of a refusal or fault and the number of its record; and the lines of
-    `--explain`, by their labels."""
+    """What is said of a session: `accepted`, or the kind of a refusal or fault and the number of its record, from 1;
+    and the lines of `--explain`, by their labels."""
 
-    def __init__(self, done):
-        said, why = done.stdout.decode().strip(), done.stderr.decode().strip()
-        self.accepted = done.returncode == 0
-        found = re.match(r"refused record (\d+): (\w+)$", said) if done.returncode == 1 else \
-            re.match(r"sftpv3: transcript: record (\d+): (.+)$", why, re.MULTILINE)
-        if not self.accepted and not found:
-            raise Trouble(f"the audit ended with status {done.returncode}: {said} {why}")
-        self.text = said or why
-        self.record, self.kind = (int(found[1]), found[2]) if found else (None, None)
-        self.lines = dict(line.split(": ", 1) for line in why.splitlines() if ": " in line) if said else {}
+    accepted: bool
+    text: str
+    record: Optional[int]
+    kind: Optional[str]
+    lines: Dict[str, str]
+
+
+def of_audit(done):
+    """The verdict of an audit that ran."""
+    said, why = done.stdout.decode().strip(), done.stderr.decode().strip()
+    accepted = done.returncode == 0
+    found = re.match(r"refused record (\d+): (\w+)$", said) if done.returncode == 1 else \
+        re.match(r"sftpv3: transcript: record (\d+): (.+)$", why, re.MULTILINE)
+    if not accepted and not found:
+        raise Trouble(f"the audit ended {servers.ending(done.returncode)}: {said} {why}")
+    lines = dict(line.split(": ", 1) for line in why.splitlines() if ": " in line and not line.startswith("sftpv3: "))
+    return Verdict(accepted, said or why, *((int(found[1]), found[2]) if found else (None, None)), lines)
 
 
 class Auditor:
@@ -40,7 +52,7 @@ class Auditor:
         with open(self.file, "wb") as file:
             file.write(sftp3.put_records(records))
         words = [self.program, "audit", "--explain", "--tree", tree_file, "--transcript", self.file] + self.options
-        return Verdict(subprocess.run(words, stdin=subprocess.DEVNULL, capture_output=True, check=False))
+        return of_audit(subprocess.run(words, stdin=subprocess.DEVNULL, capture_output=True, check=False))
 
     def knows(self, option):
         """Whether the program's help lists this option of an audit."""
@@ -48,12 +60,45 @@ class Auditor:
         return option in re.findall(r"--[a-z-]+", done.stdout)
 
 
+@dataclass
 class Difference:
-    """A reply that differs from what the audit allows: the number and the name of its request, the verdict, and the
-    records that were judged, which may lack some that were taken out before."""
+    """A reply that differs from what the audit allows, or that did not come."""
 
-    def __init__(self, number, name, verdict, records, end):
-        self.number, self.name, self.verdict, self.records, self.end = number, name, verdict, records, end
+    # The seed of the session, or its number where a recorded session is played.
+    seed: int
+    # The id and the name of the request; None and "none" where no request has the id of the reply.
+    number: Optional[int]
+    name: str
+    # What the audit says. Its `record` counts the records below.
+    verdict: Verdict
+    # The records that were judged: those of the session, but for requests of earlier differences and what hung on them.
+    records: List[Tuple[bytes, bytes]]
+    # The whole session: its records, the time of each, how many requests were in flight, how the server ended, and what
+    # it wrote to standard error.
+    session: Session
+    # The places of the request and of the reply in `session.records`, from 0, or None.
+    request: Optional[int]
+    reply: Optional[int]
+
+    @property
+    def in_flight(self):
+        """The most requests that were in flight in the session."""
+        return self.session.in_flight
+
+    @property
+    def expected(self):
+        """What is allowed, as `audit --explain` says it."""
+        usual = {"Unanswered": "a reply", "UnknownReply": "a reply to a request that has none"}
+        return self.verdict.lines.get("expected") or usual.get(self.verdict.kind, "a reply that can be read")
+
+    @property
+    def found(self):
+        """What came instead, as `audit --explain` says it."""
+        if self.verdict.kind == "Unanswered":
+            return self.session.end or "none"
+        lines = self.verdict.lines
+        return lines.get("found") or lines.get("reply") or \
+            self.verdict.kind + (f", {lines['fault']}" if "fault" in lines else "")
 
 
 class Judged:
@@ -64,18 +109,22 @@ class Judged:
         self.differences, self.unjudged, self.last = [], 0, None
 
 
-def judge(auditor, tree_file, session):
+def judge(auditor, tree_file, session, seed=0):
     """All differences of a session that can be told apart."""
-    judged, records = Judged(), list(session.records)
-    while records:
+    judged, places = Judged(), list(range(len(session.records)))
+    while places:
+        records = [session.records[place] for place in places]
         verdict = auditor.judge(tree_file, records)
         if verdict.accepted:
             break
         request, reply = concerned(records, verdict)
         asked = request_at(records, request)
-        judged.differences.append(Difference(asked and asked.number, asked.name if asked else "none", verdict, records,
-                                             session.end))
-        records = without(records, verdict, request, reply, judged)
+        judged.differences.append(Difference(
+            seed, asked and asked.number, asked.name if asked else "none", verdict, records, session,
+            request if request is None else places[request],
+            reply if reply is None or reply >= len(places) else places[reply]))
+        gone = without(records, verdict, request, reply, judged)
+        places = [] if gone is None else [place for at, place in enumerate(places) if at not in gone]
     return judged
 
 
@@ -95,10 +144,10 @@ def request_at(records, place):
 
 
 def without(records, verdict, request, reply, judged):
-    """The records to go on with: without the request and its reply, if the server changed nothing by it, and without
-    what depends on its reply. None, if the auditor cannot know what the server changed."""
+    """The places to go on without: of the request and its reply, if the server changed nothing by it, and of what
+    depends on its reply. None, if the auditor cannot know what the server changed."""
     if verdict.kind == "UnknownReply":
-        return left(records, {reply})
+        return {reply}
     if request is None or reply is None or not goes_on(records, verdict, request, reply):
         judged.unjudged += sum(side == b"C" for side, _ in records[(request or 2) + 1:])
         judged.last = judged.differences[-1].number
@@ -108,9 +157,9 @@ def without(records, verdict, request, reply, judged):
     if asked.name == "READDIR":
         gone |= through(records, asked.fields[0], request, "READDIR")
     elif asked.name in ("OPEN", "OPENDIR") and packet[4] == sftp3.HANDLE:
-        gone |= through(records, sftp3.Reply(packet).handle, reply)
+        gone |= through(records, handle_of(packet), reply)
     judged.unjudged += sum(records[at][0] == b"C" for at in gone) - 1
-    return left(records, gone)
+    return gone
 
 
 def goes_on(records, verdict, request, reply):
@@ -122,9 +171,17 @@ def goes_on(records, verdict, request, reply):
         return False
     if packet[4] == sftp3.STATUS:
         return sftp3.Reply(packet).code != 0 or asked.name == "CLOSE"
-    if packet[4] == sftp3.HANDLE:
-        return asked.name == "OPENDIR" or not asked.fields[1] & (sftp3.CREAT | sftp3.TRUNC)
-    return False
+    if packet[4] == sftp3.HANDLE and asked.name == "OPEN":
+        return not asked.fields[1] & (sftp3.CREAT | sftp3.TRUNC)
+    return packet[4] == sftp3.HANDLE and asked.name == "OPENDIR"
+
+
+def handle_of(packet):
+    """The handle in a reply, or None."""
+    try:
+        return sftp3.Reply(packet).handle
+    except sftp3.Malformed:
+        return None
 
 
 def through(records, handle, start, name=None):
@@ -137,13 +194,9 @@ def through(records, handle, start, name=None):
             if asked.handle() == handle and name in (None, asked.name):
                 found.add(place)
                 numbers[asked.number] = place
-        elif packet[4] == sftp3.HANDLE and sftp3.Reply(packet).handle == handle:
+        elif handle_of(packet) == handle:
             break
     replies = {place for place in range(start + 1, len(records)) if records[place][0] == b"S"
                and int.from_bytes(records[place][1][5:9], "big") in numbers
                and numbers[int.from_bytes(records[place][1][5:9], "big")] < place}
     return found | replies
-
-
-def left(records, gone):
-    return [record for place, record in enumerate(records) if place not in gone]
