@@ -1,0 +1,133 @@
+"""The tree file (docs/FORMATS.md) of what a view has, written entry by entry."""
+import os
+import stat
+import struct
+from typing import BinaryIO, Callable, Dict, NamedTuple, Tuple
+
+from snapshot.looking import Entry, Trouble, shown, special
+from snapshot.places import View
+
+# docs/TREE.md, Limits: entries, bytes of a file, bytes that one READ gives, open handles.
+USUAL, RAISED = (65536, 16777216, 32768, 256), (1048576, 67108864, 65536, 1024)
+
+PIECE = 1 << 20
+
+
+class Owner(NamedTuple):
+    """Where relative paths start, and who owns what a session makes."""
+    home: bytes
+    user: int
+    group: int
+
+
+class Needs:
+    """What a view needs of a tree's limits: how many entries, and the largest file; and what no tree holds."""
+
+    def __init__(self, view: View, tell: Callable[[str], None]):
+        self.entries = self.largest = 0
+        for entry in view.entries():
+            if special(entry):
+                tell(f"{shown(entry.place)}: {special(entry)}, which no tree holds: left out")
+                continue
+            self.entries += 1
+            if stat.S_ISREG(entry.state.st_mode):
+                self.largest = max(self.largest, entry.state.st_size)
+                if entry.state.st_size > RAISED[1]:
+                    raise Trouble(f"{shown(entry.place)}: {entry.state.st_size} bytes; a file of a tree has at most "
+                                  f"{RAISED[1]}")
+        if self.entries > RAISED[0]:
+            raise Trouble(f"{self.entries} entries; a tree has at most {RAISED[0]}")
+
+    def limits(self, wanted: str) -> Tuple[int, ...]:
+        """The limits by name: usual, raised, or fit, the lowest that are enough."""
+        lowest = tuple(map(max, USUAL, (self.entries, self.largest, 0, 0)))
+        if wanted == "usual" and lowest != USUAL:
+            raise Trouble(f"{self.entries} entries and a file of {self.largest} bytes need more than the usual limits")
+        return {"usual": USUAL, "raised": RAISED, "fit": lowest}[wanted]
+
+
+def numbers(*values: int) -> bytes:
+    return struct.pack(f">{len(values)}I", *values)
+
+
+def string(data: bytes) -> bytes:
+    return numbers(len(data)) + data
+
+
+def owner_of(state: os.stat_result) -> bytes:
+    return numbers(state.st_uid, state.st_gid, stat.S_IMODE(state.st_mode))
+
+
+class Writer:
+    """Writes the entries of one tree file."""
+
+    def __init__(self, file: BinaryIO):
+        self.file, self.count, self.bytes = file, 0, 0
+        self.first: Dict[Tuple[int, int], int] = {}
+
+    def head(self, view: View, owner: Owner, limits: Tuple[int, ...], count: int) -> None:
+        of_its_own = () if limits == USUAL else limits
+        self.file.write(b"SFTREE02" if of_its_own else b"SFTREE01")
+        self.file.write(string(owner.home) + numbers(owner.user, owner.group, *of_its_own, count))
+        self.file.write(owner_of(view.root_state()))
+
+    def put(self, entry: Entry) -> None:
+        self.count += 1
+        self.file.write(string(b"/" + b"/".join(entry.place)))
+        if stat.S_ISDIR(entry.state.st_mode):
+            self.file.write(b"D" + owner_of(entry.state))
+        elif stat.S_ISLNK(entry.state.st_mode):
+            self.file.write(b"L" + string(target_of(entry)))
+        else:
+            self.put_file(entry)
+
+    def put_file(self, entry: Entry) -> None:
+        number = self.first.setdefault((entry.state.st_dev, entry.state.st_ino), self.count)
+        if number != self.count:
+            self.file.write(b"H" + numbers(number))
+            return
+        held = os.open(entry.name, os.O_RDONLY | os.O_NOFOLLOW | os.O_NONBLOCK, dir_fd=entry.directory)
+        with open(held, "rb", buffering=0) as source:
+            state = os.fstat(held)
+            if not stat.S_ISREG(state.st_mode) or state.st_size != entry.state.st_size:
+                raise changed(entry)
+            self.file.write(b"F" + owner_of(state) + numbers(state.st_size))
+            self.copy(source, entry)
+
+    def copy(self, source, entry: Entry) -> None:
+        left = entry.state.st_size
+        while left:
+            piece = source.read(min(left, PIECE))
+            if not piece:
+                raise changed(entry)
+            left -= len(piece)
+            self.file.write(piece)
+        self.bytes += entry.state.st_size
+
+
+def target_of(entry: Entry) -> bytes:
+    """The target of a link. docs/TREE.md: a good path has no name of more than 255 bytes."""
+    target = os.readlink(entry.name, dir_fd=entry.directory)
+    target = os.fsencode(target)
+    if not target or any(len(name) > 255 for name in target.split(b"/")):
+        raise Trouble(f"{shown(entry.place)}: the link's target is empty or has a name of more than 255 bytes")
+    return target
+
+
+def changed(entry: Entry) -> Trouble:
+    return Trouble(f"{shown(entry.place)}: changed while it was read")
+
+
+def write(view: View, owner: Owner, wanted: str, file: BinaryIO, tell: Callable[[str], None]) -> Writer:
+    """Writes the tree file, and gives what was counted. What changes meanwhile is Trouble."""
+    needs = Needs(view, tell)
+    limits, writer = needs.limits(wanted), Writer(file)
+    writer.head(view, owner, limits, needs.entries)
+    for entry in view.entries():
+        if not special(entry):
+            if entry.state.st_size > limits[1] and stat.S_ISREG(entry.state.st_mode):
+                raise changed(entry)
+            writer.put(entry)
+    if writer.count != needs.entries:
+        raise Trouble("the folder changed while it was read")
+    return writer
