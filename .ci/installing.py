@@ -84,11 +84,21 @@ def wrong_removal(program, room):
 
 
 def wrong_package(program, room):
-    """Makes a Debian package, where that can be done."""
-    if shutil.which("dpkg-deb"):
-        status, printed = called(["packaging/deb", room / "deb"], program)
-        if status or len(list(room.glob("deb/sftpv3_*.deb"))) != 1:
+    """Makes a Debian package twice, where that can be done: both are the same, and lintian has nothing against them."""
+    if not shutil.which("dpkg-deb"):
+        return
+    packages = []
+    for folder in ("deb", "deb-again"):
+        status, printed = called(["packaging/deb", room / folder], program)
+        packages += room.glob(f"{folder}/sftpv3_*.deb")
+        if status:
             yield f"install: packaging/deb ended with status {status}: {printed}"
+    if len(packages) != 2 or packages[0].read_bytes() != packages[1].read_bytes():
+        yield f"install: packaging/deb makes other packages of the same program: {packages}"
+    elif shutil.which("lintian"):
+        printed = called(["lintian", "--allow-root", packages[0]], "")[1]
+        if re.search("(?m)^[EW]: ", printed):
+            yield f"install: lintian says of the package: {printed}"
 
 
 def wrong_installation(program, room):
