@@ -10,11 +10,15 @@ scenes      scenes that make sense; refusals: requests that some cause refuses; 
 servers     starts and ends the server
 sessions    plays a plan against a server, and records it
 verdicts    asks `sftpv3 audit`, and goes on after a difference
-progress    says how far the probe is
-groups      differences that are alike
+groups      differences that are alike; causes: those that have one cause
 shrinking   the shortest session that still shows a difference; guessing: which requests and entries it may need
+options     the command line, and the exit statuses
+limits      what ends a run early; workers: what plays sessions side by side; progress: says how far the probe is
+runs        one run of the probe; tally: what was played
 recorded    the plan of a session that was recorded
-reports     what is printed, kept and reported
+reports     what is printed, kept and reported; keeping: what is kept of the server
 planted     servers with bugs, for clients/test-probe
+misbehaving servers that end, hang and are late, for clients/test-probe-runs
+steps       the steps of a test script
 mutated     mistakes in sessions that are right, for clients/test-profiles
 """

@@ -12,15 +12,56 @@ JUDGED = ("NotAllowed", "NotModelled")
 FIELDS = [("size", "size"), ("uid", "user"), ("gid", "group"), ("permissions", "permissions")]
 
 
-class Group:
-    """Differences that are alike, the seeds of their sessions, and the first of them (`first`) with its plan
-    (`steps`). `shortest` is what shrinking shows: steps, tree and difference; None if there is nothing."""
+# Why a session is kept as it came: it did not show the difference again, there was no time to shrink it, or the reply
+# came after all when the shrunk session was played with the whole timeout.
+GONE, NO_TIME, LATE = "intermittent", "no time", "late"
 
-    def __init__(self, key, allowed):
-        self.request, self.causes, self.expected, self.found = key
-        self.allowed = allowed
+
+class Group:
+    """Differences that are alike, and what is known of them."""
+
+    def __init__(self, key, first, steps):
+        self.key, (self.request, self.causes, self.expected, self.found) = key, key
+        # the departures of a profile that would accept it
+        self.allowed = first.verdict.lines.get("allowed by")
+        # how many there are, and the seeds of their sessions
         self.count, self.seeds = 0, []
-        self.first, self.steps, self.kept, self.shortest = None, None, None, None
+        # the first of them, with the steps of its plan
+        self.first, self.steps = first, steps
+        # what shrinking shows: a `shrinking.Shown` with steps, tree and difference; None if the session is kept whole,
+        # and then `whole` says why
+        self.shortest, self.whole = None, NO_TIME
+        # whether time was over before it was as short as it gets
+        self.partly = False
+        # in how many of how many sessions it came when the whole plan was played again
+        self.came = self.tries = 0
+        # the groups of which one came before it in each of its sessions, and may have caused it; None before the first
+        self.behind = None
+        # its place among all, from 1, once they are reported
+        self.number = None
+        # the group that has the same cause as far as can be told, and that is put first; and those put behind this one
+        self.leader, self.followers = None, []
+        # what reports.keep gives: the folder, and the lines of the session
+        self.kept = None
+
+    def put_behind(self, others):
+        """Takes in the groups that came before one of the differences."""
+        self.behind = set(others) if self.behind is None else self.behind & others
+
+    def story(self):
+        """What became of the session: how far it was shrunk, or why it was not, and how often it came."""
+        often = f"it came in {self.came} of {self.tries} tries"
+        if self.shortest:
+            count = len(self.shortest.steps)
+            said = f"shrunk to {count} request{'s' if count != 1 else ''}" + (", time was over" if self.partly else "")
+            return said if self.steady() else f"{said}; intermittent, {often}"
+        if self.whole == GONE:
+            return f"not shrunk: intermittent, {often} with the same plan"
+        return {NO_TIME: "not shrunk: no time was left", LATE: "not shrunk: the reply came late"}[self.whole]
+
+    def steady(self):
+        """Whether it came each time the plan was played again."""
+        return self.tries > 0 and self.came == self.tries
 
     def title(self):
         return f"{self.request}: {self.found}"
@@ -28,7 +69,11 @@ class Group:
     def text(self):
         lines = [f"request: {self.request}", f"causes: {', '.join(self.causes) or 'none'}",
                  f"expected: {self.expected}", f"found: {self.found}"]
-        return lines + ([f"allowed by: {self.allowed}"] if self.allowed else [])
+        lines += [f"allowed by: {self.allowed}"] if self.allowed else []
+        session = (self.shortest.difference if self.shortest else self.first).session
+        if session.ended or self.first.verdict.kind == "NotStarted":
+            lines += [f"standard error: {line}" for line in session.last_words()]
+        return lines
 
 
 class Groups:
@@ -39,24 +84,24 @@ class Groups:
 
     def add(self, steps, difference):
         key = key_of(difference)
-        group = self.by_key.setdefault(key, Group(key, difference.verdict.lines.get("allowed by")))
+        group = self.by_key.setdefault(key, Group(key, difference, steps))
         group.count += 1
-        if group.first is None:
-            group.first, group.steps = difference, steps
         if difference.seed not in group.seeds:
             group.seeds.append(difference.seed)
         return group
 
     def all(self):
-        """The groups, those with the most sessions first."""
-        return sorted(self.by_key.values(), key=lambda group: (-len(group.seeds), -group.count))
+        """The groups, those with the most sessions first, and each before those with the same cause."""
+        found = sorted(self.by_key.values(), key=lambda group: (-len(group.seeds), -group.count))
+        return [one for group in found if not group.leader for one in [group] + group.followers]
 
 
 def key_of(difference):
     """What differences of one group have in common: the request, the causes, what is expected, and what was found."""
     verdict = difference.verdict
-    if verdict.kind == "Unanswered":
-        return difference.name, (), difference.expected, difference.found
+    if verdict.kind in ("Unanswered", "NotStarted"):
+        found = "no reply in time" if difference.session.silent() else difference.found
+        return difference.name, (), difference.expected, found
     if verdict.kind not in JUDGED:
         return difference.name, (), difference.expected, verdict.kind
     causes = [words.split()[0] for words in verdict.lines.get("causes", "none").split(", ")]

@@ -8,7 +8,11 @@ def steps_of(transcript):
     steps, given, asked = [], {}, {}
     for side, packet in sftp3.records(transcript)[2:]:
         if side == b"S":
-            reply = sftp3.Reply(packet)
+            try:
+                reply = sftp3.Reply(packet)
+            except sftp3.Malformed:
+                # it is kept since the reply is not right
+                continue
             if reply.handle is not None and reply.number in asked:
                 given[reply.handle] = asked[reply.number]
             continue

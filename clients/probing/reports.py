@@ -7,7 +7,7 @@ import subprocess
 from xml.sax import saxutils
 
 import sftp3
-from probing import trees
+from probing import keeping, trees
 
 
 def text_of(program, name):
@@ -20,6 +20,7 @@ def keep(program, folder, number, group, shown):
     name = re.sub(r"[^a-z0-9]+", "-", f"{group.request} {group.found}".lower()).strip("-")[:50].strip("-")
     place = os.path.join(folder, f"{number:02}-{name}")
     os.makedirs(place, exist_ok=True)
+    keeping.of_server(place, shown.difference)
     trees.write(shown.tree, os.path.join(place, "start.tree"))
     with open(os.path.join(place, "session.transcript"), "wb") as file:
         file.write(sftp3.put_records(shown.difference.records))
@@ -38,11 +39,7 @@ def print_group(number, group):
     for line in group.text():
         print(f"   {line}")
     seeds = f"{group.count} in {len(group.seeds)} sessions, first in seed {group.seeds[0]}"
-    if group.kept is None:
-        print(f"   {seeds}; it did not come again when the session was to be shrunk")
-        return
-    count = len(group.shortest.steps)
-    print(f"   {seeds}; shrunk to {count} request{'s' if count != 1 else ''}, kept in {group.kept[0]}")
+    print(f"   {seeds}; {group.story()}; kept in {group.kept[0]}")
     for line in group.kept[1][:24]:
         print("      " + (line if len(line) <= 160 else line[:157] + "..."))
 
@@ -50,15 +47,22 @@ def print_group(number, group):
 def summary(tally, found):
     """The last line."""
     sessions = f"{tally.sessions} session{'s' if tally.sessions != 1 else ''}"
+    stopped = f"{tally.left} of {tally.planned} sessions were not played: {tally.stopped}" if tally.left else ""
+    if not found and stopped:
+        return f"no difference in {sessions}, {tally.requests} requests; {stopped}"
     if not found:
         return f"accepted: {sessions}, {tally.requests} requests"
     left = f"; {tally.unjudged} of {tally.requests} requests were not judged" if tally.unjudged else ""
-    return (f"{len(found)} kind{'s' if len(found) != 1 else ''} of difference in {tally.differing} of {sessions}{left}")
+    leaders = [group for group in found if not group.leader]
+    more = f", {len(found) - len(leaders)} of which may follow from others," if len(leaders) < len(found) else ""
+    return (f"{len(found)} kind{'s' if len(found) != 1 else ''} of difference{more} in {tally.differing} of {sessions}"
+            f"{left}" + (f"; {stopped}" if stopped else ""))
 
 
 def of_group(number, group):
     """What a JSON line says of a group."""
-    return {"kind": number, "request": group.request, "causes": list(group.causes), "expected": group.expected,
+    return {"kind": number, "group": group.leader.number if group.leader else number,
+            "request": group.request, "causes": list(group.causes), "expected": group.expected,
             "found": group.found, "allowed_by": group.allowed, "count": group.count, "seeds": group.seeds,
             "requests": len(group.shortest.steps) if group.shortest else None,
             "kept": group.kept and group.kept[0]}

@@ -41,6 +41,8 @@ class Session:
     times: List[float] = field(default_factory=list)
     # How the session ended before each request had its reply, or why it went no further.
     end: Optional[str] = None
+    # How many requests had no reply at its end.
+    unanswered: int = 0
     # How many requests of the plan were not asked. Those of extensions that VERSION does not announce do not count.
     unasked: int = 0
     # The last 64 KiB of what the server wrote to standard error.
@@ -58,6 +60,11 @@ class Session:
     def ending(self):
         """How the server ended: `with status 0`, `by signal SIGSEGV`, `only when it was stopped`."""
         return servers.ending(self.status)
+
+    @property
+    def ended(self):
+        """Whether the server ended, or closed its output, before each request had its reply."""
+        return bool(self.end) and self.end.startswith("the server ")
 
     def asked(self):
         """How many requests were asked."""
@@ -225,7 +232,8 @@ class Player:
         if len(self.arrived):
             # no packet, or not the whole of one
             self.record(b"S", self.arrived.take(min(len(self.arrived), LARGEST)))
-        session.errors, session.unasked = bytes(self.running.said), len(self.waiting)
+        session.errors = bytes(self.running.said)
+        session.unanswered, session.unasked = len(self.unanswered), len(self.waiting)
         if session.end == "the server ended":
             session.end = f"the server ended {session.ending()}" if session.status is not None else \
                 "the server closed its output"

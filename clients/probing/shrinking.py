@@ -1,13 +1,19 @@
 """The shortest session that still shows a difference: first the requests behind it go, and those that by a guess have
 nothing to do with it, then entries of the tree, then other requests. Each try is a session of its own; where replies
-race, several are played for one try."""
-import os
+race, several are played for one try. All groups share the time that there is; what is not shrunk is kept as it came."""
+from probing import groups, guessing, limits, sessions, trees
+from probing.sessions import NotStarted, Stopped
 
-from probing import groups, guessing, sessions, trees, verdicts
+# Seconds for the shrinking of all groups, and the fewest of one.
+BUDGET, SHARE = 60, 1
 
-# How many sessions one try may take where requests are in flight together: FEW if the difference came in as many of the
-# first ones, else TRIES. And how many all tries of a group may take.
-FEW, TRIES, MOST = 3, 12, 400
+# How many sessions one try may take where the difference does not come each time, and how many times it has to come
+# first, one after the other, to be said to come each time. And how many all tries of a group may take.
+TRIES, STEADY, MOST = 12, 3, 400
+
+# For a request without a reply: while a session is shrunk, nobody waits longer than so many times the slowest reply of
+# the session that showed it, and so many seconds; the shortest session is then played with the timeout as it was given.
+SLOWER, SHORTEST = 5, 0.5
 
 
 class Shown:
@@ -17,25 +23,83 @@ class Shown:
         self.steps, self.tree, self.difference = steps, tree, difference
 
 
+class Budget:
+    """The time of all shrinking, which the groups that wait for it share."""
+
+    def __init__(self, until, jobs):
+        self.until, self.jobs = until, jobs
+        self.waiting = self.played = 0
+
+    def task(self, group, tree):
+        """What shrinks this group."""
+        self.waiting += 1
+
+        def shrink(worker):
+            share = max(SHARE, self.until.left() * self.jobs / self.waiting)
+            self.waiting -= 1
+            Shrinker(worker, group, limits.Until(self.until, share), self.count).shrink(tree)
+        return shrink
+
+    def count(self):
+        self.played += 1
+
+
 class Shrinker:
-    """Shrinks the session of one group."""
+    """Shrinks the session of one group: sets its `shortest`, and what it says of it. `until` ends it."""
 
-    def __init__(self, server, auditor, folder, group, progress):
-        self.server, self.auditor, self.in_flight = server, auditor, group.first.in_flight
-        self.key = (group.request, group.causes, group.expected, group.found)
-        self.tree_file = os.path.join(folder, "shrunk.tree")
-        self.played, self.progress = 0, progress
-        self.tries = 1
+    def __init__(self, worker, group, until, count):
+        self.worker, self.group, self.until, self.count = worker, group, until, count
+        self.in_flight, self.timeout = group.first.in_flight, quick(group.first.session, worker.timeout)
+        self.played, self.tries = 0, 1
+        self.best = None
 
-    def shrink(self, steps, tree):
-        """What shows the difference with the fewest requests, or None if it did not come again."""
-        shown = self.alone(steps, tree)
-        if shown is None:
-            return None
-        shown = self.guessed(shown) or self.without_tail(shown)
+    def shrink(self, tree):
+        hurried = self.timeout < self.worker.timeout
+        whole = self.until
+        if hurried:
+            # the last session waits for its reply as long as it was told to
+            self.until = limits.Until(whole, whole.left() - 1.5 * self.worker.timeout)
+        try:
+            if self.again(self.group.steps, tree):
+                self.shorten()
+            self.group.whole = None if self.best else groups.GONE
+        except Stopped:
+            self.group.whole = None if self.best else groups.NO_TIME
+            self.group.partly = self.best is not None
+        self.until, self.timeout, self.tries, self.played = whole, self.worker.timeout, 1, 0
+        try:
+            if self.best and hurried:
+                found, self.best = self.best, None
+                self.group.whole = None if self.show(found.steps, found.tree) else groups.LATE
+        except Stopped:
+            self.group.whole = groups.NO_TIME
+        self.group.shortest = self.best
+
+    def shorten(self):
+        shown = self.guessed(self.best) or self.without_tail(self.best)
         shown = self.without_entries(shown)
         shown = self.without_steps(shown)
-        return self.without_entries(shown)
+        self.without_entries(shown)
+
+    def again(self, steps, tree):
+        """Whether the whole session shows it again: one request after the other, if that does it, which needs no luck;
+        else with as many in flight as before. Counts how often."""
+        wanted = self.in_flight
+        for self.in_flight in sorted({1, wanted}):
+            tries = TRIES if self.in_flight == wanted else 1
+            came = played = 0
+            while played < tries:
+                came += self.show(steps, tree) is not None
+                played += 1
+                if came == 0 and self.in_flight != wanted or came == played == STEADY:
+                    break
+                if came and self.in_flight != wanted:
+                    tries = TRIES
+            self.group.came, self.group.tries = came, played
+            if came:
+                self.tries = 1 if came == played else TRIES
+                return True
+        return False
 
     def guessed(self, shown):
         """What a guess at the steps shows, or None."""
@@ -45,35 +109,24 @@ class Shrinker:
                 return found
         return None
 
-    def alone(self, steps, tree):
-        """One request after the other, if that shows it, which needs no luck; else as many in flight as before."""
-        wanted = self.in_flight
-        for self.in_flight in sorted({1, wanted}):
-            self.tries = 1 if self.in_flight == 1 else TRIES
-            shown = self.show(steps, tree)
-            if shown and self.in_flight > 1:
-                self.tries = 1
-                steady = all(self.show(steps, tree) for _ in range(FEW))
-                self.tries = FEW if steady else TRIES
-            if shown:
-                return shown
-        return None
-
     def show(self, steps, tree):
         """The difference in a session of these steps, or None."""
-        trees.write(tree, self.tree_file)
         for _ in range(self.tries):
+            if self.until.is_set():
+                raise Stopped()
             if self.played >= MOST:
                 return None
             self.played += 1
-            self.progress(self.played)
+            self.count()
             try:
-                session = sessions.play(self.server, self.tree_file, steps, self.in_flight)
-            except sessions.NotStarted:
+                _, judged = self.worker.play(tree, steps, self.in_flight, self.group.first.seed, self.until,
+                                             self.timeout)
+            except NotStarted:
                 return None
-            for difference in verdicts.judge(self.auditor, self.tree_file, session).differences:
-                if groups.key_of(difference) == self.key:
-                    return Shown(steps, tree, difference)
+            for difference in judged.differences:
+                if groups.key_of(difference) == self.group.key:
+                    self.best = Shown(steps, tree, difference)
+                    return self.best
         return None
 
     def without_tail(self, shown):
@@ -96,13 +149,26 @@ class Shrinker:
         return reduce(shown, shown.steps, smaller, lambda found: found.steps)
 
     def without_entries(self, shown):
-        if not self.server.takes_tree():
+        if not self.worker.server.takes_tree():
             return shown
 
         def smaller(entries):
             return self.show(shown.steps, shown.tree.with_entries(whole(entries)))
         shown = smaller(guessing.of_entries(shown.steps, shown.tree.entries)) or shown
         return reduce(shown, shown.tree.entries, smaller, lambda found: found.tree.entries)
+
+
+def quick(session, timeout):
+    """How long to wait for a reply while this session is shrunk."""
+    if not session.silent():
+        return timeout
+    asked, slowest = {}, 0
+    for (side, packet), at in zip(session.records, session.times):
+        if side == b"C":
+            asked[packet[5:9]] = at
+        else:
+            slowest = max(slowest, at - asked.pop(packet[5:9], at))
+    return min(timeout, max(SHORTEST, SLOWER * slowest))
 
 
 def whole(entries):

@@ -48,6 +48,10 @@ class Auditor:
         self.program, self.options = program, list(options)
         self.file = os.path.join(folder, "judged.transcript")
 
+    def in_folder(self, folder):
+        """The same with a folder of its own."""
+        return Auditor(self.program, folder, self.options)
+
     def judge(self, tree_file, records):
         with open(self.file, "wb") as file:
             file.write(sftp3.put_records(records))

@@ -1,0 +1,39 @@
+"""What ends a run early: a signal, a difference with --first, a time that is over."""
+import signal
+import threading
+import time
+
+
+class Halt:
+    """Set once, with the reason."""
+
+    def __init__(self):
+        self.event, self.why = threading.Event(), None
+
+    def set(self, why):
+        if not self.event.is_set():
+            self.why = why
+            self.event.set()
+
+    def is_set(self):
+        return self.event.is_set()
+
+    def on_signals(self):
+        """SIGINT and SIGTERM set it."""
+        for number in (signal.SIGINT, signal.SIGTERM):
+            signal.signal(number, lambda which, _: self.set(signal.Signals(which).name))
+
+
+class Until:
+    """Set when another limit is, or when so many seconds are over. None is no limit."""
+
+    def __init__(self, other, seconds=None):
+        self.other = other
+        self.deadline = None if seconds is None else time.monotonic() + seconds
+
+    def is_set(self):
+        return self.other.is_set() or self.left() <= 0
+
+    def left(self):
+        """How many seconds are left, at least 0."""
+        return max(0, self.deadline - time.monotonic()) if self.deadline is not None else float("inf")

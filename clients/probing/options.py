@@ -1,0 +1,157 @@
+"""The command line of the probe, and its exit statuses."""
+import argparse
+import os
+import textwrap
+
+import sftp3
+from probing import features, refusals, sessions, shrinking, trees, verdicts
+
+# The exit statuses: all sessions were accepted; there are differences; the command line is wrong, or plans nothing; the
+# server, the command of --reset or the program could not be started; no difference was found, and not all was played.
+ACCEPTED, DIFFERENCES, BAD_USAGE, NOT_STARTED, NOT_FINISHED = range(5)
+
+# By default, sessions of odd seeds have this many requests in flight, and those of even seeds that many.
+ONE, MANY = 1, 16
+
+class Wrong(Exception):
+    """A file or folder of the command line cannot be used."""
+
+
+SKIPPED = refusals.CAUSES | set(sftp3.REQUESTS) | set(features.FEATURES)
+
+
+def seeds(text):
+    """The numbers of `A-B`, or of `A`: at least one."""
+    first, _, last = text.partition("-")
+    numbers = range(int(first), int(last or first) + 1)
+    if not numbers:
+        raise argparse.ArgumentTypeError(f"there is no seed in {text}")
+    return numbers
+
+
+def positive(text):
+    number = int(text)
+    if number < 1:
+        raise ValueError(text)
+    return number
+
+
+def seconds(text):
+    number = float(text)
+    if not 0 < number < 1e9:
+        raise ValueError(text)
+    return number
+
+
+def pause(text):
+    """Seconds, also none."""
+    return 0 if text == "0" else seconds(text)
+
+
+def flying(text):
+    number = positive(text)
+    if number > sessions.WINDOW:
+        raise argparse.ArgumentTypeError(f"at most {sessions.WINDOW} requests may be in flight")
+    return number
+
+
+def names_among(known):
+    """Reads a list of names, which have to be among these."""
+    def names(text):
+        found = [name for name in text.split(",") if name]
+        unknown = [name for name in found if name not in known]
+        if unknown:
+            raise argparse.ArgumentTypeError(f"there is no {', '.join(unknown)}")
+        return found
+    return names
+
+
+def processors():
+    """How many processors this process may use."""
+    return len(os.sched_getaffinity(0)) if hasattr(os, "sched_getaffinity") else os.cpu_count() or 1
+
+
+def jobs(given):
+    """How many servers run side by side: one for each processor, if each starts from a tree file of its own."""
+    if given.jobs:
+        return given.jobs
+    alone = given.reset or not any("{tree}" in word for word in given.command)
+    return 1 if alone else processors()
+
+
+def in_flight(given, number):
+    """The most requests in flight in the session of a seed, or in this one of those that play a recorded session."""
+    if given.in_flight:
+        return given.in_flight
+    alone = number == 1 if given.session else number % 2 == 1
+    return ONE if alone else MANY
+
+
+def times(given):
+    """How many times a recorded session is played: often, if replies may race."""
+    return 1 if given.in_flight == 1 else shrinking.TRIES + 1
+
+
+def parser(about):
+    causes = ", ".join(sorted(refusals.CAUSES))
+    names = f"names of requests, as in docs/FORMATS.md, of causes ({causes}), and of features:"
+    known = [f"  {name:<15} {text}" for name, text in features.FEATURES.items()]
+    found = argparse.ArgumentParser(
+        prog="clients/probe", usage="clients/probe [OPTIONS] -- COMMAND [ARGUMENT ...]",
+        formatter_class=argparse.RawDescriptionHelpFormatter, description=about,
+        epilog="\n".join(textwrap.wrap("--skip takes " + names, 120) + known))
+    add_of_plans(found.add_argument)
+    add_of_run(found.add_argument)
+    for option in verdicts.PROFILE_OPTIONS:
+        found.add_argument(option, metavar="WORD", help="for `sftpv3 audit`, if it has this option")
+    found.add_argument("command", nargs="+", help=argparse.SUPPRESS)
+    return found
+
+
+def add_of_plans(add):
+    add("--tree", metavar="FILE", help="the tree file to start from (else one of the probe's own)")
+    add("--seeds", metavar="A-B", type=seeds, default=seeds("1-50"), help="the seeds to play (1-50)")
+    add("--requests", metavar="N", type=positive, default=60, help="requests in a session (60)")
+    add("--in-flight", metavar="K", type=flying,
+        help=f"the most requests without a reply ({ONE} for odd seeds, {MANY} for even)")
+    add("--skip", metavar="NAME,...", type=names_among(SKIPPED), default=[], help="what to leave out of the plans")
+    add("--also", metavar="NAME,...", type=names_among(features.BEYOND), default=[],
+        help="what to plan besides: large, long-target, for which a server has room, and the tree may not")
+    add("--session", metavar="FILE", help="play the requests of this transcript, not those of seeds")
+
+
+def add_of_run(add):
+    add("--reset", metavar="COMMAND", help="a shell command to run before each session")
+    add("--jobs", metavar="N", type=positive,
+        help="servers side by side (as many as processors; 1 with --reset, or if the command has no {tree})")
+    add("--timeout", metavar="S", type=seconds, default=sessions.TIMEOUT,
+        help=f"seconds to wait for a reply ({sessions.TIMEOUT}), and {sessions.OPENING} times as long for VERSION")
+    add("--patience", metavar="S", type=seconds, help="seconds after which no more is played (no limit)")
+    add("--budget", metavar="S", type=pause, default=shrinking.BUDGET,
+        help=f"seconds for all shrinking ({shrinking.BUDGET}); 0: none is shrunk")
+    add("--first", action="store_true", help="play no more seeds once there is a difference")
+    add("--keep", metavar="FOLDER", default="probe-kept", help="where to keep shrunk sessions (probe-kept)")
+    add("--report", metavar="FILE", help="write a report: JUnit if the name ends in .xml, else JSON lines")
+
+
+def read(option, name, reader):
+    """What a file has that an option names."""
+    try:
+        with open(name, "rb") as file:
+            return reader(file.read())
+    except (trees.Bad, sftp3.Malformed, OSError) as error:
+        raise Wrong(f"{option}: {error}") from error
+
+
+def can_write(option, name):
+    """Refuses what could not be written after all has been played."""
+    folder = os.path.dirname(os.path.abspath(name))
+    while not os.path.lexists(folder) and option == "--keep":
+        folder = os.path.dirname(folder)
+    if not os.path.isdir(folder) or not os.access(folder, os.W_OK):
+        raise Wrong(f"{option}: {name} cannot be written")
+
+
+def options(about):
+    """The command line as it was given."""
+    return parser(about).parse_args()

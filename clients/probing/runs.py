@@ -1,0 +1,226 @@
+"""One run of the probe: plays the sessions, shrinks what differs, and reports."""
+import os
+import sys
+import time
+from dataclasses import dataclass, field
+from typing import List, Optional
+
+from probing import (causes, features, groups, limits, options, planner, program, progress, recorded, reports, sessions,
+                     shrinking, tally, trees, verdicts, workers)
+from probing.sessions import NotStarted
+
+# How often a plan is played at most, each time without one more of its requests; and how often, if the server ends
+# behind as many requests each time, whatever they are.
+MOST_PLAYED, MOST_ENDED = 12, 3
+
+
+@dataclass
+class Outcome:
+    """What came of a seed."""
+
+    played: tally.Played
+    # Pairs of the steps that were played and a difference, each kind once for a request.
+    differences: List = field(default_factory=list)
+    # Why the server did not start, if it did not even once.
+    not_started: Optional[Exception] = None
+
+
+class Plan:
+    """A plan, which is played again without a request of which nobody knows what it changed."""
+
+    def __init__(self, given, seed, steps, tree, stop):
+        self.seed, self.steps, self.tree, self.stop = seed, steps, tree, stop
+        self.in_flight = options.in_flight(given, seed)
+        self.outcome = Outcome(tally.Played(seed, self.in_flight, 0, 0, 0))
+        self.seen, self.endings = set(), []
+
+    def play(self, worker):
+        """What comes of it."""
+        started = time.monotonic()
+        for number in range(MOST_PLAYED):
+            try:
+                session, judged = self.play_once(worker)
+            except sessions.servers.ResetFailed:
+                raise
+            except NotStarted as error:
+                self.outcome.not_started = error if number == 0 else None
+                self.take([workers.not_started(error, self.in_flight, self.seed)])
+                break
+            self.take(judged.differences)
+            self.count(number, session, judged)
+            if judged.last is None or session.silent() or self.ends_alike(session):
+                break
+            self.steps = [step for step in self.steps if step.number != judged.last]
+        self.outcome.played.seconds = time.monotonic() - started
+        return self.outcome
+
+    def play_once(self, worker):
+        """Where the server ended with several requests unanswered, they are asked one by one, to see which it is."""
+        session, judged = worker.play(self.tree, self.steps, self.in_flight, self.seed, self.stop)
+        if session.ended and session.unanswered > 1:
+            alone = worker.play(self.tree, self.steps, options.ONE, self.seed, self.stop)
+            if alone[0].ended:
+                self.in_flight = options.ONE
+                return alone
+        return session, judged
+
+    def take(self, differences):
+        for one in differences:
+            key = one.number, groups.key_of(one)
+            if key not in self.seen:
+                self.outcome.differences.append((self.steps, one))
+                self.seen.add(key)
+
+    def count(self, number, session, judged):
+        """How many requests there are, from the first time; and how many were not judged, from the last."""
+        played = self.outcome.played
+        if number == 0:
+            played.requests = session.asked() + session.unasked
+        played.unjudged = judged.unjudged + session.unasked
+
+    def ends_alike(self, session):
+        """Whether the server ended behind the same number of requests often enough."""
+        self.endings.append((session.end, session.asked()) if session.ended else None)
+        last = self.endings[-MOST_ENDED:]
+        return len(last) == MOST_ENDED and last[0] is not None and len(set(last)) == 1
+
+
+class Run:
+    """One run of the command."""
+
+    def __init__(self, given, folder, halt):
+        self.given, self.halt = given, halt
+        options.can_write("--keep", given.keep)
+        if given.report:
+            options.can_write("--report", given.report)
+        self.tree = options.read("--tree", given.tree, trees.get) if given.tree else trees.usual()
+        self.recorded = options.read("--session", given.session, recorded.steps_of) if given.session else None
+        self.program = program.program()
+        auditor = verdicts.Auditor(self.program, folder)
+        auditor.options = self.profile(auditor)
+        server = sessions.Server(given.command, given.reset)
+        self.pool = workers.Pool([workers.Worker(self.place(folder, number), server, auditor, given.timeout)
+                                  for number in range(options.jobs(given))])
+        self.until = limits.Until(halt, given.patience)
+        self.groups, self.tally, self.progress = groups.Groups(), tally.Tally(), progress.Progress()
+
+    def place(self, folder, number):
+        """The folder of a worker."""
+        place = os.path.join(folder, str(number))
+        os.mkdir(place)
+        return place
+
+    def profile(self, auditor):
+        """The options of a profile that the program knows; a line says if it knows those that are asked for."""
+        words, unknown = [], []
+        for option in verdicts.PROFILE_OPTIONS:
+            value = getattr(self.given, option[2:].replace("-", "_"))
+            if value is not None and auditor.knows(option):
+                words += [option, value]
+            elif value is not None:
+                unknown.append(option)
+        if unknown:
+            print(f"probe: this program audits strictly: it has no {', '.join(unknown)}", file=sys.stderr)
+        return words
+
+    def tasks(self):
+        """A task for each session: it plans, plays and judges it."""
+        numbers = range(1, options.times(self.given) + 1) if self.given.session else self.given.seeds
+        skip = features.BEYOND.difference(self.given.also).union(self.given.skip)
+
+        def steps_of(seed):
+            return self.recorded if self.given.session else planner.plan(seed, self.tree, self.given.requests, skip)
+        self.tally.planned = len(numbers)
+
+        def task_of(number):
+            return lambda worker: Plan(self.given, number, steps_of(number), self.tree, self.until).play(worker)
+        return map(task_of, numbers)
+
+    def play(self):
+        """Plays all seeds; raises NotStarted if the server did not start for the first."""
+        for outcome in self.pool.in_order(self.tasks(), self.until, self.say):
+            if outcome is None:
+                continue
+            if outcome.not_started and not self.tally.sessions:
+                raise outcome.not_started
+            self.take(outcome)
+            if outcome.differences and self.given.first:
+                self.halt.set("--first")
+
+    def say(self):
+        found, kinds = self.tally, len(self.groups.by_key)
+        self.progress.say(f"{found.sessions} of {found.planned} sessions played: {found.differing} differ, in {kinds} "
+                          f"way{'s' if kinds != 1 else ''}")
+
+    def take(self, outcome):
+        """Puts the differences of a seed into their groups, and prints those that are new."""
+        found = []
+        for steps, difference in outcome.differences:
+            known = len(self.groups.by_key)
+            found.append((steps, self.groups.add(steps, difference), difference))
+            if len(self.groups.by_key) > known:
+                self.progress.clear()
+                print(f"seed {difference.seed}: {found[-1][1].title()}; expected: {difference.expected}", flush=True)
+        if found:
+            for (_, group, _), others in zip(found, causes.behind(found, self.tree)):
+                group.put_behind(others)
+        outcome.played.groups = list(dict.fromkeys(group for _, group, _ in found))
+        self.tally.add(outcome.played)
+
+    def shrink(self):
+        """Shrinks what may be shrunk in the time that is left, and keeps all."""
+        budget = shrinking.Budget(limits.Until(self.until, self.given.budget), self.pool.jobs)
+        found = self.groups.all()
+
+        def say():
+            self.progress.say(f"shrinking {len(found)} kinds of difference: {budget.played} sessions played")
+        tasks = [budget.task(group, self.tree) for group in found]
+        for _ in self.pool.in_order(tasks, budget.until, say):
+            pass
+        self.progress.clear()
+        causes.arrange(self.groups.all())
+
+    def report(self):
+        found = self.groups.all()
+        for number, group in enumerate(found, 1):
+            group.number = number
+            shown = group.shortest or shrinking.Shown(group.steps, self.tree, group.first)
+            group.kept = reports.keep(self.program, self.given.keep, number, group, shown)
+            reports.print_group(number, group)
+        if self.given.report:
+            reports.write(self.given.report, self.tally, found, self.given.command)
+        if found or self.tally.left or not self.vain():
+            print(("\n" if found else "") + reports.summary(self.tally, found), flush=True)
+
+    def run(self):
+        """Gives the exit status."""
+        trouble = None
+        try:
+            self.play()
+            self.progress.clear()
+            self.shrink()
+        except (NotStarted, verdicts.Trouble, OSError) as error:
+            trouble = error
+            self.progress.clear()
+            self.halt.set("the server or the program could not be started")
+            if not self.groups.by_key:
+                raise
+        self.tally.stopped = self.halt.why or ("--patience" if self.until.is_set() else None)
+        self.report()
+        if trouble:
+            raise trouble
+        return self.status()
+
+    def vain(self):
+        """Whether nothing was judged in any session."""
+        return all(one.vain() for one in self.tally.played)
+
+    def status(self):
+        if self.groups.by_key:
+            return options.DIFFERENCES
+        if self.tally.left:
+            return options.NOT_FINISHED
+        if self.vain():
+            print("probe: no request was played", file=sys.stderr)
+            return options.BAD_USAGE
+        return options.ACCEPTED
