@@ -66,7 +66,7 @@ def of_shrunk(group):
     last = group.shortest and last_step(group)
     if not last or alone(group) and not changes_by_opening(group.shortest.steps, last):
         return None
-    if group.first.session.ended and group.first.verdict.kind == "Unanswered":
+    if group.first.verdict.kind == "Unanswered":
         return "the end", group.found
     before = group.shortest.steps[:group.shortest.steps.index(last)]
     aspect = of_what(group)

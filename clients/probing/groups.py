@@ -71,7 +71,7 @@ class Group:
                  f"expected: {self.expected}", f"found: {self.found}"]
         lines += [f"allowed by: {self.allowed}"] if self.allowed else []
         session = (self.shortest.difference if self.shortest else self.first).session
-        if session.ended or self.first.verdict.kind == "NotStarted":
+        if session.ended or self.first.verdict.kind in ("NotStarted", "Ended"):
             lines += [f"standard error: {line}" for line in session.last_words()]
         return lines
 
@@ -99,7 +99,7 @@ class Groups:
 def key_of(difference):
     """What differences of one group have in common: the request, the causes, what is expected, and what was found."""
     verdict = difference.verdict
-    if verdict.kind in ("Unanswered", "NotStarted"):
+    if verdict.kind in ("Unanswered", "NotStarted", "Ended"):
         found = "no reply in time" if difference.session.silent() else difference.found
         return difference.name, (), difference.expected, found
     if verdict.kind not in JUDGED:

@@ -5,10 +5,10 @@ import time
 
 
 class Halt:
-    """Set once, with the reason."""
+    """Set once, with the reason; or set when another limit is."""
 
-    def __init__(self):
-        self.event, self.why = threading.Event(), None
+    def __init__(self, other=None):
+        self.event, self.why, self.other = threading.Event(), None, other
 
     def set(self, why):
         if not self.event.is_set():
@@ -16,7 +16,7 @@ class Halt:
             self.event.set()
 
     def is_set(self):
-        return self.event.is_set()
+        return self.event.is_set() or bool(self.other and self.other.is_set())
 
     def on_signals(self):
         """SIGINT and SIGTERM set it."""

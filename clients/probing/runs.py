@@ -102,6 +102,7 @@ class Run:
         self.pool = workers.Pool([workers.Worker(self.place(folder, number), server, auditor, given.timeout)
                                   for number in range(options.jobs(given))])
         self.until = limits.Until(halt, given.patience)
+        self.playing = limits.Halt(self.until)
         self.groups, self.tally, self.progress = groups.Groups(), tally.Tally(), progress.Progress()
 
     def place(self, folder, number):
@@ -133,19 +134,20 @@ class Run:
         self.tally.planned = len(numbers)
 
         def task_of(number):
-            return lambda worker: Plan(self.given, number, steps_of(number), self.tree, self.until).play(worker)
+            return lambda worker: Plan(self.given, number, steps_of(number), self.tree, self.playing).play(worker)
         return map(task_of, numbers)
 
     def play(self):
         """Plays all seeds; raises NotStarted if the server did not start for the first."""
-        for outcome in self.pool.in_order(self.tasks(), self.until, self.say):
+        for outcome in self.pool.in_order(self.tasks(), self.playing, self.say):
             if outcome is None:
                 continue
             if outcome.not_started and not self.tally.sessions:
                 raise outcome.not_started
             self.take(outcome)
             if outcome.differences and self.given.first:
-                self.halt.set("--first")
+                self.playing.set("--first")
+                break
 
     def say(self):
         found, kinds = self.tally, len(self.groups.by_key)
@@ -186,9 +188,10 @@ class Run:
             group.number = number
             shown = group.shortest or shrinking.Shown(group.steps, self.tree, group.first)
             group.kept = reports.keep(self.program, self.given.keep, number, group, shown)
-            reports.print_group(number, group)
         if self.given.report:
             reports.write(self.given.report, self.tally, found, self.given.command)
+        for group in found:
+            reports.print_group(group.number, group)
         if found or self.tally.left or not self.vain():
             print(("\n" if found else "") + reports.summary(self.tally, found), flush=True)
 
@@ -205,7 +208,7 @@ class Run:
             self.halt.set("the server or the program could not be started")
             if not self.groups.by_key:
                 raise
-        self.tally.stopped = self.halt.why or ("--patience" if self.until.is_set() else None)
+        self.tally.stopped = self.halt.why or self.playing.why or ("--patience" if self.until.is_set() else None)
         self.report()
         if trouble:
             raise trouble

@@ -4,6 +4,7 @@ import selectors
 import shlex
 import signal
 import subprocess
+import tempfile
 import time
 
 # Seconds for a server to end after its input did, and after it left a request unanswered.
@@ -34,15 +35,11 @@ class Server:
     def takes_tree(self):
         return any("{tree}" in word for word in self.command + [self.reset or ""])
 
-    def start(self, tree_file):
+    def start(self, tree_file, seconds=None, stop=None):
+        """Runs the command of --reset, for at most so many seconds, and starts the server."""
         environment = dict(os.environ, SFTPV3_TREE=tree_file)
         if self.reset:
-            command = self.reset.replace("{tree}", shlex.quote(tree_file))
-            done = subprocess.run(command, shell=True, env=environment, stdin=subprocess.DEVNULL,
-                                  stdout=subprocess.DEVNULL, stderr=subprocess.PIPE, check=False)
-            if done.returncode != 0:
-                said = done.stderr[-KEPT:].decode(errors="replace").strip()
-                raise ResetFailed(f"--reset ended {ending(done.returncode)}: {said}")
+            run_reset(self.reset.replace("{tree}", shlex.quote(tree_file)), environment, seconds, stop)
         words = [word.replace("{tree}", tree_file) for word in self.command]
         try:
             return Running(subprocess.Popen(words, stdin=subprocess.PIPE, stdout=subprocess.PIPE,
@@ -50,6 +47,34 @@ class Server:
                                             start_new_session=True))
         except OSError as error:
             raise NotStarted(str(error)) from error
+
+
+def run_reset(command, environment, seconds, stop):
+    """What it starts may go on, and have its standard error: so that is a file, and no pipe to be read to its end."""
+    with tempfile.TemporaryFile() as errors:
+        process = subprocess.Popen(command, shell=True, env=environment, stdin=subprocess.DEVNULL,
+                                   stdout=subprocess.DEVNULL, stderr=errors, start_new_session=True)
+        deadline = None if seconds is None else time.monotonic() + seconds
+        while process.poll() is None:
+            late = deadline is not None and time.monotonic() > deadline
+            if late or stop and stop.is_set():
+                stop_group(process)
+                raise ResetFailed(f"--reset did not end within {seconds:g} seconds" if late else "--reset was stopped")
+            time.sleep(0.01)
+        errors.seek(max(0, errors.seek(0, os.SEEK_END) - KEPT))
+        if process.returncode != 0:
+            said = errors.read().decode(errors="replace").strip()
+            raise ResetFailed(f"--reset ended {ending(process.returncode)}: {said}")
+
+
+def stop_group(process):
+    """Ends a process, with those that it started: it is asked to, and then killed."""
+    for sent in (signal.SIGTERM, signal.SIGKILL):
+        try:
+            os.killpg(process.pid, sent)
+            process.wait(1)
+        except (ProcessLookupError, subprocess.TimeoutExpired):
+            pass
 
 
 class Running:
@@ -102,13 +127,7 @@ class Running:
         return status
 
     def stop(self):
-        """Ends the server, with the processes that it started: it is asked to, and then killed."""
-        for sent in (signal.SIGTERM, signal.SIGKILL):
-            try:
-                os.killpg(self.process.pid, sent)
-                self.process.wait(1)
-            except (ProcessLookupError, subprocess.TimeoutExpired):
-                pass
+        stop_group(self.process)
 
 
 def ending(status):

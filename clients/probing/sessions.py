@@ -1,6 +1,7 @@
 """Plays a plan against a server, and records the session."""
 import os
 import selectors
+import signal
 import time
 from collections import deque
 from dataclasses import dataclass, field
@@ -22,6 +23,10 @@ WINDOW = 1000
 
 # After how many replies to nothing a session ends.
 UNWANTED = 100
+
+
+# The signals that a program gets for its own mistakes.
+CRASHES = {signal.SIGSEGV, signal.SIGABRT, signal.SIGBUS, signal.SIGFPE, signal.SIGILL, signal.SIGSYS, signal.SIGTRAP}
 
 
 class Stopped(Exception):
@@ -65,6 +70,10 @@ class Session:
     def ended(self):
         """Whether the server ended, or closed its output, before each request had its reply."""
         return bool(self.end) and self.end.startswith("the server ")
+
+    def crashed(self):
+        """Whether a signal that says that a program is wrong ended the server after all was answered."""
+        return self.end is None and self.status is not None and -self.status in CRASHES
 
     def asked(self):
         """How many requests were asked."""
@@ -264,7 +273,7 @@ class Arrived:
 
 def play(server, tree_file, steps, in_flight, timeout=TIMEOUT, stop=None):
     """The session of these steps."""
-    running = server.start(tree_file)
+    running = server.start(tree_file, timeout * OPENING, stop)
     player = Player(running, steps, in_flight, timeout, stop)
     why = None
     try:

@@ -56,7 +56,9 @@ class Auditor:
         with open(self.file, "wb") as file:
             file.write(sftp3.put_records(records))
         words = [self.program, "audit", "--explain", "--tree", tree_file, "--transcript", self.file] + self.options
-        return of_audit(subprocess.run(words, stdin=subprocess.DEVNULL, capture_output=True, check=False))
+        # in a session of its own, so that a terminal's SIGINT does not end it
+        return of_audit(subprocess.run(words, stdin=subprocess.DEVNULL, capture_output=True, check=False,
+                                       start_new_session=True))
 
     def knows(self, option):
         """Whether the program's help lists this option of an audit."""
@@ -129,7 +131,16 @@ def judge(auditor, tree_file, session, seed=0):
             reply if reply is None or reply >= len(places) else places[reply]))
         gone = without(records, verdict, request, reply, judged)
         places = [] if gone is None else [place for at, place in enumerate(places) if at not in gone]
+    if session.crashed():
+        judged.differences.append(of_crash(session, seed))
     return judged
+
+
+def of_crash(session, seed):
+    """The difference of a server that crashed when its input had ended, and each request had its reply."""
+    found = f"the server ended {session.ending()}"
+    verdict = Verdict(False, found, None, "Ended", {"expected": "an end without a crash", "found": found})
+    return Difference(seed, None, "the end of the input", verdict, session.records, session, None, None)
 
 
 def concerned(records, verdict):
