@@ -1,0 +1,125 @@
+"""What attacks stand on: a folder of their own, a user of their own, and runs of the program."""
+import os
+import pwd
+import shutil
+import subprocess
+import tempfile
+
+from programs import program
+
+SECONDS = 120
+
+
+class Attack:
+    """A function that attacks, and yields what went wrong. `needs` has `user`, and names of programs."""
+
+    def __init__(self, function, needs, is_small):
+        self.function, self.needs, self.is_small = function, needs, is_small
+        self.name = f"{function.__module__.rsplit('.', 1)[1]}: {function.__name__.replace('_', ' ')}"
+
+    def missing(self, ground):
+        """Returns what the machine lacks for this attack."""
+        for need in self.needs:
+            if need == "user" and ground.user is None:
+                return "needs root, to make another user"
+            if need != "user" and not shutil.which(need):
+                return f"needs {need}"
+        return None
+
+    def run(self, ground):
+        """Attacks in a new folder, and returns what went wrong."""
+        with tempfile.TemporaryDirectory(dir=ground.folder) as folder:
+            os.chmod(folder, 0o755)
+            try:
+                return list(self.function(Field(folder, ground)))
+            except subprocess.TimeoutExpired as error:
+                return [f"no end within {error.timeout} seconds: {error.cmd}"]
+
+
+def attack(*needs, is_small=False):
+    """Marks a function as an attack."""
+    return lambda function: Attack(function, needs, is_small)
+
+
+def attacks(modules):
+    return [it for module in modules for it in vars(module).values() if isinstance(it, Attack)]
+
+
+class Ground:
+    """A folder for all attacks, and another user as long as they run, if that can be had."""
+
+    def __init__(self):
+        self.folder, self.user, self.program = None, None, None
+
+    def __enter__(self):
+        self.folder = tempfile.mkdtemp(prefix="sftpv3-attacks-")
+        os.chmod(self.folder, 0o755)
+        self.program = shutil.copy(program(), os.path.join(self.folder, "sftpv3"))
+        os.chmod(self.program, 0o755)
+        if os.geteuid() == 0 and shutil.which("useradd") and shutil.which("userdel"):
+            name = f"sftpv3-{os.getpid()}"
+            made = subprocess.run(["useradd", "--system", "--no-create-home", "--shell", "/usr/sbin/nologin", name],
+                                  stdout=subprocess.DEVNULL, stderr=subprocess.DEVNULL)
+            self.user = pwd.getpwnam(name) if made.returncode == 0 else None
+        return self
+
+    def __exit__(self, *_):
+        if self.user:
+            subprocess.run(["userdel", self.user.pw_name], stdout=subprocess.DEVNULL, stderr=subprocess.DEVNULL)
+        shutil.rmtree(self.folder, ignore_errors=True)
+
+
+class Field:
+    """The folder of one attack."""
+
+    def __init__(self, folder, ground):
+        self.folder, self.user, self.program = folder, ground.user, ground.program
+
+    def path(self, name):
+        return os.path.join(self.folder, name)
+
+    def put(self, name, data, mode=0o644):
+        """Writes a file with these permissions, and returns its path."""
+        path = self.path(name)
+        with open(path, "wb") as it:
+            it.write(data)
+        os.chmod(path, mode)
+        return path
+
+    def read(self, name):
+        with open(self.path(name), "rb") as it:
+            return it.read()
+
+    def start_as_user(self, function, *words):
+        """Runs a function that never returns in a process of the other user, whose number is returned."""
+        child = os.fork()
+        if child == 0:
+            try:
+                os.setgroups([])
+                os.setgid(self.user.pw_gid)
+                os.setuid(self.user.pw_uid)
+                function(*words)
+            finally:
+                os._exit(1)
+        return child
+
+    def names(self):
+        return sorted(os.listdir(self.folder))
+
+    def blank(self, name="start.tree"):
+        """Writes a blank tree for every user to read."""
+        self.run("blank", self.path(name))
+        os.chmod(self.path(name), 0o644)
+        return self.path(name)
+
+    def run(self, *words, as_user=False, **options):
+        """Runs the program to its end, as the other user if so said."""
+        ids = {"user": self.user.pw_uid, "group": self.user.pw_gid, "extra_groups": []} if as_user else {}
+        return subprocess.run([self.program if as_user else program(), *words], capture_output=True, timeout=SECONDS,
+                              cwd=self.folder, **{"input": b"", **ids, **options})
+
+
+def wrong_status(done, status):
+    """Says so if a run did not end with this status."""
+    if done.returncode != status:
+        yield f"status {done.returncode}, not {status}: {done.stderr[-300:]!r}"
