@@ -1,0 +1,162 @@
+"""Whatever ends first: client, server, a pipe, a signal."""
+import os
+import signal
+import socket
+import subprocess
+import time
+
+import sftp3
+from record_trials.steps import (INIT, STUB, close, ended, errors, gone, open_session, receive, request, stubs)
+
+# Within a second, and some for a machine that does other things.
+SOON = 1.5
+
+
+def whole(room, name="t"):
+    """Whether the transcript consists of whole records, and how many it has."""
+    data = room.read(name)
+    records = sftp3.records(data)
+    return data == sftp3.put_records(records), len(records)
+
+
+def all_ended(steps, name, room, process, statuses, seconds=SOON):
+    """Recorder and server have ended soon, with one of these statuses, and the transcript is whole."""
+    status = ended(process, seconds)
+    steps.check(f"{name}: the recorder ends", status is not None, "it is still there")
+    if status is not None:
+        steps.check(f"{name}: its status is one of {statuses}", status in statuses, f"{status}: {errors(process)}")
+        steps.check(f"{name}: no traceback", "Traceback" not in errors(process))
+    steps.check(f"{name}: the server ends", gone(room.folder, seconds), f"left: {stubs(room.folder)}")
+    is_whole, count = whole(room)
+    steps.check(f"{name}: the transcript is whole", is_whole and count >= 2, f"{count} records")
+
+
+def vanishing_client(steps, room):
+    for words in ((), ("stays",), ("ignores",)):
+        name = " ".join(["a client vanishes during a download", *words])
+        process = room.stub("t", *words, options=["--overwrite"])
+        open_session(process)
+        process.stdin.write(b"".join(request(it, "READ", b"h", it * 32768, 32768) for it in range(64)))
+        receive(process, 100_000)
+        close(process.stdin), close(process.stdout)
+        all_ended(steps, name, room, process, {0, 128 + signal.SIGPIPE, 128 + signal.SIGTERM, 128 + signal.SIGKILL})
+
+
+def pipes_alone(steps, room):
+    for words in ((), ("stays",), ("ignores",)):
+        for pipe in ("stdin", "stdout"):
+            process = room.stub("t", *words, options=["--overwrite"])
+            open_session(process)
+            close(getattr(process, pipe))
+            name = " ".join([f"the client closes its {pipe} alone", *words])
+            all_ended(steps, name, room, process, {0, 128 + signal.SIGPIPE, 128 + signal.SIGTERM, 128 + signal.SIGKILL})
+
+
+def ending_servers(steps, room):
+    for word, statuses in (("ends", {7}), ("dies", {128 + signal.SIGKILL}),
+                           ("closes-input", {128 + signal.SIGTERM}), ("closes-output", {128 + signal.SIGTERM})):
+        process = room.stub("t", word, options=["--overwrite"])
+        steps.check(f"server {word}: the client gets the VERSION", len(open_session(process)) == 9)
+        all_ended(steps, f"server {word}", room, process, statuses)
+        steps.check(f"server {word}: the client sees the end", receive(process, 1) == b"")
+
+
+def signals(steps, room):
+    for number in (signal.SIGTERM, signal.SIGHUP, signal.SIGINT):
+        for words in ((), ("ignores",)):
+            process = room.stub("t", *words, options=["--overwrite"])
+            open_session(process)
+            process.send_signal(number)
+            all_ended(steps, " ".join([number.name, *words]), room, process, {128 + number})
+    process = room.stub("t", options=["--overwrite"])
+    open_session(process)
+    # the client does not read, so that all buffers are full
+    process.stdin.write(b"".join(request(it, "READ", b"h", it * 32768, 32768) for it in range(300)))
+    time.sleep(0.3)
+    process.send_signal(signal.SIGTERM)
+    all_ended(steps, "SIGTERM while the client does not read", room, process, {128 + signal.SIGTERM})
+
+
+def ignored_signals(steps, room):
+    """sftp starts its server with SIGINT ignored, so that Ctrl-C ends a transfer and not the session."""
+    process = room.stub("t", preexec_fn=lambda: signal.signal(signal.SIGINT, signal.SIG_IGN))
+    open_session(process)
+    process.send_signal(signal.SIGINT)
+    process.stdin.write(request(1, "STAT", b"/"))
+    steps.check("SIGINT that was ignored at the start stays ignored", len(receive(process, 21)) == 21)
+    close(process.stdin)
+    steps.check("and the session ends with status 0", ended(process, SOON) == 0)
+
+
+def whole_sessions(steps, room):
+    """What a patient client asked before it closed its input is answered, also by a server that takes its time."""
+    asked = INIT + b"".join(request(it, "READ", b"h", 0, 32768) for it in range(200))
+    for name, words, requests, size in (("200 READs", (), asked, 9 + 200 * (13 + 32768)),
+                                        ("a late reply", ("late",), INIT + request(1, "STAT", b"/"), 9 + 21)):
+        ran = subprocess.run([room_record(), "--overwrite", "t", STUB, *words], input=requests,
+                             stdout=subprocess.PIPE, stderr=subprocess.PIPE, cwd=room.folder, timeout=30)
+        steps.check(f"{name}: all is answered after the end of the input", len(ran.stdout) == size,
+                    f"{len(ran.stdout)} bytes, status {ran.returncode}: {ran.stderr}")
+        steps.check(f"{name}: status 0", ran.returncode == 0, str(ran.returncode))
+        client = [it for side, it in sftp3.records(room.read("t")) if side == b"C"]
+        steps.check(f"{name}: the transcript has what was asked", b"".join(client) == requests)
+        server = [it for side, it in sftp3.records(room.read("t")) if side == b"S"]
+        steps.check(f"{name}: the transcript has what was replied", b"".join(server) == ran.stdout)
+    process = room.stub("t", "saves", options=["--overwrite"])
+    open_session(process)
+    close(process.stdin)
+    steps.check("a server that works for two seconds after its input ended is left to do so",
+                ended(process, 5) == 0 and "saved" in errors(process))
+
+
+def room_record():
+    from record_trials.steps import RECORD
+    return RECORD
+
+
+def slow_client(steps, room):
+    """A client that reads slowly gets every byte, and the recorder holds no more than its buffers."""
+    process = room.stub("t", options=["--overwrite"])
+    open_session(process)
+    count = 600
+    writer = subprocess.Popen(["cat"], stdin=subprocess.PIPE, stdout=process.stdin)
+    process.stdin.close()
+    os.set_blocking(writer.stdin.fileno(), False)
+    asked = b"".join(request(it, "READ", b"h", 0, 32768) for it in range(count))
+    sent = got = most = 0
+    end = time.monotonic() + 20
+    wanted = count * (13 + 32768)
+    while got < wanted and time.monotonic() < end:
+        if sent < len(asked):
+            try:
+                sent += os.write(writer.stdin.fileno(), asked[sent:sent + 5000])
+            except BlockingIOError:
+                pass
+        elif not writer.stdin.closed:
+            writer.stdin.close()
+        got += len(os.read(process.stdout.fileno(), 65536))
+        most = max(most, resident(process.pid))
+        time.sleep(0.001)
+    steps.check("a slow client gets every byte", got == wanted, f"{got} of {wanted}")
+    steps.check("the recorder holds less than 40 MiB meanwhile", most < 40 << 20, f"{most >> 20} MiB")
+    steps.check("and ends with status 0", ended(process, SOON) == 0)
+    writer.wait()
+
+
+def resident(number):
+    with open(f"/proc/{number}/statm") as file:
+        return int(file.read().split()[1]) * os.sysconf("SC_PAGE_SIZE")
+
+
+def sockets(steps, room):
+    """The client on one socket, as of inetd or some builds of sshd."""
+    ours, theirs = socket.socketpair()
+    with ours:
+        with theirs:
+            process = room.stub("t", "stays", stdin=theirs, stdout=theirs)
+        ours.sendall(INIT)
+        steps.check("over a socket: the client gets the VERSION", len(ours.recv(100)) == 9)
+    all_ended(steps, "over a socket, which the client closes", room, process, {128 + signal.SIGTERM})
+
+
+TRIALS = (vanishing_client, pipes_alone, ending_servers, signals, ignored_signals, whole_sessions, slow_client, sockets)

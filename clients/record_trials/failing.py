@@ -1,0 +1,146 @@
+"""Full disks, long packets, lack of memory, commands that cannot run, code of the user."""
+import os
+import resource
+import signal
+import subprocess
+import time
+
+import sftp3
+from record_trials.ends import SOON, whole
+from record_trials.steps import INIT, RECORD, STUB, close, ended, errors, open_session, receive, request
+
+
+def run(room, *words, data=b"", **options):
+    return subprocess.run([RECORD, *map(str, words)], input=data, stdout=subprocess.PIPE, stderr=subprocess.PIPE,
+                          cwd=room.folder, timeout=20, **options)
+
+
+def commands(steps, room):
+    ran = run(room, "t", "/nowhere/server")
+    steps.check("a command that does not exist: status 127", ran.returncode == 127, str(ran.returncode))
+    steps.check("a command that does not exist: one line", ran.stderr.count(b"\n") == 1, str(ran.stderr))
+    steps.check("a command that does not exist leaves no transcript", not (room.folder / "t").exists())
+    (room.folder / "plain").write_text("x")
+    ran = run(room, "t", "./plain")
+    steps.check("a command that is not executable: status 126", ran.returncode == 126, str(ran.returncode))
+    steps.check("a command that is not executable: one line", ran.stderr.count(b"\n") == 1, str(ran.stderr))
+    ran = run(room, "--help")
+    steps.check("--help: status 0, on standard output", ran.returncode == 0 and b"--plain" in ran.stdout)
+    for words in ((), ("t",), ("--unknown", "t", "true"), ("a%q", "true"), ("--audit", "t", "true")):
+        ran = run(room, *words)
+        steps.check(f"wrong usage {words}: status 2", ran.returncode == 2, f"{ran.returncode}: {ran.stderr}")
+        steps.check(f"wrong usage {words}: no traceback", b"Traceback" not in ran.stderr)
+    ran = run(room, "t", "/bin/sh", "-c", "echo --help; exit 5", "--plain")
+    steps.check("options of the command are the command's", (ran.returncode, ran.stdout) == (5, b"--help\n"), str(ran))
+
+
+def limited(kind, count):
+    return lambda: resource.setrlimit(kind, (count, count))
+
+
+def full_disks(steps, room):
+    asked = INIT + b"".join(request(it, "READ", b"h", 0, 32768) for it in range(20))
+    size = 9 + 20 * (13 + 32768)
+    ran = run(room, "t", STUB, data=asked, preexec_fn=limited(resource.RLIMIT_FSIZE, 100_000))
+    steps.check("a full disk: the session goes on", (ran.returncode, len(ran.stdout)) == (0, size), str(ran.returncode))
+    steps.check("a full disk: one line says so", ran.stderr.count(b"\n") == 1 and b"not recorded" in ran.stderr,
+                str(ran.stderr))
+    steps.check("a full disk: what there is of the transcript is whole", whole(room)[0] and whole(room)[1] > 20)
+    ran = run(room, "/dev/full", STUB, data=asked)
+    steps.check("/dev/full: the session goes on", (ran.returncode, len(ran.stdout)) == (0, size), str(ran.returncode))
+    ran = run(room, "--required", "r", STUB, data=asked, preexec_fn=limited(resource.RLIMIT_FSIZE, 100_000))
+    steps.check("--required on a full disk: status 3", ran.returncode == 3, str(ran.returncode))
+    records = sftp3.records(room.read("r"))
+    passed = b"".join(it for side, it in records if side == b"S")
+    steps.check("--required on a full disk: no reply is passed that is not recorded",
+                passed.startswith(ran.stdout) and whole(room, "r")[0], f"{len(ran.stdout)} of {len(passed)}")
+    for name in ("/dev/full", "/nowhere/t"):
+        ran = run(room, "--required", name, "/bin/sh", "-c", "echo started; cat >&2", data=asked)
+        steps.check(f"--required {name}: no session, status 3", (ran.returncode, ran.stdout) == (3, b""), str(ran))
+    ran = run(room, "/nowhere/t", STUB, data=asked)
+    steps.check("no folder: the session goes on without a record", (ran.returncode, len(ran.stdout)) == (0, size))
+    if os.geteuid() == 0:
+        small_disk(steps, room, asked, size)
+    else:
+        steps.skip("a small file system", "root alone can mount one")
+
+
+def small_disk(steps, room, asked, size):
+    small = room.folder / "small"
+    small.mkdir()
+    subprocess.run(["mount", "-t", "tmpfs", "-o", "size=64k", "tmpfs", small], check=True)
+    try:
+        ran = run(room, "small/t", STUB, data=asked)
+        steps.check("a small file system: the session goes on", (ran.returncode, len(ran.stdout)) == (0, size))
+        steps.check("a small file system: the transcript is whole", whole(room, "small/t")[0])
+    finally:
+        subprocess.run(["umount", small], check=True)
+
+
+def long_packets(steps, room):
+    for name, head in (("ffffffff", b"\xff\xff\xff\xff"), ("garbage", b"Welcome, user\n" * 1000)):
+        for side in ("client", "server"):
+            start = time.monotonic()
+            data = head + bytes(3_000_000)
+            (room.folder / "data").write_bytes(data)
+            reads = "cat >got; :" if side == "client" else "cat data"
+            ran = run(room, "--overwrite", "t", "/bin/sh", "-c", reads, data=data if side == "client" else INIT,
+                      preexec_fn=limited(resource.RLIMIT_AS, 300 << 20))
+            took = time.monotonic() - start
+            steps.check(f"{name} of the {side}: it takes less than 2 s", took < 2, f"{took:.1f} s")
+            got = room.read("got") if side == "client" else ran.stdout
+            steps.check(f"{name} of the {side}: every byte is passed on", got == data, f"{len(got)} bytes, {ran}")
+            steps.check(f"{name} of the {side}: a line says that it is not recorded", b"not recorded" in ran.stderr)
+    for size in (262_140, 262_144, 262_144 + 1024):
+        data = INIT + size.to_bytes(4, "big") + bytes(size)
+        ran = run(room, "--overwrite", "t", "/bin/sh", "-c", "cat >got; :", data=data)
+        steps.check(f"a packet of length {size} is passed on and recorded", room.read("got") == data and
+                    room.read("t") == b"SFTPTR01C" + INIT + b"C" + data[len(INIT):], str(ran.stderr))
+    ran = run(room, "--overwrite", "t", "/bin/sh", "-c", "cat >got; :", data=INIT + b"\0\0\0\x20half")
+    steps.check("an unfinished packet is passed on and not recorded",
+                room.read("got") == INIT + b"\0\0\0\x20half" and room.read("t") == b"SFTPTR01C" + INIT)
+    ran = run(room, "--required", "--overwrite", "t", "/bin/sh", "-c", "cat >got; :",
+              data=INIT + b"\xff" * 4 + bytes(100_000))
+    steps.check("--required: a packet that is too long ends the session with status 3",
+                ran.returncode == 3 and INIT.startswith(room.read("got")), f"{ran.returncode}")
+
+
+def little_memory(steps, room):
+    """With any limit on memory: a whole session, or a status that is not 0, and never a traceback with status 0."""
+    asked = INIT + b"".join(request(it, "READ", b"h", 0, 32768) for it in range(100))
+    size = 9 + 100 * (13 + 32768)
+    wrong, whole_ones = [], 0
+    for mebibytes in (8, 12, 14, 16, 18, 20, 22, 24, 28, 32, 40, 64):
+        ran = run(room, "--overwrite", "t", "/bin/cat", data=asked,
+                  preexec_fn=limited(resource.RLIMIT_AS, mebibytes << 20))
+        if ran.returncode == 0 and ran.stdout == asked and not ran.stderr:
+            whole_ones += 1
+        elif ran.returncode == 0 or b"Traceback" in ran.stderr and ran.returncode == 0:
+            wrong.append(f"{mebibytes} MiB: {ran.returncode}, {len(ran.stdout)} of {size}, {ran.stderr[-200:]}")
+    steps.check("want of memory never ends with status 0 before the session's end", not wrong, "; ".join(wrong))
+    steps.check("64 MiB are enough", whole_ones > 0)
+
+
+def foreign_code(steps, room):
+    """Nothing that a login user can put into a home or the environment runs in the recorder."""
+    home = room.folder / "home"
+    version = subprocess.run(["/usr/bin/python3", "-c", "import sys; print('%d.%d' % sys.version_info[:2])"],
+                             stdout=subprocess.PIPE, text=True).stdout.strip()
+    site = home / f".local/lib/python{version}/site-packages"
+    site.mkdir(parents=True)
+    for folder in (site, home):
+        for name in ("usercustomize", "sitecustomize", "argparse", "selectors", "struct", "sftp3", "recording"):
+            (folder / f"{name}.py").write_text(f"open({str(room.folder / 'ran')!r}, 'a').write({name!r})\n")
+    (site / "x.pth").write_text(f"import os; open({str(room.folder / 'ran')!r}, 'a').write('pth')\n")
+    (home / "start.py").write_text(f"open({str(room.folder / 'ran')!r}, 'a').write('start')\n")
+    environment = {**os.environ, "HOME": str(home), "PYTHONPATH": str(home), "PYTHONSTARTUP": str(home / "start.py"),
+                   "PYTHONUSERBASE": str(home / ".local"), "PATH": f"{home}:{os.environ['PATH']}"}
+    (home / "python3").write_text(f"#!/bin/sh\necho path >> '{room.folder / 'ran'}'\n")
+    (home / "python3").chmod(0o755)
+    ran = subprocess.run([RECORD, room.folder / "t", "/bin/cat"], input=INIT, stdout=subprocess.PIPE,
+                         stderr=subprocess.PIPE, cwd=home, env=environment)
+    found = (room.folder / "ran").read_text() if (room.folder / "ran").exists() else ""
+    steps.check("no code of the user runs in the recorder", not found and ran.stdout == INIT, f"{found} {ran}")
+
+
+TRIALS = (commands, full_disks, long_packets, little_memory, foreign_code)

@@ -1,0 +1,167 @@
+"""Audits that read along."""
+import os
+import signal
+import socket
+import subprocess
+import time
+from pathlib import Path
+
+import sftp3
+from record_trials.ends import SOON, whole
+from record_trials.failing import run
+from record_trials.steps import INIT, PROGRAM, close, ended, errors, open_session, receive, request
+
+LINE = "audit: refused record 8: UnknownReply"
+
+
+def blank(room):
+    tree = room.folder / "blank.tree"
+    if not tree.exists():
+        subprocess.run([PROGRAM, "blank", tree], check=True)
+    return tree
+
+
+def audited(room, *words, options=(), program=PROGRAM):
+    """The recorder with an audit from the blank tree, in front of the stub."""
+    return room.stub("t", *words, options=["--audit", "--overwrite", "--program", program, "--tree", blank(room),
+                                           "--log", "log", *options])
+
+
+def log(room):
+    return (room.folder / "log").read_text() if (room.folder / "log").exists() else ""
+
+
+def says_soon(room, text):
+    end = time.monotonic() + 3
+    while text not in log(room) and time.monotonic() < end:
+        time.sleep(0.02)
+    return text in log(room)
+
+
+
+def wrong_replies(steps, room):
+    process = audited(room, "wrong")
+    open_session(process)
+    process.stdin.write(request(1, "MKDIR", b"/a", {}))
+    receive(process, 21)
+    process.stdin.write(request(2, "MKDIR", b"/b", {}))
+    receive(process, 21)
+    process.stdin.write(request(3, "RMDIR", b"/a"))
+    receive(process, 21)
+    steps.check("a wrong reply is said while the session runs", says_soon(room, LINE) and process.poll() is None,
+                log(room))
+    process.stdin.write(request(4, "RMDIR", b"/b"))
+    steps.check("the session goes on after it", len(receive(process, 21)) == 21)
+    close(process.stdin)
+    steps.check("its status is the server's", ended(process, SOON) == 0)
+    steps.check("standard error has the line, too", LINE in errors(process))
+    steps.check("the transcript has all", whole(room) == (True, 10), str(whole(room)))
+
+
+def stopped(steps, room):
+    process = audited(room, "wrong", options=["--stop"])
+    open_session(process)
+    for number, name in ((1, b"/a"), (2, b"/b"), (3, b"/c")):
+        process.stdin.write(request(number, "MKDIR", name, {}))
+        receive(process, 21)
+    steps.check("--stop: the session is cut, with status 1", ended(process, 3) == 1, str(process.poll()))
+    steps.check("--stop: the client sees the end", receive(process, 1) == b"")
+    steps.check("--stop: the transcript is whole", whole(room)[0])
+
+
+def accepted(steps, room):
+    process = audited(room, options=["--stop"])
+    open_session(process)
+    process.stdin.write(request(1, "MKDIR", b"/a", {}))
+    receive(process, 21)
+    close(process.stdin)
+    steps.check("a right session: status 0", ended(process, 3) == 0)
+    steps.check("a right session: the log has the verdict, standard error nothing",
+                "audit: accepted 1 requests" in log(room) and errors(process) == "", log(room))
+
+
+def bad_auditors(steps, room):
+    """An auditor that dies, never reads, or cannot run: the session goes on, and a line says so."""
+    for name, text, seen in (("dies", "exit 9", "status 9"), ("is killed", "kill -9 $$", "ended with status -9"),
+                             ("never reads", "sleep 1000", "did not end"), ("has a bad tree", None, "ended with")):
+        program = room.folder / "auditor"
+        if text:
+            program.write_text(f"#!/bin/sh\n{text}\n")
+            program.chmod(0o755)
+        else:
+            (room.folder / "blank.tree").write_text("no tree")
+        process = audited(room, options=["--stop"], program=program if text else PROGRAM)
+        open_session(process)
+        time.sleep(0.2)
+        process.stdin.write(request(1, "STAT", b"/"))
+        steps.check(f"an auditor that {name}: the session goes on", len(receive(process, 21)) == 21)
+        close(process.stdin), close(process.stdout)
+        steps.check(f"an auditor that {name}: status 0", ended(process, 8) in (0, 141), str(process.poll()))
+        said = errors(process)
+        steps.check(f"an auditor that {name}: a line says so", seen in said, said)
+        steps.check(f"an auditor that {name}: the transcript has all", whole(room) == (True, 4), str(whole(room)))
+    process = audited(room, program="/nowhere/sftpv3")
+    steps.check("an auditor that does not exist: the session goes on", len(open_session(process)) == 9)
+    close(process.stdin)
+    steps.check("an auditor that does not exist: status 0, and a line", ended(process, 3) == 0 and
+                "cannot run the audit" in errors(process))
+
+
+def behind(steps, room):
+    """40 MB pass an auditor that does not read: the session is as quick, and a line says that the audit fell behind."""
+    program = room.folder / "auditor"
+    program.write_text("#!/bin/sh\nsleep 1000\n")
+    program.chmod(0o755)
+    (room.folder / "blank.tree").touch()
+    asked = INIT + b"".join(request(it, "READ", b"h", 0, 32768) for it in range(1200))
+    start = time.monotonic()
+    ran = run(room, "--audit", "--program", program, "--tree", "blank.tree", "t",
+              os.fspath(Path(__file__).with_name("stub.py")), data=asked)
+    steps.check("an auditor that is behind: the client gets all", len(ran.stdout) == 9 + 1200 * (13 + 32768))
+    steps.check("an auditor that is behind: a line says so", b"fell behind" in ran.stderr, str(ran.stderr))
+    steps.check("an auditor that is behind: the session is not slowed", time.monotonic() - start < 5)
+    steps.check("an auditor that is behind: the transcript has all", whole(room) == (True, 2402), str(whole(room)))
+
+
+def system_log(steps, room):
+    if os.geteuid() != 0 or os.path.exists("/dev/log"):
+        steps.skip("--syslog", "it needs root, and a system without syslog")
+        return
+    with socket.socket(socket.AF_UNIX, socket.SOCK_DGRAM) as listener:
+        listener.bind("/dev/log")
+        try:
+            process = audited(room, "wrong", options=["--syslog"])
+            open_session(process)
+            for number, name in ((1, b"/a"), (2, b"/b"), (3, b"/c")):
+                process.stdin.write(request(number, "MKDIR", name, {}))
+                receive(process, 21)
+            listener.settimeout(3)
+            said = listener.recv(4096).decode()
+            steps.check("--syslog: the line", f"sftpv3-record[{process.pid}]" in said and LINE in said, said)
+        finally:
+            os.unlink("/dev/log")
+
+
+def logs(steps, room):
+    process = audited(room, "wrong")
+    open_session(process)
+    for number, name in ((1, b"/a"), (2, b"/b"), (3, b"/c")):
+        process.stdin.write(request(number, "MKDIR", name, {}))
+        receive(process, 21)
+    says_soon(room, LINE)
+    lines = log(room).splitlines()
+    steps.check("--log: a line has date, process, user, address and transcript", len(lines) == 1 and
+                lines[0].endswith(f"local t: {LINE}") and f"sftpv3-record[{process.pid}]" in lines[0], str(lines))
+    steps.check("--log: the mode is 0600", oct((room.folder / "log").stat().st_mode)[-4:] == "0600")
+    process.send_signal(signal.SIGTERM)
+    steps.check("a signal ends an audited session", ended(process, 3) == 128 + signal.SIGTERM)
+    (room.folder / "victim").write_text("dear")
+    (room.folder / "log").unlink()
+    (room.folder / "log").symlink_to("victim")
+    process = audited(room)
+    open_session(process)
+    close(process.stdin)
+    steps.check("--log: no link is followed", ended(process, 3) == 0 and room.read("victim") == b"dear")
+
+
+TRIALS = (wrong_replies, stopped, accepted, bad_auditors, behind, system_log, logs)

@@ -1,0 +1,116 @@
+"""Names of transcripts, folders, links, times."""
+import os
+import pwd
+import re
+import stat
+import subprocess
+import time
+
+from record_trials.failing import run
+from record_trials.steps import INIT, RECORD, STUB, close, ended, open_session, request
+
+
+def names(steps, room):
+    user = pwd.getpwuid(os.getuid()).pw_name
+    for connection, address in (("192.0.2.7 5000 192.0.2.1 22", "192.0.2.7"), ("2001:db8::7 5 2001:db8::1 22",
+                                "2001:db8::7"), ("../../x y", ".._.._x"), ("", "local")):
+        environment = {**os.environ, "SSH_CONNECTION": connection}
+        before = set(os.listdir(room.folder))
+        ran = run(room, "a-%u-%t-%h-%p-100%%", STUB, data=INIT, env=environment)
+        made = sorted(set(os.listdir(room.folder)) - before)
+        form = rf"a-{user}-[0-9]{{8}}T[0-9]{{6}}Z-{re.escape(address)}-[0-9]+-100%"
+        steps.check(f"%u %t %h %p %% with the address {address!r}", len(made) == 1 and re.fullmatch(form, made[0]),
+                    f"{made} {ran.stderr}")
+    mode = stat.S_IMODE(os.stat(room.folder / made[0]).st_mode)
+    steps.check("a transcript has the mode 0600", mode == 0o600, oct(mode))
+
+
+def taken_names(steps, room):
+    first, second = (room.stub("t") for _ in range(2))
+    for process in (first, second):
+        open_session(process)
+    first.stdin.write(request(1, "STAT", b"/one"))
+    second.stdin.write(request(2, "STAT", b"/two"))
+    for process in (first, second):
+        close(process.stdin)
+        steps.check("two sessions with one name: status 0", ended(process, 5) == 0)
+    texts = sorted(it for it in (room.read("t"), room.read("t.2")) if it)
+    steps.check("two sessions with one name have a transcript each",
+                [b"/one" in texts[0], b"/two" in texts[0]].count(True) == 1 and
+                [b"/one" in texts[1], b"/two" in texts[1]].count(True) == 1)
+    run(room, "--overwrite", "t", STUB, data=INIT)
+    steps.check("--overwrite replaces", b"/one" not in room.read("t") and len(room.read("t")) == 28)
+    (room.folder / "victim").write_bytes(b"dear")
+    (room.folder / "link").symlink_to("victim")
+    run(room, "link", STUB, data=INIT)
+    steps.check("a symbolic link is not followed", room.read("victim") == b"dear" and
+                (room.folder / "link.2").is_file())
+    ran = run(room, "--overwrite", "link", STUB, data=INIT)
+    steps.check("a symbolic link is not followed with --overwrite", room.read("victim") == b"dear" and
+                b"not recorded" in ran.stderr, str(ran.stderr))
+    os.link(room.folder / "victim", room.folder / "hard")
+    run(room, "hard", STUB, data=INIT)
+    steps.check("a file that exists is not written to", room.read("victim") == b"dear")
+    (room.folder / "dangling").symlink_to("absent")
+    run(room, "dangling", STUB, data=INIT)
+    steps.check("what a dangling link leads to is not made", not (room.folder / "absent").exists())
+
+
+def pipes(steps, room):
+    os.mkfifo(room.folder / "fifo")
+    reader = subprocess.Popen(["cat", "fifo"], cwd=room.folder, stdout=subprocess.PIPE)
+    ran = run(room, "fifo", STUB, data=INIT)
+    got = reader.communicate(timeout=5)[0]
+    steps.check("a FIFO as transcript", got == b"SFTPTR01C" + INIT + b"S" + ran.stdout, str(got))
+    start = time.monotonic()
+    ran = run(room, "fifo", STUB, data=INIT)
+    steps.check("a FIFO that nobody reads: the session goes on, and a line says so", len(ran.stdout) == 9 and
+                b"not recorded" in ran.stderr and time.monotonic() - start < 10, str(ran))
+    ran = subprocess.run(["bash", "-c", '"$0" >(cat >through) "$1"', RECORD, STUB], input=INIT,
+                         stdout=subprocess.PIPE, cwd=room.folder, timeout=20)
+    time.sleep(0.3)
+    steps.check("a pipe of the shell, >(...), as transcript", room.read("through")[:9] == b"SFTPTR01C", str(ran))
+
+
+def folders(steps, room):
+    for name, mode, is_warned in (("own", 0o700, False), ("sticky", 0o1777, False), ("open", 0o777, True)):
+        folder = room.folder / name
+        folder.mkdir()
+        folder.chmod(mode)
+        ran = run(room, f"{name}/t", STUB, data=INIT)
+        steps.check(f"a folder with mode {mode:o}: {'a' if is_warned else 'no'} warning",
+                    (b"folder" in ran.stderr) == is_warned and (folder / "t").exists(), str(ran.stderr))
+    if os.geteuid() != 0:
+        steps.skip("a folder of another user", "root alone can make one")
+        return
+    os.chown(room.folder / "own", 12345, 12345)
+    ran = run(room, "own/u", STUB, data=INIT)
+    steps.check("a folder of another user: a warning", b"folder" in ran.stderr, str(ran.stderr))
+
+
+def times(steps, room):
+    from recording import times as form
+    asked = INIT + b"".join(request(it, "STAT", b"/") for it in range(5))
+    begin = time.time_ns()
+    run(room, "--times", "t%%.times", "t", STUB, data=asked)
+    end = time.time_ns()
+    # by hand, from docs/FORMATS.md: eight bytes, the date, and eight bytes for each of the twelve records
+    data = room.read("t%.times")
+    steps.check("a times file has 16 bytes, and 8 for each record", data[:8] == b"SFTPTM01" and
+                len(data) == 16 + 8 * 12, str(len(data)))
+    date = int.from_bytes(data[8:16], "big")
+    found = [int.from_bytes(data[it:it + 8], "big") for it in range(16, len(data), 8)]
+    steps.check("its date is that of the session", begin <= date <= end)
+    steps.check("its times do not fall, and are those of the session", found == sorted(found) and
+                date + found[-1] <= end + 1_000_000, str(found))
+    steps.check("what is written is read back", form.read(data) == (date, found) and
+                form.opening(date) + form.entries(found) == data)
+    for wrong in (b"", data[:12], b"x" + data[1:], data[:-3]):
+        try:
+            form.read(wrong)
+            steps.check("a times file that is cut or has another opening is refused", False, str(wrong[:20]))
+        except form.Malformed:
+            steps.check("a times file that is cut or has another opening is refused", True)
+
+
+TRIALS = (names, taken_names, pipes, folders, times)

@@ -1,0 +1,213 @@
+"""sftpv3-recordd: records that the login user cannot touch."""
+import os
+import pwd
+import signal
+import socket
+import stat
+import subprocess
+import time
+from pathlib import Path
+
+import sftp3
+from record_trials.ends import SOON
+from record_trials.steps import INIT, RECORD, STUB, TOP, close, ended, errors, open_session, receive, request
+
+DAEMON = os.environ.get("RECORDD", str(TOP / "clients/recordd"))
+OTHER = "sftpv3-trial"
+
+
+class Spool:
+    """A daemon with a spool in the folder of a trial."""
+
+    def __init__(self, room, *options):
+        self.room, self.folder, self.socket = room, room.folder / "spool", room.folder / "socket"
+        room.folder.chmod(0o755)
+        self.folder.mkdir(exist_ok=True)
+        self.folder.chmod(0o700)
+        self.daemon = subprocess.Popen([DAEMON, *map(str, options), "--socket", self.socket, self.folder],
+                                       stderr=subprocess.PIPE)
+        room.started.append(self.daemon)
+        end = time.monotonic() + 5
+        while not self.socket.exists() and time.monotonic() < end:
+            time.sleep(0.02)
+
+    def end(self):
+        self.daemon.send_signal(signal.SIGTERM)
+        return ended(self.daemon, 3)
+
+    def records(self):
+        return sorted(self.folder.glob("*/*"))
+
+    def session(self, *words, options=(), **more):
+        return self.room.start("--spool", self.socket, *options, STUB, *words, **more)
+
+
+def user():
+    return pwd.getpwuid(os.getuid()).pw_name
+
+
+def kept(steps, room):
+    spool = Spool(room)
+    environment = {**os.environ, "SSH_CONNECTION": "192.0.2.7 5000 192.0.2.1 22"}
+    process = spool.session(env=environment)
+    open_session(process)
+    asked = [request(it, "READ", b"h", 0, 32768) for it in range(100)]
+    process.stdin.write(b"".join(asked))
+    got = receive(process, 100 * (13 + 32768))
+    close(process.stdin)
+    steps.check("a session into a spool: status 0", ended(process, SOON) == 0, errors(process))
+    found = spool.records()
+    steps.check("there is one record", len(found) == 1, str(found))
+    steps.check("it is named with user, time, address and process", found[0].parent.name == user() and
+                found[0].name.endswith(f"Z-192.0.2.7-{process.pid}.transcript"), str(found))
+    steps.check("its mode is 0600", stat.S_IMODE(found[0].stat().st_mode) == 0o600)
+    records = sftp3.records(found[0].read_bytes())
+    steps.check("it has all that passed", b"".join(it for side, it in records if side == b"C") == INIT +
+                b"".join(asked) and b"".join(it for side, it in records if side == b"S")[9:] == got)
+    steps.check("it is a transcript and no more", sftp3.put_records(records) == found[0].read_bytes())
+    steps.check("the daemon ends with status 0", spool.end() == 0)
+
+
+def lost_spools(steps, room):
+    for name, options, is_required in (("a daemon that ends", (), False), ("--required: a daemon that ends", (), True)):
+        spool = Spool(room)
+        process = spool.session(options=["--required"] if is_required else [])
+        open_session(process)
+        steps.check(f"{name}: it ends", spool.end() == 0)
+        process.stdin.write(request(1, "STAT", b"/"))
+        got = receive(process, 21)
+        close(process.stdin)
+        status = ended(process, SOON)
+        steps.check(f"{name}: {'the session ends with it' if is_required else 'the session goes on'}",
+                    (len(got), status) == ((0, 3) if is_required else (21, 0)), f"{len(got)} {status}")
+        steps.check(f"{name}: a line says so", "takes no more" in errors(process))
+    for options, status in (((), 0), (("--required",), 3)):
+        process = room.start("--spool", room.folder / "nowhere", *options, STUB)
+        process.stdin.write(INIT)
+        got = receive(process, 9)
+        close(process.stdin)
+        steps.check(f"no daemon {' '.join(options)}: status {status}", ended(process, SOON) == status and
+                    len(got) == (0 if status else 9), str(process.poll()))
+
+
+def limits(steps, room):
+    for name, options in (("--per-session", ["--per-session", "100K"]), ("--per-user", ["--per-user", "100K"]),
+                          ("--keep-free", ["--keep-free", "1000T"])):
+        spool = Spool(room, *options)
+        process = spool.session(options=["--required"])
+        process.stdin.write(INIT + b"".join(request(it, "READ", b"h", 0, 32768) for it in range(20)))
+        got = b""
+        while True:
+            piece = receive(process, 1000)
+            got += piece
+            if not piece:
+                break
+        steps.check(f"{name}: a session that is required ends with status 3", ended(process, SOON) == 3)
+        spool.end()
+        sizes = [it.stat().st_size for it in spool.records()]
+        steps.check(f"{name}: the record is not longer", sum(sizes) <= 100 << 10 and len(got) <= 100 << 10, str(sizes))
+        steps.check(f"{name}: it is whole", all(sftp3.put_records(sftp3.records(it.read_bytes())) == it.read_bytes()
+                                                for it in spool.records()))
+        for it in spool.records():
+            it.unlink()
+    spool = Spool(room, "--sessions", "2")
+    for process in (spool.session(options=["--required"]) for _ in range(2)):
+        steps.check("--sessions 2: two sessions are recorded", len(open_session(process)) == 9)
+    process = spool.session(options=["--required"])
+    steps.check("--sessions 2: a third one is refused", ended(process, 5) == 3)
+
+
+def hostile(steps, room):
+    """What a user can send to the socket."""
+    spool = Spool(room)
+    opening = b"SFTPSP01"
+    for name, data in (("garbage", b"x" * 100), ("a path as address", opening + b"\x0b../../../x/"),
+                       ("a batch that is too long", opening + b"\0" + b"\xff" * 4 + bytes(1000)),
+                       ("a batch that does not come whole", opening + b"\0" + b"\0\1\0\0" + bytes(100))):
+        with socket.socket(socket.AF_UNIX) as link:
+            link.connect(str(spool.socket))
+            link.sendall(data)
+            time.sleep(0.1)
+    time.sleep(0.2)
+    found = spool.records()
+    steps.check("what is sent makes files of this user's folder alone, and nothing is in them",
+                {it.parent.name for it in found} == {user()} and all(it.stat().st_size == 0 for it in found) and
+                len(list(room.folder.iterdir())) == 2, str(found))
+    silent = socket.socket(socket.AF_UNIX)
+    silent.connect(str(spool.socket))
+    process = spool.session()
+    open_session(process)
+    close(process.stdin)
+    steps.check("a connection that says nothing does not hinder others", ended(process, SOON) == 0)
+    silent.settimeout(10)
+    steps.check("and is closed", silent.recv(1) == b"")
+    silent.close()
+    steps.check("the daemon runs on", spool.daemon.poll() is None)
+
+
+def unfit(steps, room):
+    for mode, text in ((0o777, "no other can write"), (0o755, "every user")):
+        folder = room.folder / f"spool{mode:o}"
+        folder.mkdir()
+        folder.chmod(mode)
+        ran = subprocess.run([DAEMON, "--socket", room.folder / "socket", folder], stderr=subprocess.PIPE, text=True,
+                             timeout=5)
+        steps.check(f"a spool of mode {mode:o} is refused", ran.returncode == 3 and text in ran.stderr, ran.stderr)
+
+
+def activated(steps, room):
+    """The socket that systemd opens."""
+    folder = room.folder / "spool"
+    folder.mkdir(mode=0o700)
+    path = room.folder / "socket"
+    try:
+        daemon = subprocess.Popen(["systemd-socket-activate", "-l", path, DAEMON, folder], stderr=subprocess.DEVNULL)
+    except FileNotFoundError:
+        steps.skip("socket activation", "systemd-socket-activate is not installed")
+        return
+    room.started.append(daemon)
+    time.sleep(0.3)
+    process = room.start("--required", "--spool", path, STUB)
+    steps.check("with socket activation: the session runs", len(open_session(process)) == 9)
+    close(process.stdin)
+    steps.check("with socket activation: it is recorded", ended(process, 3) == 0 and
+                len(list(folder.glob("*/*.transcript"))) == 1)
+
+
+def other_user(steps, room):
+    """A login user can use the spool, and neither read, change, rename nor remove what is in it."""
+    if os.geteuid() != 0:
+        steps.skip("a spool and a second user", "root alone can make one")
+        return
+    subprocess.run(["useradd", "--no-create-home", "--shell", "/bin/sh", OTHER], check=True)
+    try:
+        number = pwd.getpwnam(OTHER).pw_uid
+        spool = Spool(room)
+        # a copy that the user can reach, as one that is installed
+        program = room.folder / "clients"
+        subprocess.run(["cp", "-r", TOP / "clients", program], check=True)
+        subprocess.run(["chmod", "-R", "a+rX", program], check=True)
+        become = {"user": number, "group": pwd.getpwnam(OTHER).pw_gid, "extra_groups": []}
+        process = subprocess.Popen([program / "record", "--required", "--spool", spool.socket,
+                                    program / "record_trials/stub.py"], stdin=subprocess.PIPE, stdout=subprocess.PIPE,
+                                   stderr=subprocess.PIPE, bufsize=0, cwd="/", **become)
+        room.started.append(process)
+        steps.check("a second user is recorded", len(open_session(process)) == 9)
+        close(process.stdin)
+        steps.check("with status 0", ended(process, SOON) == 0, errors(process))
+        found = spool.records()
+        steps.check("under the name of that user", [it.parent.name for it in found] == [OTHER], str(found))
+        before = found[0].read_bytes()
+        for command in (f"cat {found[0]}", f"ls {spool.folder}", f"ls {found[0].parent}", f"echo x > {found[0]}",
+                        f"mv {found[0]} {found[0]}.x", f"rm -f {found[0]}", f"rm -rf {spool.folder}",
+                        f"ln -s /etc/passwd {found[0].parent}/x", f"mv {spool.folder} {room.folder}/away"):
+            ran = subprocess.run(["sh", "-c", command], stderr=subprocess.PIPE, stdout=subprocess.PIPE, cwd="/",
+                                 **become)
+            steps.check(f"that user cannot {command.split()[0]}: {command.replace(str(room.folder), '..')}",
+                        ran.returncode != 0)
+        steps.check("the record is as it was", found == spool.records() and found[0].read_bytes() == before)
+    finally:
+        subprocess.run(["userdel", OTHER], check=True)
+
+
+TRIALS = (kept, lost_spools, limits, hostile, unfit, activated, other_user)

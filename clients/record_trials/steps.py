@@ -1,0 +1,138 @@
+"""Counts what holds and what does not; starts recorders, and waits for processes to end."""
+import os
+import subprocess
+import sys
+import tempfile
+import time
+from pathlib import Path
+
+TOP = Path(__file__).resolve().parents[2]
+sys.path.insert(0, str(TOP / "clients"))
+import sftp3
+
+RECORD = os.environ.get("RECORD", str(TOP / "clients/record"))
+STUB = str(TOP / "clients/record_trials/stub.py")
+PROGRAM = os.environ.get("SFTPV3", str(TOP / "out/sftpv3"))
+INIT = sftp3.init()
+
+
+class Steps:
+    """Counts the steps, and prints a line for each."""
+
+    def __init__(self):
+        self.passed = self.failed = self.skipped = 0
+
+    def check(self, name, holds, why=""):
+        if holds:
+            self.passed += 1
+            print(f"ok: {name}", flush=True)
+        else:
+            self.failed += 1
+            print(f"FAILED: {name}{': ' if why else ''}{why}", flush=True)
+        return holds
+
+    def skip(self, name, why):
+        self.skipped += 1
+        print(f"skipped: {name}: {why}", flush=True)
+
+
+class Room:
+    """A folder for one trial, and the processes that it started, which are ended with it."""
+
+    def __init__(self):
+        self.folder = Path(tempfile.mkdtemp(prefix="sftpv3-record-"))
+        self.started = []
+
+    def __enter__(self):
+        return self
+
+    def __exit__(self, *_):
+        for it in self.started:
+            if it.poll() is None:
+                it.kill()
+            it.wait()
+            for pipe in (it.stdin, it.stdout, it.stderr):
+                if pipe and not pipe.closed:
+                    close(pipe)
+        for name in sorted(self.folder.rglob("*"), reverse=True):
+            name.rmdir() if name.is_dir() and not name.is_symlink() else name.unlink()
+        self.folder.rmdir()
+
+    def start(self, *words, **options):
+        """Starts the recorder with these words, over pipes."""
+        options = {"stdin": subprocess.PIPE, "stdout": subprocess.PIPE, "stderr": subprocess.PIPE, "bufsize": 0,
+                   "cwd": self.folder, **options}
+        process = subprocess.Popen([RECORD, *map(str, words)], **options)
+        self.started.append(process)
+        return process
+
+    def stub(self, transcript, *words, options=(), **more):
+        """Starts the recorder with the stub as its server."""
+        return self.start(*options, transcript, STUB, *words, **more)
+
+    def read(self, name):
+        return (self.folder / name).read_bytes()
+
+
+def close(pipe):
+    try:
+        pipe.close()
+    except OSError:
+        pass
+
+
+def ended(process, seconds):
+    """The status of the process, or None if it has not ended after so many seconds."""
+    try:
+        return process.wait(seconds)
+    except subprocess.TimeoutExpired:
+        return None
+
+
+def stubs(folder):
+    """The processes of stubs that were started in this folder."""
+    found = []
+    for entry in Path("/proc").iterdir():
+        try:
+            if entry.name.isdigit() and STUB.encode() in (entry / "cmdline").read_bytes().split(b"\0")[:4] \
+                    and os.readlink(entry / "cwd") == str(folder) and "record" not in (entry / "comm").read_text():
+                found.append(int(entry.name))
+        except OSError:
+            pass
+    return found
+
+
+def gone(folder, seconds):
+    """Whether no stub is left in this folder after at most so many seconds."""
+    end = time.monotonic() + seconds
+    while stubs(folder):
+        if time.monotonic() > end:
+            return False
+        time.sleep(0.02)
+    return True
+
+
+def receive(process, count):
+    """So many bytes of the recorder's output, or fewer at its end."""
+    data = b""
+    while len(data) < count:
+        piece = os.read(process.stdout.fileno(), count - len(data))
+        if not piece:
+            break
+        data += piece
+    return data
+
+
+def open_session(process):
+    """Sends an INIT and awaits the stub's VERSION."""
+    process.stdin.write(INIT)
+    return receive(process, 9)
+
+
+def request(number, name, *fields):
+    return sftp3.encode(sftp3.Request(number, name, list(fields)))
+
+
+def errors(process):
+    """What the process printed to standard error, when it has ended."""
+    return process.stderr.read().decode(errors="replace")

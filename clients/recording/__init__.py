@@ -1,0 +1,13 @@
+"""The parts of the recorder, clients/record, and of clients/recordd, each building on those before it:
+
+packets   a stream of bytes as packets, one direction of a session; VERSION without extensions
+times     the file of times beside a transcript
+notices   lines to standard error, to a log, to syslog
+naming    names of transcripts, and how they are opened
+sinks     where records go: files, pipes, a spool
+server    the server's process: its start, its end, its status
+auditing  an audit that reads along
+sessions  the loop that passes packets on, and how it ends
+keeping   the daemon that keeps records in a spool
+options   the command lines
+"""

@@ -1,0 +1,125 @@
+"""An audit that reads along, and says a wrong reply while the session still runs."""
+import collections
+import os
+import select
+import signal
+import subprocess
+import time
+
+# How many bytes the audit may be behind. The session never waits for it.
+BEHIND = 16 << 20
+# How long the audit may take when the session has ended.
+SECONDS = 5
+
+
+class Audit:
+    """The process of `sftpv3 audit`, and what it has not read yet.
+
+    `refused` is whether it found the session wrong, a reply or a packet.
+    """
+
+    def __init__(self, words, notices):
+        self.notices = notices
+        self.process = subprocess.Popen([*words, "--transcript", "/dev/stdin"], stdin=subprocess.PIPE,
+                                        stdout=subprocess.PIPE, stderr=subprocess.STDOUT, bufsize=0,
+                                        start_new_session=True)
+        self.input, self.output = self.process.stdin.fileno(), self.process.stdout.fileno()
+        os.set_blocking(self.input, False)
+        os.set_blocking(self.output, False)
+        self.pending, self.behind = collections.deque(), 0
+        self.is_fed, self.is_heard, self.fell_behind, self.refused = True, True, False, False
+        self.said = b""
+
+    def put(self, data):
+        if not self.is_fed:
+            return
+        self.pending.append(memoryview(data))
+        self.behind += len(data)
+        self.feed()
+        if self.behind > BEHIND:
+            self.fell_behind = True
+            self.notices.say("the audit fell behind and is given up; the record goes on")
+            self.stop_feeding()
+            self.kill()
+
+    def feed(self):
+        """Writes what is pending, as far as the audit takes it."""
+        try:
+            while self.pending:
+                count = os.write(self.input, self.pending[0])
+                self.behind -= count
+                first = self.pending.popleft()
+                if count < len(first):
+                    self.pending.appendleft(first[count:])
+        except BlockingIOError:
+            pass
+        except OSError:
+            # it has ended, and its output says why
+            self.stop_feeding()
+
+    def stop_feeding(self):
+        if self.is_fed:
+            self.is_fed, self.behind = False, 0
+            self.pending.clear()
+            self.process.stdin.close()
+
+    def hear(self):
+        """Reads what the audit says, and at its end draws the conclusion."""
+        try:
+            said = os.read(self.output, 4096)
+        except BlockingIOError:
+            return
+        except OSError:
+            said = b""
+        self.said = (self.said + said)[-65536:]
+        if not said:
+            self.is_heard = False
+            self.process.stdout.close()
+            self.stop_feeding()
+            self.conclude()
+
+    def conclude(self):
+        status = self.process.wait()
+        lines = self.said.decode(errors="replace").splitlines()
+        if self.fell_behind:
+            return
+        if status == 0 and lines:
+            self.notices.note(f"audit: {lines[-1]}")
+        elif status == 1 or status == 2 and lines and lines[0].startswith("sftpv3: transcript: "):
+            self.refused = True
+            for line in lines:
+                self.notices.say(f"audit: {line}")
+        else:
+            self.notices.say(f"the audit ended with status {status}; the record goes on: {' '.join(lines)}")
+
+    def kill(self):
+        """Ends the audit, and what it started."""
+        try:
+            os.killpg(self.process.pid, signal.SIGKILL)
+        except OSError:
+            pass
+
+    def interests(self):
+        """What to wait for: descriptors, events, and what to do then."""
+        if self.pending:
+            yield self.input, select.POLLOUT, self.feed
+        if self.is_heard:
+            yield self.output, select.POLLIN, self.hear
+
+    def finish(self):
+        """Gives the audit some seconds for the end of the session."""
+        end = time.monotonic() + SECONDS
+        while self.is_heard and time.monotonic() < end:
+            if not self.pending:
+                self.stop_feeding()
+            looking = select.poll()
+            acts = {}
+            for file, events, act in self.interests():
+                looking.register(file, events)
+                acts[file] = act
+            for file, _ in looking.poll(100):
+                acts[file]()
+        if self.is_heard:
+            self.kill()
+            self.process.wait()
+            self.notices.say(f"the audit did not end within {SECONDS} seconds after the session")

@@ -1,0 +1,145 @@
+"""Names of transcripts, and how they are opened: made anew, and no link followed."""
+import errno
+import os
+import pwd
+import re
+import stat
+import time
+
+# How long a pipe may be without a reader.
+PATIENCE = 5
+MOST_NAMES = 10_000
+
+
+class BadName(Exception):
+    """A name with an unknown word behind a `%`."""
+
+
+class NotMade(Exception):
+    """A file that cannot be made or opened."""
+
+
+def user_name(number):
+    try:
+        return pwd.getpwuid(number).pw_name
+    except KeyError:
+        return str(number)
+
+
+def as_part(text):
+    """A text as a part of a file's name: without slashes and without what a shell or a terminal acts on."""
+    return re.sub(r"[^\w.:@+%-]", "_", text, flags=re.ASCII)[:100] or "_"
+
+
+def address(environment):
+    """The client's address, as sshd has it in SSH_CONNECTION."""
+    words = environment.get("SSH_CONNECTION", "").split()
+    return as_part(words[0]) if words else "local"
+
+
+def expand(name, environment=os.environ):
+    """The name with %p (process), %u (user), %t (time of the start, UTC), %h (client's address), %% replaced."""
+    words = {"p": lambda: str(os.getpid()), "u": lambda: as_part(user_name(os.getuid())),
+             "t": lambda: time.strftime("%Y%m%dT%H%M%SZ", time.gmtime()), "h": lambda: address(environment),
+             "%": lambda: "%"}
+
+    def word(found):
+        if found[1] not in words:
+            raise BadName(f"{name}: %{found[1]} is none of %p, %u, %t, %h and %%")
+        return words[found[1]]()
+
+    return re.sub("%(.?)", word, name)
+
+
+def folder_warning(name):
+    """What is wrong with the folder of this name, or None: others could rename or replace what is in it."""
+    folder = os.path.dirname(name) or "."
+    try:
+        found = os.stat(folder)
+    except OSError:
+        return None
+    if found.st_uid not in (0, os.geteuid()):
+        return f"the folder {folder} belongs to another user, who can replace the record"
+    others = stat.S_IWOTH if found.st_gid == os.getegid() else stat.S_IWOTH | stat.S_IWGRP
+    if found.st_mode & others and not found.st_mode & stat.S_ISVTX:
+        return f"the folder {folder} is writable by others, who can replace the record"
+    return None
+
+
+def is_stream(name):
+    """Whether the name is that of a pipe or a device that is there. A link counts only below /dev and /proc."""
+    look = os.stat if os.path.abspath(name).startswith(("/dev/", "/proc/")) else os.lstat
+    try:
+        mode = look(name).st_mode
+    except OSError:
+        return False
+    return stat.S_ISFIFO(mode) or stat.S_ISCHR(mode)
+
+
+def open_stream(name, is_wanted):
+    """Opens a pipe or a device. Waits for a reader for some seconds, as long as the session is wanted."""
+    end = time.monotonic() + PATIENCE
+    while True:
+        try:
+            return os.open(name, os.O_WRONLY | os.O_NONBLOCK | os.O_NOCTTY | os.O_CLOEXEC)
+        except OSError as error:
+            if error.errno != errno.ENXIO or time.monotonic() > end or not is_wanted():
+                raise
+        time.sleep(0.02)
+
+
+def open_anew(name):
+    """Makes the file, or the first of NAME.2, NAME.3, .. that is not taken. Returns it and its name."""
+    flags = os.O_WRONLY | os.O_CREAT | os.O_EXCL | os.O_NOFOLLOW | os.O_CLOEXEC
+    for number in range(1, MOST_NAMES):
+        tried = name if number == 1 else f"{name}.{number}"
+        try:
+            return os.open(tried, flags, 0o600), tried
+        except FileExistsError:
+            pass
+    raise OSError(errno.EEXIST, f"{MOST_NAMES} files of this name")
+
+
+def open_over(name):
+    """Opens a regular file that is to be replaced, or makes it. The old bytes stay until the session begins."""
+    flags = os.O_WRONLY | os.O_CREAT | os.O_NOFOLLOW | os.O_CLOEXEC | os.O_NONBLOCK
+    file = os.open(name, flags, 0o600)
+    if not stat.S_ISREG(os.fstat(file).st_mode):
+        os.close(file)
+        raise OSError(errno.EINVAL, "not a regular file")
+    return file
+
+
+def reason(error):
+    return "it is a symbolic link" if error.errno == errno.ELOOP else error.strerror or str(error)
+
+
+class Opened:
+    """A file that is open for records: its descriptor, its name, whether it is regular, whether it was made here."""
+
+    def __init__(self, name, overwrite, is_wanted):
+        self.name, self.is_made = name, False
+        try:
+            self.is_regular = not is_stream(name)
+            if not self.is_regular:
+                self.file = open_stream(name, is_wanted)
+            elif overwrite:
+                self.is_made = not os.path.lexists(name)
+                self.file = open_over(name)
+            else:
+                self.file, self.name = open_anew(name)
+                self.is_made = True
+        except OSError as error:
+            raise NotMade(f"cannot write {name}: {reason(error)}") from None
+
+    def take_back(self):
+        """Removes what was made, since there is no session."""
+        os.close(self.file)
+        if self.is_made:
+            try:
+                os.unlink(self.name)
+            except OSError:
+                pass
+
+    def warning(self):
+        return folder_warning(self.name) if self.is_regular else None

@@ -1,0 +1,58 @@
+"""Lines to standard error, to a log, to syslog."""
+import os
+import select
+import syslog
+import time
+
+
+def printable(text):
+    """A text without line feeds and other characters that a terminal acts on."""
+    return "".join(chr(it) if 0x20 <= it <= 0x7e else f"\\x{it:02x}" for it in text.encode("utf-8", "surrogateescape"))
+
+
+def write_error(line):
+    """Writes a line to standard error, unless nobody takes it."""
+    try:
+        looking = select.poll()
+        looking.register(2, select.POLLOUT)
+        if looking.poll(0):
+            os.write(2, line.encode())
+    except OSError:
+        pass
+
+
+class Notices:
+    """Where the recorder's own lines go. What they are about is said in the log and in syslog."""
+
+    def __init__(self, name, about=""):
+        self.name, self.about = name, printable(about)
+        self.log = None
+        self.is_syslog = False
+
+    def open_syslog(self):
+        syslog.openlog(self.name, syslog.LOG_PID, syslog.LOG_AUTH)
+        self.is_syslog = True
+
+    def open_log(self, path):
+        """Opens the log to append to it. No link is followed."""
+        flags = os.O_WRONLY | os.O_CREAT | os.O_APPEND | os.O_NOFOLLOW | os.O_CLOEXEC | os.O_NONBLOCK
+        self.log = os.open(path, flags, 0o600)
+
+    def say(self, text):
+        """Says it everywhere."""
+        write_error(f"{self.name}: {printable(text)}\n")
+        self.note(text, syslog.LOG_WARNING)
+
+    def note(self, text, level=syslog.LOG_INFO):
+        """Says it in the log and in syslog, where there are such."""
+        line = f"{self.about}: {printable(text)}" if self.about else printable(text)
+        if self.is_syslog:
+            syslog.syslog(level, line)
+        if self.log is not None:
+            date = time.strftime("%Y-%m-%dT%H:%M:%SZ", time.gmtime())
+            try:
+                os.write(self.log, f"{date} {self.name}[{os.getpid()}] {line}\n".encode())
+            except OSError as error:
+                os.close(self.log)
+                self.log = None
+                write_error(f"{self.name}: cannot write the log: {error.strerror}\n")

@@ -1,0 +1,371 @@
+"""The loop that passes packets on, and how a session ends.
+
+One thread waits for all pipes. Nothing is passed on before every sink has it, and while a sink is busy nothing is read.
+Whatever ends first ends the session: the other pipes are closed, and a server that is idle then gets SIGTERM after
+IDLE seconds and SIGKILL after KILL more. One that still works, or whose replies a client still awaits, has `grace`
+seconds from the last byte that moved.
+"""
+import os
+import select
+import signal
+import time
+
+from recording.packets import Flow
+from recording.sinks import Failed
+
+IDLE = 0.4
+KILL = 0.3
+# How long a server may outlive SIGKILL, as in a call that waits for a disk.
+LOST = 1.0
+TICK = 0.05
+
+OWN_FAILURE = 3
+AUDIT_REFUSED = 1
+
+BROKEN = select.POLLERR | select.POLLHUP | select.POLLNVAL
+
+
+class Signals:
+    """The signals that end a session, and the ends of processes: they wake the loop."""
+
+    def __init__(self):
+        self.got = None
+        self.has_child_ended = False
+        self.ours, self.theirs = os.pipe2(os.O_NONBLOCK | os.O_CLOEXEC)
+        signal.set_wakeup_fd(self.theirs, warn_on_full_buffer=False)
+        signal.signal(signal.SIGCHLD, self.note_child)
+        for number in (signal.SIGTERM, signal.SIGHUP, signal.SIGINT):
+            # what was ignored at the start stays ignored, as SIGINT below sftp
+            if signal.getsignal(number) != signal.SIG_IGN:
+                signal.signal(number, self.note)
+
+    def note(self, number, _):
+        self.got = self.got or number
+
+    def note_child(self, *_):
+        self.has_child_ended = True
+
+    def drain(self):
+        try:
+            while os.read(self.ours, 4096):
+                pass
+        except BlockingIOError:
+            pass
+
+
+class Ends:
+    """The client's two ends, as descriptors of our own, so that they can be closed. 0 and 1 lead nowhere then."""
+
+    def __init__(self):
+        self.input, self.output = os.dup(0), os.dup(1)
+        nothing = os.open(os.devnull, os.O_RDWR)
+        os.dup2(nothing, 0)
+        os.dup2(nothing, 1)
+        os.close(nothing)
+        self.were_blocking = {it: os.get_blocking(it) for it in (self.input, self.output)}
+        for it in self.were_blocking:
+            os.set_blocking(it, False)
+
+    def close(self, file):
+        if file in self.were_blocking:
+            os.set_blocking(file, self.were_blocking.pop(file))
+            os.close(file)
+
+
+class Session:
+    """A session between the client's ends and a server."""
+
+    def __init__(self, server, signals, notices, options, change=None):
+        self.server, self.signals, self.notices = server, signals, notices
+        self.is_required, self.is_stopped, self.grace = options.required, options.stop, options.grace
+        self.ends = Ends()
+        self.asked = Flow(b"C", self.ends.input, server.input)
+        self.replied = Flow(b"S", server.output, self.ends.output, change)
+        self.record = None
+        self.times = None
+        self.audit = None
+        self.waiting = None
+        self.status = None
+        self.has_input = self.has_output = self.has_client_input = self.has_client_output = True
+        self.ending = None
+        self.moved = self.worked = 0.0
+        self.killing = []
+        self.given_up = False
+        self.poll, self.registered = select.poll(), {}
+
+    # what is recorded
+
+    def sinks(self):
+        return [it for it in (self.record, self.times and self.times.sink) if it]
+
+    def begin_record(self, record, times, opening):
+        """The beginnings of the files, before anything is passed."""
+        self.record, self.times = record, times
+        self.into(record, lambda: record.begin(opening))
+        if times:
+            self.into(times, lambda: times.begin(time.time_ns()))
+        if self.audit:
+            self.audit.put(opening)
+
+    def into(self, sink, act):
+        """Does something with a sink. If that fails, the session goes on without it, or ends if it is required."""
+        try:
+            act()
+        except Failed as error:
+            if sink is self.record:
+                self.lose_record(str(error))
+            else:
+                self.notices.say(f"{error}; the times are not recorded any further")
+                self.times.sink.close()
+                self.times = None
+
+    def lose_record(self, why):
+        if self.record:
+            self.record.close()
+            self.record = None
+        if self.is_required:
+            self.notices.say(f"{why}; the session ends, since its record is required")
+            self.cut(OWN_FAILURE)
+        else:
+            self.notices.say(f"{why}; the session is not recorded any further")
+            if self.audit:
+                self.audit.stop_feeding()
+
+    def add(self, flow):
+        """Records what has become whole, and passes it on unless a sink is busy."""
+        packets = flow.split() if self.record or self.audit and self.audit.is_fed else []
+        if packets:
+            self.put(flow.side, packets)
+        if flow.too_long is not None and self.record:
+            who = "client" if flow is self.asked else "server"
+            self.lose_record(f"the {who} sent a packet of length {flow.too_long}")
+        self.waiting = flow if any(it.is_busy() for it in self.sinks()) else None
+        if not self.waiting:
+            self.pass_on(flow)
+
+    def put(self, side, packets):
+        """Gives packets to all that records."""
+        if self.audit:
+            self.audit.put(side.join([b"", *packets]))
+        if self.record:
+            self.into(self.record, lambda: self.record.put_packets(side, packets))
+        if self.times and self.record:
+            self.into(self.times, lambda: self.times.put_count(len(packets)))
+
+    def pass_on(self, flow):
+        """What is recorded is passed on; what is not whole waits, if it can still be recorded."""
+        if (self.record or self.audit and self.audit.is_fed) and flow.too_long is None and not flow.ended:
+            flow.release()
+        else:
+            flow.release_all()
+        self.give(flow)
+
+    def go_on(self, sink):
+        """A sink that was busy can be written to."""
+        self.into(self.times if self.times and sink is self.times.sink else sink, sink.go_on)
+        if self.waiting and not any(it.is_busy() for it in self.sinks()):
+            flow, self.waiting = self.waiting, None
+            self.pass_on(flow)
+
+    # what is passed
+
+    def take(self, flow):
+        count = flow.take()
+        if count:
+            self.moved = time.monotonic()
+        if count or flow.ended:
+            self.add(flow)
+        return count
+
+    def give(self, flow):
+        count = flow.give()
+        if count > 0:
+            self.moved = time.monotonic()
+        elif count < 0:
+            self.break_target(flow)
+
+    def break_target(self, flow):
+        """The target does not take any more: the server reads nothing more, or the client is gone."""
+        if flow is self.asked:
+            self.asked.drop()
+            self.close_input()
+        else:
+            self.cut(None)
+
+    # what ends
+
+    def close_input(self):
+        if self.has_input:
+            self.has_input = False
+            self.server.close_input()
+        self.close_client_input()
+        self.begin_ending()
+
+    def close_output(self):
+        if self.has_output:
+            self.has_output = False
+            self.server.close_output()
+        self.begin_ending()
+
+    def close_client_input(self):
+        if self.has_client_input:
+            self.has_client_input = False
+            self.ends.close(self.ends.input)
+
+    def close_client(self):
+        self.close_client_input()
+        if self.has_client_output:
+            self.has_client_output = False
+            self.ends.close(self.ends.output)
+
+    def begin_ending(self):
+        if self.ending is None:
+            self.ending = self.moved = self.worked = time.monotonic()
+
+    def cut(self, status):
+        """Ends the session at once: what is held is dropped, all pipes are closed."""
+        if status is not None and self.status is None:
+            self.status = status
+        self.asked.drop()
+        self.replied.drop()
+        self.waiting = None
+        self.close_input()
+        self.close_output()
+        self.close_client()
+
+    def progress(self):
+        """Closes what has come to its end."""
+        if self.signals.has_child_ended:
+            self.signals.has_child_ended = False
+            self.server.look()
+        if self.signals.got and self.status is None:
+            self.cut(128 + self.signals.got)
+        if self.audit and self.audit.refused and self.is_stopped and self.status is None:
+            self.notices.say("the session is cut, since the audit refused it")
+            self.cut(AUDIT_REFUSED)
+        if self.waiting:
+            return
+        if self.has_input and self.asked.ended and self.asked.is_empty():
+            self.close_input()
+        if self.has_output and self.server.has_ended():
+            self.drain()
+        if self.has_output and self.replied.ended:
+            self.close_output()
+        if not self.has_output and not self.waiting:
+            self.asked.drop()
+            self.close_input()
+            if self.replied.is_empty():
+                self.close_client()
+
+    def drain(self):
+        """Takes what a server that has ended left in its pipe. What others write there later is not awaited."""
+        while not self.waiting and self.has_output and not self.replied.ended and self.replied.has_room():
+            if not self.take(self.replied):
+                self.replied.ended = True
+                self.add(self.replied)
+
+    def is_over(self):
+        return self.given_up or self.server.has_ended() and not self.has_client_output
+
+    def is_awaited(self):
+        """Whether the client still gets something: replies that it did not take, or that the server owes it."""
+        owed = self.asked.packets > self.replied.packets and self.has_output
+        return self.has_client_output and (owed or not self.replied.is_empty())
+
+    def hurry(self):
+        """In an ending session: ends a server that does not end."""
+        now = time.monotonic()
+        if self.killing:
+            if now - self.killing[-1] >= (KILL if len(self.killing) == 1 else LOST):
+                self.kill(now)
+            return
+        if now - max(self.moved, self.worked) < 2 * TICK:
+            return
+        if self.is_awaited() or self.server.is_working():
+            self.worked = now
+        if now - max(self.moved, self.worked) >= IDLE or now - self.moved >= self.grace:
+            self.kill(now)
+
+    def kill(self, now):
+        self.killing.append(now)
+        if self.server.has_ended():
+            # the client is still there and does not read
+            self.cut(None)
+        elif len(self.killing) <= 2:
+            self.server.send(signal.SIGTERM if len(self.killing) == 1 else signal.SIGKILL)
+        else:
+            self.notices.say("the server does not end by SIGKILL, and is left behind")
+            self.given_up = True
+
+    # the loop
+
+    def wanted(self):
+        """What to wait for: events by descriptor. Without events a broken pipe is still told."""
+        wanted = {self.signals.ours: select.POLLIN}
+        if self.has_client_input and not self.waiting and self.asked.has_room():
+            wanted[self.ends.input] = select.POLLIN
+        if self.has_output and not self.waiting and self.replied.has_room():
+            wanted[self.server.output] = select.POLLIN
+        if self.has_input:
+            wanted[self.server.input] = select.POLLOUT if self.asked.ready > self.asked.start else 0
+        if self.has_client_output:
+            wanted[self.ends.output] = select.POLLOUT if self.replied.ready > self.replied.start else 0
+        if self.waiting:
+            wanted.update((it.fileno(), it.events) for it in self.sinks() if it.is_busy())
+        if self.audit:
+            wanted.update((file, events) for file, events, _ in self.audit.interests())
+        return wanted
+
+    def wait(self):
+        """Waits for what is wanted. Returns pairs of a descriptor and its events."""
+        wanted = self.wanted()
+        if wanted != self.registered:
+            for file in self.registered.keys() - wanted.keys():
+                self.poll.unregister(file)
+            for file, events in wanted.items():
+                if self.registered.get(file) != events:
+                    self.poll.register(file, events)
+            self.registered = wanted
+        return self.poll.poll(None if self.ending is None else 1000 * TICK)
+
+    def act(self, file, found):
+        """Does what the events of a descriptor ask for, unless what came before in the same round closed it."""
+        if file == self.signals.ours:
+            self.signals.drain()
+        elif file == self.ends.input and self.has_client_input:
+            self.take(self.asked)
+        elif file == self.server.output and self.has_output:
+            self.take(self.replied)
+        elif file == self.server.input and self.has_input:
+            self.reach(self.asked, found)
+        elif file == self.ends.output and self.has_client_output:
+            self.reach(self.replied, found)
+        else:
+            self.act_beside(file)
+
+    def reach(self, flow, found):
+        if found & BROKEN:
+            self.break_target(flow)
+        else:
+            self.give(flow)
+
+    def act_beside(self, file):
+        """The same for a sink or the audit."""
+        for sink in self.sinks():
+            if sink.is_busy() and sink.fileno() == file:
+                self.go_on(sink)
+                return
+        for it, _, act in self.audit.interests() if self.audit else ():
+            if it == file:
+                act()
+                return
+
+    def run(self):
+        """Passes the session on to its end. Returns its status."""
+        while not self.is_over():
+            for file, found in self.wait():
+                self.act(file, found)
+            self.progress()
+            if self.ending is not None:
+                self.hurry()
+        return self.server.status() if self.status is None else self.status
