@@ -90,6 +90,27 @@ def lost_spools(steps, room):
                     len(got) == (0 if status else 9), str(process.poll()))
 
 
+def hanging_daemon(steps, room):
+    """A daemon that hangs holds a session up for some seconds, and then the session goes on or ends."""
+    for options, status in (((), 0), (("--required",), 3)):
+        spool = Spool(room)
+        process = spool.session(options=options)
+        open_session(process)
+        spool.daemon.send_signal(signal.SIGSTOP)
+        start = time.monotonic()
+        process.stdin.write(request(1, "STAT", b"/"))
+        got = receive(process, 21)
+        took = time.monotonic() - start
+        close(process.stdin)
+        name = f"a daemon that hangs {' '.join(options)}"
+        steps.check(f"{name}: after 10 seconds the session {'ends' if status else 'goes on'}",
+                    (len(got), ended(process, 3)) == (0 if status else 21, status) and 9 < took < 15,
+                    f"{len(got)} {process.poll()} {took}")
+        steps.check(f"{name}: a line says so", "has not replied" in errors(process))
+        spool.daemon.send_signal(signal.SIGCONT)
+        spool.end()
+
+
 def limits(steps, room):
     for name, options in (("--per-session", ["--per-session", "100K"]), ("--per-user", ["--per-user", "100K"]),
                           ("--keep-free", ["--keep-free", "1000T"])):
@@ -210,4 +231,4 @@ def other_user(steps, room):
         subprocess.run(["userdel", OTHER], check=True)
 
 
-TRIALS = (kept, lost_spools, limits, hostile, unfit, activated, other_user)
+TRIALS = (kept, lost_spools, hanging_daemon, limits, hostile, unfit, activated, other_user)

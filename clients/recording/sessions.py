@@ -84,7 +84,8 @@ class Session:
         self.record = None
         self.times = None
         self.audit = None
-        self.waiting = None
+        # a direction whose last packets are not yet recorded, and since when
+        self.waiting, self.waited = None, 0.0
         self.status = None
         self.has_input = self.has_output = self.has_client_input = self.has_client_output = True
         self.ending = None
@@ -139,9 +140,8 @@ class Session:
         if flow.too_long is not None and self.record:
             who = "client" if flow is self.asked else "server"
             self.lose_record(f"the {who} sent a packet of length {flow.too_long}")
-        self.waiting = flow if any(it.is_busy() for it in self.sinks()) else None
-        if not self.waiting:
-            self.pass_on(flow)
+        self.waiting, self.waited = flow, time.monotonic()
+        self.pass_on_if_recorded()
 
     def put(self, side, packets):
         """Gives packets to all that records."""
@@ -163,9 +163,19 @@ class Session:
     def go_on(self, sink):
         """A sink that was busy can be written to."""
         self.into(self.times if self.times and sink is self.times.sink else sink, sink.go_on)
+        self.pass_on_if_recorded()
+
+    def pass_on_if_recorded(self):
         if self.waiting and not any(it.is_busy() for it in self.sinks()):
             flow, self.waiting = self.waiting, None
             self.pass_on(flow)
+
+    def give_up_stalled(self):
+        """Goes on without a record that took too long for a batch."""
+        patience = self.record and self.record.patience
+        if patience and self.record.is_busy() and time.monotonic() - self.waited > patience:
+            self.lose_record(f"the spool {self.record.name} has not replied for {patience} seconds")
+            self.pass_on_if_recorded()
 
     # what is passed
 
@@ -243,6 +253,8 @@ class Session:
         if self.audit and self.audit.refused and self.is_stopped and self.status is None:
             self.notices.say("the session is cut, since the audit refused it")
             self.cut(AUDIT_REFUSED)
+        if self.waiting:
+            self.give_up_stalled()
         if self.waiting:
             return
         if self.has_input and self.asked.ended and self.asked.is_empty():
@@ -326,7 +338,7 @@ class Session:
                 if self.registered.get(file) != events:
                     self.poll.register(file, events)
             self.registered = wanted
-        return self.poll.poll(None if self.ending is None else 1000 * TICK)
+        return self.poll.poll(1000 * TICK if self.ending is not None else 1000 if self.waiting else None)
 
     def act(self, file, found):
         """Does what the events of a descriptor ask for, unless what came before in the same round closed it."""

@@ -8,6 +8,8 @@ from recording import times
 # The form of the socket of a spool: recording/keeping.py has it.
 SPOOL_OPENING = b"SFTPSP01"
 SPOOL_SECONDS = 5
+# How long a spool may take for a batch, lest a daemon that hangs holds up every session.
+SPOOL_PATIENCE = 10
 
 # How many pieces one call writes at most.
 MOST_PIECES = 256
@@ -19,6 +21,9 @@ class Failed(Exception):
 
 class FileSink:
     """A file or a pipe. A regular file that fails keeps what was written whole."""
+
+    # whoever reads a pipe may take any time
+    patience = None
 
     def __init__(self, opened):
         self.name, self.file, self.is_regular = opened.name, opened.file, opened.is_regular
@@ -97,6 +102,8 @@ class FileSink:
 
 class SpoolSink:
     """The socket of a daemon, which says how many bytes it has written."""
+
+    patience = SPOOL_PATIENCE
 
     def __init__(self, name, claimed):
         """Connects, and waits until the daemon has made the record. `claimed` is the client's address."""
