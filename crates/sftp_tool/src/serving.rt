@@ -13,6 +13,7 @@ use crate::watching::{Announcing, Watched};
 use sftp_server::{Ended, InOrder, Schedule, SessionEnd, Shuffle, Stream, serve_keeping_tree};
 use sftp_transcript::{Tally, Writer};
 use sftp_tree::Tree;
+use sftp_treefile::TreeLimits;
 use sftp_wire::{take_number, take_string};
 use std::fs::Files;
 use std::io::{Read, Write};
@@ -234,7 +235,7 @@ fn save<'a, R: Files + AllocGlobal>(
 ) -> Result<Option<u32>, Failure<'a>> {
     let bytes = tree.write()?;
     let written = write(rt, name, bytes.as_slice());
-    let entries = entry_count(bytes.as_slice());
+    let entries = entry_count(bytes.as_slice(), tree.tree_limits());
     drop(bytes);
     match written {
         Ok(()) => Ok(Some(entries)),
@@ -246,7 +247,7 @@ fn save<'a, R: Files + AllocGlobal>(
 fn counted(tree: &Tree) -> Option<u32> {
     match tree.write() {
         Ok(bytes) => {
-            let entries = entry_count(bytes.as_slice());
+            let entries = entry_count(bytes.as_slice(), tree.tree_limits());
             drop(bytes);
             Some(entries)
         }
@@ -254,14 +255,24 @@ fn counted(tree: &Tree) -> Option<u32> {
     }
 }
 
-/// The number of entries that a tree file says it has.
-fn entry_count(file: &[u8]) -> u32 {
+/// The number of entries that the file of a tree with these limits says it has.
+fn entry_count(file: &[u8], limits: TreeLimits) -> u32 {
     match take_string(behind(file, OPENING_LENGTH)) {
-        Some((_home, rest)) => match take_number(behind(rest, OWNER_LENGTH)) {
+        Some((_home, rest)) => match take_number(behind(rest, count_place(limits))) {
             Some((count, _rest)) => count,
             None => 0,
         },
         None => 0,
+    }
+}
+
+/// How many bytes are between the home and the number of entries: the owner of new entries, and the limits if they are
+/// the tree's own.
+fn count_place(limits: TreeLimits) -> usize {
+    if limits.are_own() {
+        OWNER_LENGTH + LIMITS_LENGTH
+    } else {
+        OWNER_LENGTH
     }
 }
 
@@ -275,6 +286,9 @@ const OPENING_LENGTH: usize = 8;
 
 /// The length of the owner of new entries in a tree file: a user and a group.
 const OWNER_LENGTH: usize = 8;
+
+/// The length of the limits in a tree file: four numbers.
+const LIMITS_LENGTH: usize = 16;
 
 /// Why a session could not go on when this stream failed.
 fn stream_failure<'a>(stream: Stream, traffic: Traffic, options: &ServeOptions<'a>) -> Failure<'a> {
