@@ -10,7 +10,8 @@ from pathlib import Path
 
 import sftp3
 from record_trials.ends import SOON
-from record_trials.steps import INIT, RECORD, STUB, TOP, close, ended, errors, open_session, receive, request
+from record_trials.steps import (INIT, STUB, TOP, close, ended, errors, make_user, open_session, receive, remove_user,
+                                 request)
 
 DAEMON = os.environ.get("RECORDD", str(TOP / "clients/recordd"))
 OTHER = "sftpv3-trial"
@@ -200,7 +201,7 @@ def other_user(steps, room):
     if os.geteuid() != 0:
         steps.skip("a spool and a second user", "root alone can make one")
         return
-    subprocess.run(["useradd", "--no-create-home", "--shell", "/bin/sh", OTHER], check=True)
+    make_user(OTHER)
     try:
         number = pwd.getpwnam(OTHER).pw_uid
         spool = Spool(room)
@@ -228,7 +229,7 @@ def other_user(steps, room):
                         ran.returncode != 0)
         steps.check("the record is as it was", found == spool.records() and found[0].read_bytes() == before)
     finally:
-        subprocess.run(["userdel", OTHER], check=True)
+        remove_user(OTHER)
 
 
 TRIALS = (kept, lost_spools, hanging_daemon, limits, hostile, unfit, activated, other_user)

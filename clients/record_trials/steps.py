@@ -74,6 +74,23 @@ class Room:
         return (self.folder / name).read_bytes()
 
 
+def make_user(name):
+    """Makes a user for a trial. Another program may hold the lock of the list of users for a moment."""
+    words = ["useradd", "--create-home", "--password", "*", "--shell", "/bin/sh", name]
+    for _ in range(20):
+        if subprocess.run(words, stderr=subprocess.DEVNULL).returncode == 0:
+            return
+        time.sleep(0.5)
+    subprocess.run(words, check=True)
+
+
+def remove_user(name):
+    for _ in range(20):
+        if subprocess.run(["userdel", "--remove", name], stderr=subprocess.DEVNULL).returncode == 0:
+            return
+        time.sleep(0.5)
+
+
 def close(pipe):
     try:
         pipe.close()
