@@ -3,10 +3,13 @@
 trees       tree files: reading, writing, the tree that a probe starts from
 model       what the planner believes the server's tree to be
 spelling    many paths that lead to one place
+plans       the steps of a plan; contents: the bytes in them
 planner     the plan of a session: draws scenes, and keeps the account of handles
 features    what `--skip` may name in a plan
-weights     how often each scene is drawn
-scenes      scenes that make sense; refusals: requests that some cause refuses; effects: what they do to the model
+weights     how often each scene is drawn, and which seeds have which large scenes
+scenes      small scenes that make sense; refusals: requests that some cause refuses; effects: what they do to the model
+transfers   large scenes with much data; crowds: those with many names or handles; endings: all is read back
+room        the steps of a plan within what the server says that it has room for
 servers     starts and ends the server
 sessions    plays a plan against a server, and records it
 verdicts    asks `sftpv3 audit`, and goes on after a difference
@@ -18,6 +21,8 @@ runs        one run of the probe; tally: what was played
 recorded    the plan of a session that was recorded
 reports     what is printed, kept and reported; keeping: what is kept of the server
 planted     servers with bugs, for clients/test-probe
+faults      servers with one fault each, for clients/test-probe-faults: faulty_writes, faulty_reads, faulty_names,
+            faulty_replies and faulty_order have them, faulty what they are made of
 misbehaving servers that end, hang and are late, for clients/test-probe-runs
 steps       the steps of a test script
 mutated     mistakes in sessions that are right, for clients/test-profiles

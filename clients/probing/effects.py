@@ -41,7 +41,7 @@ def of_open(planner, model, step, path, flags, _attributes):
     elif flags & sftp3.EXCL or entry.kind != FILE:
         return
     elif flags & sftp3.TRUNC:
-        model.sizes[entry.number] = 0
+        model.set_size(entry.number, 0)
     planner.opened[step.number] = Open(flags, model.at(place), path)
 
 
@@ -61,20 +61,20 @@ def of_write(planner, model, _step, handle, offset, data):
     if opened and opened.kind == FILE and opened.flags & sftp3.WRITE and data:
         size = model.sizes[opened.number]
         end = size + len(data) if opened.flags & sftp3.APPEND else max(size, offset + len(data))
-        model.sizes[opened.number] = end if end <= model.largest else size
+        model.set_size(opened.number, end if end <= model.largest else size)
 
 
 def of_size(planner, model, _step, handle, given):
     opened = planner.opened.get(getattr(handle, "step", None))
     if opened and opened.kind == FILE and opened.flags & sftp3.WRITE and given.get("size", FAR) <= model.largest:
-        model.sizes[opened.number] = given["size"]
+        model.set_size(opened.number, given["size"])
 
 
 def of_setstat(_planner, model, _step, path, given):
     place = model.walk(path, True)
     entry = place is not None and model.at(place)
     if entry and entry.kind == FILE and given.get("size", FAR) <= model.largest:
-        model.sizes[entry.number] = given["size"]
+        model.set_size(entry.number, given["size"])
 
 
 def of_remove(_planner, model, _step, path):

@@ -27,6 +27,12 @@ FEATURES = {
     "moved-listing": "what moves a directory that is open, or takes its path away",
     "removed-name": "what takes a name out of a directory that is open",
     "realpath-ring": "REALPATH of links that lead round in a ring",
+    "transfers": "uploads and downloads in blocks, and what follows them on the same files",
+    "crowds": "directories of up to 5,000 names that the session makes",
+    "unusual-names": "directories of long, short and unusual names that the session makes",
+    "deep": "paths of 30 names",
+    "many-handles": "a hundred handles that are open at a time",
+    "read-back": "what the session made, read back and listed at its end",
 }
 
 # What a server has room for, and the tree has not: a difference there says nothing of the server. Plans of the probe
@@ -119,6 +125,8 @@ def of_rename(planner, step, old, new):
 
 def of_move(planner, step, *_paths):
     """Whether behind this step a directory that is open is not where its path leads, or lacks a name."""
+    if not any(opened.kind == DIRECTORY for opened in planner.opened.values()):
+        return set()
     before, after, found = planner.model, planner.model.copy(), set()
     effects.EFFECTS[step.name](planner, after, step, *step.fields)
     for opened in planner.opened.values():

@@ -28,7 +28,7 @@ class Model:
     def __init__(self, tree):
         self.largest = tree.largest()
         self.home = tuple(name for name in tree.home.split(b"/") if name)
-        self.places, self.sizes = {(): Entry(DIRECTORY)}, {}
+        self.places, self.sizes, self.written = {(): Entry(DIRECTORY)}, {}, set()
         by_path = {}
         for entry in tree.entries:
             if entry.kind == trees.FILE:
@@ -40,6 +40,7 @@ class Model:
                 self.places[entry.names()] = Entry(LINK, target=entry.content)
             else:
                 self.places[entry.names()] = Entry(DIRECTORY)
+        self.names_before = self.names_by_directory()
 
     def new_number(self, size):
         self.sizes[len(self.sizes)] = size
@@ -48,8 +49,26 @@ class Model:
     def copy(self):
         """A model that may change, while this one stays. Entries are shared: they never change."""
         copied = copy.copy(self)
-        copied.places, copied.sizes = dict(self.places), dict(self.sizes)
+        copied.places, copied.sizes, copied.written = dict(self.places), dict(self.sizes), set(self.written)
         return copied
+
+    def set_size(self, number, size):
+        """A file was written or cut, and has this size now."""
+        self.sizes[number] = size
+        self.written.add(number)
+
+    def names_by_directory(self):
+        """The places of the directories, each with the names in it."""
+        found = {place: set() for place in self.of_kind(DIRECTORY)}
+        for place in self.places:
+            if place:
+                found[place[:-1]].add(place[-1])
+        return found
+
+    def changed_directories(self):
+        """The places of the directories that have other names than at the start, each with how many it has."""
+        return {place: len(names) for place, names in self.names_by_directory().items()
+                if names != self.names_before.get(place)}
 
     def at(self, place):
         return self.places.get(place)
@@ -115,6 +134,7 @@ class Model:
 
     def make_file(self, place):
         self.add(place, Entry(FILE, self.new_number(0)))
+        self.written.add(self.at(place).number)
 
     def remove(self, place):
         self.places.pop(place, None)

@@ -111,7 +111,7 @@ def parser(about):
 def add_of_plans(add):
     add("--tree", metavar="FILE", help="the tree file to start from (else one of the probe's own)")
     add("--seeds", metavar="A-B", type=seeds, default=seeds("1-50"), help="the seeds to play (1-50)")
-    add("--requests", metavar="N", type=positive, default=60, help="requests in a session (60)")
+    add("--requests", metavar="N", type=positive, default=60, help="requests of small scenes in a session (60)")
     add("--in-flight", metavar="K", type=flying,
         help=f"the most requests without a reply ({ONE} for odd seeds, {MANY} for even)")
     add("--skip", metavar="NAME,...", type=names_among(SKIPPED), default=[], help="what to leave out of the plans")

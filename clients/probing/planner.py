@@ -1,64 +1,90 @@
-"""The plan of a session. A seed, a tree and a number of requests have one plan, whatever the server answers."""
+"""The plan of a session. A seed, a tree and a number of requests have one plan, whatever the server answers.
+
+A plan has two parts, mixed with each other. Small scenes meet on the files of the tree; `weights` says how often each
+is drawn. Large scenes, which `weights` gives to each seed, have files and directories of their own, below names that no
+small scene knows. At the end of both, all that they made is read back and listed.
+"""
+import itertools
 import random
 
-import sftp3
-from probing import effects, features, weights
+from probing import effects, endings, features, weights
 from probing.model import DIRECTORY, FILE, LINK, Model
 from probing.spelling import spell
+from probing.plans import Handle, Step
 
 # Names of what is made, few, so that they meet.
 POOL = [b"a", b"b", b"new", b"n", b"x y", b"caf\xc3\xa9", b"-", b"...", b"\xff", b"Z" * 40]
 
 
-class Handle:
-    """The handle that the reply to this step gives."""
-
-    def __init__(self, step):
-        self.step = step
-
-
-class Step(sftp3.Request):
-    """A request of a plan. A handle in it is a `Handle`, or bytes. Its tags are what `--skip` may name."""
-
-    def __init__(self, number, name, fields, cause=None):
-        super().__init__(number, name, fields)
-        self.tags = {name} | ({cause} if cause else set()) | features.of_request(name, fields)
-
-    def opened(self):
-        return Handle(self.number)
-
-
 class Planner:
-    """Draws scenes, and mixes their steps."""
+    """Draws scenes, and mixes their steps. Its numbers are those of the steps, which other planners of the session may
+    take from, too."""
 
-    def __init__(self, seed, tree, skip=()):
+    def __init__(self, seed, tree, skip=(), numbers=None):
         self.random = random.Random(seed)
         self.model = Model(tree)
         self.skip = set(skip)
-        self.steps, self.opened, self.closed = [], {}, []
+        self.numbers = numbers or itertools.count(1)
+        self.opened, self.closed, self.named = {}, [], set()
+        self.most_read, self.most_entries = tree.most_read(), tree.most_entries()
         self.last = 0
 
-    def plan(self, count):
-        playing = []
+    def small(self, count):
+        """The steps of small scenes, so many."""
+        playing, planned = [], 0
         for _ in range(40 * count):
-            if len(self.steps) >= count:
+            if planned >= count:
                 break
             if len(playing) < 3:
                 playing.append(weights.draw(self.random)(self))
             scene = self.random.choice(playing)
-            step = next(scene, None)
-            if step is not None:
-                step.tags |= features.of_plan(self, step)
-            if step is None or step.tags & self.skip:
+            step = self.step_of(scene)
+            if step is None:
                 playing.remove(scene)
             else:
-                self.steps.append(step)
-                effects.apply(self, step)
-        return self.steps
+                planned += 1
+                yield step
+
+    def large(self, scenes):
+        """The steps of these scenes, which come with the names of their features. Up to two are played at a time."""
+        waiting, playing = [(feature, scene(self)) for feature, scene in scenes], []
+        while waiting or playing:
+            if waiting and len(playing) < 2:
+                playing.append(waiting.pop(0))
+            feature, scene = one = self.random.choice(playing)
+            for _ in range(self.random.randint(1, 10)):
+                step = self.step_of(scene, {feature})
+                if step is None:
+                    playing.remove(one)
+                    break
+                yield step
+
+    def step_of(self, scene, known=frozenset()):
+        """The next step of a scene with these features, or None if the scene is at its end or to be left out from here
+        on."""
+        step = next(scene, None)
+        if step is not None:
+            step.tags |= features.of_plan(self, step) | known
+        if step is None or step.tags & self.skip:
+            return None
+        effects.apply(self, step)
+        return step
 
     def ask(self, name, *fields, cause=None):
-        self.last += 1
+        self.last = next(self.numbers)
         return Step(self.last, name, list(fields), cause)
+
+    def blank(self, word):
+        """The path of a new name, directly below the root, which nothing had before."""
+        for number in itertools.count(1):
+            name = b"%s-%d" % (word, number)
+            if name not in self.named and not self.model.at((name,)):
+                self.named.add(name)
+                return b"/" + name
+
+    def has_room(self, count):
+        """Whether the tree has room for so many entries more, and for as many as the rest of the plan makes."""
+        return len(self.model.places) + count + 1000 <= self.most_entries
 
     def place(self, kind, busy=()):
         """The place of something of this kind, but for files with these numbers, or None."""
@@ -128,5 +154,14 @@ class Planner:
 
 
 def plan(seed, tree, count, skip=()):
-    """The steps of a session."""
-    return Planner(seed, tree, skip).plan(count)
+    """The steps of a session: so many of small scenes, besides those of large ones and of the end."""
+    numbers = itertools.count(1)
+    small, large = Planner(seed, tree, skip, numbers), Planner(f"large {seed}", tree, skip, numbers)
+    between, steps = large.large(weights.large_scenes(seed, large.random)), []
+    for step in small.small(count):
+        steps.append(step)
+        steps += itertools.islice(between, large.random.randint(0, 8))
+    steps += between
+    for planner in (large, small):
+        steps += planner.large([("read-back", endings.read_back)])
+    return steps

@@ -31,6 +31,10 @@ class Bug:
             self.names[asked.number] = asked.name
         return packets
 
+    def replies(self, packets):
+        """What the client gets in place of these packets, which came together."""
+        return [self.opening(packet) if packet[4] == sftp3.VERSION else self.reply(packet) for packet in packets]
+
     def reply(self, packet):
         """What the client gets in place of this reply."""
         return self.changed(self.names.get(int.from_bytes(packet[5:9], "big")), packet)
@@ -240,9 +244,9 @@ def pass_on(source, target, change):
     os.close(target)
 
 
-def main():
-    bug = globals()[sys.argv[1].replace("-", "_")]()
-    server = subprocess.Popen(sys.argv[2:], stdin=subprocess.PIPE, stdout=subprocess.PIPE, bufsize=0)
+def run(bug, command):
+    """Runs a server, and passes packets on through a bug until both are done."""
+    server = subprocess.Popen(command, stdin=subprocess.PIPE, stdout=subprocess.PIPE, bufsize=0)
     asked = os.dup(server.stdin.fileno())
     server.stdin.close()
 
@@ -250,13 +254,10 @@ def main():
         first = [packet for packet in packets if packet[4] == sftp3.INIT]
         return first + list(bug.requests([packet for packet in packets if packet[4] != sftp3.INIT]))
 
-    def replies(packets):
-        return [bug.opening(packet) if packet[4] == sftp3.VERSION else bug.reply(packet) for packet in packets]
-
     threading.Thread(target=pass_on, args=(0, asked, requests), daemon=True).start()
-    pass_on(server.stdout.fileno(), os.dup(1), replies)
+    pass_on(server.stdout.fileno(), os.dup(1), bug.replies)
     os._exit(server.wait())
 
 
 if __name__ == "__main__":
-    main()
+    run(globals()[sys.argv[1].replace("-", "_")](), sys.argv[2:])

@@ -1,6 +1,6 @@
 """The plan of a session that was recorded, so that it can be played again against any server."""
 import sftp3
-from probing.planner import Step
+from probing.plans import Step
 
 
 def steps_of(transcript):

@@ -38,9 +38,17 @@ class Tree:
     def with_entries(self, entries):
         return Tree(entries, self.home, self.uid, self.gid, self.root, self.limits)
 
+    def most_entries(self):
+        """The most entries below the root."""
+        return (self.limits or USUAL)[0]
+
     def largest(self):
         """The most bytes of a file."""
         return (self.limits or USUAL)[1]
+
+    def most_read(self):
+        """The most bytes that one READ gives."""
+        return (self.limits or USUAL)[2]
 
 
 def string(data):

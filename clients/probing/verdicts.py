@@ -13,6 +13,10 @@ from probing.sessions import Session
 PROFILE_OPTIONS = ["--profile", "--umask", "--new-owner", "--allow", "--except", "--symlink"]
 
 
+# The most differences of a session that are told apart: each takes an audit more, and a session may have thousands.
+MOST_DIFFERENCES = 12
+
+
 class Trouble(Exception):
     """The program did not audit."""
 
@@ -114,11 +118,16 @@ class Judged:
     def __init__(self):
         self.differences, self.unjudged, self.last = [], 0, None
 
+    def place(self):
+        """The place of the last reply that differs, or of its request."""
+        places = [place for place in (self.differences[-1].request, self.differences[-1].reply) if place is not None]
+        return max(places, default=0)
+
 
 def judge(auditor, tree_file, session, seed=0):
     """All differences of a session that can be told apart."""
     judged, places = Judged(), list(range(len(session.records)))
-    while places:
+    while places and len(judged.differences) < MOST_DIFFERENCES:
         records = [session.records[place] for place in places]
         verdict = auditor.judge(tree_file, records)
         if verdict.accepted:
@@ -131,6 +140,8 @@ def judge(auditor, tree_file, session, seed=0):
             reply if reply is None or reply >= len(places) else places[reply]))
         gone = without(records, verdict, request, reply, judged)
         places = [] if gone is None else [place for at, place in enumerate(places) if at not in gone]
+    if len(judged.differences) == MOST_DIFFERENCES and places:
+        judged.unjudged += sum(session.records[place][0] == b"C" for place in places if place > judged.place())
     if session.crashed():
         judged.differences.append(of_crash(session, seed))
     return judged

@@ -5,7 +5,7 @@ try to be refused, by one request as a rule. What a client does every day is dra
 ever do has the weight RARE: then some 5 to 10 of 100 sessions have it, which is enough to find what a server does
 wrong there, and not so much that one flaw is all that is seen of a server. No weight depends on a server.
 """
-from probing import refusals, scenes
+from probing import crowds, refusals, scenes, transfers
 
 RARE = 8
 
@@ -65,3 +65,30 @@ WEIGHTS = {
 def draw(random):
     """A scene, or a request that is to be refused."""
     return random.choices(list(WEIGHTS), WEIGHTS.values())[0]
+
+
+# Large scenes. Each seed has one of TRANSFERS in turn, and another by chance.
+TRANSFERS = [
+    transfers.transferring, transfers.rewriting, transfers.replacing_upload, transfers.transferring_much,
+    transfers.cutting, transfers.transferring_edges, transfers.appending_blocks, transfers.transferring_several,
+    transfers.sparse, transfers.renaming_open, transfers.transferring,
+]
+
+# The others come each so many seeds, first with that seed. No period is even: where each second session has one request
+# in flight, each scene meets both. The first word of a row
+# is the feature that `--skip` may name.
+PERIODS = [
+    ("crowds", crowds.few_names, 3, 1),
+    ("unusual-names", crowds.unusual_names, 5, 2),
+    ("crowds", crowds.crowd_of(100), 5, 3),
+    ("deep", crowds.deep, 7, 4),
+    ("many-handles", crowds.many_handles, 7, 5),
+    ("crowds", crowds.crowd_of(1000), 11, 6),
+    ("crowds", crowds.crowd_of(5000), 25, 12),
+]
+
+
+def large_scenes(seed, random):
+    """The large scenes of a seed, with their features."""
+    found = [("transfers", TRANSFERS[seed % len(TRANSFERS)]), ("transfers", random.choice(TRANSFERS))]
+    return found + [(feature, scene) for feature, scene, period, first in PERIODS if seed % period == first % period]

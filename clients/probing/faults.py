@@ -1,0 +1,34 @@
+"""Servers with one fault each, for clients/test-probe.
+
+    python3 clients/probing/faults.py FAULT COMMAND [ARGUMENT ...]
+
+runs the command, a sound server, and stands between it and the client; `python3 clients/probing/faults.py` lists the
+faults. docs/PROBE.md has the table of them, and what finds each.
+"""
+import os
+import sys
+
+sys.path.insert(0, os.path.dirname(os.path.dirname(os.path.realpath(__file__))))
+
+from probing import (  # noqa: E402 (the folder above is not searched before)
+    faulty, faulty_names, faulty_order, faulty_reads, faulty_replies, faulty_writes, planted)
+
+# The faults by their names, in the order of the table in docs/PROBE.md.
+FAULTS = {fault.__name__.replace("_", "-"): fault
+          for module in (faulty_writes, faulty_reads, faulty_names, faulty_replies, faulty_order)
+          for fault in module.FAULTS}
+
+# What is no fault.
+SOUND = {"small-room": faulty.SmallRoom}
+
+
+def main():
+    if len(sys.argv) == 1:
+        for name, fault in FAULTS.items():
+            print(f"{name}: {' '.join(fault.__doc__.split())}")
+        return
+    planted.run({**FAULTS, **SOUND}[sys.argv[1]](), sys.argv[2:])
+
+
+if __name__ == "__main__":
+    main()

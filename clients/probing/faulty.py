@@ -1,0 +1,220 @@
+"""What the faults of faults.py are made of: a stand-in for the server that knows what was asked and what is open, and
+changes one thing in what passes.
+
+A fault of the server that no reply shows by itself, such as a lost WRITE, is made by asking the sound server for
+something else: an empty WRITE is answered with OK, and changes nothing.
+"""
+import os
+import struct
+
+import sftp3
+from probing import planted
+
+OK_STATUS, END, FAILED = (code.to_bytes(4, "big") for code in (sftp3.OK, sftp3.EOF, sftp3.FAILURE))
+
+# Ids of requests that a fault makes itself, whose replies the client does not see. No plan has as many requests.
+OWN_IDS = 0xF0000000
+
+
+class Fault(planted.Bug):
+    """A server with one fault. A fault overrides `ask` or `answer`, or what a class below leaves to it."""
+
+    def __init__(self):
+        super().__init__()
+        # requests by their ids, and those that opened what is open, by its handle; how far a path's file was written
+        self.asked, self.opened, self.lengths = {}, {}, {}
+        self.own = OWN_IDS
+
+    def ask(self, asked):
+        """The requests that the server gets in place of this one."""
+        return [asked]
+
+    def answer(self, _asked, reply):
+        """The replies that the client gets in place of this one."""
+        return [reply]
+
+    def requests(self, packets):
+        return [sftp3.encode(asked) for packet in packets for asked in self.one(packet)]
+
+    def one(self, packet):
+        """What the server gets in place of this packet."""
+        asked = sftp3.decode(packet)
+        self.asked[asked.number] = asked
+        if asked.name == "CLOSE":
+            asked.opened = self.opened.pop(asked.handle(), None)
+        found = self.ask(sftp3.Request(asked.number, asked.name, list(asked.fields)))
+        if asked.name == "WRITE" and asked.handle() in self.opened:
+            path, end = self.path(asked), asked.fields[1] + len(asked.fields[2])
+            self.lengths[path] = max(self.lengths.get(path, 0), end)
+        return found
+
+    def replies(self, packets):
+        return [sent for packet in packets for sent in self.of_reply(packet)]
+
+    def of_reply(self, packet):
+        """What the client gets in place of this packet."""
+        if packet[4] == sftp3.VERSION:
+            return [self.opening(packet)]
+        reply = sftp3.Reply(packet)
+        if reply.number >= OWN_IDS:
+            return []
+        asked = self.asked[reply.number]
+        found = self.answer(asked, packet)
+        if reply.handle is not None:
+            self.opened[reply.handle] = asked
+        return found
+
+    def another(self, name, *fields):
+        """A request of the fault's own."""
+        self.own += 1
+        return sftp3.Request(self.own, name, list(fields))
+
+    def path(self, asked):
+        """The path that the handle of a request was opened by."""
+        opened = self.opened.get(asked.handle())
+        return opened and opened.fields[0]
+
+    def flags(self, asked):
+        """The flags of the OPEN that gave the handle of a request."""
+        opened = self.opened.get(asked.handle())
+        return opened.fields[1] if opened and opened.name == "OPEN" else 0
+
+
+def status(packet, code):
+    """A STATUS with this code, in place of a reply."""
+    return sftp3.packet(sftp3.STATUS, packet[5:9] + code + bytes(8))
+
+
+def data_of(packet):
+    return packet[13:]
+
+
+def with_data(packet, data):
+    """DATA in place of a reply."""
+    return sftp3.packet(sftp3.DATA, packet[5:9] + sftp3.string(data))
+
+
+def names_of(packet):
+    """The items of NAME: each a name, a long name and attributes."""
+    fields = sftp3.Fields(packet[9:])
+    return [(fields.string(), fields.string(), fields.attributes()) for _ in range(fields.word())]
+
+
+def with_names(packet, items):
+    """NAME with these items in place of a reply; without any it is the end of the listing."""
+    body = b"".join(sftp3.string(name) + sftp3.string(long) + sftp3.attributes(given) for name, long, given in items)
+    if not items:
+        return status(packet, END)
+    return sftp3.packet(sftp3.NAME, packet[5:9] + len(items).to_bytes(4, "big") + body)
+
+
+class Writes(Fault):
+    """Does other WRITEs than those that are asked for."""
+
+    def ask(self, asked):
+        return self.written(asked, *asked.fields) if asked.name == "WRITE" else [asked]
+
+    def written(self, asked, handle, offset, data):
+        """The requests in place of a WRITE."""
+        if self.loses(asked, offset, data):
+            return [self.empty(asked)]
+        return [sftp3.Request(asked.number, "WRITE", [handle, *self.changed_write(offset, data)])]
+
+    def empty(self, asked):
+        """A WRITE that changes nothing."""
+        return sftp3.Request(asked.number, "WRITE", [asked.fields[0], 0, b""])
+
+    def loses(self, _asked, _offset, _data):
+        return False
+
+    def changed_write(self, offset, data):
+        return offset, data
+
+
+class Reads(Fault):
+    """Gives other DATA, or none."""
+
+    def answer(self, asked, reply):
+        if asked.name != "READ":
+            return [reply]
+        if reply[4] != sftp3.DATA:
+            return [self.at_end(asked, reply)]
+        data = self.shown(asked, asked.fields[1], data_of(reply))
+        return [status(reply, END) if data is None else with_data(reply, data)]
+
+    def at_end(self, _asked, reply):
+        return reply
+
+    def shown(self, _asked, _offset, data):
+        """The bytes in place of those at this offset, or None for the end of the file."""
+        return data
+
+
+class Listings(Fault):
+    """Gives other names in listings."""
+
+    def __init__(self):
+        super().__init__()
+        # by handle, how many names a listing has given
+        self.given = {}
+
+    def answer(self, asked, reply):
+        if reply[4] == sftp3.HANDLE:
+            self.given[sftp3.Reply(reply).handle] = 0
+        if asked.name != "READDIR" or reply[4] != sftp3.NAME:
+            return [reply]
+        items, before = names_of(reply), self.given.get(asked.handle(), 0)
+        self.given[asked.handle()] = before + len(items)
+        return [with_names(reply, self.listed(asked, before, items))]
+
+    def listed(self, _asked, _before, items):
+        """The items in place of these, before which the listing has given so many."""
+        return items
+
+
+class Attributes(Fault):
+    """Shows other attributes in the replies to STAT, LSTAT and FSTAT."""
+
+    def answer(self, asked, reply):
+        if reply[4] != sftp3.ATTRS:
+            return [reply]
+        given = self.seen(asked, sftp3.Fields(reply[9:]).attributes())
+        return [sftp3.packet(sftp3.ATTRS, reply[5:9] + sftp3.attributes(given))]
+
+    def seen(self, _asked, given):
+        return given
+
+
+class SmallRoom(Fault):
+    """No fault: VERSION has limits@openssh.com, with less than most servers take; whoever asks for more is cut off."""
+
+    LIMITS = (20000, 9000, 10000, 30)
+
+    def opening(self, packet):
+        number, pairs = sftp3.version_of(packet)
+        return sftp3.version(number, pairs + [(b"limits@openssh.com", b"1")])
+
+    def ask(self, asked):
+        if asked.name == "READ" and asked.fields[2] > self.LIMITS[1] \
+                or asked.name == "WRITE" and len(asked.fields[2]) > self.LIMITS[2] \
+                or asked.name in ("OPEN", "OPENDIR") and len(self.opened) >= self.LIMITS[3]:
+            os._exit(9)
+        return [asked]
+
+    def answer(self, asked, reply):
+        if asked.name == "EXTENDED" and asked.fields[0] == b"limits@openssh.com":
+            return [sftp3.packet(sftp3.EXTENDED_REPLY, reply[5:9] + struct.pack(">4Q", *self.LIMITS))]
+        return [reply]
+
+
+class Statuses(Fault):
+    """Answers with other codes."""
+
+    def answer(self, asked, reply):
+        if reply[4] != sftp3.STATUS:
+            return [reply]
+        code = self.code(asked, sftp3.Reply(reply).code)
+        return [reply[:9] + code.to_bytes(4, "big") + reply[13:]]
+
+    def code(self, _asked, code):
+        return code

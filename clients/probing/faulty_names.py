@@ -1,0 +1,206 @@
+"""Faults of servers in names: lost and doubled ones in listings, changed ones, and paths that are not found."""
+import sftp3
+from probing.faulty import Fault, Listings, Statuses, status
+
+
+class name_lost_by_count(Listings):
+    """A listing lacks its 500th name."""
+
+    def listed(self, _asked, before, items):
+        return [item for number, item in enumerate(items, before + 1) if number != 500]
+
+
+class name_lost_at_end(Listings):
+    """A listing of more than 40 names lacks the last of each reply."""
+
+    def listed(self, _asked, before, items):
+        return items[:-1] if before + len(items) > 40 else items
+
+
+class name_lost_by_length(Listings):
+    """A listing lacks names of more than 200 bytes."""
+
+    def listed(self, _asked, _before, items):
+        return [item for item in items if len(item[0]) <= 200]
+
+
+class name_lost_hidden(Listings):
+    """A listing lacks names that begin with a dot."""
+
+    def listed(self, _asked, _before, items):
+        return [item for item in items if not item[0].startswith(b".") or item[0] in (b".", b"..")]
+
+
+class listing_ends_at_1000(Listings):
+    """A listing ends after 1,000 names."""
+
+    def listed(self, _asked, before, items):
+        return items[:max(0, 1000 - before)]
+
+
+class listing_ends_at_4096(Listings):
+    """A listing ends after 4,096 names."""
+
+    def listed(self, _asked, before, items):
+        return items[:max(0, 4096 - before)]
+
+
+class name_twice_between_replies(Listings):
+    """The last name of a reply is also the first of the next."""
+
+    def __init__(self):
+        super().__init__()
+        self.last = {}
+
+    def listed(self, asked, before, items):
+        last = self.last.get(asked.handle()) if before else None
+        self.last[asked.handle()] = items[-1]
+        return ([last] if last else []) + items
+
+
+class name_twice_by_count(Listings):
+    """The 90th name of a listing is given twice."""
+
+    def listed(self, _asked, before, items):
+        return [item for number, item in enumerate(items, before + 1) for _ in range(1 + (number == 90))]
+
+
+class name_with_newline(Listings):
+    """A newline in a name is listed as `?`."""
+
+    def listed(self, _asked, _before, items):
+        return [(name.replace(b"\n", b"?"), long, given) for name, long, given in items]
+
+
+class name_not_ascii(Listings):
+    """A byte above 127 in a name of more than six bytes is listed as `?`."""
+
+    def listed(self, _asked, _before, items):
+        return [(bytes(63 if byte > 127 and len(name) > 6 else byte for byte in name), long, given)
+                for name, long, given in items]
+
+
+class name_without_blank(Listings):
+    """Blanks at the end of a name are left out in a listing."""
+
+    def listed(self, _asked, _before, items):
+        return [(name.rstrip(b" "), long, given) for name, long, given in items if name.rstrip(b" ")]
+
+
+class listed_size(Listings):
+    """A listing shows the sizes of files modulo 65,536."""
+
+    def listed(self, _asked, _before, items):
+        return [(name, long, {**given, "size": given["size"] % 65536}) for name, long, given in items]
+
+
+class listed_permissions(Listings):
+    """A listing of more than 10 names shows no permissions of others for the last of a reply."""
+
+    def listed(self, _asked, before, items):
+        name, long, given = items[-1]
+        if before + len(items) <= 10:
+            return items
+        return items[:-1] + [(name, long, {**given, "permissions": given["permissions"] & ~7})]
+
+
+class renamed_listed_as_before(Listings):
+    """A listing shows what got another name in the same directory, by RENAME or posix-rename, by its old name."""
+
+    def __init__(self):
+        super().__init__()
+        self.moved, self.old = [], {}
+
+    def ask(self, asked):
+        if asked.name in ("RENAME", "POSIX-RENAME"):
+            self.moved.append((asked.number, asked.fields))
+        return [asked]
+
+    def answer(self, asked, reply):
+        for number, (old, new) in self.moved:
+            if number == asked.number and sftp3.Reply(reply).code == sftp3.OK:
+                folder, _, name = new.rpartition(b"/")
+                if old.rpartition(b"/")[0] == folder:
+                    self.old[folder, name] = old.rpartition(b"/")[2]
+        return super().answer(asked, reply)
+
+    def listed(self, asked, _before, items):
+        folder = (self.path(asked) or b"").rstrip(b"/")
+        return [(self.old.get((folder, name), name), long, given) for name, long, given in items]
+
+
+class removed_is_listed(Listings):
+    """A listing still shows, as its first name, the name that was last removed from the directory."""
+
+    def __init__(self):
+        super().__init__()
+        self.gone = {}
+
+    def ask(self, asked):
+        if asked.name == "REMOVE":
+            folder, _, name = asked.fields[0].rpartition(b"/")
+            self.gone[folder] = name
+        return [asked]
+
+    def listed(self, asked, before, items):
+        name = self.gone.get((self.path(asked) or b"").rstrip(b"/"))
+        return items if before or not name else [(name, name, items[0][2])] + items
+
+
+class empty_listing_fails(Fault):
+    """The listing of a directory without names fails in place of ending."""
+
+    def __init__(self):
+        super().__init__()
+        self.full = set()
+
+    def answer(self, asked, reply):
+        if asked.name != "READDIR":
+            return [reply]
+        opener = self.opened.get(asked.handle())
+        if reply[4] == sftp3.NAME:
+            self.full.add(opener)
+        fails = opener not in self.full and sftp3.Reply(reply).code == sftp3.EOF
+        return [status(reply, b"\0\0\0\4") if fails else reply]
+
+
+class many_names_cannot_be_made(Statuses):
+    """MKDIR and SYMLINK fail, and do nothing, behind 900 that were done."""
+
+    def __init__(self):
+        super().__init__()
+        self.made, self.lost = 0, set()
+
+    def ask(self, asked):
+        if asked.name in ("MKDIR", "SYMLINK"):
+            self.made += 1
+            if self.made > 900:
+                self.lost.add(asked.number)
+                return [sftp3.Request(asked.number, "MKDIR", [b"/", {}])]
+        return [asked]
+
+
+class deep_path_fails(Fault):
+    """A path of more than 20 names leads nowhere."""
+
+    def ask(self, asked):
+        for place, value in enumerate(asked.fields):
+            if asked.name not in ("WRITE", "EXTENDED") and isinstance(value, bytes) and value.count(b"/") > 20 \
+                    and len(value) < 4096 and asked.handle() is None:
+                asked.fields[place] = b"/absent/absent"
+        return [asked]
+
+
+class long_name_fails(Fault):
+    """A name of more than 250 bytes is cut there."""
+
+    def ask(self, asked):
+        for place, value in enumerate(asked.fields):
+            if asked.name not in ("WRITE", "EXTENDED") and isinstance(value, bytes) and asked.handle() is None:
+                parts = value.split(b"/")
+                asked.fields[place] = b"/".join(part[:250] if len(part) < 256 else part for part in parts)
+        return [asked]
+
+
+FAULTS = [fault for fault in list(globals().values())
+          if isinstance(fault, type) and issubclass(fault, Fault) and fault not in (Fault, Listings, Statuses)]

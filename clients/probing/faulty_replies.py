@@ -1,0 +1,218 @@
+"""Faults of servers in attributes, codes and handles."""
+import sftp3
+from probing.faulty import Attributes, Fault, Statuses, status, FAILED
+
+
+class size_wraps(Attributes):
+    """STAT, LSTAT and FSTAT show sizes modulo 65,536."""
+
+    def seen(self, _asked, given):
+        return {**given, "size": given["size"] % 65536}
+
+
+class size_of_large_file(Attributes):
+    """STAT, LSTAT and FSTAT show at most 2^20 as a size."""
+
+    def seen(self, _asked, given):
+        return {**given, "size": min(given["size"], 2 ** 20)}
+
+
+class size_after_truncation(Fault):
+    """After SETSTAT or FSETSTAT of a size, the next STAT or FSTAT shows a byte more."""
+
+    def __init__(self):
+        super().__init__()
+        self.cut = False
+
+    def ask(self, asked):
+        self.cut = self.cut or asked.name in ("SETSTAT", "FSETSTAT") and 0 < asked.fields[1].get("size", 0) < 2 ** 31
+        return [asked]
+
+    def answer(self, asked, reply):
+        if reply[4] != sftp3.ATTRS or not self.cut:
+            return [reply]
+        self.cut, given = False, sftp3.Fields(reply[9:]).attributes()
+        return [sftp3.packet(sftp3.ATTRS, reply[5:9] + sftp3.attributes({**given, "size": given["size"] + 1}))]
+
+
+class fstat_stale(Attributes):
+    """FSTAT shows what the first FSTAT through the handle showed."""
+
+    def __init__(self):
+        super().__init__()
+        self.first = {}
+
+    def seen(self, asked, given):
+        return given if asked.name != "FSTAT" else self.first.setdefault(self.opened.get(asked.handle()), given)
+
+
+class permissions_lost(Fault):
+    """SETSTAT and FSETSTAT of permissions leave out the bit to execute for others."""
+
+    def ask(self, asked):
+        if asked.name in ("SETSTAT", "FSETSTAT") and "permissions" in asked.fields[1]:
+            asked.fields[1]["permissions"] &= ~1
+        return [asked]
+
+
+class permissions_after_replacing(Fault):
+    """What posix-rename puts in the place of a file gets the permissions 0666."""
+
+    def ask(self, asked):
+        if asked.name == "POSIX-RENAME" and all(path in self.lengths for path in asked.fields):
+            return [self.another("SETSTAT", asked.fields[0], {"permissions": 0o666}), asked]
+        return [asked]
+
+
+class owner_swapped(Attributes):
+    """STAT, LSTAT and FSTAT show the user as the group and the group as the user."""
+
+    def seen(self, _asked, given):
+        return {**given, "owner": given["owner"][::-1]}
+
+
+class link_is_file(Attributes):
+    """LSTAT shows a link as a file."""
+
+    def seen(self, asked, given):
+        is_link = asked.name == "LSTAT" and given["permissions"] & 0o170000 == 0o120000
+        return {**given, "permissions": 0o100777} if is_link else given
+
+
+class large_write_fails(Fault):
+    """A WRITE of more than 200,000 bytes fails, and is not done."""
+
+    def ask(self, asked):
+        if asked.name == "WRITE" and len(asked.fields[2]) > 200000:
+            asked.fields[2] = b""
+        return [asked]
+
+    def answer(self, asked, reply):
+        fails = asked.name == "WRITE" and len(asked.fields[2]) > 200000
+        return [status(reply, FAILED) if fails else reply]
+
+
+class far_size_done(Statuses):
+    """SETSTAT and FSETSTAT of 2^63 bytes or more are told done."""
+
+    def code(self, asked, code):
+        far = asked.name in ("SETSTAT", "FSETSTAT") and asked.fields[1].get("size", 0) >= 2 ** 63
+        return sftp3.OK if far else code
+
+
+class absent_is_failure(Statuses):
+    """STAT and LSTAT of what is not there are answered with FAILURE."""
+
+    def code(self, asked, code):
+        return sftp3.FAILURE if asked.name in ("STAT", "LSTAT") and code == sftp3.NO_SUCH_FILE else code
+
+
+class remove_absent_done(Statuses):
+    """REMOVE of what is not there is told done."""
+
+    def code(self, asked, code):
+        return sftp3.OK if asked.name == "REMOVE" and code == sftp3.NO_SUCH_FILE else code
+
+
+class made_twice_done(Statuses):
+    """MKDIR of what is there is told done."""
+
+    def code(self, asked, code):
+        return sftp3.OK if asked.name == "MKDIR" and code == sftp3.FAILURE else code
+
+
+class done_told_failed(Statuses):
+    """Each 30th OK is told as FAILURE."""
+
+    def __init__(self):
+        super().__init__()
+        self.count = 0
+
+    def code(self, _asked, code):
+        self.count += code == sftp3.OK
+        return sftp3.FAILURE if code == sftp3.OK and self.count % 30 == 0 else code
+
+
+class excl_ignored(Fault):
+    """OPEN passes over EXCL."""
+
+    def ask(self, asked):
+        if asked.name == "OPEN" and asked.fields[1] & sftp3.CREAT:
+            asked.fields[1] &= ~sftp3.EXCL
+        return [asked]
+
+
+class owner_lost(Fault):
+    """OPEN with TRUNC, by a path of three slashes or more, passes over the owner of a new file: some 4 of 300 sessions
+    ask for it."""
+
+    def ask(self, asked):
+        if asked.name == "OPEN" and asked.fields[1] & sftp3.TRUNC and asked.fields[0].count(b"/") >= 3:
+            asked.fields[2].pop("owner", None)
+        return [asked]
+
+
+class remove_lost(Fault):
+    """REMOVE of a file that is open is told done, and is not."""
+
+    def ask(self, asked):
+        open_paths = {opener.fields[0] for opener in list(self.opened.values())}
+        if asked.name == "REMOVE" and asked.fields[0] in open_paths:
+            return [sftp3.Request(asked.number, "SETSTAT", [asked.fields[0], {}])]
+        return [asked]
+
+
+class rename_lost(Fault):
+    """RENAME of a name of more than 30 bytes is told done, and is not."""
+
+    def ask(self, asked):
+        if asked.name in ("RENAME", "POSIX-RENAME") and len(asked.fields[0].rpartition(b"/")[2]) > 30:
+            return [sftp3.Request(asked.number, "SETSTAT", [asked.fields[0], {}])]
+        return [asked]
+
+
+class handles_run_out(Fault):
+    """OPEN fails while 64 handles are open."""
+
+    def ask(self, asked):
+        if asked.name == "OPEN" and len(self.opened) >= 64:
+            asked.fields[:2] = [b"/", sftp3.READ]
+        return [asked]
+
+
+class handle_given_twice(Fault):
+    """The handle of the 50th file that is open at a time is that of the one before."""
+
+    def __init__(self):
+        super().__init__()
+        self.newest = None
+
+    def answer(self, asked, reply):
+        if asked.name != "OPEN" or reply[4] != sftp3.HANDLE:
+            return [reply]
+        handle, before = sftp3.Reply(reply).handle, self.newest
+        self.newest = handle
+        if len(self.opened) < 49 or before not in self.opened:
+            return [reply]
+        return [sftp3.packet(sftp3.HANDLE, reply[5:9] + sftp3.string(before))]
+
+
+class close_closes_other(Fault):
+    """CLOSE of a handle also closes the file that was opened before it, if more than 20 are open."""
+
+    def ask(self, asked):
+        if asked.name != "CLOSE" or len(self.opened) <= 20:
+            return [asked]
+        return [asked, self.another("CLOSE", list(self.opened)[-1])]
+
+
+class closed_handle_works(Fault):
+    """A READ through a handle that was closed is answered with EOF."""
+
+    def answer(self, asked, reply):
+        closed = asked.name == "READ" and asked.handle() not in self.opened and reply[4] == sftp3.STATUS
+        return [status(reply, b"\0\0\0\1") if closed else reply]
+
+
+FAULTS = [fault for fault in list(globals().values())
+          if isinstance(fault, type) and issubclass(fault, Fault) and fault not in (Fault, Attributes, Statuses)]

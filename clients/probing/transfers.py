@@ -1,0 +1,269 @@
+"""Scenes that move files as clients do: uploads and downloads in blocks, and what follows them on the same files. Each
+scene has names of its own, directly below the root, so that no other scene meets them; `p.blank` makes one."""
+import sftp3
+from probing.contents import Content
+
+READ, WRITE, APPEND, CREAT, TRUNC, EXCL = (
+    sftp3.READ, sftp3.WRITE, sftp3.APPEND, sftp3.CREAT, sftp3.TRUNC, sftp3.EXCL)
+
+KIB = 1024
+
+# What clients send and ask for at a time: old clients 4 and 32 KiB, OpenSSH's sftp 32 and 255 KiB.
+BLOCKS = (4 * KIB, 32 * KIB, 64 * KIB, 255 * KIB)
+
+# The sizes around the block that all servers take, those of pictures and texts, and those of some MB.
+EDGES = (0, 1, 32 * KIB - 1, 32 * KIB, 32 * KIB + 1)
+MIDDLE = (150_000, 262_144, 300_000, 300_001, 327_680, 333_333)
+LARGE = (1_048_576, 1_200_001, 1_600_000, 2_097_153, 3_300_000)
+
+# The most bytes that are asked for in larger blocks than one READ gives: a server that gives them gives them often.
+MOST_LONG_READ = 400_000
+
+
+def blocks(p, size, block, stride=None):
+    """The offsets and lengths of the blocks of a file, in order or not. Other blocks than the last begin so far apart
+    as `stride` says, else one behind the other."""
+    found = [(offset, min(block, size - offset)) for offset in range(0, size, stride or block)]
+    if p.random.random() < 0.4 and not p.skip & {"gap"}:
+        p.random.shuffle(found)
+    return found
+
+
+def block_of(p, size):
+    """A length of blocks: no more than 100 of them."""
+    return p.random.choice([block for block in BLOCKS if size <= 100 * block])
+
+
+def new_attributes(p):
+    """What OPEN asks for a new file: mostly nothing."""
+    asked = p.random.choice([{}, {}, {"permissions": 0o644}, {"permissions": 0o100600}])
+    return {} if "new-permissions" in p.skip else asked
+
+
+def upload(p, path, content, flags=WRITE | CREAT | TRUNC):
+    """OPEN, WRITEs of all blocks, and CLOSE, as `put` does; `put -p` sets attributes, too."""
+    step = p.ask("OPEN", path, flags, new_attributes(p))
+    yield step
+    for offset, count in blocks(p, content.size, block_of(p, content.size)):
+        yield p.ask("WRITE", step.opened(), offset, content.at(offset, count))
+    if p.random.random() < 0.3:
+        yield p.ask("FSETSTAT", step.opened(), p.random.choice([{"permissions": 0o640}, {"times": (1, 2)}]))
+    if p.random.random() < 0.6:
+        yield p.ask("FSTAT", step.opened())
+    if p.random.random() < 0.3:
+        yield p.ask("FSYNC", step.opened())
+    yield p.ask("CLOSE", step.opened())
+
+
+def download(p, path, size):
+    """STAT, OPEN, READs of all blocks and of what is behind the end, and CLOSE, as `get` does."""
+    yield p.ask("STAT", path)
+    step = p.ask("OPEN", path, READ, {})
+    yield step
+    yield from read_all(p, step.opened(), size)
+    yield p.ask("CLOSE", step.opened())
+
+
+def read_all(p, handle, size):
+    """READs of all blocks, and one behind the end. Where a block is more than one READ has to give, the next READ
+    begins where that may have ended."""
+    long = size <= MOST_LONG_READ and "long-read" not in p.skip
+    block = p.random.choice([block for block in BLOCKS if size <= 100 * block and (long or block <= p.most_read)])
+    for offset, _ in blocks(p, size, block, min(block, p.most_read)):
+        yield p.ask("READ", handle, offset, block)
+    yield p.ask("READ", handle, size + p.random.choice([0, 0, 1, 5000]), block)
+
+
+def read_around(p, handle, offset, before=10, count=64):
+    """A READ of some bytes before a place, and behind it."""
+    yield p.ask("READ", handle, max(offset - before, 0), before + count)
+
+
+def transferring(p):
+    """A file that is uploaded and downloaded."""
+    path, content = p.blank(b"put"), Content(p.random, p.random.choice(MIDDLE))
+    yield from upload(p, path, content, WRITE | CREAT | p.random.choice([TRUNC, EXCL]))
+    yield from download(p, path, content.size)
+
+
+def transferring_edges(p):
+    """Files of sizes around one block."""
+    for size in p.random.sample(EDGES, len(EDGES)):
+        path = p.blank(b"edge")
+        yield from upload(p, path, Content(p.random, size))
+        yield from download(p, path, size)
+
+
+def transferring_much(p):
+    """A file of some MB, which gets another name, is read at places behind 2^20, and is uploaded again."""
+    path, content = p.blank(b"much"), Content(p.random, p.random.choice(LARGE))
+    yield from upload(p, path, content)
+    new = p.blank(b"more")
+    yield p.ask("RENAME", path, new)
+    yield p.ask("STAT", new)
+    step = p.ask("OPEN", new, READ | WRITE, {})
+    yield step
+    for offset in (2 ** 20 - 5, 2 ** 20, content.size - 100, content.size // 2):
+        yield from read_around(p, step.opened(), offset, count=p.random.choice([64, 32 * KIB]))
+    for offset in (2 ** 20 - 7, content.size // 2 + 1, content.size - 1):
+        yield p.ask("WRITE", step.opened(), offset, content.at(offset + 77, p.random.choice([10, 9000])))
+        yield from read_around(p, step.opened(), offset)
+    yield p.ask("CLOSE", step.opened())
+
+
+def transferring_several(p):
+    """Several files that are uploaded at once, and downloaded at once."""
+    paths, contents = [], []
+    for _ in range(p.random.randint(3, 5)):
+        paths.append(p.blank(b"one"))
+        contents.append(Content(p.random, p.random.choice([5000, 40_000, 100_000, 140_001])))
+    yield from at_once(p, [upload(p, path, content) for path, content in zip(paths, contents)])
+    yield from at_once(p, [download(p, path, content.size) for path, content in zip(paths, contents)])
+
+
+def at_once(p, scenes):
+    """The steps of several scenes, mixed."""
+    while scenes:
+        scene = p.random.choice(scenes)
+        step = next(scene, None)
+        if step is None:
+            scenes.remove(scene)
+        else:
+            yield step
+
+
+def replacing_upload(p):
+    """An upload under a new name that then takes the place of the old file, as editors, rclone and sftp do."""
+    path, size = p.blank(b"text"), p.random.choice([1, 5000, 40_000, 270_000, 300_000])
+    yield from upload(p, path, Content(p.random, size))
+    yield p.ask("SETSTAT", path, {"permissions": p.random.choice([0o600, 0o755, 0o777])})
+    yield p.ask("STAT", path)
+    for _ in range(2):
+        part, size = p.blank(b"text.part"), p.random.choice([0, 10, 5000, 40_000, 290_000])
+        yield from upload(p, part, Content(p.random, size))
+        yield p.ask("SETSTAT", part, {"permissions": 0o640})
+        if p.random.random() < 0.7:
+            yield p.ask("POSIX-RENAME", part, path)
+        else:
+            yield p.ask("RENAME", path, p.blank(b"text.old"))
+            yield p.ask("RENAME", part, path)
+        yield p.ask("LSTAT", part)
+        yield from download(p, path, size)
+
+
+def renaming_open(p):
+    """A file that gets another name while it is written, by RENAME or posix-rename, and one that is replaced while it
+    is read."""
+    path, new = p.blank(b"log"), p.blank(b"log.1")
+    content, kind = Content(p.random, 100_000), p.random.choice(["RENAME", "POSIX-RENAME"])
+    yield from upload(p, new if kind == "POSIX-RENAME" else p.blank(b"log.2"), Content(p.random, 50_000))
+    reading = p.ask("OPEN", new, READ, {}) if kind == "POSIX-RENAME" else None
+    if reading:
+        yield reading
+    step = p.ask("OPEN", path, READ | WRITE | CREAT | TRUNC, {})
+    yield step
+    yield p.ask("WRITE", step.opened(), 0, content.at(0, 32 * KIB))
+    yield p.ask(kind, path, new)
+    yield p.ask("WRITE", step.opened(), 32 * KIB, content.at(32 * KIB, 32 * KIB))
+    yield p.ask("WRITE", step.opened(), 50, content.at(7, 3000))
+    yield from read_all(p, step.opened(), 64 * KIB)
+    if reading:
+        yield from read_all(p, reading.opened(), 50_000)
+        yield p.ask("CLOSE", reading.opened())
+    yield p.ask("CLOSE", step.opened())
+    yield from download(p, new, 64 * KIB)
+
+
+def rewriting(p):
+    """A file of which parts are overwritten, also over the ends of blocks and the end of the file, and read again, now
+    and then through another handle."""
+    path, content = p.blank(b"base"), Content(p.random, p.random.choice(MIDDLE))
+    yield from upload(p, path, content)
+    step = p.ask("OPEN", path, READ | WRITE, {})
+    yield step
+    readers = [step]
+    if p.random.random() < 0.2 and "two-handles" not in p.skip:
+        readers.append(p.ask("OPEN", path, READ, {}))
+        yield readers[1]
+    places = [(0, 10), (32 * KIB - 1, 2), (64 * KIB - 5, 32 * KIB + 10), (100_000, 5000), (99_999, 1), (4096, 4096),
+              (content.size - 100, 300), (content.size // 2, 70_000), (content.size - 1, 1)]
+    for offset, count in p.random.sample(places, 6):
+        yield p.ask("WRITE", step.opened(), offset, content.at(offset + 1234, count))
+        if p.random.random() < 0.5:
+            yield p.ask("WRITE", step.opened(), offset + count // 2, content.at(offset + 4321, count))
+        handle = p.random.choice(readers).opened()
+        yield from read_around(p, handle, offset)
+        yield from read_around(p, handle, offset + count, count=2000)
+    yield p.ask("FSTAT", step.opened())
+    for reader in readers:
+        yield p.ask("CLOSE", reader.opened())
+
+
+def cutting(p):
+    """A file that is cut and made longer, by handle, by path and by OPEN, and written in between."""
+    path, content = p.blank(b"cut"), Content(p.random, p.random.choice(MIDDLE))
+    yield from upload(p, path, content)
+    step = p.ask("OPEN", path, READ | WRITE, {})
+    yield step
+    size = content.size
+    for _ in range(3):
+        short, long = p.random.choice([4097, 32 * KIB, 40_001, 100_001]), p.random.choice([110_000, 200_000, 1_100_001])
+        yield from sized(p, p.ask("FSETSTAT", step.opened(), {"size": short}), step, short)
+        yield p.ask("WRITE", step.opened(), p.random.choice([short, short - 50, 0]), content.at(size, 100))
+        yield from sized(p, p.ask("FSETSTAT", step.opened(), {"size": long}), step, long)
+        yield from read_around(p, step.opened(), short, count=3000)
+        size = long
+    yield p.ask("CLOSE", step.opened())
+    for size in (p.random.choice([50_000, 99_999]), p.random.choice([100_000, 150_000]), p.random.choice([1, 4096])):
+        yield p.ask("SETSTAT", path, {"size": size})
+        yield from download(p, path, size)
+    again = p.ask("OPEN", path, WRITE | CREAT | TRUNC, {})
+    yield again
+    yield p.ask("CLOSE", again.opened())
+    yield p.ask("STAT", path)
+    yield from upload(p, path, Content(p.random, p.random.choice([10, 70_000])))
+    yield from upload(p, path, Content(p.random, p.random.choice([5, 60_000])))
+
+
+def sized(p, setting, step, size):
+    """A request that sets the size of what this step opened, and what is there then."""
+    yield setting
+    yield p.ask("FSTAT", step.opened())
+    yield from read_around(p, step.opened(), size, before=200)
+    yield p.ask("READ", step.opened(), size, 100)
+
+
+def sparse(p):
+    """A file with WRITEs far behind its end, READs before, across and behind them, and READs where numbers of 31 and
+    32 bits end."""
+    path, content = p.blank(b"holes"), Content(p.random, 4 * 2 ** 20)
+    step = p.ask("OPEN", path, READ | WRITE | CREAT | TRUNC, {})
+    yield step
+    yield p.ask("WRITE", step.opened(), 0, content.at(0, p.random.choice([1, 100, 5000])))
+    places = [100_001, 2 ** 20 + 5, p.random.choice([2 ** 21 - 3, 3 * 2 ** 20])]
+    for offset in p.random.sample(places, 3):
+        yield p.ask("WRITE", step.opened(), offset, content.at(offset, p.random.choice([1, 500, 9000, 40_000])))
+        yield from read_around(p, step.opened(), offset, before=20, count=32 * KIB)
+    yield p.ask("FSTAT", step.opened())
+    for offset in (0, 50_000, 99_990, 500_000, 2 ** 20 - 20):
+        yield p.ask("READ", step.opened(), offset, 32 * KIB)
+    if "huge" not in p.skip:
+        yield p.ask("READ", step.opened(), p.random.choice([2 ** 31, 2 ** 32, 2 ** 32 + 2 ** 20 + 5]), 100)
+    yield p.ask("CLOSE", step.opened())
+
+
+def appending_blocks(p):
+    """A log that gets longer by blocks, whatever their offsets are."""
+    path, content = p.blank(b"journal"), Content(p.random, 200_000)
+    yield from upload(p, path, Content(p.random, p.random.choice([0, 10, 33_000])))
+    size = p.model.sizes[p.model.at((path[1:],)).number]
+    for _ in range(2):
+        step = p.ask("OPEN", path, WRITE | APPEND | p.random.choice([0, CREAT]), {})
+        yield step
+        for _ in range(p.random.randint(2, 4)):
+            count = p.random.choice([1, 100, 4 * KIB, 32 * KIB, 64 * KIB])
+            yield p.ask("WRITE", step.opened(), p.random.choice([0, 0, 7, size, 100_000]), content.at(size, count))
+            size += count
+        yield p.ask("FSTAT", step.opened())
+        yield p.ask("CLOSE", step.opened())
+    yield from download(p, path, size)
