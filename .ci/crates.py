@@ -5,8 +5,10 @@ import shutil
 from pathlib import Path
 
 TOP = Path(__file__).resolve().parents[1]
-# The lists of crates, each with its folder. Sources of benches end in .txt, so that the gate passes them by.
-LISTS = [(TOP / "crates.txt", TOP / "crates"), (TOP / "bench" / "crates" / "list.txt", TOP / "bench" / "crates")]
+# The lists of crates, each with its folder. Sources of programs that only measure or only try something end in .txt, so
+# that the gate passes them by.
+LISTS = [(TOP / "crates.txt", TOP / "crates"), (TOP / "bench" / "crates" / "list.txt", TOP / "bench" / "crates"),
+         (TOP / "fuzz" / "crates" / "list.txt", TOP / "fuzz" / "crates")]
 SOURCES = ("src", "specs", "proofs")
 # What the gate runs a program on.
 OF_PROGRAM = ("stdin", "stdout", "args", "status", "data")

@@ -146,10 +146,10 @@ def wrong_names(pages, names):
 
 
 def wrong_imports(names):
-    """Finds definitions that programs of bench/crates import, where the gate does not look, and that are not there."""
+    """Finds definitions that programs outside crates/ import, where the gate does not look, and that are not there."""
     form = re.compile(r"(?m)^(?:ghost )?use Rattle\.(sftp_\w+)\.specs\.((?!declared)[\w.]+)\.\{([^}]*)\}")
     for name in names:
-        if name.startswith("bench/crates/"):
+        if name.startswith(("bench/crates/", "fuzz/crates/")):
             for crate, module, words in form.findall(text(name)):
                 path = f"crates/{crate}/specs/{module.replace('.', '/')}.antt"
                 has = text(path) if (TOP / path).is_file() else ""

@@ -16,6 +16,16 @@ def program():
     return os.path.join(TOP, "out", "sftpv3")
 
 
+@functools.cache
+def again():
+    """The program of SFTP_AGAIN, or `sftp_again`, which .ci/build proves and builds if it has to."""
+    if "SFTP_AGAIN" in os.environ:
+        return os.path.realpath(os.environ["SFTP_AGAIN"])
+    folder = os.path.join(TOP, "out", "again")
+    subprocess.run([os.path.join(TOP, ".ci", "build"), folder, "sftp_again"], stdout=subprocess.DEVNULL, check=True)
+    return os.path.join(folder, "sftp_again")
+
+
 def keep(name, command, why, files, copies=()):
     """Keeps these files and the command in a folder of out/fuzz, which is returned."""
     folder = os.path.join(TOP, "out", "fuzz", name)
