@@ -1,7 +1,8 @@
 -- When two requests conflict, and so are done in the order asked. The draft asks that requests on one file are
 -- processed in the order received, with the results as if each had waited for the reply to the one before; those that
--- do not overlap may run in parallel (draft-ietf-secsh-filexfer-02, section 6.1). Which requests conflict is this
--- profile's own, and stricter: ranges are not compared.
+-- do not overlap may run in parallel (draft-ietf-secsh-filexfer-02, section 6.1). What a request touches is this
+-- profile's own. Here requests conflict by that alone; `Ranges` also compares the ranges of those that share a file
+-- (`range_clash`), and the server goes by that.
 use Rattle.std.specs.Prelude.{◌==◌, ℕ, Bool, true, false, if◌then◌else◌, List, Option, Some, None}
 use Rattle.sftp_packets.specs.declared.requests.Ask.{Ask}
 use Rattle.sftp_packets.specs.declared.requests.Ask.TheVariants as asks
@@ -82,7 +83,7 @@ share (writes_file number) (writes_file other) = number == other
 share (takes_names handle) (takes_names other) = same_bytes handle other
 share _ _ = false
 
--- whether two requests have to be done in the order asked
+-- whether two requests conflict by what they touch alone, whatever their ranges
 unfoldable pub clash : State → Request → Request → Bool
 clash s request other = share (touched s request.ask) (touched s other.ask)
 

@@ -5,9 +5,14 @@ use Rattle.sftp_path.specs.declared.errors.NoMemory.{NoMemory}
 use Rattle.sftp_tree.specs.declared.causes.Refused.TheVariants as refusals
 use Rattle.sftp_handles.specs.declared.not_opened.NotOpened.{NotOpened}
 use Rattle.sftp_handles.specs.declared.not_opened.NotOpened.TheVariants.{Taken, Refused}
-use Rattle.sftp_handles.specs.Handles.{is_open}
+use Rattle.sftp_tree.specs.Tree.{Tree}
+use Rattle.sftp_handles.specs.Handles.{Handles, is_open}
 use Rattle.sftp_handles.specs.State.{State}
 use Rattle.sftp_handles.specs.Judged.{IsRefusal}
+
+-- the state of a session that has this tree, and in whose table this is open
+abbrev pub session_of : Tree → Handles → State
+session_of tree handles = record { tree = tree; handles = handles }
 
 -- the name that is wanted is open, or the request is refused
 abbrev pub IsNotOpened : State → Ask → List ℕ → NotOpened → Type 0

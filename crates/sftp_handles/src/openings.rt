@@ -9,10 +9,11 @@ ghost use Rattle.sftp_handles.specs.declared.opens.Open.TheVariants as opens;
 ghost use Rattle.sftp_handles.specs.declared.requests.Kind.TheVariants as variants;
 ghost use Rattle.sftp_handles.specs.Kinds as kinds;
 ghost use Rattle.sftp_handles.specs.Handles as handles;
-ghost use Rattle.sftp_handles.specs.State.{IsLeft, has_handle_left};
+ghost use Rattle.sftp_tree.specs.Tree.{Tree as tree};
+ghost use Rattle.sftp_handles.specs.State.{Good, has_handle_left};
 ghost use Rattle.sftp_handles.specs.Allowed.{Does};
 ghost use Rattle.sftp_handles.specs.Judged.{IsJudged};
-ghost use Rattle.sftp_handles.specs.Opening.{IsNotOpened, not_opened};
+ghost use Rattle.sftp_handles.specs.Opening.{session_of, IsNotOpened, not_opened};
 
 use crate::not_opened::NotOpened;
 use crate::opens::Open;
@@ -20,7 +21,7 @@ use crate::sessions::Session;
 use crate::tables::{HandleTable, PutError};
 use bitflags::Flags;
 use sftp_listing::Listing;
-use sftp_tree::{NoMemory, Refused};
+use sftp_tree::{NoMemory, Refused, Tree};
 use sftp_wire::{Ask, Attrs, HANDLE_LIMIT, OpenFlags};
 
 impl<T: HandleTable> Session<T> {
@@ -41,110 +42,7 @@ impl<T: HandleTable> Session<T> {
         ensures taken { IfErr result (λ e. e ≡ failures.Taken → IsTrue T.takes_want) }
         ensures kept { OnErr result (self.new ≡ self.old) }
     {
-        match ask {
-            Ask::Open {
-                path,
-                pflags,
-                attrs,
-            } => self.open_file(path.as_slice(), *pflags, attrs, want),
-            Ask::Opendir { path } => self.open_directory(path.as_slice(), want),
-            _ => unreachable!(),
-        }
-    }
-
-    /// OPEN: opens a file under a new handle, and returns the handle's name. A table that gives names of its own
-    /// ignores the one that is wanted.
-    ///
-    /// # Errors
-    ///
-    /// `Taken` if the wanted name is open already, and else as the tree's call. On error the session is unchanged.
-    fn open_file(
-        &mut self,
-        path: &[u8],
-        pflags: u32,
-        attrs: &Attrs,
-        want: Vec<u8>,
-    ) -> Result<Vec<u8>, NotOpened>
-        requires short { length want.items ≤ handle_limit }
-        requires room { IsTrue (has_handle_left self.old) }
-        ensures done { IfOk result
-            (λ name. Does self.old (asks.Open path.now pflags attrs.now) (replies.Handle name.items) self.new) }
-        ensures bytes { IfOk result (λ name. AreBytes name.items) }
-        ensures wanted { IfOk result (λ name. IsTrue T.takes_want → name.items ≡ want.items) }
-        ensures failed { IfErr result (IsNotOpened self.old (asks.Open path.now pflags attrs.now) want.items) }
-        ensures taken { IfErr result (λ e. e ≡ failures.Taken → IsTrue T.takes_want) }
-        ensures kept { OnErr result (self.new ≡ self.old) }
-    {
-        let alloc = self.tree.allocator();
-        match self.table.reserve(alloc, want.as_slice()) {
-            Ok(name) => match self.tree.open_file(path, pflags, attrs) {
-                Ok(file) => {
-                    let flags = kept_flags(pflags);
-                    self.tree.pin(file);
-                    self.table.put_reserved(Open::File { file, flags }, want);
-                    Ok(name)
-                }
-                Err(refused) => Err(NotOpened::Refused(refused)),
-            },
-            Err(PutError::Taken) => Err(NotOpened::Taken),
-            Err(PutError::NoMemory) => Err(NotOpened::Refused(Refused::NoMemory)),
-        }
-    }
-
-    /// OPENDIR: opens a listing of a directory under a new handle, and returns the handle's name. A table that gives
-    /// names of its own ignores the one that is wanted.
-    ///
-    /// # Errors
-    ///
-    /// `Taken` if the wanted name is open already, and else as the tree's call. On error the session is unchanged.
-    fn open_directory(&mut self, path: &[u8], want: Vec<u8>) -> Result<Vec<u8>, NotOpened>
-        requires short { length want.items ≤ handle_limit }
-        requires room { IsTrue (has_handle_left self.old) }
-        ensures done { IfOk result
-            (λ name. Does self.old (asks.Opendir path.now) (replies.Handle name.items) self.new) }
-        ensures bytes { IfOk result (λ name. AreBytes name.items) }
-        ensures wanted { IfOk result (λ name. IsTrue T.takes_want → name.items ≡ want.items) }
-        ensures failed { IfErr result (IsNotOpened self.old (asks.Opendir path.now) want.items) }
-        ensures taken { IfErr result (λ e. e ≡ failures.Taken → IsTrue T.takes_want) }
-        ensures kept { OnErr result (self.new ≡ self.old) }
-    {
-        match self.tree.list(path) {
-            Ok(items) => match Listing::from_items(items) {
-                Ok(left) => self.open_listing(left, want),
-                Err(_) => Err(NotOpened::Refused(Refused::NoMemory)),
-            },
-            Err(refused) => Err(NotOpened::Refused(refused)),
-        }
-    }
-
-    /// Opens a listing under a new handle, and returns the handle's name. The tree stays as it is. A table that gives
-    /// names of its own ignores the one that is wanted.
-    ///
-    /// # Errors
-    ///
-    /// `Taken` if the wanted name is open already, else that memory ran out. On error the session is unchanged.
-    fn open_listing(&mut self, left: Listing, want: Vec<u8>) -> Result<Vec<u8>, NotOpened>
-        requires short { length want.items ≤ handle_limit }
-        requires room { IsTrue (has_handle_left self.old) }
-        requires left { IsLeft left }
-        ensures closed { IfOk result (λ name. handles.open_at self.old.handles name.items ≡ None) }
-        ensures opened { IfOk result (λ name. self.new ≡ record self.old {
-          handles = handles.with_open self.old.handles name.items (opens.Listing left);
-        }) }
-        ensures short { IfOk result (λ name. length name.items ≤ handle_limit) }
-        ensures bytes { IfOk result (λ name. AreBytes name.items) }
-        ensures wanted { IfOk result (λ name. IsTrue T.takes_want → name.items ≡ want.items) }
-        ensures failed { IfErr result (λ e. (asked : ask) → IsNotOpened self.old asked want.items e) }
-        ensures taken { IfErr result (λ e. e ≡ failures.Taken → IsTrue T.takes_want) }
-        ensures kept { OnErr result (self.new ≡ self.old) }
-    {
-        match self.table.put(Open::Listing { left }, want) {
-            Ok(name) => Ok(name),
-            Err(back) => match back.1 {
-                PutError::Taken => Err(NotOpened::Taken),
-                PutError::NoMemory => Err(NotOpened::Refused(Refused::NoMemory)),
-            },
-        }
+        open_in(&mut self.tree, &mut self.table, ask, want)
     }
 
     /// Whether a handle is an allowed answer to OPEN or OPENDIR. What these open is then open under it.
@@ -173,6 +71,162 @@ impl<T: HandleTable> Session<T> {
         ensures { result ≡ (nat_le (length handle.now) handle_limit && has_handle_left self.now) }
     {
         handle.len() <= HANDLE_LIMIT && self.has_handle_left()
+    }
+}
+
+/// Opens a file of a tree, or a listing of one of its directories, in the table of a session: under the name that the
+/// table has for the next handle, which it returns.
+///
+/// # Errors
+///
+/// `Taken` if the wanted name is open already, and else as the tree's call. On error the tree is unchanged, and so are
+/// what is open and the name for the next handle: a request that is refused uses up no serial.
+fn open_in<T: HandleTable>(
+    tree: &mut Tree,
+    table: &mut T,
+    ask: &Ask,
+    want: Vec<u8>,
+) -> Result<Vec<u8>, NotOpened>
+    requires kind { kinds.kind_of ask.now ≡ variants.Open }
+    requires short { length want.items ≤ handle_limit }
+    requires good { Good (session_of tree.old (T.handles table.old)) }
+    requires room { IsTrue (has_handle_left (session_of tree.old (T.handles table.old))) }
+    ensures done { IfOk result (λ name. Does (session_of tree.old (T.handles table.old)) ask.now
+        (replies.Handle name.items) (session_of tree.new (T.handles table.new))) }
+    ensures good { Good (session_of tree.new (T.handles table.new)) }
+    ensures named { IfOk result (λ name. name.items ≡ T.name_for table.old want.items) }
+    ensures bytes { IfOk result (λ name. AreBytes name.items) }
+    ensures wanted { IfOk result (λ name. IsTrue T.takes_want → name.items ≡ want.items) }
+    ensures failed { IfErr result
+        (IsNotOpened (session_of tree.old (T.handles table.old)) ask.now want.items) }
+    ensures taken { IfErr result (λ e. e ≡ failures.Taken → IsTrue T.takes_want) }
+    ensures kept { OnErr result (tree.new ≡ tree.old) }
+    ensures closed { OnErr result (T.handles table.new ≡ T.handles table.old) }
+    ensures next { OnErr result (T.name_for table.new ≡ T.name_for table.old) }
+{
+    match ask {
+        Ask::Open {
+            path,
+            pflags,
+            attrs,
+        } => open_file(tree, table, path.as_slice(), *pflags, attrs, want),
+        Ask::Opendir { path } => open_directory(tree, table, path.as_slice(), want),
+        _ => unreachable!(),
+    }
+}
+
+/// OPEN, as `open_in`.
+///
+/// # Errors
+///
+/// As `open_in`.
+fn open_file<T: HandleTable>(
+    tree: &mut Tree,
+    table: &mut T,
+    path: &[u8],
+    pflags: u32,
+    attrs: &Attrs,
+    want: Vec<u8>,
+) -> Result<Vec<u8>, NotOpened>
+    requires short { length want.items ≤ handle_limit }
+    requires good { Good (session_of tree.old (T.handles table.old)) }
+    requires room { IsTrue (has_handle_left (session_of tree.old (T.handles table.old))) }
+    ensures done { IfOk result (λ name. Does (session_of tree.old (T.handles table.old))
+        (asks.Open path.now pflags attrs.now) (replies.Handle name.items)
+        (session_of tree.new (T.handles table.new))) }
+    ensures good { Good (session_of tree.new (T.handles table.new)) }
+    ensures named { IfOk result (λ name. name.items ≡ T.name_for table.old want.items) }
+    ensures bytes { IfOk result (λ name. AreBytes name.items) }
+    ensures wanted { IfOk result (λ name. IsTrue T.takes_want → name.items ≡ want.items) }
+    ensures failed { IfErr result (IsNotOpened (session_of tree.old (T.handles table.old))
+        (asks.Open path.now pflags attrs.now) want.items) }
+    ensures taken { IfErr result (λ e. e ≡ failures.Taken → IsTrue T.takes_want) }
+    ensures kept { OnErr result (tree.new ≡ tree.old) }
+    ensures closed { OnErr result (T.handles table.new ≡ T.handles table.old) }
+    ensures next { OnErr result (T.name_for table.new ≡ T.name_for table.old) }
+{
+    let alloc = tree.allocator();
+    match table.reserve(alloc, want.as_slice()) {
+        Ok(name) => match tree.open_file(path, pflags, attrs) {
+            Ok(file) => {
+                let flags = kept_flags(pflags);
+                tree.pin(file);
+                table.put_reserved(Open::File { file, flags }, want);
+                Ok(name)
+            }
+            Err(refused) => Err(NotOpened::Refused(refused)),
+        },
+        Err(PutError::Taken) => Err(NotOpened::Taken),
+        Err(PutError::NoMemory) => Err(NotOpened::Refused(Refused::NoMemory)),
+    }
+}
+
+/// OPENDIR, as `open_in`.
+///
+/// # Errors
+///
+/// As `open_in`.
+fn open_directory<T: HandleTable>(
+    tree: &Tree,
+    table: &mut T,
+    path: &[u8],
+    want: Vec<u8>,
+) -> Result<Vec<u8>, NotOpened>
+    requires short { length want.items ≤ handle_limit }
+    requires good { Good (session_of tree.now (T.handles table.old)) }
+    requires room { IsTrue (has_handle_left (session_of tree.now (T.handles table.old))) }
+    ensures done { IfOk result (λ name. Does (session_of tree.now (T.handles table.old)) (asks.Opendir path.now)
+        (replies.Handle name.items) (session_of tree.now (T.handles table.new))) }
+    ensures good { Good (session_of tree.now (T.handles table.new)) }
+    ensures named { IfOk result (λ name. name.items ≡ T.name_for table.old want.items) }
+    ensures bytes { IfOk result (λ name. AreBytes name.items) }
+    ensures wanted { IfOk result (λ name. IsTrue T.takes_want → name.items ≡ want.items) }
+    ensures failed { IfErr result
+        (IsNotOpened (session_of tree.now (T.handles table.old)) (asks.Opendir path.now) want.items) }
+    ensures taken { IfErr result (λ e. e ≡ failures.Taken → IsTrue T.takes_want) }
+    ensures closed { OnErr result (T.handles table.new ≡ T.handles table.old) }
+    ensures next { OnErr result (T.name_for table.new ≡ T.name_for table.old) }
+{
+    match tree.list(path) {
+        Ok(items) => match Listing::from_items(items) {
+            Ok(left) => open_listing(table, left, want),
+            Err(_) => Err(NotOpened::Refused(Refused::NoMemory)),
+        },
+        Err(refused) => Err(NotOpened::Refused(refused)),
+    }
+}
+
+/// Opens a listing under the name that a table has for the next handle, and returns the name.
+///
+/// # Errors
+///
+/// `Taken` if the wanted name is open already, else that memory ran out. On error what is open is unchanged, and so is
+/// the name for the next handle.
+fn open_listing<T: HandleTable>(
+    table: &mut T,
+    left: Listing,
+    want: Vec<u8>,
+) -> Result<Vec<u8>, NotOpened>
+    requires short { length want.items ≤ handle_limit }
+    ensures named { IfOk result (λ name. name.items ≡ T.name_for table.old want.items) }
+    ensures absent { IfOk result (λ name. handles.open_at (T.handles table.old) name.items ≡ None) }
+    ensures opened { IfOk result (λ name. T.handles table.new
+        ≡ handles.with_open (T.handles table.old) name.items (opens.Listing left)) }
+    ensures short { IfOk result (λ name. length name.items ≤ handle_limit) }
+    ensures bytes { IfOk result (λ name. AreBytes name.items) }
+    ensures wanted { IfOk result (λ name. IsTrue T.takes_want → name.items ≡ want.items) }
+    ensures failed { IfErr result (λ e. (tree : tree) (asked : ask) →
+        IsNotOpened (session_of tree (T.handles table.old)) asked want.items e) }
+    ensures taken { IfErr result (λ e. e ≡ failures.Taken → IsTrue T.takes_want) }
+    ensures closed { OnErr result (T.handles table.new ≡ T.handles table.old) }
+    ensures next { OnErr result (T.name_for table.new ≡ T.name_for table.old) }
+{
+    match table.put(Open::Listing { left }, want) {
+        Ok(name) => Ok(name),
+        Err(back) => match back.1 {
+            PutError::Taken => Err(NotOpened::Taken),
+            PutError::NoMemory => Err(NotOpened::Refused(Refused::NoMemory)),
+        },
     }
 }
 

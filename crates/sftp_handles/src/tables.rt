@@ -120,12 +120,14 @@ pub trait HandleTable: Sized + Drop {
         ensures short { IfOk result (λ name. length name.items ≤ handle_limit) }
         ensures bytes { IfOk result (λ name. AreBytes name.items) }
         ensures wanted { IfOk result (λ name. IsTrue takes_want → name.items ≡ want.items) }
+        ensures named { IfOk result (λ name. name.items ≡ name_for self.old want.items) }
         ensures taken { IfErr result (λ e. e.1 ≡ Taken →
             IsTrue takes_want × IsTrue (is_open (handles self.old) want.items)) }
         ensures refused { IfErr result (λ e. e.1 ≡ NoMemory → IsTrue takes_want →
             open_at (handles self.old) want.items ≡ None) }
         ensures back { IfErr result (λ e. e.0 ≡ it) }
         ensures err { OnErr result (handles self.new ≡ handles self.old) }
+        ensures next { OnErr result (name_for self.new ≡ name_for self.old) }
     {
         match self.reserve(*want.allocator(), want.as_slice()) {
             Ok(name) => {

@@ -1,7 +1,7 @@
 -- What is opened under a new handle: the state after it, that it is good, and which steps it makes.
 use Rattle.sftp_handles.proofs.Imports.{◌≡◌, ◌==◌, ◌&&◌, ◌||◌, not, nat_lt, nat_le, ℕ, ◌+◌, ◌<◌, ◌≤◌, ◌^◌, Bool, true}
 use Rattle.sftp_handles.proofs.Imports.{false, cond, List, [], ◌∷◌, length, Option, Some, None, Result, Ok, Err}
-use Rattle.sftp_handles.proofs.Imports.{is_some, refl, sym, ap, subst, ◌∙◌, IfOk, arith, leb-true, filter}
+use Rattle.sftp_handles.proofs.Imports.{is_some, refl, sym, ap, subst, ◌∙◌, IfOk, OnErr, arith, leb-true, filter}
 use Rattle.sftp_handles.proofs.Imports.{nat_list_cmp_total, and-false}
 use Rattle.sftp_handles.proofs.Imports.{and_from, or_right, le-leb, eqb-true, same_Some, Attrs, OpenFlags, Ask}
 use Rattle.sftp_handles.proofs.Imports.{handle_limit, Place, bytes_cmp, place_cmp, size, retain}
@@ -359,3 +359,38 @@ listed-ok s end path left (Ok v) items good opened room free absent is short =
     subst (Does s (asks.Opendir path) (replies.Handle (items v))) (sym is)
     (does-listing s path left (items v) good opened short absent room free)
 listed-ok s end path left (Err e) items good opened room free absent is short = tt
+
+-- ---- the parts of a session
+
+module _ {V E : Type 0} (s : State) (left : Left) (now : Handles) (result : Result V E) (items : V → List ℕ) where
+  -- what is open, once a listing was opened or nothing was, is that of a good state
+  pub good-either : Good s → IsLeft left → has_handle_left s ≡ true
+      → IfOk result (λ v. open_at s.handles (items v) ≡ None)
+      → IfOk result (λ v. now ≡ with_open s.handles (items v) (Listing left))
+      → IfOk result (λ v. length (items v) ≤ handle_limit) → OnErr result (now ≡ s.handles)
+      → Good (state_of s.tree now)
+  good-either good is_left room = by result
+    where
+      by : (r : Result V E) → IfOk r (λ v. open_at s.handles (items v) ≡ None)
+          → IfOk r (λ v. now ≡ with_open s.handles (items v) (Listing left))
+          → IfOk r (λ v. length (items v) ≤ handle_limit) → OnErr r (now ≡ s.handles)
+          → Good (state_of s.tree now)
+      by (Ok v) absent is short none =
+          subst (λ (h : Handles). Good (state_of s.tree h)) (sym is) (good-listed s (items v) left good short absent
+          room is_left)
+      by (Err e) absent is short none = subst (λ (h : Handles). Good (state_of s.tree h)) (sym none) good
+
+-- a tree and what is open on it make a state
+pub on-tree : {V E : Type 0} (t : Tree) (before now : Handles) (left : Left) (result : Result V E)
+    (items : V → List ℕ) → IfOk result (λ v. now ≡ with_open before (items v) (Listing left))
+    → IfOk result (λ v. state_of t now ≡ state_of t (with_open before (items v) (Listing left)))
+on-tree t before now left (Ok v) items is = ap (state_of t) is
+on-tree t before now left (Err e) items is = tt
+
+-- where neither changed, neither did the state
+pub unchanged-parts : {V E : Type 0} (s : State) (before now : Tree) (open_before open_now : Handles)
+    (result : Result V E) → state_of before open_before ≡ s → OnErr result (now ≡ before)
+    → OnErr result (open_now ≡ open_before) → OnErr result (state_of now open_now ≡ s)
+unchanged-parts s before now open_before open_now (Ok v) is same closed = tt
+unchanged-parts s before now open_before open_now (Err e) is same closed =
+    ap (λ (t : Tree). state_of t open_now) same ∙ (ap (state_of before) closed ∙ is)
