@@ -142,7 +142,7 @@ class Run:
         for outcome in self.pool.in_order(self.tasks(), self.playing, self.say):
             if outcome is None:
                 continue
-            if outcome.not_started and not self.tally.sessions:
+            if outcome.not_started and not self.tally.played:
                 raise outcome.not_started
             self.take(outcome)
             if outcome.differences and self.given.first:
@@ -151,8 +151,8 @@ class Run:
 
     def say(self):
         found, kinds = self.tally, len(self.groups.by_key)
-        self.progress.say(f"{found.sessions} of {found.planned} sessions played: {found.differing} differ, in {kinds} "
-                          f"way{'s' if kinds != 1 else ''}")
+        self.progress.say(f"{len(found.played)} of {found.planned} sessions played: {found.differing} differ, in "
+                          f"{kinds} way{'s' if kinds != 1 else ''}")
 
     def take(self, outcome):
         """Puts the differences of a seed into their groups, and prints those that are new."""
@@ -192,6 +192,9 @@ class Run:
             reports.write(self.given.report, self.tally, found, self.given.command)
         for group in found:
             reports.print_group(group.number, group)
+        vain = len(self.tally.played) - self.tally.sessions
+        if vain:
+            print(f"probe: in {vain} session{'s' if vain != 1 else ''} no request was played", file=sys.stderr)
         if found or self.tally.left or not self.vain():
             print(("\n" if found else "") + reports.summary(self.tally, found), flush=True)
 
@@ -224,6 +227,5 @@ class Run:
         if self.tally.left:
             return options.NOT_FINISHED
         if self.vain():
-            print("probe: no request was played", file=sys.stderr)
             return options.BAD_USAGE
         return options.ACCEPTED

@@ -21,8 +21,8 @@ class Played:
     groups: List = field(default_factory=list)
 
     def vain(self):
-        """Whether nothing at all was judged."""
-        return self.unjudged >= self.requests
+        """Whether nothing at all was judged: then it does not count as accepted."""
+        return not self.groups and self.unjudged >= self.requests
 
 
 class Tally:
@@ -37,7 +37,8 @@ class Tally:
 
     @property
     def sessions(self):
-        return len(self.played)
+        """How many sessions there were in which something was judged."""
+        return sum(not one.vain() for one in self.played)
 
     @property
     def requests(self):
@@ -60,4 +61,5 @@ class Tally:
     @property
     def by_seed(self):
         """For each seed the titles of its differences."""
-        return {one.seed: [group.title() for group in one.groups] for one in self.played}
+        return {one.seed: [group.title() for group in one.groups] for one in self.played
+                if not one.vain()}
