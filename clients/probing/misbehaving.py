@@ -171,10 +171,11 @@ class loud(Healthy):
 
 
 class slow(Healthy):
-    """Each reply takes 100 ms."""
+    """Each of the first 50 replies takes 100 ms."""
 
     def before(self, asked):
-        time.sleep(0.1)
+        if self.count <= 50:
+            time.sleep(0.1)
 
 
 class wrong_id(Healthy):
