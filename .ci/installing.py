@@ -8,6 +8,8 @@ from pathlib import Path
 
 from texts import TOP
 
+# The scripts with texts of their own.
+SCRIPTS = ("sftpv3-page", "sftpv3-probe")
 INIT = bytes.fromhex("000000050100000003")
 
 
@@ -37,15 +39,67 @@ def wrong_texts(program, share):
                 yield f"install: {file} lacks {word}"
 
 
+def alone(words, room):
+    """Runs an installed script as a user would who has set traps: modules of the user that must not run."""
+    traps = room / "traps"
+    for name in ("sftp3.py", "usercustomize.py", "argparse.py", "os.py"):
+        (traps / "packages").mkdir(parents=True, exist_ok=True)
+        (traps / "packages" / name).write_text(f"open({str(room / 'sprung')!r}, 'w')\n")
+    environment = {"PATH": os.environ.get("PATH", os.defpath), "HOME": str(traps), "LC_ALL": "C.UTF-8",
+                   "PYTHONPATH": str(traps / "packages"), "PYTHONUSERBASE": str(traps), "COLUMNS": "200"}
+    ran = subprocess.run([str(it) for it in words], cwd=traps / "packages", env=environment,
+                         stdin=subprocess.DEVNULL, stdout=subprocess.PIPE, stderr=subprocess.STDOUT)
+    return ran.returncode, ran.stdout.decode(errors="replace")
+
+
+def wrong_script_texts(prefix, room):
+    """Finds options of the help of a script that its manual page or a completion lacks."""
+    for name in SCRIPTS:
+        status, help_text = alone([prefix / "bin" / name, "--help"], room)
+        words = set(re.findall(r"(?m)^  (?:-\w(?: \w+)?, )?(--[a-z-]+)", help_text)) - {"--help"}
+        if status or len(words) < 5 or not help_text.startswith(f"usage: {name}"):
+            yield f"install: {name} --help ended with status {status}: {help_text}"
+        for file in (f"man/man1/{name}.1", f"bash-completion/completions/{name}", f"zsh/site-functions/_{name}"):
+            text = (prefix / "share" / file).read_text().replace("\\-", "-").replace("Fl -", "--")
+            for word in sorted(words):
+                if not re.search(rf"(?<![\w-]){re.escape(word)}(?![\w-])", text):
+                    yield f"install: {file} lacks {word}"
+
+
+def wrong_scripts(prefix, room):
+    """Runs the installed scripts: they find the installed program and their modules, and run nothing of the user's."""
+    page, session = room / "page.html", TOP / "examples/wrong-byte.transcript"
+    words = [prefix / "bin/sftpv3-page", session, "--tree", TOP / "examples/letters.tree", "-o", page]
+    ran = alone(words, room)
+    if ran != (0, "") or page.read_text().count('<em class="wrong">differs</em>') != 1:
+        yield f"install: sftpv3-page made no page of what is refused: {ran}"
+    words = [prefix / "bin/sftpv3-probe", "--seeds", "1-2", "--requests", "5", "--report", room / "run.html",
+             "--keep", room / "probe-kept", "--", prefix / "bin/sftpv3", "serve", "--tree", "{tree}"]
+    status, printed = alone(words, room)
+    if status or not printed.endswith("accepted: 2 sessions, 10 requests\n") or not (room / "run.html").is_file():
+        yield f"install: sftpv3-probe ended with status {status}: {printed}"
+    for name in ("any", "gesftpserver", "openssh"):
+        status, printed = alone([prefix / "lib/sftpv3/servers" / name], room)
+        if status != 3 or f"servers/{name} TREE" not in printed:
+            yield f"install: servers/{name} ended with status {status}: {printed}"
+    if (room / "sprung").exists():
+        yield "install: a script ran a module of the user's"
+    servers = [it for it in prefix.glob("lib/sftpv3/servers/*") if it.is_file() and not it.suffix]
+    for script in [*prefix.glob("bin/sftpv3-*"), *servers]:
+        if not script.read_bytes().startswith(b"#!/usr/bin/python3 -I\n"):
+            yield f"install: {script} does not start with a fixed interpreter and -I"
+
+
 def wrong_syntax(share):
     """Has the programs that read the texts read them, as far as they are installed."""
-    for words in (["mandoc", "-T", "lint", "-W", "warning", share / "man/man1/sftpv3.1"],
-                  ["bash", "-n", share / "bash-completion/completions/sftpv3"],
-                  ["zsh", "-n", share / "zsh/site-functions/_sftpv3"]):
-        if shutil.which(words[0]):
-            status, printed = called(words, "")
-            if status or printed:
-                yield f"install: {' '.join(map(str, words))} ended with status {status}\n{printed}"
+    for name in ("sftpv3", *SCRIPTS):
+        for words in (["mandoc", "-T", "lint", "-W", "warning", share / f"man/man1/{name}.1"],
+                      ["bash", "-n", share / f"bash-completion/completions/{name}"],
+                      ["zsh", "-n", share / f"zsh/site-functions/_{name}"]):
+            if shutil.which(words[0]):
+                status, printed = called(words, "")
+                if status or printed:
+                    yield f"install: {' '.join(map(str, words))} ended with status {status}\n{printed}"
 
 
 def wrong_completion(share):
@@ -56,6 +110,11 @@ def wrong_completion(share):
         printed = called(["bash", "-c", script], "")[1]
         if printed != "audit\n":
             yield f"install: completing `aud` gives {printed!r}"
+        script = f"source '{share}/bash-completion/completions/sftpv3-probe'\n" \
+                 'COMP_WORDS=(sftpv3-probe --see) COMP_CWORD=1\n_sftpv3_probe\necho "${COMPREPLY[@]}"'
+        printed = called(["bash", "-c", script], "")[1]
+        if printed != "--seeds\n":
+            yield f"install: completing `sftpv3-probe --see` gives {printed!r}"
 
 
 def wrong_recorder(prefix, room):
@@ -71,11 +130,13 @@ def wrong_recorder(prefix, room):
 def wrong_removal(program, room):
     """Installs and removes in a folder of its own, and installs where nothing can be written."""
     prefix, plain = room / "removed", room / "plain"
-    for words in (["./install", "--prefix", prefix], ["./install", "--uninstall", "--prefix", prefix]):
+    for words in (["./install", "--prefix", prefix],
+                  [prefix / "bin/sftpv3-page", TOP / "examples/wrong-byte.transcript", "-o", room / "removed.html"],
+                  ["./install", "--uninstall", "--prefix", prefix]):
         status, printed = called(words, program)
         if status or printed:
             yield f"install: {' '.join(map(str, words))} ended with status {status}: {printed}"
-    if files_below(prefix):
+    if files_below(prefix) or (prefix / "lib/sftpv3").exists():
         yield f"install: --uninstall leaves {files_below(prefix)}"
     plain.write_text("")
     status, printed = called(["./install", "--prefix", plain], program)
@@ -109,4 +170,5 @@ def wrong_installation(program, room):
         return [f"install: it ended with status {status}: {printed}"]
     share = prefix / "share"
     return [*wrong_texts(program, share), *wrong_syntax(share), *wrong_completion(share),
-            *wrong_recorder(prefix, room), *wrong_removal(program, room), *wrong_package(program, room)]
+            *wrong_script_texts(prefix, room), *wrong_scripts(prefix, room), *wrong_recorder(prefix, room),
+            *wrong_removal(program, room), *wrong_package(program, room)]

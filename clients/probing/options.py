@@ -4,7 +4,7 @@ import os
 import textwrap
 
 import sftp3
-from probing import features, refusals, sessions, shrinking, trees, verdicts
+from probing import features, program, refusals, sessions, shrinking, trees, verdicts
 
 # The exit statuses: all sessions were accepted; there are differences; the command line is wrong, or plans nothing; the
 # server, the command of --reset or the program could not be started; no difference was found, and not all was played.
@@ -97,7 +97,7 @@ def parser(about):
     names = f"names of requests, as in docs/FORMATS.md, of causes ({causes}), and of features:"
     known = [f"  {name:<15} {text}" for name, text in features.FEATURES.items()]
     found = argparse.ArgumentParser(
-        prog="clients/probe", usage="clients/probe [OPTIONS] -- COMMAND [ARGUMENT ...]",
+        prog=program.called("probe"), usage=f"{program.called('probe')} [OPTIONS] -- COMMAND [ARGUMENT ...]",
         formatter_class=argparse.RawDescriptionHelpFormatter, description=about,
         epilog="\n".join(textwrap.wrap("--skip takes " + names, 120) + known))
     add_of_plans(found.add_argument)
@@ -131,7 +131,8 @@ def add_of_run(add):
         help=f"seconds for all shrinking ({shrinking.BUDGET}); 0: none is shrunk")
     add("--first", action="store_true", help="play no more seeds once there is a difference")
     add("--keep", metavar="FOLDER", default="probe-kept", help="where to keep shrunk sessions (probe-kept)")
-    add("--report", metavar="FILE", help="write a report: JUnit if the name ends in .xml, else JSON lines")
+    add("--report", metavar="FILE", 
+        help="write a report: a page if the name ends in .html, JUnit if in .xml, else JSON lines")
 
 
 def read(option, name, reader):

@@ -1,19 +1,43 @@
-"""Finds the program `sftpv3`."""
+"""Finds the program `sftpv3`: in the repository, where ./sftpv3 builds it, or installed, beside these modules."""
 import os
 import subprocess
+import sys
 
-TOP = os.path.dirname(os.path.dirname(os.path.dirname(os.path.realpath(__file__))))
+CLIENTS = os.path.dirname(os.path.dirname(os.path.realpath(__file__)))
+TOP = os.path.dirname(CLIENTS)
+
+# Installed modules are in lib/sftpv3, the program and the commands in bin.
+INSTALLED = os.path.join(os.path.dirname(TOP), "bin", "sftpv3")
 
 
 class NotBuilt(Exception):
-    """./sftpv3 did not build the program."""
+    """./sftpv3 did not build the program, or the installed one is not there."""
+
+
+def in_repository():
+    return os.path.exists(os.path.join(TOP, ".ci", "build"))
 
 
 def program():
-    """The program that SFTPV3 names, else the one that ./sftpv3 builds."""
+    """The program that SFTPV3 names, else the installed one, else the one that ./sftpv3 builds."""
     if "SFTPV3" in os.environ:
         return os.path.realpath(os.environ["SFTPV3"])
+    if not in_repository():
+        if not os.access(INSTALLED, os.X_OK):
+            raise NotBuilt(f"there is no program {INSTALLED}")
+        return INSTALLED
     done = subprocess.run([os.path.join(TOP, "sftpv3"), "--version"], stdout=subprocess.DEVNULL, check=False)
     if done.returncode != 0:
         raise NotBuilt(f"./sftpv3 did not build the program: it ended with status {done.returncode}")
     return os.path.join(TOP, "out", "sftpv3")
+
+
+def called(name):
+    """What a command of clients/ is called: where it is installed, by its name there."""
+    return f"clients/{name}" if in_repository() else f"sftpv3-{name}"
+
+
+def complain(name, why, status):
+    """Says why a command of clients/ ends, and gives the status."""
+    print(f"{os.path.basename(called(name))}: {why}", file=sys.stderr)
+    return status

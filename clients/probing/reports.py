@@ -4,34 +4,46 @@ import os
 import re
 import shlex
 import subprocess
-from xml.sax import saxutils
+import sys
+import time
 
 import sftp3
-from probing import keeping, trees
+from paging import document, packets, runs
+from probing import junit, keeping, printed, program, shown, trees
 
 
-def text_of(program, name):
-    done = subprocess.run([program, "show", "--full", "--data", "all", name], capture_output=True, check=False)
+def text_of(judge, name):
+    done = subprocess.run([judge, "show", "--full", "--data", "all", name], capture_output=True, check=False)
     return done.stdout.decode(errors="replace")
 
 
-def keep(program, folder, number, group, shown):
+def keep(judge, folder, number, group, kept):
     """Keeps the tree, the transcript, their texts and the reason of a group in a folder of its own."""
     name = re.sub(r"[^a-z0-9]+", "-", f"{group.request} {group.found}".lower()).strip("-")[:50].strip("-")
     place = os.path.join(folder, f"{number:02}-{name}")
     os.makedirs(place, exist_ok=True)
-    keeping.of_server(place, shown.difference)
-    trees.write(shown.tree, os.path.join(place, "start.tree"))
+    keeping.of_server(place, kept.difference)
+    trees.write(kept.tree, os.path.join(place, "start.tree"))
     with open(os.path.join(place, "session.transcript"), "wb") as file:
-        file.write(sftp3.put_records(shown.difference.records))
-    texts = {kind: text_of(program, os.path.join(place, kind)) for kind in ("start.tree", "session.transcript")}
+        file.write(sftp3.put_records(kept.difference.records))
+    texts = {kind: text_of(judge, os.path.join(place, kind)) for kind in ("start.tree", "session.transcript")}
     for kind, text in texts.items():
         with open(os.path.join(place, kind.split(".")[0] + ".txt"), "w", encoding="utf-8") as file:
             file.write(text)
-    verdict = shown.difference.verdict
+    verdict = kept.difference.verdict
     with open(os.path.join(place, "verdict.txt"), "w", encoding="utf-8") as file:
         file.write("\n".join([verdict.text] + [f"{label}: {words}" for label, words in verdict.lines.items()]) + "\n")
-    return place, texts["session.transcript"].splitlines()[2:]
+    session = shown.judged(kept.difference, "")
+    lines = printed.session(session, texts["session.transcript"].splitlines()) + printed.byte(verdict.lines, session)
+    return place, lines
+
+
+def seeds_of(group):
+    """How often it came, and in which sessions."""
+    more = ", ..." if len(group.seeds) > 10 else ""
+    seeds = ", ".join(map(str, group.seeds[:10])) + more
+    sessions = f"{len(group.seeds)} session{'s' if len(group.seeds) != 1 else ''}"
+    return f"{group.count} in {sessions}, of seed{'s' if len(group.seeds) != 1 else ''} {seeds}"
 
 
 def print_group(number, group):
@@ -40,8 +52,8 @@ def print_group(number, group):
         print(f"   {line}")
     seeds = f"{group.count} in {len(group.seeds)} sessions, first in seed {group.seeds[0]}"
     print(f"   {seeds}; {group.story()}; kept in {group.kept[0]}")
-    for line in group.kept[1][:24]:
-        print("      " + (line if len(line) <= 160 else line[:157] + "..."))
+    for line in group.kept[1]:
+        print("      " + line)
 
 
 def summary(tally, found):
@@ -61,41 +73,65 @@ def summary(tally, found):
 
 def of_group(number, group):
     """What a JSON line says of a group."""
-    return {"kind": number, "group": group.leader.number if group.leader else number,
-            "request": group.request, "causes": list(group.causes), "expected": group.expected,
-            "found": group.found, "allowed_by": group.allowed, "count": group.count, "seeds": group.seeds,
+    difference = group.shortest.difference if group.shortest else group.first
+    byte = printed.byte_of(difference.verdict.lines, shown.judged(difference, ""))
+    return {"kind": number, "group": group.leader.number if group.leader else number, "request": group.request,
+            "causes": list(group.causes), "expected": group.expected, "found": group.found,
+            "allowed_by": group.allowed, "count": group.count, "seeds": group.seeds,
             "requests": len(group.shortest.steps) if group.shortest else None,
-            "kept": group.kept and group.kept[0]}
+            "kept": group.kept and group.kept[0], "story": group.story(), "verdict": group.first.verdict.kind,
+            "byte": byte and byte.as_dictionary()}
 
 
 def write_json_lines(name, tally, found):
+    lines = [{"seed": one.seed, "accepted": not one.groups, "differences": [group.title() for group in one.groups],
+              "seconds": round(one.seconds, 3)} for one in tally.judged]
+    lines += [of_group(number, group) for number, group in enumerate(found, 1)]
     with open(name, "w", encoding="utf-8") as file:
-        for seed, titles in tally.by_seed.items():
-            print(json.dumps({"seed": seed, "accepted": not titles, "differences": titles}), file=file)
-        for number, group in enumerate(found, 1):
-            print(json.dumps(of_group(number, group)), file=file)
+        file.writelines(json.dumps(clean(line)) + "\n" for line in lines)
 
 
-def write_junit(name, tally, found, command):
-    """A test for each seed. It fails with its differences; the shrunk sessions stand in the text of the suite."""
-    quoted = saxutils.quoteattr
-    lines = ['<?xml version="1.0" encoding="UTF-8"?>',
-             f'<testsuite name={quoted("clients/probe -- " + shlex.join(command))} tests="{len(tally.by_seed)}" '
-             f'failures="{tally.differing}" errors="0" skipped="0">']
-    for seed, titles in tally.by_seed.items():
-        case = f'<testcase classname="probe" name="seed {seed}"'
-        lines.append(f"  {case}/>" if not titles else
-                     f"  {case}><failure message={quoted('; '.join(titles))}/></testcase>")
-    said = "\n\n".join("\n".join(group.text() + (group.kept[1][:40] if group.kept else [])) for group in found)
-    clean = re.sub(r"[^\t\n\x20-\ud7ff\ue000-\ufffd]", "?", said)
-    lines += [f"  <system-out>{saxutils.escape(clean)}</system-out>", "</testsuite>"]
-    with open(name, "w", encoding="utf-8") as file:
-        file.write("\n".join(lines) + "\n")
+def clean(value):
+    """A value of JSON whose texts have no characters that a reader may refuse."""
+    if isinstance(value, dict):
+        return {key: clean(one) for key, one in value.items()}
+    if isinstance(value, list):
+        return [clean(one) for one in value]
+    return packets.clean(value) if isinstance(value, str) else value
 
 
-def write(name, tally, found, command):
-    """JUnit if the name ends in .xml, else JSON lines."""
-    if name.endswith(".xml"):
-        write_junit(name, tally, found, command)
+def write_page(name, given, tally, found):
+    """The page of the run."""
+    seeds = [(one.seed, [group.number for group in one.groups]) for one in tally.judged]
+    differences = [shown.of_group(number, group, notes_of(group)) for number, group in enumerate(found, 1)]
+    facts = [("server", shlex.join(given.command)), ("its VERSION", tally.version or "none came"),
+             ("sftpv3", subprocess.run([program.program(), "--version"], stdout=subprocess.PIPE, check=False)
+              .stdout.decode(errors="replace").splitlines() or "unknown"),
+             ("options", shlex.join(sys.argv[1:len(sys.argv) - len(given.command)]) or "none"),
+             ("seeds", seeds_in_words(tally)),
+             ("requests", f"{tally.requests:,}, {tally.unjudged:,} of which were not judged"),
+             ("time", f"{sum(one.seconds for one in tally.played):,.1f} s in all sessions, until "
+                      f"{time.strftime('%Y-%m-%d %H:%M:%S', time.gmtime())} UTC")]
+    document.write(name, runs.page(runs.Run("sftpv3-probe", summary(tally, found), facts, seeds, differences)))
+
+
+def notes_of(group):
+    """What is said of a group: how often it came, what became of its session, and what it may follow from."""
+    follows = [f"it may follow from {group.leader.number}. {group.leader.title()}"] if group.leader else []
+    kept = f"; kept in {group.kept[0]}" if group.kept else ""
+    return [seeds_of(group), group.story() + kept] + follows
+
+
+def seeds_in_words(tally):
+    numbers = [one.seed for one in tally.played]
+    return f"{numbers[0]} to {numbers[-1]}" if len(numbers) > 1 else ", ".join(map(str, numbers))
+
+
+def write(name, given, tally, found):
+    """A page if the name ends in .html, JUnit if it ends in .xml, else JSON lines."""
+    if name.endswith((".html", ".htm")):
+        write_page(name, given, tally, found)
+    elif name.endswith(".xml"):
+        junit.write(name, tally, given.command)
     else:
         write_json_lines(name, tally, found)

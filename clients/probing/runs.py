@@ -5,6 +5,7 @@ import time
 from dataclasses import dataclass, field
 from typing import List, Optional
 
+from paging import single
 from probing import (causes, features, groups, limits, options, planner, program, progress, recorded, reports, sessions,
                      shrinking, tally, trees, verdicts, workers)
 from probing.sessions import NotStarted
@@ -23,6 +24,8 @@ class Outcome:
     differences: List = field(default_factory=list)
     # Why the server did not start, if it did not even once.
     not_started: Optional[Exception] = None
+    # What the server's VERSION says.
+    version: Optional[List[str]] = None
 
 
 class Plan:
@@ -57,6 +60,7 @@ class Plan:
     def play_once(self, worker):
         """Where the server ended with several requests unanswered, they are asked one by one, to see which it is."""
         session, judged = worker.play(self.tree, self.steps, self.in_flight, self.seed, self.stop)
+        self.outcome.version = single.version(session.records)
         if session.ended and session.unanswered > 1:
             alone = worker.play(self.tree, self.steps, options.ONE, self.seed, self.stop)
             if alone[0].ended:
@@ -167,6 +171,7 @@ class Run:
             for (_, group, _), others in zip(found, causes.behind(found, self.tree)):
                 group.put_behind(others)
         outcome.played.groups = list(dict.fromkeys(group for _, group, _ in found))
+        self.tally.version = self.tally.version or outcome.version
         self.tally.add(outcome.played)
 
     def shrink(self):
@@ -189,7 +194,7 @@ class Run:
             shown = group.shortest or shrinking.Shown(group.steps, self.tree, group.first)
             group.kept = reports.keep(self.program, self.given.keep, number, group, shown)
         if self.given.report:
-            reports.write(self.given.report, self.tally, found, self.given.command)
+            reports.write(self.given.report, self.given, self.tally, found)
         for group in found:
             reports.print_group(group.number, group)
         vain = len(self.tally.played) - self.tally.sessions

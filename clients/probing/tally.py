@@ -31,6 +31,8 @@ class Tally:
     def __init__(self, planned=0):
         self.planned, self.played = planned, []
         self.stopped = None
+        # what the server's VERSION says
+        self.version = None
 
     def add(self, played):
         self.played.append(played)
@@ -59,7 +61,6 @@ class Tally:
         return self.planned - len(self.played)
 
     @property
-    def by_seed(self):
-        """For each seed the titles of its differences."""
-        return {one.seed: [group.title() for group in one.groups] for one in self.played
-                if not one.vain()}
+    def judged(self):
+        """The sessions of which something was judged."""
+        return [one for one in self.played if not one.vain()]

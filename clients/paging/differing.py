@@ -1,0 +1,119 @@
+"""The HTML of a difference: what was expected and what was found, the byte, and its session as a picture."""
+from dataclasses import dataclass, field
+from typing import Dict, List, Optional, Tuple
+
+from paging import exchanges, places
+from paging.picture import Picture, counted, safe
+
+# On a page of many sessions, one of so many records is shown whole, and of a longer one so many before and behind what
+# differs; of a session that stands behind a shrunk one, fewer.
+WHOLE, AROUND, NEAR = 80, 20, 12
+
+
+@dataclass
+class Shown:
+    """A session with the places of the request and of the reply that differ."""
+
+    title: str
+    records: List[Tuple[bytes, bytes]]
+    times: Optional[List[float]] = None
+    request: Optional[int] = None
+    reply: Optional[int] = None
+
+    def packet(self, place):
+        return None if place is None or place >= len(self.records) else self.records[place][1]
+
+
+@dataclass
+class Difference:
+    """One kind of difference. The first of the sessions is the one to read."""
+
+    title: str
+    # What is said of how often it came.
+    notes: List[str]
+    # The kind of the verdict, and the lines of `audit --explain` by their labels.
+    kind: str
+    lines: Dict[str, str]
+    expected: str
+    found: str
+    sessions: List[Shown] = field(default_factory=list)
+    # The last lines of the server's standard error.
+    errors: List[str] = field(default_factory=list)
+
+    def byte(self):
+        if not self.sessions:
+            return None
+        shown = self.sessions[0]
+        return places.of_reply(self.lines, shown.packet(shown.request), shown.packet(shown.reply))
+
+
+def why(kind):
+    """A word for what is wrong with a record."""
+    return {"Unanswered": "no reply", "UnknownReply": "to no request", "IdInUse": "id in use"}.get(kind, "differs")
+
+
+def html(name, difference, whole=WHOLE, around=AROUND):
+    """The section of a difference; `name` begins its ids. A session of more than `whole` records is folded, and
+    `around` of them are shown before and behind what differs."""
+    found = [f'<section class="difference" id="{name}"><h2>{safe(difference.title)}</h2>']
+    found += [f'<p class="note">{safe(note)}</p>' for note in difference.notes]
+    found.append('<div class="compare">' + side("expected", "Expected", difference.expected) +
+                 side("found", "Found", difference.found) + "</div>")
+    said = [(label, difference.lines[label]) for label in ("causes", "not modelled", "allowed by", "fault")
+            if label in difference.lines]
+    if said:
+        found.append('<dl class="said">' + "".join(f"<div><dt>{safe(label)}</dt><dd>{safe(words)}</dd></div>"
+                                                   for label, words in said) + "</dl>")
+    byte = difference.byte()
+    if byte:
+        found.append(of_byte(byte, difference.sessions[0]))
+    found += [of_session(f"{name}{'abc'[number]}", shown, difference.kind, number == 0, *sizes)
+              for number, (shown, sizes) in enumerate(zip(difference.sessions, [(whole, around), (3 * NEAR, NEAR)]))]
+    if difference.errors:
+        lines = "\n".join(safe(line) for line in difference.errors)
+        found.append(f'<h3>Standard error of the server</h3><pre tabindex="0">{lines}</pre>')
+    return "\n".join([*found, "</section>"])
+
+
+def side(kind, title, text):
+    return f'<div class="{kind}"><h3>{title}</h3><p>{safe(text)}</p></div>'
+
+
+def of_byte(byte, shown):
+    """The byte that differs, and those round it in the packet that came."""
+    rows = [("in the packet", f"{byte.packet:,}")]
+    rows += [] if byte.data is None else [("in the data", f"{byte.data:,}")]
+    rows += [] if byte.file is None else [("in the file", f"{byte.file:,}")]
+    rows += [("expected", byte.wanted()), ("found", byte.came())]
+    cells = "".join(f"<div><dt>{safe(label)}</dt><dd>{safe(words)}</dd></div>" for label, words in rows)
+    return (f'<h3>The byte that differs</h3><div class="byte"><dl>{cells}</dl>'
+            f'{dump(byte, shown.packet(shown.reply))}</div>')
+
+
+def dump(byte, reply):
+    """Some bytes of a packet, eight in a row, with the one that differs marked."""
+    start, data = places.around(reply, byte)
+    rows = []
+    for at in range(0, len(data), 8):
+        part = data[at:at + 8]
+        cells = [f"{one:02x}" if start + at + place != byte.packet else f"<mark>{one:02x}</mark>"
+                 for place, one in enumerate(part)]
+        text = safe("".join(chr(one) if 32 <= one < 127 else "." for one in part))
+        rows.append(f'<span class="at">{start + at:6}</span>  {" ".join(cells)}{"   " * (8 - len(part))}  {text}')
+    return f'<pre class="dump" tabindex="0" aria-label="bytes of the packet found">' + "\n".join(rows) + "</pre>"
+
+
+def of_session(name, shown, kind, is_first, whole, around):
+    """The picture of a session: open if it is the one to read, else behind a line to click."""
+    session = exchanges.Session(shown.records, shown.times)
+    marked = [place for place in (shown.request, shown.reply) if place is not None and place < len(shown.records)]
+    picture = Picture(name, session, marked, why(kind), whole, around).html()
+    asked = counted(len(session.exchanges), "request")
+    title = f"{safe(shown.title)} <small>{asked}, {most_in_flight(session)} in flight at most</small>"
+    if is_first:
+        return f"<h3>{title}</h3>\n{picture}"
+    return f'<details class="other"><summary>{title}</summary>\n{picture}</details>'
+
+
+def most_in_flight(session):
+    return max(session.in_flight, default=0)

@@ -1,0 +1,240 @@
+"""A packet as a person reads it: its name, its id, one line, and its fields."""
+import string
+from dataclasses import dataclass, field
+from typing import List, Optional, Tuple
+
+import sftp3
+
+# How many bytes of a text a line has, and how many its field.
+SHORT, LONG = 32, 256
+
+# The most names of a NAME, and the most extensions, that are listed.
+LISTED = 20
+
+CODES = {0: "OK", 1: "EOF", 2: "NO_SUCH_FILE", 3: "PERMISSION_DENIED", 4: "FAILURE", 5: "BAD_MESSAGE",
+         6: "NO_CONNECTION", 7: "CONNECTION_LOST", 8: "OP_UNSUPPORTED"}
+
+FLAGS = {sftp3.READ: "READ", sftp3.WRITE: "WRITE", sftp3.APPEND: "APPEND", sftp3.CREAT: "CREAT",
+         sftp3.TRUNC: "TRUNC", sftp3.EXCL: "EXCL"}
+
+# What the fields of a request are called, in the order of the packet.
+FIELDS = {
+    "OPEN": "path flags attributes", "READ": "handle offset length", "WRITE": "handle offset data",
+    "SETSTAT": "path attributes", "FSETSTAT": "handle attributes", "MKDIR": "path attributes",
+    "RENAME": "path new_path", "POSIX-RENAME": "path new_path", "HARDLINK": "path new_path",
+    "SYMLINK": "target link", "EXTENDED": "extension data", "LIMITS": "",
+    "CLOSE": "handle", "FSTAT": "handle", "READDIR": "handle", "FSYNC": "handle",
+}
+
+PLAIN = set(string.printable[:95].encode()) - set(b'"\\')
+
+
+@dataclass
+class Packet:
+    """What a packet says. Of one that cannot be read, `name` is `raw`, and `trouble` says why."""
+
+    name: str
+    number: Optional[int] = None
+    line: str = ""
+    fields: List[Tuple[str, str]] = field(default_factory=list)
+    trouble: str = ""
+
+
+def quoted(data, most=None):
+    """A text as `sftpv3 show` prints it, cut after some bytes."""
+    if most is not None and len(data) > most:
+        return f"{quoted(data[:most])}...{len(data) - most:,} more"
+    return '"' + "".join(chr(byte) if byte in PLAIN else f"\\x{byte:02x}" for byte in data) + '"'
+
+
+def clean(text):
+    """A text that may hold anything, without characters that a page or XML must not have, or that hide others."""
+    return "".join(sign if sign in "\t\n" or sign.isprintable() else escaped(sign) for sign in text)
+
+
+def escaped(sign):
+    """A character as its bytes are written. One that stands for a byte that is no UTF-8 is that byte."""
+    code = ord(sign)
+    if 0xDC80 <= code <= 0xDCFF:
+        return f"\\x{code - 0xDC00:02x}"
+    return "".join(f"\\x{byte:02x}" for byte in sign.encode("utf-8", "surrogatepass"))
+
+
+def code_of(code):
+    return f"{code} {CODES.get(code, 'unknown')}"
+
+
+def flags_of(flags):
+    known = [name for bit, name in FLAGS.items() if flags & bit]
+    left = flags & ~sum(FLAGS)
+    return "|".join(known + ([f"0x{left:x}"] if left else [])) or "none"
+
+
+def attributes_of(given):
+    """Attributes in a few words."""
+    words = []
+    if "size" in given:
+        words.append(f"size {given['size']}")
+    if "owner" in given:
+        words.append("uid {} gid {}".format(*given["owner"]))
+    if "permissions" in given:
+        words.append(f"permissions {given['permissions']:06o}")
+    if "times" in given:
+        words.append("times {} {}".format(*given["times"]))
+    return ", ".join(words) or "none"
+
+
+def of_handle_bytes(data, most=None):
+    """A handle: as text if all of it can be printed, else as a number."""
+    if all(byte in PLAIN for byte in data):
+        return quoted(data, most)
+    more = f"...{len(data) - most:,} more" if most is not None and len(data) > most else ""
+    return f"0x{data[:most].hex()}{more}"
+
+
+def of(side, data, handle=None):
+    """What a packet of the client (`b"C"`) or of the server says, whatever bytes it has. `handle` is what the line has
+    in place of the request's handle."""
+    try:
+        return of_client(data, handle) if side == b"C" else of_server(data)
+    except sftp3.Malformed as error:
+        return raw(data, str(error))
+
+
+def raw(data, trouble):
+    number = int.from_bytes(data[5:9], "big") if len(data) >= 9 else None
+    return Packet("raw", number, f"{len(data):,} bytes", [("bytes", in_hex(data[:LONG]))], trouble)
+
+
+def in_hex(data):
+    return " ".join(f"{byte:02x}" for byte in data) or "none"
+
+
+def whole(fields):
+    """Nothing may follow the fields of a packet."""
+    if fields.place < len(fields.data):
+        raise sftp3.Malformed(f"{len(fields.data) - fields.place} bytes follow the last field")
+
+
+def fields_of(data):
+    """The fields of a packet, behind its length."""
+    if sftp3.length(data) != len(data):
+        raise sftp3.Malformed("the packet is not whole")
+    return sftp3.Fields(data[4:])
+
+
+def of_client(data, handle=None):
+    fields = fields_of(data)
+    if data[4:5] == bytes([sftp3.INIT]):
+        return of_opening("INIT", fields)
+    request = sftp3.decode(data)
+    values = dict(zip(FIELDS.get(request.name, "path").split(), request.fields))
+    shown = [(name.replace("_", " "), of_field(name, value, LONG)) for name, value in values.items()]
+    parts = [handle if handle and name == "handle" else in_line(name, value) for name, value in values.items()]
+    line = ", ".join(part for part in parts if part)
+    return Packet(request.name, request.number, line, shown)
+
+
+def of_field(name, value, most):
+    if name == "flags":
+        return flags_of(value)
+    if name == "attributes":
+        return attributes_of(value)
+    if name == "data":
+        return f"{len(value):,} bytes {quoted(value, most)}"
+    if name == "handle":
+        return of_handle_bytes(value, most)
+    return quoted(value, most) if isinstance(value, bytes) else f"{value:,}"
+
+
+def in_line(name, value):
+    """A field in the line of its request. What is left out is in the fields."""
+    if name == "attributes":
+        return attributes_of(value) if value else ""
+    if name in ("offset", "length"):
+        return f"{name} {value:,}"
+    return of_field(name, value, SHORT)
+
+
+def of_opening(name, fields):
+    fields.byte()
+    number, pairs = fields.word(), fields.pairs()
+    shown = [(quoted(key, LONG), quoted(value, LONG)) for key, value in pairs[:LISTED]]
+    return Packet(name, None, f"version {number}" + (f", {len(pairs)} extensions" if pairs else ""),
+                  [("version", str(number))] + shown + more(pairs))
+
+
+def more(listed):
+    return [("more", f"{len(listed) - LISTED:,}")] if len(listed) > LISTED else []
+
+
+def of_server(data):
+    fields = fields_of(data)
+    kind = fields.byte()
+    if kind == sftp3.VERSION:
+        return of_opening("VERSION", sftp3.Fields(data[4:]))
+    if kind not in REPLIES:
+        raise sftp3.Malformed(f"no reply has the type {kind}")
+    number = fields.word()
+    name, read = REPLIES[kind]
+    packet = read(name, number, fields)
+    whole(fields)
+    return packet
+
+
+def of_status(name, number, fields):
+    code = fields.word()
+    shown = [("code", code_of(code))]
+    # some servers leave out both
+    if fields.place < len(fields.data):
+        shown += [("message", quoted(fields.string(), LONG)), ("language", quoted(fields.string(), LONG))]
+    return Packet(name, number, code_of(code), shown)
+
+
+def of_handle(name, number, fields):
+    handle = fields.string()
+    return Packet(name, number, of_handle_bytes(handle, SHORT), [("handle", of_handle_bytes(handle, LONG))])
+
+
+def of_data(name, number, fields):
+    data = fields.string()
+    return Packet(name, number, of_field("data", data, SHORT), [("data", of_field("data", data, LONG))])
+
+
+def of_names(name, number, fields):
+    items = []
+    for _ in range(fields.word()):
+        items.append((fields.string(), fields.string(), fields.attributes()))
+    first = " ".join(quoted(item[0], SHORT) for item in items[:3])
+    shown = [(quoted(item[0], LONG), attributes_of(item[2])) for item in items[:LISTED]]
+    count = f"{len(items):,} name{'s' if len(items) != 1 else ''}"
+    return Packet(name, number, f"{count} {first}{' ...' if len(items) > 3 else ''}", shown + more(items))
+
+
+def of_attributes(name, number, fields):
+    given = attributes_of(fields.attributes())
+    return Packet(name, number, given, [("attributes", given)])
+
+
+def of_extended(name, number, fields):
+    rest = fields.rest()
+    return Packet(name, number, of_field("data", rest, SHORT), [("data", of_field("data", rest, LONG))])
+
+
+REPLIES = {
+    sftp3.STATUS: ("STATUS", of_status), sftp3.HANDLE: ("HANDLE", of_handle), sftp3.DATA: ("DATA", of_data),
+    sftp3.NAME: ("NAME", of_names), sftp3.ATTRS: ("ATTRS", of_attributes),
+    sftp3.EXTENDED_REPLY: ("EXTENDED_REPLY", of_extended),
+}
+
+
+def kind_of(side, data):
+    """The name of a packet, without reading all of it."""
+    if side == b"C" and data[4:5] != b"\xc8":
+        return {sftp3.INIT: "INIT", **sftp3.NAMES}.get(data[4] if len(data) > 4 else None, "raw")
+    if side == b"C":
+        try:
+            return sftp3.decode(data).name
+        except sftp3.Malformed:
+            return "raw"
+    return REPLIES.get(data[4] if len(data) > 4 else None, ("raw",))[0]

@@ -1,0 +1,47 @@
+"""Text in the language of manual pages, mdoc."""
+import re
+import textwrap
+
+
+def escaped(line):
+    """Returns a line of text as mdoc prints it."""
+    line = line.replace("\\", "\\e").replace("-", "\\-").replace("'", "\\(aq").replace("`", "\\(ga")
+    return f"\\&{line}" if line.startswith((".", "\\(aq")) else line
+
+
+def filled(text):
+    """Returns the lines of a text, each sentence on lines of its own."""
+    return [escaped(line) for it in re.split(r"(?<=[.?!]) +(?=\S)", text) for line in textwrap.wrap(it, 64)]
+
+
+def sentence(text):
+    """Returns the lines of a text that ends in a full stop."""
+    return filled(f"{text.strip().rstrip('.')}.")
+
+
+def notes(text):
+    """Returns the lines of paragraphs, in which lines that are indented stay as they are."""
+    lines, is_literal, words = [], False, []
+    for line in [*text.splitlines(), None]:
+        is_next = line is not None and line.startswith("  ")
+        if line is None or is_next or not line.strip():
+            lines += filled(" ".join(words))
+            words = []
+        if is_literal and not is_next:
+            lines.append(".Ed")
+        if is_next and not is_literal:
+            lines.append(".Bd -literal -offset indent")
+        is_literal = is_next
+        if is_next:
+            lines.append(escaped(line[2:]))
+        elif line and line.strip():
+            words.append(line.strip())
+        elif line is not None:
+            lines.append(".Pp")
+    return [it for it, after in zip(lines, [*lines[1:], ""]) if it != ".Pp" or not after.startswith((".Bd", ".Pp"))]
+
+
+def quoted(text):
+    """Returns a text inside an argument of zsh's _arguments, which is in single quotes."""
+    text = re.sub(r"([\\\[\]:])", r"\\\1", text)
+    return text.replace("'", "'\\''")
