@@ -76,7 +76,7 @@ def wrong_scripts(prefix, room):
     words = [prefix / "bin/sftpv3-probe", "--seeds", "1-2", "--requests", "5", "--report", room / "run.html",
              "--keep", room / "probe-kept", "--", prefix / "bin/sftpv3", "serve", "--tree", "{tree}"]
     status, printed = alone(words, room)
-    if status or not printed.endswith("accepted: 2 sessions, 10 requests\n") or not (room / "run.html").is_file():
+    if status or not re.search(r"(?m)^accepted: 2 sessions, ", printed) or not (room / "run.html").is_file():
         yield f"install: sftpv3-probe ended with status {status}: {printed}"
     for name in ("any", "gesftpserver", "openssh"):
         status, printed = alone([prefix / "lib/sftpv3/servers" / name], room)
