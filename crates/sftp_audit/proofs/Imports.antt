@@ -16,11 +16,6 @@ unfoldable pub use Rattle.sftp_handles.specs.Allowed.{step}
 pub use Rattle.sftp_handles.specs.State.{closed_tree, started}
 pub use Rattle.sftp_packets.specs.declared.packets.Reply.{Reply}
 pub use Rattle.sftp_packets.specs.declared.packets.Request.{Request}
-pub use Rattle.sftp_profile.proofs.Permissions.{permitted-one_end, strict-both}
-pub use Rattle.sftp_profile.specs.Permitted.{Permitted, follows_in}
-pub use Rattle.sftp_profile.specs.Profiles.{strict}
-pub use Rattle.sftp_profile.specs.State.{bare, State, begun}
-pub use Rattle.sftp_profile.specs.declared.profiles.Profile.{Profile}
 pub use Rattle.sftp_transcript.proofs.pairing.Soundness.{sound_by, settled_by, explained_by}
 pub use Rattle.sftp_transcript.proofs.transcripts.Beginnings.{begins_each, faulty_records_none}
 pub use Rattle.sftp_transcript.proofs.transcripts.OneRecord.{records_are_one_lem}
@@ -43,8 +38,8 @@ pub use mathlib.Core.Bool.{or_assoc, and-false}
 pub use Rattle.sftp_audit.specs.Audit.{request_count, RefusedAt, RefusedAtEnd, FaultAt, IsFirstFaultBy, IsTreeError}
 pub use Rattle.sftp_audit.specs.Audit.{IsPlain, IsNew, IsNoJudgement, WasFed, StopsFeed, IsToldOf, is_request}
 pub use Rattle.sftp_audit.specs.Audit.{HasRefused, error_of_transcript, error_of_session, AccountsBy, JudgesTree}
-pub use Rattle.sftp_audit.specs.Audit.{IsToldBy, ToldAt, IsExcusedBy, Accounts, IsFirstFaultOf, IsFirstFault}
-pub use Rattle.sftp_audit.specs.Auditor.{Refuses, LacksReply, IsFirstWrong, IsTold, Audited, StandsFor}
+pub use Rattle.sftp_audit.specs.Audit.{IsToldBy, ToldAt, IsExcusedBy}
+pub use Rattle.sftp_audit.specs.Auditor.{Refuses, LacksReply, IsFirstWrong, FollowsOf, IsTold, Audited, StandsFor}
 pub use Rattle.sftp_audit.specs.Examples.{Unexplained}
 pub use Rattle.sftp_audit.specs.Exchanges.{recorded_exchanges, is_answered, AreAnswered, reply_of, ledger_of}
 unfoldable pub use Rattle.sftp_audit.specs.Exchanges.{next_recorded, exchanges_from, unsettled, is_open}

@@ -1,3 +1,2 @@
 pub mod RunEnds
 pub mod StepLaws
-pub mod StrictRuns

@@ -2,5 +2,3 @@ pub mod Given
 pub mod Judged
 pub mod FirstFaults
 pub mod OneAccount
-pub mod StrictAccounts
-pub mod StrictFaults

@@ -15,9 +15,6 @@ use Rattle.sftp_tree.specs.Tree.{Tree}
 use Rattle.sftp_tree.specs.Picture.{IsStart}
 use Rattle.sftp_handles.specs.State.{State, started, closed_tree}
 use Rattle.sftp_handles.specs.Allowed.{Allowed}
-use Rattle.sftp_profile.specs.declared.profiles.Profile.{Profile}
-use Rattle.sftp_profile.specs.State as judges
-use Rattle.sftp_profile.specs.Permitted.{Permitted}
 use Rattle.sftp_transcript.specs.Transcript.{BeginsRecord, IsRecord}
 use Rattle.sftp_transcript.specs.Explained.{StepOf, Explained, exchanges_of}
 use Rattle.sftp_transcript.specs.Sound.{Sound}
@@ -26,25 +23,23 @@ use Rattle.sftp_transcript.specs.Begun.{FaultAfter, HasGiven}
 use Rattle.sftp_transcript.specs.Recorded.{Reading}
 use Rattle.sftp_transcript.specs.declared.stage.Stage.TheVariants as stages
 use Rattle.sftp_audit.specs.Exchanges.{recorded_exchanges}
-use Rattle.sftp_audit.specs.Auditor.{Audited, StandsFor, Refuses, LacksReply, IsTold}
+use Rattle.sftp_audit.specs.Auditor.{Audited, StandsFor, Refuses, LacksReply, FollowsOf, IsTold}
 
 -- the tree file is the start, the transcript records the events, these are explained from the start to a last state,
--- and the end is the tree of that state once nothing is open
-pub record Accounts (tree transcript : List ℕ) (start : Tree) (events : List Event) (end : Tree) : Type 0 where
-  pub start_is : IsStart start tree
-  pub events_are : IsRecord events transcript
-  pub last : State
-  pub explained : Explained Allowed (started start) events last
-  pub end_is : end ≡ closed_tree last
+-- and the end is the tree of that state once nothing is open; `begin` says in which state a session begins on a tree,
+-- and `close` is the tree of a state once nothing is open
+pub record AccountsBy {S : Type 0} (step : StepOf S) (begin : Tree → S) (close : S → Tree) (tree transcript : List ℕ)
+    (start : Tree) (events : List Event) (end : Tree) : Type 0
+  where
+    pub start_is : IsStart start tree
+    pub events_are : IsRecord events transcript
+    pub last : S
+    pub explained : Explained step (begin start) events last
+    pub end_is : end ≡ close last
 
--- the same under a profile
-pub record AccountsBy (profile : Profile) (tree transcript : List ℕ) (start : Tree) (events : List Event)
-    (end : Tree) : Type 0 where
-  pub start_is : IsStart start tree
-  pub events_are : IsRecord events transcript
-  pub last : judges.State
-  pub explained : Explained Permitted (judges.begun profile start) events last
-  pub end_is : end ≡ closed_tree last.session
+-- where the replies are judged strictly
+abbrev pub Accounts : List ℕ → List ℕ → Tree → List Event → Tree → Type 0
+Accounts = AccountsBy Allowed started closed_tree
 
 -- the number of requests, capped at 2^64 - 1
 abbrev pub request_count : List Event → ℕ
@@ -101,22 +96,18 @@ pub record FaultAt {S : Type 0} (step : StepOf S) (start : S) (transcript : List
 -- What an audit meets first, where a step judges replies and a session begins in a state of its tree: the bytes are no
 -- tree; or, record by record, the fault of a record or the refusal of its event; or, at the end, a request without a
 -- reply.
-abbrev pub IsFirstFaultOf : {S : Type 0} → StepOf S → (Tree → S) → List ℕ → List ℕ → AuditError → Type 0
-IsFirstFaultOf step begin tree transcript (audit_errors.Tree error) = HasStart tree → ⊥
-IsFirstFaultOf step begin tree transcript (audit_errors.Transcript error) =
+abbrev pub IsFirstFaultBy : {S : Type 0} → StepOf S → (Tree → S) → List ℕ → List ℕ → AuditError → Type 0
+IsFirstFaultBy step begin tree transcript (audit_errors.Tree error) = HasStart tree → ⊥
+IsFirstFaultBy step begin tree transcript (audit_errors.Transcript error) =
     (start : Tree) × IsStart start tree × FaultAt step (begin start) transcript error
-IsFirstFaultOf step begin tree transcript (audit_errors.Refused refusal) =
+IsFirstFaultBy step begin tree transcript (audit_errors.Refused refusal) =
     (start : Tree) × IsStart start tree
     × (RefusedAt step (begin start) transcript refusal ⊎ RefusedAtEnd step (begin start) transcript refusal)
-IsFirstFaultOf step begin tree transcript audit_errors.NoMemory = ⊤
+IsFirstFaultBy step begin tree transcript audit_errors.NoMemory = ⊤
 
 -- where the replies are judged strictly
 abbrev pub IsFirstFault : List ℕ → List ℕ → AuditError → Type 0
-IsFirstFault = IsFirstFaultOf Allowed started
-
--- where they are judged under a profile
-abbrev pub IsFirstFaultBy : Profile → List ℕ → List ℕ → AuditError → Type 0
-IsFirstFaultBy profile = IsFirstFaultOf Permitted (judges.begun profile)
+IsFirstFault = IsFirstFaultBy Allowed started
 
 -- the error says that the bytes are no tree
 abbrev pub IsTreeError : AuditError → Type 0
@@ -150,21 +141,23 @@ abbrev pub IsNew : List ℕ → Reading → Type 0
 IsNew bytes s = HasGiven bytes [] bytes s × (s.stage ≡ stages.Opening)
 
 -- the bytes record some events; the auditor stands for these, and `requests` of them are requests
-pub record WasFed (start : judges.State) (transcript : List ℕ) (requests : ℕ) (auditor : Audited) : Type 0 where
-  pub events : List Event
-  pub recorded : IsRecord events transcript
-  pub stands : StandsFor start events auditor
-  pub counted : requests ≡ request_count events
+pub record WasFed {S : Type 0} (step : StepOf S) (start : S) (transcript : List ℕ) (requests : ℕ) (auditor : Audited S)
+    : Type 0
+  where
+    pub events : List Event
+    pub recorded : IsRecord events transcript
+    pub stands : StandsFor step start events auditor
+    pub counted : requests ≡ request_count events
 
 -- why no further event is fed: the next record has a fault, or its event is refused
-abbrev pub StopsFeed : judges.State → List ℕ → AuditError → Type 0
-StopsFeed start transcript (audit_errors.Transcript error) = FaultAt Permitted start transcript error
-StopsFeed start transcript (audit_errors.Refused refusal) = RefusedAt Permitted start transcript refusal
-StopsFeed start transcript audit_errors.NoMemory = ⊤
-StopsFeed start transcript (audit_errors.Tree error) = ⊥
+abbrev pub StopsFeed : {S : Type 0} → StepOf S → S → List ℕ → AuditError → Type 0
+StopsFeed step start transcript (audit_errors.Transcript error) = FaultAt step start transcript error
+StopsFeed step start transcript (audit_errors.Refused refusal) = RefusedAt step start transcript refusal
+StopsFeed step start transcript audit_errors.NoMemory = ⊤
+StopsFeed step start transcript (audit_errors.Tree error) = ⊥
 
 -- a refusal is the auditor's, which returns it from then on, and no request is kept
-abbrev pub HasRefused : AuditError → Audited → Type 0
+abbrev pub HasRefused : {S : Type 0} → AuditError → Audited S → Type 0
 HasRefused (audit_errors.Refused refusal) auditor = (auditor.refusal ≡ Some refusal) × (auditor.kept ≡ [])
 HasRefused other auditor = ⊤
 
@@ -177,23 +170,26 @@ IsPlain _ = Unit {0}
 
 -- ---- what is not followed
 
--- the file records events, and the last of them is refused; this says whether the profile follows the request
-pub record ToldAt (start : judges.State) (transcript : List ℕ) (before after : Bool) (refusal : Refusal) : Type 0 where
-  pub events : List Event
-  pub event : Event
-  pub rest : List ℕ
-  pub begins : BeginsRecord (events ++ event ∷ []) transcript rest
-  pub told : IsTold start (recorded_exchanges (events ++ event ∷ [])) before after refusal
+-- the file records events, and the last of them is refused; this says whether the judge follows the request
+pub record ToldAt {S : Type 0} (step : StepOf S) (follows : FollowsOf S) (start : S) (transcript : List ℕ) (told : Bool)
+    (refusal : Refusal) : Type 0
+  where
+    pub events : List Event
+    pub event : Event
+    pub rest : List ℕ
+    pub begins : BeginsRecord (events ++ event ∷ []) transcript rest
+    pub is_told : IsTold step follows start (recorded_exchanges (events ++ event ∷ [])) true told refusal
 
--- where an event is refused, whether the profile follows the request; otherwise nothing is told
-abbrev pub IsToldOf : judges.State → List ℕ → Bool → Bool → AuditError → Type 0
-IsToldOf start transcript before after (audit_errors.Refused refusal) = ToldAt start transcript before after refusal
-IsToldOf start transcript before after other = after ≡ before
+-- where an event is refused, whether the judge follows the request; otherwise it follows the session
+abbrev pub IsToldOf : {S : Type 0} → StepOf S → FollowsOf S → S → List ℕ → Bool → AuditError → Type 0
+IsToldOf step follows start transcript told (audit_errors.Refused refusal) =
+    ToldAt step follows start transcript told refusal
+IsToldOf step follows start transcript told other = told ≡ true
 
--- the same of the audit of a tree file: a session that is refused since a reply is not permitted is told to be followed
+-- the same of the audit of a tree file: a session that is refused since a reply is not allowed is told to be followed
 -- or not, and every other one is taken to be
-abbrev pub IsToldBy : Profile → List ℕ → List ℕ → Bool → AuditError → Type 0
-IsToldBy profile tree transcript told (audit_errors.Refused (refusals.NotAllowed number)) =
+abbrev pub IsToldBy : {S : Type 0} → StepOf S → FollowsOf S → (Tree → S) → List ℕ → List ℕ → Bool → AuditError → Type 0
+IsToldBy step follows begin tree transcript told (audit_errors.Refused (refusals.NotAllowed number)) =
     (start : Tree) × IsStart start tree
-    × ToldAt (judges.begun profile start) transcript true told (refusals.NotAllowed number)
-IsToldBy profile tree transcript told other = told ≡ true
+    × ToldAt step follows (begin start) transcript told (refusals.NotAllowed number)
+IsToldBy step follows begin tree transcript told other = told ≡ true

@@ -1,10 +1,8 @@
 -- What an auditor keeps of the events that it was fed, and which refusal an event gets
 -- (draft-ietf-secsh-filexfer-02, section 6.1). The window and the numbers of records are this profile's own.
-use Rattle.std.specs.Prelude.{◌≡◌, ℕ, ◌≤◌, ⊤, List, [], ◌∷◌, ◌++◌, length, Bool, Option, Some, None}
+use Rattle.std.specs.Prelude.{◌≡◌, ℕ, ◌≤◌, ⊤, List, [], ◌∷◌, ◌++◌, length, Bool, true, Option, Some, None}
 use Rattle.sftp_packets.specs.declared.packets.Request.{Request}
 use Rattle.sftp_packets.specs.declared.packets.Reply.{Reply}
-use Rattle.sftp_profile.specs.State.{State}
-use Rattle.sftp_profile.specs.Permitted.{Permitted, follows_in}
 use Rattle.sftp_transcript.specs.declared.events.Event.{Event}
 use Rattle.sftp_transcript.specs.declared.events.Event.TheVariants.{Asked, Replied}
 use Rattle.sftp_transcript.specs.Begun.{number_after_events}
@@ -15,20 +13,23 @@ use Rattle.sftp_audit.specs.declared.errors.Refusal.TheVariants as refusals
 use Rattle.sftp_audit.specs.declared.exchanges.Exchange.{Exchange}
 use Rattle.sftp_audit.specs.Exchanges.{recorded_exchanges, unsettled, AreAnswered, ledger_of}
 
--- What an auditor keeps: the state after the settled requests, which are those before the first one without a reply;
--- the exchanges from that one on; the number of the next event's record; and the refusal, once there is one.
-pub record Audited : Type 0 where
-  pub state : State
+-- What an auditor keeps, whatever the states of its judge: the state after the settled requests, which are those before
+-- the first one without a reply; the exchanges from that one on; the number of the next event's record; the refusal,
+-- once there is one; and whether the judge follows the session up to there.
+pub record Audited (S : Type 0) : Type 0 where
+  pub state : S
   pub kept : List Exchange
   pub number : ℕ
   pub refusal : Option Refusal
+  pub follows : Bool
 
 -- the events are sound from the start, and this is kept of them
-pub record StandsFor (start : State) (events : List Event) (a : Audited) : Type 0 where
-  pub sound : Sound Permitted start events a.state
+pub record StandsFor {S : Type 0} (step : StepOf S) (start : S) (events : List Event) (a : Audited S) : Type 0 where
+  pub sound : Sound step start events a.state
   pub kept : a.kept ≡ unsettled (recorded_exchanges events)
   pub number : a.number ≡ number_after_events events
   pub unrefused : a.refusal ≡ None
+  pub followed : a.follows ≡ true
 
 -- The reply in the record of this number is the first in the order asked that is not allowed: all requests before its
 -- own have their replies, and these are allowed.
@@ -48,18 +49,21 @@ pub record IsFirstWrong {S : Type 0} (step : StepOf S) (start : S) (exchanges : 
   pub wrong : (end : S) → step mid request reply end → ⊥
 
 -- where the refusal is `NotAllowed`, this is the state in which the reply is not allowed
-abbrev pub IsWrongIn : State → List Exchange → State → Refusal → Type 0
-IsWrongIn start exchanges state (refusals.NotAllowed number) =
-    (wrong : IsFirstWrong Permitted start exchanges number) × (wrong.mid ≡ state)
-IsWrongIn start exchanges state other = ⊤
+abbrev pub IsWrongIn : {S : Type 0} → StepOf S → S → List Exchange → S → Refusal → Type 0
+IsWrongIn step start exchanges state (refusals.NotAllowed number) =
+    (wrong : IsFirstWrong step start exchanges number) × (wrong.mid ≡ state)
+IsWrongIn step start exchanges state other = ⊤
 
--- Where the refusal is `NotAllowed`, this says whether the profile follows the request with this reply; otherwise it is
+-- whether a judge follows a request with a reply, in a state
+abbrev pub FollowsOf : Type 0 → Type 0
+FollowsOf S = S → Request → Reply → Bool
+
+-- Where the refusal is `NotAllowed`, this says whether the judge follows the request with this reply; otherwise it is
 -- what it was before.
-abbrev pub IsTold : State → List Exchange → Bool → Bool → Refusal → Type 0
-IsTold start exchanges before after (refusals.NotAllowed number) =
-    (wrong : IsFirstWrong Permitted start exchanges number)
-    × (after ≡ follows_in wrong.mid wrong.request.ask wrong.reply.answer)
-IsTold start exchanges before after other = after ≡ before
+abbrev pub IsTold : {S : Type 0} → StepOf S → FollowsOf S → S → List Exchange → Bool → Bool → Refusal → Type 0
+IsTold step follows start exchanges before after (refusals.NotAllowed number) =
+    (wrong : IsFirstWrong step start exchanges number) × (after ≡ follows wrong.mid wrong.request wrong.reply)
+IsTold step follows start exchanges before after other = after ≡ before
 
 -- from the oldest unanswered request on, as many were asked as the window allows
 abbrev pub IsWindowFull : List Event → Type 0
@@ -90,41 +94,42 @@ LacksReply events (refusals.Unanswered number) = IsOldestOpen events number
 LacksReply events other = ⊥
 
 -- why settling stops before a request without a reply
-abbrev pub RefusesToSettle : State → List Exchange → Refusal → Type 0
-RefusesToSettle start exchanges (refusals.NotAllowed number) = IsFirstWrong Permitted start exchanges number
-RefusesToSettle start exchanges refusals.NoMemory = ⊤
-RefusesToSettle start exchanges other = ⊥
+abbrev pub RefusesToSettle : {S : Type 0} → StepOf S → S → List Exchange → Refusal → Type 0
+RefusesToSettle step start exchanges (refusals.NotAllowed number) = IsFirstWrong step start exchanges number
+RefusesToSettle step start exchanges refusals.NoMemory = ⊤
+RefusesToSettle step start exchanges other = ⊥
 
 -- the events are sound from the start, and this is kept of them, whatever the number
-pub record IsNoted (start : State) (events : List Event) (a : Audited) : Type 0 where
-  pub sound : Sound Permitted start events a.state
+pub record IsNoted {S : Type 0} (step : StepOf S) (start : S) (events : List Event) (a : Audited S) : Type 0 where
+  pub sound : Sound step start events a.state
   pub kept : a.kept ≡ unsettled (recorded_exchanges events)
+  pub followed : a.follows ≡ true
 
 -- ---- what an event comes to, whatever events the auditor stands for, and from whatever start
 
 -- it then stands for these events and this one
-abbrev pub GoesOn : Audited → Event → Audited → Type 0
-GoesOn old event new =
-    (start : State) (events : List Event) → StandsFor start events old → StandsFor start (events ++ event ∷ []) new
+abbrev pub GoesOn : {S : Type 0} → StepOf S → Audited S → Event → Audited S → Type 0
+GoesOn {S} step old event new =
+    (start : S) (events : List Event) → StandsFor step start events old → StandsFor step start (events ++ event ∷ []) new
 
 -- it has noted this one, whatever the number
-abbrev pub HasNoted : Audited → Event → Audited → Type 0
-HasNoted old event new =
-    (start : State) (events : List Event) → StandsFor start events old → IsNoted start (events ++ event ∷ []) new
+abbrev pub HasNoted : {S : Type 0} → StepOf S → Audited S → Event → Audited S → Type 0
+HasNoted {S} step old event new =
+    (start : S) (events : List Event) → StandsFor step start events old → IsNoted step start (events ++ event ∷ []) new
 
 -- the refusal of this one has its reason
-abbrev pub HasReason : Audited → Event → Refusal → Type 0
-HasReason old event refusal =
-    (start : State) (events : List Event) → StandsFor start events old → Refuses Permitted start events event refusal
+abbrev pub HasReason : {S : Type 0} → StepOf S → Audited S → Event → Refusal → Type 0
+HasReason {S} step old event refusal =
+    (start : S) (events : List Event) → StandsFor step start events old → Refuses step start events event refusal
 
--- where the refusal is `NotAllowed`, this is the state in which the reply is not permitted
-abbrev pub StopsIn : Audited → Event → State → Refusal → Type 0
-StopsIn old event state refusal =
-    (start : State) (events : List Event) → StandsFor start events old
-    → IsWrongIn start (recorded_exchanges (events ++ event ∷ [])) state refusal
+-- where the refusal is `NotAllowed`, this is the state in which the reply is not allowed
+abbrev pub StopsIn : {S : Type 0} → StepOf S → Audited S → Event → S → Refusal → Type 0
+StopsIn {S} step old event state refusal =
+    (start : S) (events : List Event) → StandsFor step start events old
+    → IsWrongIn step start (recorded_exchanges (events ++ event ∷ [])) state refusal
 
--- where it is, this says whether the profile follows the request; otherwise it is what it was before
-abbrev pub Reports : Audited → Event → Bool → Bool → Refusal → Type 0
-Reports old event before after refusal =
-    (start : State) (events : List Event) → StandsFor start events old
-    → IsTold start (recorded_exchanges (events ++ event ∷ [])) before after refusal
+-- where it is, this says whether the judge follows the request; otherwise it is what it was before
+abbrev pub Reports : {S : Type 0} → StepOf S → FollowsOf S → Audited S → Event → Bool → Refusal → Type 0
+Reports {S} step follows old event after refusal =
+    (start : S) (events : List Event) → StandsFor step start events old
+    → IsTold step follows start (recorded_exchanges (events ++ event ∷ [])) old.follows after refusal

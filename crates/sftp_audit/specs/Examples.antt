@@ -1,5 +1,5 @@
 -- What the worked examples name: trees, and sessions.
-use Rattle.std.specs.Prelude.{ℕ, List, [], ◌∷◌, ◌++◌, codes, None}
+use Rattle.std.specs.Prelude.{ℕ, List, [], ◌∷◌, ◌++◌, codes, true, None}
 use Rattle.sftp_packets.specs.declared.requests.Ask.TheVariants.{Mkdir, Limits}
 use Rattle.sftp_packets.specs.declared.replies.Answer.TheVariants.{Extended}
 use Rattle.sftp_packets.specs.declared.attributes.Attrs.{Attrs}
@@ -17,8 +17,6 @@ use Rattle.sftp_tree.specs.Picture.{blank}
 use Rattle.sftp_handles.specs.State.{State, started}
 use Rattle.sftp_handles.specs.Allowed.{Allowed}
 use Rattle.sftp_handles.specs.Examples.{with_text}
-use Rattle.sftp_profile.specs.Profiles.{strict}
-use Rattle.sftp_profile.specs.State.{begun}
 use Rattle.sftp_transcript.specs.Explained.{Explained}
 use Rattle.sftp_audit.specs.declared.exchanges.Exchange.{Exchange}
 use Rattle.sftp_audit.specs.Auditor.{Audited}
@@ -170,10 +168,10 @@ removal_done_bytes =
 
 -- ---- what an auditor keeps
 
--- under the strict profile it has settled requests that lead to this tree, keeps these exchanges, and the next record
--- has this number
-abbrev pub auditor_with : Tree → List Exchange → ℕ → Audited
-auditor_with tree kept number = record { state = begun strict tree; kept = kept; number = number; refusal = None }
+-- it has settled requests that lead to this tree, keeps these exchanges, and the next record has this number
+abbrev pub auditor_with : Tree → List Exchange → ℕ → Audited State
+auditor_with tree kept number =
+    record { state = started tree; kept = kept; number = number; refusal = None; follows = true }
 
 -- ---- sessions that are not explained
 

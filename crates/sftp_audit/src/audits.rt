@@ -1,9 +1,8 @@
 //! Audits of bytes in memory, and of streams.
-ghost use Rattle.std.specs.Prelude.{◌≡◌, ◌≢◌, ℕ, [], List, None, false, IfOk, IfErr, OnOk, MatchResult};
+ghost use Rattle.std.specs.Prelude.{◌≡◌, ◌≢◌, ℕ, [], List, None, false, IfOk, IfErr, MatchResult};
 ghost use Rattle.sftp_audit.specs.declared.errors.AuditError.TheVariants.{NoMemory};
 ghost use Rattle.sftp_tree.specs.Tree as values;
 ghost use Rattle.sftp_tree.specs.Picture.{picture};
-ghost use Rattle.sftp_profile.specs.State.{State};
 ghost use Rattle.sftp_audit.specs.Auditor.{StandsFor};
 ghost use Rattle.sftp_audit.specs.Audit.{Accounts, AccountsBy, IsFirstFault, IsFirstFaultBy, IsNoJudgement};
 ghost use Rattle.sftp_audit.specs.Audit.{CountsFailure, IsExcusedBy, IsNew};
@@ -12,7 +11,8 @@ ghost use Rattle.sftp_audit.specs.Audit.{IsPlain, WasFed, StopsFeed, IsToldOf, I
 
 use crate::auditor::Auditor;
 use crate::errors::AuditError;
-use sftp_profile::Profile;
+use sftp_handles::{GivenTable, Session};
+use sftp_judges::Judges;
 use sftp_transcript::{Event, Memory, Reader, Source};
 use sftp_tree::Tree;
 use std::alloc::Global;
@@ -64,38 +64,38 @@ pub fn audit(alloc: Global, tree: &[u8], transcript: &[u8]) -> Result<Accepted, 
     ensures never_fails { IfErr result (IsExcusedBy false) }
     ensures plain { IfErr result IsPlain }
 {
-    audit_by(alloc, Profile::strict(), tree, transcript)
+    audit_by::<Session<GivenTable>>(alloc, (), tree, transcript)
 }
 
-/// Audits a session as `audit` does, under a profile: it accepts exactly if the profile permits each reply when the
-/// requests are carried out singly and in sequence. `audit` is this call under the strict profile.
+/// Audits a session as `audit` does, by a judge that is made by `by`: it accepts exactly if the judge allows each reply
+/// when the requests are carried out singly and in sequence. `audit` is this call by the strict judge.
 ///
 /// # Errors
 ///
-/// Those of `audit`; a reply counts as allowed if the profile permits it.
-pub fn audit_by(
+/// Those of `audit`; a reply counts as allowed if the judge allows it.
+pub fn audit_by<J: Judges>(
     alloc: Global,
-    profile: Profile,
+    by: J::By,
     tree: &[u8],
     transcript: &[u8],
 ) -> Result<Accepted, AuditError>
     // An accepted session accounts for a run, and the result is the tree where it ends.
     ensures accepted { IfOk result (λ accepted. (start : values.Tree) × (events : List _) × (end : values.Tree)
-        × AccountsBy profile tree.now transcript.now start events end
+        × AccountsBy J.allowed (J.begun by) J.closed tree.now transcript.now start events end
         × (accepted.tree.items ≡ picture end)
         × (accepted.requests ≡ request_count events)) }
     // A refused session accounts for no run, unless memory ran out.
     ensures refused { IfErr result (λ e. e ≢ NoMemory → (start : values.Tree) (events : List _) (end : values.Tree)
-        → AccountsBy profile tree.now transcript.now start events end → ⊥) }
+        → AccountsBy J.allowed (J.begun by) J.closed tree.now transcript.now start events end → ⊥) }
     // The error is the first fault.
-    ensures first { IfErr result (IsFirstFaultBy profile tree.now transcript.now) }
+    ensures first { IfErr result (IsFirstFaultBy J.allowed (J.begun by) tree.now transcript.now) }
     // It is never `Io`, since bytes in memory can be read.
     ensures never_fails { IfErr result (IsExcusedBy false) }
     ensures plain { IfErr result IsPlain }
 {
     let mut records = Reader::new(alloc, Memory::new(transcript))?;
-    let mut is_modelled = true;
-    let audited = audit_stream_by(alloc, profile, tree, &mut records, &mut is_modelled);
+    let mut follows = true;
+    let audited = audit_stream_by::<J, Memory<'_>>(alloc, by, tree, &mut records, &mut follows);
     drop(records);
     audited
 }
@@ -131,38 +131,38 @@ pub fn audit_stream<R: Source>(
     ensures may_fail { records.old.fault ≡ None → IfErr result (IsExcusedBy R.may_fail) }
     ensures plain { IfErr result IsPlain }
 {
-    let mut is_modelled = true;
-    audit_stream_by(alloc, Profile::strict(), tree, records, &mut is_modelled)
+    let mut follows = true;
+    audit_stream_by::<Session<GivenTable>, R>(alloc, (), tree, records, &mut follows)
 }
 
-/// Audits a session whose transcript is read from a stream, under a profile. It keeps as much of the transcript as
-/// `audit_stream` does. `is_modelled` is set to whether the profile follows the session up to where it is refused: if
-/// not, a request was an extension that the profile does not know and that may have changed anything, or did what the
-/// tree cannot hold.
+/// Audits a session whose transcript is read from a stream, by a judge that is made by `by`. It keeps as much of the
+/// transcript as `audit_stream` does. `follows` is set to whether the judge follows the session up to where it is
+/// refused: if not, a request was an extension that the judge does not know and that may have changed anything, or did
+/// what the tree cannot hold.
 ///
 /// # Errors
 ///
 /// Those of `audit_by`, and `Transcript` with `Io` if the source fails, which says nothing about the session.
-pub fn audit_stream_by<R: Source>(
+pub fn audit_stream_by<J: Judges, R: Source>(
     alloc: Global,
-    profile: Profile,
+    by: J::By,
     tree: &[u8],
     records: &mut Reader<R>,
-    is_modelled: &mut bool,
+    follows: &mut bool,
 ) -> Result<Accepted, AuditError>
     // Of a reader that has read nothing yet, whatever bytes its source has.
     ensures accepted { IfOk result (λ accepted. (transcript : List ℕ) → IsNew transcript records.old →
         (start : values.Tree) × (events : List _) × (end : values.Tree)
-        × AccountsBy profile tree.now transcript start events end
+        × AccountsBy J.allowed (J.begun by) J.closed tree.now transcript start events end
         × (accepted.tree.items ≡ picture end)
         × (accepted.requests ≡ request_count events)) }
     ensures refused { IfErr result (λ e. (IsNoJudgement e → ⊥) → (transcript : List ℕ) → IsNew transcript records.old →
         (start : values.Tree) (events : List _) (end : values.Tree)
-        → AccountsBy profile tree.now transcript start events end → ⊥) }
+        → AccountsBy J.allowed (J.begun by) J.closed tree.now transcript start events end → ⊥) }
     ensures first { IfErr result (λ e. (IsNoJudgement e → ⊥) → (transcript : List ℕ) → IsNew transcript records.old →
-        IsFirstFaultBy profile tree.now transcript e) }
+        IsFirstFaultBy J.allowed (J.begun by) tree.now transcript e) }
     ensures told { IfErr result (λ e. (IsNoJudgement e → ⊥) → (transcript : List ℕ) → IsNew transcript records.old →
-        IsToldBy profile tree.now transcript is_modelled.new e) }
+        IsToldBy J.allowed J.follows (J.begun by) tree.now transcript follows.new e) }
     // The tree file is judged first, whatever the reader did before.
     ensures judged { MatchResult result (λ _. HasStart tree.now) (JudgesTree tree.now) }
     // The source failed once where the error is `Io`, and otherwise never.
@@ -173,43 +173,43 @@ pub fn audit_stream_by<R: Source>(
     ensures plain { IfErr result IsPlain }
 {
     // Slow to prove: it has six exits, each with all that is promised of an audit.
-    *is_modelled = true;
-    let mut auditor = Auditor::by(profile, Tree::read(alloc, tree)?)?;
-    let requests = match feed_all(&mut auditor, records, is_modelled) {
+    *follows = true;
+    let mut auditor = Auditor::<J>::by(by, Tree::read(alloc, tree)?)?;
+    let requests = match feed_all(&mut auditor, records) {
         Ok(requests) => requests,
         Err(error) => {
+            *follows = auditor.follows();
             drop(auditor);
             return Err(error);
         }
     };
-    let end = auditor.finish()?;
+    let end = auditor.end()?;
     let written = end.write();
     drop(end);
     let tree = written?;
     Ok(Accepted { tree, requests })
 }
 
-/// Feeds an auditor the events that are still to come, and returns how many of them are requests, up to 2^64 - 1. After
-/// `NotAllowed`, `is_modelled` says whether the profile follows the request with this reply; otherwise it stays.
+/// Feeds an auditor the events that are still to come, and returns how many of them are requests, up to 2^64 - 1.
 ///
 /// # Errors
 ///
-/// The first error: `Refused` if an event is refused, which each later call of `feed` then returns, `Transcript` if the
-/// next record has a fault or the source fails, and `NoMemory` if memory runs out.
-pub fn feed_all<R: Source>(
-    auditor: &mut Auditor,
+/// The first error: `Refused` if an event is refused, which each later call of `judge_event` then returns, `Transcript`
+/// if the next record has a fault or the source fails, and `NoMemory` if memory runs out.
+pub fn feed_all<J: Judges, R: Source>(
+    auditor: &mut Auditor<J>,
     records: &mut Reader<R>,
-    is_modelled: &mut bool,
 ) -> Result<u64, AuditError>
     // Of a reader that has read nothing yet, and an auditor that stands for no events, from any start.
-    ensures fed { IfOk result (λ requests. (start : State) (transcript : List ℕ) → IsNew transcript records.old
-        → StandsFor start [] auditor.old → WasFed start transcript requests auditor.new) }
-    ensures stopped { IfErr result (λ e. (IsNoJudgement e → ⊥) → (start : State) (transcript : List ℕ)
-        → IsNew transcript records.old → StandsFor start [] auditor.old → StopsFeed start transcript e) }
-    ensures told { IfErr result (λ e. (IsNoJudgement e → ⊥) → (start : State) (transcript : List ℕ)
-        → IsNew transcript records.old → StandsFor start [] auditor.old
-        → IsToldOf start transcript is_modelled.old is_modelled.new e) }
-    ensures untold { OnOk result (is_modelled.new ≡ is_modelled.old) }
+    ensures fed { IfOk result (λ requests. (start : J) (transcript : List ℕ) → IsNew transcript records.old
+        → StandsFor J.allowed start [] auditor.old → WasFed J.allowed start transcript requests auditor.new) }
+    ensures stopped { IfErr result (λ e. (IsNoJudgement e → ⊥) → (start : J) (transcript : List ℕ)
+        → IsNew transcript records.old → StandsFor J.allowed start [] auditor.old
+        → StopsFeed J.allowed start transcript e) }
+    // It is then known whether the judge follows the session up to there.
+    ensures told { IfErr result (λ e. (IsNoJudgement e → ⊥) → (start : J) (transcript : List ℕ)
+        → IsNew transcript records.old → StandsFor J.allowed start [] auditor.old
+        → IsToldOf J.allowed J.follows start transcript auditor.new.follows e) }
     // After a refusal the auditor returns it from then on, and no request is kept.
     ensures for_good { IfErr result (λ e. HasRefused e auditor.new) }
     ensures treeless { IfErr result (λ e. IsTreeError e → ⊥) }
@@ -222,7 +222,7 @@ pub fn feed_all<R: Source>(
     let mut requests: u64 = 0;
     'events: while let Some(event) = records.next()? {
         requests = requests.saturating_add(u64::from(is_request(&event)));
-        auditor.feed_by(event, is_modelled)?;
+        auditor.judge_event(event)?;
     }
     Ok(requests)
 }

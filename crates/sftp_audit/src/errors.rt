@@ -16,8 +16,7 @@ pub enum Refusal {
     IdInUse { record: u64 },
     /// A request that comes 1,024 requests or more after one that is unanswered. This limit is this profile's own.
     Window { record: u64 },
-    /// A reply that is not allowed, or not permitted under the profile, when the requests are done one at a time in the
-    /// order asked.
+    /// A reply that the judge does not allow when the requests are done one at a time in the order asked.
     NotAllowed { record: u64 },
     /// A request that has no reply: the oldest one.
     Unanswered { record: u64 },

@@ -6,8 +6,6 @@ ghost use Rattle.sftp_tree.specs.Picture.{picture, blank};
 ghost use Rattle.sftp_handles.specs.State.{started};
 ghost use Rattle.sftp_transcript.specs.Transcript.{IsRecord};
 ghost use Rattle.sftp_handles.specs.Allowed.{Allowed};
-ghost use Rattle.sftp_profile.specs.Profiles.{strict};
-ghost use Rattle.sftp_profile.specs.State.{begun};
 ghost use Rattle.sftp_transcript.specs.Explained.{Explained};
 ghost use Rattle.sftp_audit.specs.declared.errors.Refusal.TheVariants.{UnknownReply, IdInUse, Window, NotAllowed};
 ghost use Rattle.sftp_audit.specs.declared.errors.Refusal.TheVariants.{Unanswered};
@@ -120,7 +118,7 @@ pub fn limits_are_told()
 /// backwards, where that to the removal says OK, it keeps all three requests as long as the first one is unanswered.
 /// The last reply, in record 8, settles them, and the one that is refused is that to the removal, in record 6.
 pub fn refused_in_order_asked()
-    ensures nothing_settled { StandsFor (begun strict blank) (two_backward_replies 0)
+    ensures nothing_settled { StandsFor Allowed (started blank) (two_backward_replies 0)
         (auditor_with blank (recorded_exchanges (two_backward_replies 0)) 8) }
     ensures refused { Refuses Allowed (started blank) (two_backward_replies 0) (status 1 0) (NotAllowed 6) }
     ensures not_the_last { ¬ Refuses Allowed (started blank) (two_backward_replies 0) (status 1 0) (NotAllowed 8) }
@@ -133,14 +131,14 @@ pub fn ids_in_use()
     ensures answered_twice { Refuses Allowed (started blank) last_answered (status 3 4) (UnknownReply 7) }
     ensures asked_twice { Refuses Allowed (started blank) three_requests (mkdir 1 (codes "/c")) (IdInUse 6) }
     ensures not_late { ¬ Refuses Allowed (started blank) three_requests (mkdir 1 (codes "/c")) (Window 6) }
-    ensures used_again { StandsFor (begun strict blank) id_used_again
+    ensures used_again { StandsFor Allowed (started blank) id_used_again
         (auditor_with blank (recorded_exchanges id_used_again) 8) }
 {}
 
 /// Two requests are asked, and the first one is answered: it is settled, and the second one, in record 4, is not. If
 /// the session ends there, that is the request without a reply.
 pub fn oldest_waits()
-    ensures settled { StandsFor (begun strict blank) first_answered (auditor_with with_a second_waits 6) }
+    ensures settled { StandsFor Allowed (started blank) first_answered (auditor_with with_a second_waits 6) }
     ensures unanswered { LacksReply first_answered (Unanswered 4) }
     ensures not_the_first { ¬ LacksReply first_answered (Unanswered 3) }
 {}

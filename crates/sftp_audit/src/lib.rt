@@ -16,6 +16,5 @@ pub use auditor::Auditor;
 pub use audits::{Accepted, audit, audit_by, audit_stream, audit_stream_by, feed_all};
 pub use blank::{blank_tree, blank_tree_is_a_start};
 pub use errors::{AuditError, Refusal};
-pub use sftp_profile::Profile;
 pub use sftp_transcript::{Event, TranscriptError};
 pub use sftp_tree::{NoMemory, TreeError};

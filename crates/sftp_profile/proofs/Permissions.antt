@@ -31,18 +31,12 @@ use Rattle.sftp_profile.specs.Judged.{Outcome, IsStrict, IsTaken, IsFollowed, Is
 use Rattle.sftp_profile.specs.Judged.{IsForgiven, IsJudged, IsStep}
 use Rattle.sftp_profile.specs.Permitted.{Permitted, taken, taken_for, retold, with_followed, first_of, forgiven}
 use Rattle.sftp_profile.specs.Permitted.{forgiven_by, permitted, under, met, with_note, judged, step}
+use Rattle.sftp_profile.specs.OneEnd.{same_end}
 
 abbrev pub under_same : State → sessions.State → State
 under_same s session = record s { session = session }
 
 -- ---- from a state and its answer
-
-same_end : {A : Type 0} → (o : Option A) (a b : A) → o ≡ Some a → o ≡ Some b → a ≡ b
-same_end o a b is_a is_b = cc
-
-pub permitted-one_end : (s : State) (request : Request) (reply : Reply) (a b : State) → Permitted s request reply a
-    → Permitted s request reply b → a ≡ b
-permitted-one_end s request reply a b to_a to_b = same_end (step s request.ask reply.answer) a b to_a.step to_b.step
 
 under-profile : (s : State) (o : Option sessions.State) (end : State) → under s o ≡ Some end
     → end.profile ≡ s.profile

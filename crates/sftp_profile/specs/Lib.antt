@@ -19,5 +19,6 @@ pub mod Notes
 pub mod Through
 pub mod Listed
 pub mod Permitted
+pub mod OneEnd
 pub mod Judged
 pub mod Examples

@@ -8,6 +8,7 @@ pub mod examples;
 mod extensions;
 mod flags;
 mod judges;
+mod judging;
 pub mod laws;
 mod limits;
 mod listed;

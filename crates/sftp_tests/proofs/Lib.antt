@@ -1,1 +1,3 @@
 pub mod AuditedLaws
+pub mod StrictRuns
+pub mod StrictFaults

@@ -2,163 +2,167 @@
 -- not allowed one is the first.
 use Rattle.sftp_audit.proofs.Imports.{same_Some, ◌≡◌, ◌≢◌, ◌⊎◌, ℕ, true, List, [], ◌∷◌, ◌++◌, Option, Some, None}
 use Rattle.sftp_audit.proofs.Imports.{is_some, IsTrue, refl, sym, ap, subst, ◌∙◌, inl, inr, option_map, Request, Reply}
-use Rattle.sftp_audit.proofs.Imports.{State, Permitted, Event, Asked, Replied, number_after_events, Turn, closed}
+use Rattle.sftp_audit.proofs.Imports.{StepOf, Event, Asked, Replied, number_after_events, Turn, closed}
 use Rattle.sftp_audit.proofs.Imports.{waiting, turn_after, leading_pairs, Run, IsWaiting, Refusal, RecordedReply}
-use Rattle.sftp_audit.proofs.Imports.{Exchange, IsFirstWrong, Refuses, permitted-one_end, recorded_exchanges}
+use Rattle.sftp_audit.proofs.Imports.{Exchange, IsFirstWrong, Refuses, recorded_exchanges}
 use Rattle.sftp_audit.proofs.Imports.{is_answered, AreAnswered, reply_of, ledger_of}
+use Rattle.sftp_audit.proofs.steps.StepLaws.{HasOneEnd}
 use Rattle.sftp_audit.proofs.auditing.Lists.{same_head, same_tail}
 use Rattle.sftp_audit.specs.declared.errors.Refusal.TheVariants as refusals
 
 -- ---- the first step of a run
 
-record FirstStep (start : State) (x : Exchange) (others : List Exchange) (end : State) : Type 0 where
+record FirstStep {S : Type 0} (step : StepOf S) (start : S) (x : Exchange) (others : List Exchange) (end : S)
+    : Type 0
+  where
+    reply : RecordedReply
+    reply_is : x.reply ≡ Some reply
+    mid : S
+    allowed : step start x.request reply.reply mid
+    run : Run step mid (leading_pairs (ledger_of others)) end
+
+record IsWrong {S : Type 0} (step : StepOf S) (mid : S) (x : Exchange) : Type 0 where
   reply : RecordedReply
   reply_is : x.reply ≡ Some reply
-  mid : State
-  allowed : Permitted start x.request reply.reply mid
-  run : Run Permitted mid (leading_pairs (ledger_of others)) end
+  wrong : (end : S) → step mid x.request reply.reply end → ⊥
 
-first_step_by : (start : State) (x : Exchange) (others : List Exchange) (end : State) (reply : Option RecordedReply)
-    → x.reply ≡ reply → is_some reply ≡ true
-    → Run Permitted start (leading_pairs ((x.request, option_map reply_of reply) ∷ ledger_of others)) end
-    → FirstStep start x others end
-unfolding leading_pairs
-first_step_by start x others end None is answered run = absurd cc
-first_step_by start x others end (Some reply) is answered run =
-    record { reply = reply; reply_is = is; mid = run.0; allowed = run.1; run = run.2 }
+module _ {S : Type 0} (step : StepOf S) (one_end : HasOneEnd step) where
+  first_step_by : (start : S) (x : Exchange) (others : List Exchange) (end : S) (reply : Option RecordedReply)
+      → x.reply ≡ reply → is_some reply ≡ true
+      → Run step start (leading_pairs ((x.request, option_map reply_of reply) ∷ ledger_of others)) end
+      → FirstStep step start x others end
+  unfolding leading_pairs
+  first_step_by start x others end None is answered run = absurd cc
+  first_step_by start x others end (Some reply) is answered run =
+      record { reply = reply; reply_is = is; mid = run.0; allowed = run.1; run = run.2 }
 
-first_step : (start : State) (x : Exchange) (others : List Exchange) (end : State) → IsTrue (is_answered x)
-    → Run Permitted start (leading_pairs (ledger_of (x ∷ others))) end → FirstStep start x others end
-first_step start x others end answered run = first_step_by start x others end x.reply refl answered run
+  first_step : (start : S) (x : Exchange) (others : List Exchange) (end : S) → IsTrue (is_answered x)
+      → Run step start (leading_pairs (ledger_of (x ∷ others))) end → FirstStep step start x others end
+  first_step start x others end answered run = first_step_by start x others end x.reply refl answered run
 
--- a reply leads to one state
-same_mid : (start : State) (request : Request) (a b : RecordedReply) (to_a to_b : State) → a ≡ b
-    → Permitted start request a.reply to_a → Permitted start request b.reply to_b → to_a ≡ to_b
-same_mid start request a b to_a to_b same by_a by_b =
-    permitted-one_end start request a.reply to_a to_b by_a
-    (subst (λ (r : RecordedReply). Permitted start request r.reply to_b) (sym same) by_b)
+  -- a reply leads to one state
+  same_mid : (start : S) (request : Request) (a b : RecordedReply) (to_a to_b : S) → a ≡ b
+      → step start request a.reply to_a → step start request b.reply to_b → to_a ≡ to_b
+  same_mid start request a b to_a to_b same by_a by_b =
+      one_end start request a.reply to_a to_b by_a
+      (subst (λ (r : RecordedReply). step start request r.reply to_b) (sym same) by_b)
 
--- ---- the first reply that is not allowed
+  -- ---- the first reply that is not allowed
 
-record IsWrong (mid : State) (x : Exchange) : Type 0 where
-  reply : RecordedReply
-  reply_is : x.reply ≡ Some reply
-  wrong : (end : State) → Permitted mid x.request reply.reply end → ⊥
+  -- what is wrong is not the first step of a run
+  not_wrong : (start mid : S) (x y : Exchange) (others : List Exchange) (end : S) → mid ≡ start → x ≡ y
+      → IsWrong step mid x → FirstStep step start y others end → ⊥
+  not_wrong start mid x y others end here same wrong first =
+      let wrong_y : IsWrong step start y = subst (λ (m : S). IsWrong step m y) here (subst (IsWrong step mid) same wrong) in
+      let reply : first.reply ≡ wrong_y.reply =
+      same_Some first.reply wrong_y.reply (sym first.reply_is ∙ wrong_y.reply_is) in
+      wrong_y.wrong first.mid
+      (subst (λ (r : RecordedReply). step start y.request r.reply first.mid) reply first.allowed)
 
--- what is wrong is not the first step of a run
-not_wrong : (start mid : State) (x y : Exchange) (others : List Exchange) (end : State) → mid ≡ start → x ≡ y
-    → IsWrong mid x → FirstStep start y others end → ⊥
-not_wrong start mid x y others end here same wrong step =
-    let wrong_y : IsWrong start y = subst (λ (m : State). IsWrong m y) here (subst (IsWrong mid) same wrong) in
-    let reply : step.reply ≡ wrong_y.reply =
-    same_Some step.reply wrong_y.reply (sym step.reply_is ∙ wrong_y.reply_is) in
-    wrong_y.wrong step.mid
-    (subst (λ (r : RecordedReply). Permitted start y.request r.reply step.mid) reply step.allowed)
+  one_wrong : (start : S) (b c : List Exchange) (x y : Exchange) (behind_b behind_c : List Exchange)
+      (mid_b mid_c : S) → b ++ x ∷ behind_b ≡ c ++ y ∷ behind_c → AreAnswered b → AreAnswered c
+      → Run step start (leading_pairs (ledger_of b)) mid_b → Run step start (leading_pairs (ledger_of c)) mid_c
+      → IsWrong step mid_b x → IsWrong step mid_c y → x ≡ y
+  unfolding leading_pairs
+  one_wrong start [] [] x y behind_b behind_c mid_b mid_c same all_b all_c run_b run_c wrong_b wrong_c =
+      same_head x y behind_b behind_c same
+  one_wrong start [] (z ∷ c) x y behind_b behind_c mid_b mid_c same all_b all_c run_b run_c wrong_b wrong_c =
+      absurd (not_wrong start mid_b x z c mid_c run_b (same_head x z behind_b (c ++ y ∷ behind_c) same) wrong_b
+      (first_step start z c mid_c all_c.0 run_c))
+  one_wrong start (z ∷ b) [] x y behind_b behind_c mid_b mid_c same all_b all_c run_b run_c wrong_b wrong_c =
+      absurd (not_wrong start mid_c y z b mid_b run_c (sym (same_head z y (b ++ x ∷ behind_b) behind_c same)) wrong_c
+      (first_step start z b mid_b all_b.0 run_b))
+  one_wrong start (z ∷ b) (w ∷ c) x y behind_b behind_c mid_b mid_c same all_b all_c run_b run_c wrong_b wrong_c =
+      let first : z ≡ w = same_head z w (b ++ x ∷ behind_b) (c ++ y ∷ behind_c) same in
+      let step_b = first_step start z b mid_b all_b.0 run_b in
+      let step_w = first_step start w c mid_c all_c.0 run_c in
+      let step_c : FirstStep step start z c mid_c = subst (λ (v : Exchange). FirstStep step start v c mid_c) (sym first) step_w in
+      let reply : step_b.reply ≡ step_c.reply =
+      same_Some step_b.reply step_c.reply (sym step_b.reply_is ∙ step_c.reply_is) in
+      let mid : step_b.mid ≡ step_c.mid =
+      same_mid start z.request step_b.reply step_c.reply step_b.mid step_c.mid reply step_b.allowed step_c.allowed in
+      one_wrong step_b.mid b c x y behind_b behind_c mid_b mid_c
+      (same_tail z w (b ++ x ∷ behind_b) (c ++ y ∷ behind_c) same) all_b.1 all_c.1 step_b.run
+      (subst (λ (m : S). Run step m (leading_pairs (ledger_of c)) mid_c) (sym mid) step_c.run) wrong_b wrong_c
 
-one_wrong : (start : State) (b c : List Exchange) (x y : Exchange) (behind_b behind_c : List Exchange)
-    (mid_b mid_c : State) → b ++ x ∷ behind_b ≡ c ++ y ∷ behind_c → AreAnswered b → AreAnswered c
-    → Run Permitted start (leading_pairs (ledger_of b)) mid_b → Run Permitted start (leading_pairs (ledger_of c)) mid_c
-    → IsWrong mid_b x → IsWrong mid_c y → x ≡ y
-unfolding leading_pairs
-one_wrong start [] [] x y behind_b behind_c mid_b mid_c same all_b all_c run_b run_c wrong_b wrong_c =
-    same_head x y behind_b behind_c same
-one_wrong start [] (z ∷ c) x y behind_b behind_c mid_b mid_c same all_b all_c run_b run_c wrong_b wrong_c =
-    absurd (not_wrong start mid_b x z c mid_c run_b (same_head x z behind_b (c ++ y ∷ behind_c) same) wrong_b
-    (first_step start z c mid_c all_c.0 run_c))
-one_wrong start (z ∷ b) [] x y behind_b behind_c mid_b mid_c same all_b all_c run_b run_c wrong_b wrong_c =
-    absurd (not_wrong start mid_c y z b mid_b run_c (sym (same_head z y (b ++ x ∷ behind_b) behind_c same)) wrong_c
-    (first_step start z b mid_b all_b.0 run_b))
-one_wrong start (z ∷ b) (w ∷ c) x y behind_b behind_c mid_b mid_c same all_b all_c run_b run_c wrong_b wrong_c =
-    let first : z ≡ w = same_head z w (b ++ x ∷ behind_b) (c ++ y ∷ behind_c) same in
-    let step_b = first_step start z b mid_b all_b.0 run_b in
-    let step_w = first_step start w c mid_c all_c.0 run_c in
-    let step_c : FirstStep start z c mid_c = subst (λ (v : Exchange). FirstStep start v c mid_c) (sym first) step_w in
-    let reply : step_b.reply ≡ step_c.reply =
-    same_Some step_b.reply step_c.reply (sym step_b.reply_is ∙ step_c.reply_is) in
-    let mid : step_b.mid ≡ step_c.mid =
-    same_mid start z.request step_b.reply step_c.reply step_b.mid step_c.mid reply step_b.allowed step_c.allowed in
-    one_wrong step_b.mid b c x y behind_b behind_c mid_b mid_c
-    (same_tail z w (b ++ x ∷ behind_b) (c ++ y ∷ behind_c) same) all_b.1 all_c.1 step_b.run
-    (subst (λ (m : State). Run Permitted m (leading_pairs (ledger_of c)) mid_c) (sym mid) step_c.run) wrong_b wrong_c
+  number_of : (x y : Exchange) (r q : RecordedReply) → x.reply ≡ Some r → y.reply ≡ Some q → x ≡ y → r.number ≡ q.number
+  number_of x y r q is_r is_q same = cc
 
-number_of : (x y : Exchange) (r q : RecordedReply) → x.reply ≡ Some r → y.reply ≡ Some q → x ≡ y → r.number ≡ q.number
-number_of x y r q is_r is_q same = cc
+  pub one_first_wrong : (start : S) (xs : List Exchange) (m n : ℕ) → IsFirstWrong step start xs m
+      → IsFirstWrong step start xs n → m ≡ n
+  one_first_wrong start xs m n a b =
+      let reply_a : RecordedReply = record { reply = a.reply; number = m } in
+      let reply_b : RecordedReply = record { reply = b.reply; number = n } in
+      let x : Exchange = record { request = a.request; number = a.asked_in; reply = Some reply_a } in
+      let y : Exchange = record { request = b.request; number = b.asked_in; reply = Some reply_b } in
+      let wrong_a : IsWrong step a.mid x = record { reply = reply_a; reply_is = refl; wrong = a.wrong } in
+      let wrong_b : IsWrong step b.mid y = record { reply = reply_b; reply_is = refl; wrong = b.wrong } in
+      let same : a.before ++ x ∷ a.behind ≡ b.before ++ y ∷ b.behind = sym a.exchanges_are ∙ b.exchanges_are in
+      let exchange : x ≡ y =
+      one_wrong start a.before b.before x y a.behind b.behind a.mid b.mid same a.answered b.answered a.run b.run wrong_a
+      wrong_b in
+      number_of x y reply_a reply_b refl refl exchange
 
-pub one_first_wrong : (start : State) (xs : List Exchange) (m n : ℕ) → IsFirstWrong Permitted start xs m
-    → IsFirstWrong Permitted start xs n → m ≡ n
-one_first_wrong start xs m n a b =
-    let reply_a : RecordedReply = record { reply = a.reply; number = m } in
-    let reply_b : RecordedReply = record { reply = b.reply; number = n } in
-    let x : Exchange = record { request = a.request; number = a.asked_in; reply = Some reply_a } in
-    let y : Exchange = record { request = b.request; number = b.asked_in; reply = Some reply_b } in
-    let wrong_a : IsWrong a.mid x = record { reply = reply_a; reply_is = refl; wrong = a.wrong } in
-    let wrong_b : IsWrong b.mid y = record { reply = reply_b; reply_is = refl; wrong = b.wrong } in
-    let same : a.before ++ x ∷ a.behind ≡ b.before ++ y ∷ b.behind = sym a.exchanges_are ∙ b.exchanges_are in
-    let exchange : x ≡ y =
-    one_wrong start a.before b.before x y a.behind b.behind a.mid b.mid same a.answered b.answered a.run b.run wrong_a
-    wrong_b in
-    number_of x y reply_a reply_b refl refl exchange
+  -- ---- the reasons
 
--- ---- the reasons
+  abbrev WhyAsked : List Event → Request → Refusal → Type 0
+  WhyAsked events request refusal =
+      ((refusal ≡ refusals.IdInUse (number_after_events events)) × (turn_after request.id closed events ≡ waiting))
+      ⊎ ((refusal ≡ refusals.Window (number_after_events events)) × (turn_after request.id closed events ≡ closed))
 
-abbrev WhyAsked : List Event → Request → Refusal → Type 0
-WhyAsked events request refusal =
-    ((refusal ≡ refusals.IdInUse (number_after_events events)) × (turn_after request.id closed events ≡ waiting))
-    ⊎ ((refusal ≡ refusals.Window (number_after_events events)) × (turn_after request.id closed events ≡ closed))
+  why_asked : (start : S) (events : List Event) (request : Request) (refusal : Refusal)
+      → Refuses step start events (Asked request) refusal → refusal ≢ refusals.NoMemory
+      → WhyAsked events request refusal
+  why_asked start events request (refusals.IdInUse number) why other = inl (ap refusals.IdInUse why.0, why.1)
+  why_asked start events request (refusals.Window number) why other = inr (ap refusals.Window why.0, why.1)
+  why_asked start events request refusals.NoMemory why other = absurd (other refl)
+  why_asked start events request refusal why other = absurd why
 
-why_asked : (start : State) (events : List Event) (request : Request) (refusal : Refusal)
-    → Refuses Permitted start events (Asked request) refusal → refusal ≢ refusals.NoMemory
-    → WhyAsked events request refusal
-why_asked start events request (refusals.IdInUse number) why other = inl (ap refusals.IdInUse why.0, why.1)
-why_asked start events request (refusals.Window number) why other = inr (ap refusals.Window why.0, why.1)
-why_asked start events request refusals.NoMemory why other = absurd (other refl)
-why_asked start events request refusal why other = absurd why
+  -- whether a turn is closed or waiting decides
+  one_of_two : (turn : Turn) (a b in_use late : Refusal)
+      → ((a ≡ in_use) × (turn ≡ waiting)) ⊎ ((a ≡ late) × (turn ≡ closed))
+      → ((b ≡ in_use) × (turn ≡ waiting)) ⊎ ((b ≡ late) × (turn ≡ closed)) → a ≡ b
+  one_of_two turn a b in_use late (inl first) (inl second) = first.0 ∙ sym second.0
+  one_of_two turn a b in_use late (inl first) (inr second) =
+      absurd (let e : waiting ≡ closed = sym first.1 ∙ second.1 in cc)
+  one_of_two turn a b in_use late (inr first) (inl second) =
+      absurd (let e : waiting ≡ closed = sym second.1 ∙ first.1 in cc)
+  one_of_two turn a b in_use late (inr first) (inr second) = first.0 ∙ sym second.0
 
--- whether a turn is closed or waiting decides
-one_of_two : (turn : Turn) (a b in_use late : Refusal)
-    → ((a ≡ in_use) × (turn ≡ waiting)) ⊎ ((a ≡ late) × (turn ≡ closed))
-    → ((b ≡ in_use) × (turn ≡ waiting)) ⊎ ((b ≡ late) × (turn ≡ closed)) → a ≡ b
-one_of_two turn a b in_use late (inl first) (inl second) = first.0 ∙ sym second.0
-one_of_two turn a b in_use late (inl first) (inr second) =
-    absurd (let e : waiting ≡ closed = sym first.1 ∙ second.1 in cc)
-one_of_two turn a b in_use late (inr first) (inl second) =
-    absurd (let e : waiting ≡ closed = sym second.1 ∙ first.1 in cc)
-one_of_two turn a b in_use late (inr first) (inr second) = first.0 ∙ sym second.0
+  abbrev WhyReplied : S → List Event → Reply → Refusal → Type 0
+  WhyReplied start events reply refusal =
+      ((refusal ≡ refusals.UnknownReply (number_after_events events)) × (turn_after reply.id closed events ≡ closed))
+      ⊎ ((number : ℕ) × (refusal ≡ refusals.NotAllowed number) × IsWaiting events reply.id
+      × IsFirstWrong step start (recorded_exchanges (events ++ Replied reply ∷ [])) number)
 
-abbrev WhyReplied : State → List Event → Reply → Refusal → Type 0
-WhyReplied start events reply refusal =
-    ((refusal ≡ refusals.UnknownReply (number_after_events events)) × (turn_after reply.id closed events ≡ closed))
-    ⊎ ((number : ℕ) × (refusal ≡ refusals.NotAllowed number) × IsWaiting events reply.id
-    × IsFirstWrong Permitted start (recorded_exchanges (events ++ Replied reply ∷ [])) number)
+  why_replied : (start : S) (events : List Event) (reply : Reply) (refusal : Refusal)
+      → Refuses step start events (Replied reply) refusal → refusal ≢ refusals.NoMemory
+      → WhyReplied start events reply refusal
+  why_replied start events reply (refusals.UnknownReply number) why other = inl (ap refusals.UnknownReply why.0, why.1)
+  why_replied start events reply (refusals.NotAllowed number) why other = inr (number, refl, why.0, why.1)
+  why_replied start events reply refusals.NoMemory why other = absurd (other refl)
+  why_replied start events reply refusal why other = absurd why
 
-why_replied : (start : State) (events : List Event) (reply : Reply) (refusal : Refusal)
-    → Refuses Permitted start events (Replied reply) refusal → refusal ≢ refusals.NoMemory
-    → WhyReplied start events reply refusal
-why_replied start events reply (refusals.UnknownReply number) why other = inl (ap refusals.UnknownReply why.0, why.1)
-why_replied start events reply (refusals.NotAllowed number) why other = inr (number, refl, why.0, why.1)
-why_replied start events reply refusals.NoMemory why other = absurd (other refl)
-why_replied start events reply refusal why other = absurd why
+  one_of_replies : (start : S) (events : List Event) (reply : Reply) (a b : Refusal)
+      → WhyReplied start events reply a → WhyReplied start events reply b → a ≡ b
+  one_of_replies start events reply a b (inl first) (inl second) = first.0 ∙ sym second.0
+  one_of_replies start events reply a b (inl first) (inr second) =
+      absurd (let e : closed ≡ waiting = sym first.1 ∙ second.2 in cc)
+  one_of_replies start events reply a b (inr first) (inl second) =
+      absurd (let e : closed ≡ waiting = sym second.1 ∙ first.2 in cc)
+  one_of_replies start events reply a b (inr first) (inr second) =
+      let same : first.0 ≡ second.0 =
+      one_first_wrong start (recorded_exchanges (events ++ Replied reply ∷ [])) first.0 second.0 first.3 second.3 in
+      first.1 ∙ ap refusals.NotAllowed same ∙ sym second.1
 
-one_of_replies : (start : State) (events : List Event) (reply : Reply) (a b : Refusal)
-    → WhyReplied start events reply a → WhyReplied start events reply b → a ≡ b
-one_of_replies start events reply a b (inl first) (inl second) = first.0 ∙ sym second.0
-one_of_replies start events reply a b (inl first) (inr second) =
-    absurd (let e : closed ≡ waiting = sym first.1 ∙ second.2 in cc)
-one_of_replies start events reply a b (inr first) (inl second) =
-    absurd (let e : closed ≡ waiting = sym second.1 ∙ first.2 in cc)
-one_of_replies start events reply a b (inr first) (inr second) =
-    let same : first.0 ≡ second.0 =
-    one_first_wrong start (recorded_exchanges (events ++ Replied reply ∷ [])) first.0 second.0 first.3 second.3 in
-    first.1 ∙ ap refusals.NotAllowed same ∙ sym second.1
-
-pub one_refusal : (start : State) (events : List Event) (event : Event) (a b : Refusal)
-    → Refuses Permitted start events event a → Refuses Permitted start events event b → a ≢ refusals.NoMemory
-    → b ≢ refusals.NoMemory
-    → a ≡ b
-one_refusal start events (Asked request) a b for_a for_b not_a not_b =
-    one_of_two (turn_after request.id closed events) a b (refusals.IdInUse (number_after_events events))
-    (refusals.Window (number_after_events events)) (why_asked start events request a for_a not_a)
-    (why_asked start events request b for_b not_b)
-one_refusal start events (Replied reply) a b for_a for_b not_a not_b =
-    one_of_replies start events reply a b (why_replied start events reply a for_a not_a)
-    (why_replied start events reply b for_b not_b)
+  pub one_refusal : (start : S) (events : List Event) (event : Event) (a b : Refusal)
+      → Refuses step start events event a → Refuses step start events event b → a ≢ refusals.NoMemory
+      → b ≢ refusals.NoMemory
+      → a ≡ b
+  one_refusal start events (Asked request) a b for_a for_b not_a not_b =
+      one_of_two (turn_after request.id closed events) a b (refusals.IdInUse (number_after_events events))
+      (refusals.Window (number_after_events events)) (why_asked start events request a for_a not_a)
+      (why_asked start events request b for_b not_b)
+  one_refusal start events (Replied reply) a b for_a for_b not_a not_b =
+      one_of_replies start events reply a b (why_replied start events reply a for_a not_a)
+      (why_replied start events reply b for_b not_b)

@@ -1,7 +1,7 @@
 -- What an auditor keeps goes on with each event, and what it refuses has its reason.
 use Rattle.sftp_audit.proofs.Imports.{◌≡◌, ℕ, ◌<◌, ◌≤◌, Bool, true, false, List, [], ◌∷◌, ◌++◌, length, slice_get, Some}
 use Rattle.sftp_audit.proofs.Imports.{None, Ok, Err, Result, OnOk, refl, sym, ap, ◌∙◌, subst, append_assoc, append-nil}
-use Rattle.sftp_audit.proofs.Imports.{Request, Reply, State, Permitted, Event, Asked, Replied, first_number}
+use Rattle.sftp_audit.proofs.Imports.{Request, Reply, StepOf, FollowsOf, Event, Asked, Replied, first_number}
 use Rattle.sftp_audit.proofs.Imports.{number_after_events, Run, Explained, exchanges_of, leading_pairs, window}
 use Rattle.sftp_audit.proofs.Imports.{turn_after, closed, broken, in_window, IsWaiting, Refusal, Exchange}
 use Rattle.sftp_audit.proofs.Imports.{RecordedReply, Audited, StandsFor, LacksReply, IsTold, IsFirstWrong}
@@ -17,288 +17,297 @@ use Rattle.sftp_audit.proofs.auditing.Lists.{leading_pairs-unsettled, leading_pa
 use Rattle.sftp_audit.proofs.auditing.Turns.{waits_if_open, closed_if_none, in_turn-asked, in_turn-replied}
 use Rattle.sftp_audit.proofs.auditing.Turns.{window-asked, window-replied, run-append}
 
--- ---- nothing yet
-
--- a fresh auditor stands for no events
-pub stands_from_start : (start : State) (new : Audited) → new.state ≡ start → new.kept ≡ [] → new.number ≡ first_number
-    → new.refusal ≡ None → StandsFor start [] new
-unfolding turn_after in_window exchanges_of leading_pairs exchanges_from unsettled
-stands_from_start start new same nothing number unrefused = record {
-  sound = record {
-    in_turn = λ id broke. (let out : closed ≡ broken = broke in absurd cc);
-    within_window = refl;
-    run = same;
-  };
-  kept = nothing;
-  number = number;
-  unrefused = unrefused;
-}
-
--- ---- what is kept says which requests wait
-
-waits_as : (start : State) (events : List Event) (old : Audited) (id : ℕ) (b : Bool) → StandsFor start events old
-    → is_open id old.kept ≡ b → is_open id (recorded_exchanges events) ≡ b
-waits_as start events old id b stands is =
-    sym (is_open-unsettled id (recorded_exchanges events)) ∙ ap (is_open id) (sym stands.kept) ∙ is
-
-waiting_of : (start : State) (events : List Event) (old : Audited) (id : ℕ) → StandsFor start events old
-    → is_open id old.kept ≡ true → IsWaiting events id
-waiting_of start events old id stands is =
-    waits_if_open events id stands.sound.in_turn stands.sound.within_window
-    (waits_as start events old id true stands is)
-
-closed_of : (start : State) (events : List Event) (old : Audited) (id : ℕ) → StandsFor start events old
-    → is_open id old.kept ≡ false → turn_after id closed events ≡ closed
-closed_of start events old id stands is =
-    closed_if_none events id stands.sound.in_turn stands.sound.within_window
-    (waits_as start events old id false stands is)
-
--- ---- one request more
-
-asked_pairs : (events : List Event) (request : Request)
-    → leading_pairs (exchanges_of (events ++ Asked request ∷ [])) ≡ leading_pairs (exchanges_of events)
-asked_pairs events request =
-    let after : List Event = events ++ Asked request ∷ [] in
-    let one : Exchange = record { request = request; number = number_after_events events; reply = None } in
-    ap leading_pairs (sym (ledger_of-recorded after))
-    ∙ ap (λ (xs : List Exchange). leading_pairs (ledger_of xs)) (recorded-asked events request)
-    ∙ leading_pairs-asked (recorded_exchanges events) one refl
-    ∙ ap leading_pairs (ledger_of-recorded events)
-
-noted-asked : (request : Request) (old new : Audited) → is_open request.id old.kept ≡ false → length old.kept < window
-    → new.kept ≡ old.kept ++ record { request = request; number = old.number; reply = None } ∷ []
-    → new.state ≡ old.state → HasNoted old (Asked request) new
-noted-asked request old new none room kept same start events stands =
-    let turn = closed_of start events old request.id stands none in
-    let few : length (unsettled (recorded_exchanges events)) < window =
-    subst (λ (xs : List Exchange). length xs < window) stands.kept room in
-    let run : Run Permitted start (leading_pairs (exchanges_of (events ++ Asked request ∷ []))) new.state =
-    rw (asked_pairs events request, same) stands.sound.run in
-    let one : ℕ → Exchange = λ n. record { request = request; number = n; reply = None } in
-    let are : new.kept ≡ unsettled (recorded_exchanges (events ++ Asked request ∷ [])) =
-    kept ∙ ap (λ (xs : List Exchange). xs ++ one old.number ∷ []) stands.kept
-    ∙ ap (λ (n : ℕ). unsettled (recorded_exchanges events) ++ one n ∷ []) stands.number
-    ∙ sym (unsettled-asked (recorded_exchanges events) (one (number_after_events events)) refl)
-    ∙ ap unsettled (sym (recorded-asked events request)) in
-    record {
-      sound = record {
-        in_turn = in_turn-asked events request stands.sound.in_turn turn;
-        within_window = window-asked events request stands.sound.in_turn stands.sound.within_window turn few;
-        run = run;
-      };
-      kept = are;
-    }
-
-pub result-asked : {T : Type 0} (result : Result T Refusal) (request : Request) (old new : Audited)
-    → OnOk result (is_open request.id old.kept ≡ false) → OnOk result (length old.kept < window)
-    → OnOk result (new.kept ≡ old.kept ++ record { request = request; number = old.number; reply = None } ∷ [])
-    → new.state ≡ old.state → OnOk result (HasNoted old (Asked request) new)
-result-asked (Ok x) request old new none room kept same = noted-asked request old new none room kept same
-result-asked (Err e) request old new none room kept same = tt
-
--- a request that is not taken is refused
-pub refused-asked : (request : Request) (old : Audited) (refusal : Refusal)
-    → RefusesRequest old.kept request old.number refusal → HasReason old (Asked request) refusal
-refused-asked request old (refusals.IdInUse number) r start events stands =
-    (r.0 ∙ stands.number, waiting_of start events old request.id stands r.1)
-refused-asked request old (refusals.Window number) r start events stands = (
-  r.0 ∙ stands.number,
-  closed_of start events old request.id stands r.1,
-  subst (λ (xs : List Exchange). window ≤ length xs) stands.kept r.2,
-)
-refused-asked request old refusals.NoMemory r start events stands = r
-refused-asked request old other r start events stands = absurd r
-
--- and no reply is wrong
-pub wrong-asked : (request : Request) (old : Audited) (state : State) (refusal : Refusal)
-    → RefusesRequest old.kept request old.number refusal → StopsIn old (Asked request) state refusal
-wrong-asked request old state (refusals.NotAllowed n) r start events stands = absurd r
-wrong-asked request old state other r start events stands = tt
-
-pub told-asked : (request : Request) (old : Audited) (told : Bool) (refusal : Refusal)
-    → RefusesRequest old.kept request old.number refusal → Reports old (Asked request) told told refusal
-told-asked request old told (refusals.NotAllowed n) r start events stands = absurd r
-told-asked request old told other r start events stands = refl
-
--- ---- one reply more
-
 -- What is kept, with the reply: the settled exchanges come before it.
-record Answered (start : State) (events : List Event) (reply : Reply) (old : Audited) : Type 0 where
-  before : List Exchange
-  answered : AreAnswered before
-  run : Run Permitted start (leading_pairs (ledger_of before)) old.state
-  recorded : recorded_exchanges (events ++ Replied reply ∷ [])
-      ≡ before ++ with_reply (record { reply = reply; number = old.number }) old.kept
-
-answered_of : (start : State) (events : List Event) (reply : Reply) (old : Audited) → StandsFor start events old
-    → Answered start events reply old
-answered_of start events reply old stands =
-    let parts = settled_parts (recorded_exchanges events) in
-    let given : ℕ → RecordedReply = λ n. record { reply = reply; number = n } in
-    let all : recorded_exchanges events ≡ parts.0 ++ old.kept =
-    parts.2 ∙ ap (λ (xs : List Exchange). parts.0 ++ xs) (sym stands.kept) in
-    let pairs : leading_pairs (exchanges_of events) ≡ leading_pairs (ledger_of parts.0) =
-    ap leading_pairs (sym (ledger_of-recorded events))
-    ∙ ap (λ (xs : List Exchange). leading_pairs (ledger_of xs)) parts.2
-    ∙ leading_pairs-settled parts.0 (unsettled (recorded_exchanges events)) parts.1
-    ∙ ap (λ (xs : List (Request × Reply)). leading_pairs (ledger_of parts.0) ++ xs)
-    (leading_pairs-unsettled (recorded_exchanges events))
-    ∙ append-nil (leading_pairs (ledger_of parts.0)) in
-    record {
-      before = parts.0;
-      answered = parts.1;
-      run = subst (λ (xs : List (Request × Reply)). Run Permitted start xs old.state) pairs stands.sound.run;
-      recorded = recorded-replied events reply
-          ∙ ap (λ (n : ℕ). with_reply (given n) (recorded_exchanges events)) (sym stands.number)
-          ∙ ap (with_reply (given old.number)) all
-          ∙ with_reply-append (given old.number) parts.0 old.kept
-          ∙ ap (λ (xs : List Exchange). xs ++ with_reply (given old.number) old.kept)
-          (with_reply-answered (given old.number) parts.0 parts.1);
-    }
+record Answered {S : Type 0} (step : StepOf S) (start : S) (events : List Event) (reply : Reply) (old : Audited S)
+    : Type 0
+  where
+    before : List Exchange
+    answered : AreAnswered before
+    run : Run step start (leading_pairs (ledger_of before)) old.state
+    recorded : recorded_exchanges (events ++ Replied reply ∷ [])
+        ≡ before ++ with_reply (record { reply = reply; number = old.number }) old.kept
 
 -- a request of the reply's id waited, and these exchanges have the reply
-abbrev pub HasReply : Reply → Audited → List Exchange → Type 0
+abbrev pub HasReply : {S : Type 0} → Reply → Audited S → List Exchange → Type 0
 HasReply reply old kept =
     (is_open reply.id old.kept ≡ true) × (kept ≡ with_reply (record { reply = reply; number = old.number }) old.kept)
 
-noted-replied : (reply : Reply) (old : Audited) (kept : List Exchange) (new : Audited) → HasReply reply old kept
-    → new.kept ≡ unsettled kept → Run Permitted old.state (leading_pairs (ledger_of kept)) new.state
-    → HasNoted old (Replied reply) new
-noted-replied reply old kept new has settled run start events stands =
-    let turn = waiting_of start events old reply.id stands has.0 in
-    let a = answered_of start events reply old stands in
-    let all : recorded_exchanges (events ++ Replied reply ∷ []) ≡ a.before ++ kept =
-    a.recorded ∙ ap (λ (xs : List Exchange). a.before ++ xs) (sym has.1) in
-    let pairs : leading_pairs (ledger_of a.before) ++ leading_pairs (ledger_of kept)
-    ≡ leading_pairs (exchanges_of (events ++ Replied reply ∷ [])) =
-    sym (leading_pairs-settled a.before kept a.answered)
-    ∙ ap (λ (xs : List Exchange). leading_pairs (ledger_of xs)) (sym all)
-    ∙ ap leading_pairs (ledger_of-recorded (events ++ Replied reply ∷ [])) in
-    let settled_pairs : List (Request × Reply) = leading_pairs (ledger_of a.before) in
-    let more_pairs : List (Request × Reply) = leading_pairs (ledger_of kept) in
-    record {
-      sound = record {
-        in_turn = in_turn-replied events reply stands.sound.in_turn turn;
-        within_window = window-replied events reply stands.sound.within_window stands.sound.in_turn turn;
-        run = subst (λ (xs : List (Request × Reply)). Run Permitted start xs new.state) pairs
-            (run-append Permitted start settled_pairs old.state more_pairs new.state a.run run);
-      };
-      kept = settled ∙ sym (unsettled-answered a.before kept a.answered) ∙ ap unsettled (sym all);
-    }
+-- what was seen of an auditor, as its parts say it
+abbrev pub viewed : {S : Type 0} {old seen : Audited S} → old ≡ seen → Audited S
+viewed {old = old} view = old
 
-pub result-replied : {T : Type 0} (result : Result T Refusal) (reply : Reply) (old : Audited) (kept : List Exchange)
-    (new : Audited) → HasReply reply old kept → OnOk result (new.kept ≡ unsettled kept)
-    → OnOk result (Run Permitted old.state (leading_pairs (ledger_of kept)) new.state)
-    → OnOk result (HasNoted old (Replied reply) new)
-result-replied (Ok x) reply old kept new has settled run = noted-replied reply old kept new has settled run
-result-replied (Err e) reply old kept new has settled run = tt
+module _ {S : Type 0} (step : StepOf S) where
+  -- ---- nothing yet
 
--- a reply that is not taken is refused, and it is not wrong
-pub refused-replied : (reply : Reply) (old : Audited) (refusal : Refusal)
-    → RefusesReply old.kept (record { reply = reply; number = old.number }) refusal
-    → HasReason old (Replied reply) refusal
-refused-replied reply old (refusals.UnknownReply number) r start events stands =
-    (r.0 ∙ stands.number, closed_of start events old reply.id stands r.1)
-refused-replied reply old other r start events stands = absurd r
+  -- a fresh auditor stands for no events
+  pub stands_from_start : (start : S) (new : Audited S) → new.state ≡ start → new.kept ≡ [] → new.number ≡ first_number
+      → new.refusal ≡ None → new.follows ≡ true → StandsFor step start [] new
+  unfolding turn_after in_window exchanges_of leading_pairs exchanges_from unsettled
+  stands_from_start start new same nothing number unrefused followed = record {
+    sound = record {
+      in_turn = λ id broke. (let out : closed ≡ broken = broke in absurd cc);
+      within_window = refl;
+      run = same;
+    };
+    kept = nothing;
+    number = number;
+    unrefused = unrefused;
+    followed = followed;
+  }
 
-pub wrong-replied : (reply : Reply) (old : Audited) (state : State) (refusal : Refusal)
-    → RefusesReply old.kept (record { reply = reply; number = old.number }) refusal
-    → StopsIn old (Replied reply) state refusal
-wrong-replied reply old state (refusals.UnknownReply n) r start events stands = tt
-wrong-replied reply old state other r start events stands = absurd r
+  -- ---- what is kept says which requests wait
 
-pub told-replied : (reply : Reply) (old : Audited) (told : Bool) (refusal : Refusal)
-    → RefusesReply old.kept (record { reply = reply; number = old.number }) refusal
-    → Reports old (Replied reply) told told refusal
-told-replied reply old told (refusals.UnknownReply n) r start events stands = refl
-told-replied reply old told other r start events stands = absurd r
+  waits_as : (start : S) (events : List Event) (old : Audited S) (id : ℕ) (b : Bool) → StandsFor step start events old
+      → is_open id old.kept ≡ b → is_open id (recorded_exchanges events) ≡ b
+  waits_as start events old id b stands is =
+      sym (is_open-unsettled id (recorded_exchanges events)) ∙ ap (is_open id) (sym stands.kept) ∙ is
 
--- what settling finds wrong first is the first that is wrong of all
-first_wrong : (reply : Reply) (old : Audited) (kept : List Exchange) → HasReply reply old kept → (number : ℕ)
-    → IsFirstWrong Permitted old.state kept number → (start : State) (events : List Event) → StandsFor start events old
-    → IsFirstWrong Permitted start (recorded_exchanges (events ++ Replied reply ∷ [])) number
-first_wrong reply old kept has number r start events stands =
-    let a = answered_of start events reply old stands in
-    let one : Exchange = record {
-      request = r.request;
-      number = r.asked_in;
-      reply = Some (record { reply = r.reply; number = number });
-    } in
-    record {
-      before = a.before ++ r.before;
-      request = r.request;
-      asked_in = r.asked_in;
-      reply = r.reply;
-      behind = r.behind;
-      exchanges_are = a.recorded ∙ ap (λ (xs : List Exchange). a.before ++ xs) (sym has.1 ∙ r.exchanges_are)
-          ∙ sym (append_assoc a.before r.before (one ∷ r.behind));
-      answered = answered-append a.before r.before a.answered r.answered;
-      mid = r.mid;
-      run = subst (λ (xs : List (Request × Reply)). Run Permitted start xs r.mid)
-          (sym (leading_pairs-settled a.before r.before a.answered))
-          (run-append Permitted start (leading_pairs (ledger_of a.before)) old.state (leading_pairs (ledger_of r.before))
-          r.mid a.run r.run);
-      wrong = r.wrong;
-    }
+  waiting_of : (start : S) (events : List Event) (old : Audited S) (id : ℕ) → StandsFor step start events old
+      → is_open id old.kept ≡ true → IsWaiting events id
+  waiting_of start events old id stands is =
+      waits_if_open events id stands.sound.in_turn stands.sound.within_window
+      (waits_as start events old id true stands is)
 
--- so what settling refuses is refused
-pub refused-settling : (reply : Reply) (old : Audited) (kept : List Exchange) → HasReply reply old kept
-    → (refusal : Refusal) → RefusesToSettle old.state kept refusal → HasReason old (Replied reply) refusal
-refused-settling reply old kept has (refusals.NotAllowed number) r start events stands =
-    (waiting_of start events old reply.id stands has.0, first_wrong reply old kept has number r start events stands)
-refused-settling reply old kept has refusals.NoMemory r start events stands = r
-refused-settling reply old kept has other r start events stands = absurd r
+  closed_of : (start : S) (events : List Event) (old : Audited S) (id : ℕ) → StandsFor step start events old
+      → is_open id old.kept ≡ false → turn_after id closed events ≡ closed
+  closed_of start events old id stands is =
+      closed_if_none events id stands.sound.in_turn stands.sound.within_window
+      (waits_as start events old id false stands is)
 
--- in the state in which it is, and with what is told of it
-pub wrong-settling : (reply : Reply) (old : Audited) (kept : List Exchange) (state : State) → HasReply reply old kept
-    → (refusal : Refusal) → IsWrongIn old.state kept state refusal → StopsIn old (Replied reply) state refusal
-unfolding first_wrong
-wrong-settling reply old kept state has (refusals.NotAllowed number) r start events stands =
-    (first_wrong reply old kept has number r.0 start events stands, r.1)
-wrong-settling reply old kept state has other r start events stands = tt
+  -- ---- one request more
 
-pub told-settling : (reply : Reply) (old : Audited) (kept : List Exchange) (before after : Bool)
-    → HasReply reply old kept → (refusal : Refusal) → IsTold old.state kept before after refusal
-    → Reports old (Replied reply) before after refusal
-unfolding first_wrong
-told-settling reply old kept before after has (refusals.NotAllowed number) r start events stands =
-    (first_wrong reply old kept has number r.0 start events stands, r.1)
-told-settling reply old kept before after has other r start events stands = r
+  asked_pairs : (events : List Event) (request : Request)
+      → leading_pairs (exchanges_of (events ++ Asked request ∷ [])) ≡ leading_pairs (exchanges_of events)
+  asked_pairs events request =
+      let after : List Event = events ++ Asked request ∷ [] in
+      let one : Exchange = record { request = request; number = number_after_events events; reply = None } in
+      ap leading_pairs (sym (ledger_of-recorded after))
+      ∙ ap (λ (xs : List Exchange). leading_pairs (ledger_of xs)) (recorded-asked events request)
+      ∙ leading_pairs-asked (recorded_exchanges events) one refl
+      ∙ ap leading_pairs (ledger_of-recorded events)
 
--- ---- the auditor as it was seen
+  noted-asked : (request : Request) (old new : Audited S) → is_open request.id old.kept ≡ false → length old.kept < window
+      → new.kept ≡ old.kept ++ record { request = request; number = old.number; reply = None } ∷ []
+      → new.state ≡ old.state → new.follows ≡ old.follows → HasNoted step old (Asked request) new
+  noted-asked request old new none room kept same stays start events stands =
+      let turn = closed_of start events old request.id stands none in
+      let few : length (unsettled (recorded_exchanges events)) < window =
+      subst (λ (xs : List Exchange). length xs < window) stands.kept room in
+      let run : Run step start (leading_pairs (exchanges_of (events ++ Asked request ∷ []))) new.state =
+      rw (asked_pairs events request, same) stands.sound.run in
+      let one : ℕ → Exchange = λ n. record { request = request; number = n; reply = None } in
+      let are : new.kept ≡ unsettled (recorded_exchanges (events ++ Asked request ∷ [])) =
+      kept ∙ ap (λ (xs : List Exchange). xs ++ one old.number ∷ []) stands.kept
+      ∙ ap (λ (n : ℕ). unsettled (recorded_exchanges events) ++ one n ∷ []) stands.number
+      ∙ sym (unsettled-asked (recorded_exchanges events) (one (number_after_events events)) refl)
+      ∙ ap unsettled (sym (recorded-asked events request)) in
+      record {
+        sound = record {
+          in_turn = in_turn-asked events request stands.sound.in_turn turn;
+          within_window = window-asked events request stands.sound.in_turn stands.sound.within_window turn few;
+          run = run;
+        };
+        kept = are;
+        followed = stays ∙ stands.followed;
+      }
 
--- what was seen, as its parts say it
-abbrev pub viewed : {old seen : Audited} → old ≡ seen → Audited
-viewed {old} view = old
+  pub result-asked : {T : Type 0} (result : Result T Refusal) (request : Request) (old new : Audited S)
+      → OnOk result (is_open request.id old.kept ≡ false) → OnOk result (length old.kept < window)
+      → OnOk result (new.kept ≡ old.kept ++ record { request = request; number = old.number; reply = None } ∷ [])
+      → new.state ≡ old.state → new.follows ≡ old.follows → OnOk result (HasNoted step old (Asked request) new)
+  result-asked (Ok x) request old new none room kept same stays = noted-asked request old new none room kept same stays
+  result-asked (Err e) request old new none room kept same stays = tt
 
-pub at_view : (start : State) (events : List Event) (seen old : Audited) → old ≡ seen → StandsFor start events seen
-    → StandsFor start events old
-at_view start events seen old view stands = subst (StandsFor start events) (sym view) stands
+  -- a request that is not taken is refused
+  pub refused-asked : (request : Request) (old : Audited S) (refusal : Refusal)
+      → RefusesRequest old.kept request old.number refusal → HasReason step old (Asked request) refusal
+  refused-asked request old (refusals.IdInUse number) r start events stands =
+      (r.0 ∙ stands.number, waiting_of start events old request.id stands r.1)
+  refused-asked request old (refusals.Window number) r start events stands = (
+    r.0 ∙ stands.number,
+    closed_of start events old request.id stands r.1,
+    subst (λ (xs : List Exchange). window ≤ length xs) stands.kept r.2,
+  )
+  refused-asked request old refusals.NoMemory r start events stands = r
+  refused-asked request old other r start events stands = absurd r
 
--- ---- the end
+  -- and no reply is wrong
+  pub wrong-asked : (request : Request) (old : Audited S) (state : S) (refusal : Refusal)
+      → RefusesRequest old.kept request old.number refusal → StopsIn step old (Asked request) state refusal
+  wrong-asked request old state (refusals.NotAllowed n) r start events stands = absurd r
+  wrong-asked request old state other r start events stands = tt
 
-nothing_first : (xs : List Exchange) → slice_get xs 0 ≡ None → xs ≡ []
-nothing_first [] is = refl
-nothing_first (x ∷ xs) is = absurd cc
+  pub told-asked : (follows : FollowsOf S) (request : Request) (old : Audited S) (told : Bool) (refusal : Refusal)
+      → told ≡ old.follows → RefusesRequest old.kept request old.number refusal
+      → Reports step follows old (Asked request) told refusal
+  told-asked follows request old told (refusals.NotAllowed n) same r start events stands = absurd r
+  told-asked follows request old told other same r start events stands = same
 
-others_of : (xs : List Exchange) (x : Exchange) → slice_get xs 0 ≡ Some x → (others : List Exchange) × (xs ≡ x ∷ others)
-others_of [] x is = absurd cc
-others_of (y ∷ xs) x is = (xs, let same : y ≡ x = cc in ap (λ (z : Exchange). z ∷ xs) same)
+  -- ---- one reply more
 
--- where nothing is kept, the events are explained
-pub explained-settled : (start : State) (events : List Event) (old : Audited) → StandsFor start events old
-    → slice_get old.kept 0 ≡ None → Explained Permitted start events old.state
-unfolding is_open
-explained-settled start events old stands none = record {
-  matching = λ id. closed_of start events old id stands (ap (is_open id) (nothing_first old.kept none));
-  within_window = stands.sound.within_window;
-  run = stands.sound.run;
-}
+  answered_of : (start : S) (events : List Event) (reply : Reply) (old : Audited S) → StandsFor step start events old
+      → Answered step start events reply old
+  answered_of start events reply old stands =
+      let parts = settled_parts (recorded_exchanges events) in
+      let given : ℕ → RecordedReply = λ n. record { reply = reply; number = n } in
+      let all : recorded_exchanges events ≡ parts.0 ++ old.kept =
+      parts.2 ∙ ap (λ (xs : List Exchange). parts.0 ++ xs) (sym stands.kept) in
+      let pairs : leading_pairs (exchanges_of events) ≡ leading_pairs (ledger_of parts.0) =
+      ap leading_pairs (sym (ledger_of-recorded events))
+      ∙ ap (λ (xs : List Exchange). leading_pairs (ledger_of xs)) parts.2
+      ∙ leading_pairs-settled parts.0 (unsettled (recorded_exchanges events)) parts.1
+      ∙ ap (λ (xs : List (Request × Reply)). leading_pairs (ledger_of parts.0) ++ xs)
+      (leading_pairs-unsettled (recorded_exchanges events))
+      ∙ append-nil (leading_pairs (ledger_of parts.0)) in
+      record {
+        before = parts.0;
+        answered = parts.1;
+        run = subst (λ (xs : List (Request × Reply)). Run step start xs old.state) pairs stands.sound.run;
+        recorded = recorded-replied events reply
+            ∙ ap (λ (n : ℕ). with_reply (given n) (recorded_exchanges events)) (sym stands.number)
+            ∙ ap (with_reply (given old.number)) all
+            ∙ with_reply-append (given old.number) parts.0 old.kept
+            ∙ ap (λ (xs : List Exchange). xs ++ with_reply (given old.number) old.kept)
+            (with_reply-answered (given old.number) parts.0 parts.1);
+      }
 
--- the first exchange that is kept is the oldest one without a reply
-pub lacks_reply : (start : State) (events : List Event) (old : Audited) (exchange : Exchange)
-    → StandsFor start events old → slice_get old.kept 0 ≡ Some exchange
-    → LacksReply events (refusals.Unanswered exchange.number)
-lacks_reply start events old exchange stands first =
-    let found = others_of old.kept exchange first in
-    (exchange, found.0, sym stands.kept ∙ found.1, refl)
+  noted-replied : (reply : Reply) (old : Audited S) (kept : List Exchange) (new : Audited S) → HasReply reply old kept
+      → new.kept ≡ unsettled kept → Run step old.state (leading_pairs (ledger_of kept)) new.state
+      → new.follows ≡ old.follows → HasNoted step old (Replied reply) new
+  noted-replied reply old kept new has settled run stays start events stands =
+      let turn = waiting_of start events old reply.id stands has.0 in
+      let a = answered_of start events reply old stands in
+      let all : recorded_exchanges (events ++ Replied reply ∷ []) ≡ a.before ++ kept =
+      a.recorded ∙ ap (λ (xs : List Exchange). a.before ++ xs) (sym has.1) in
+      let pairs : leading_pairs (ledger_of a.before) ++ leading_pairs (ledger_of kept)
+      ≡ leading_pairs (exchanges_of (events ++ Replied reply ∷ [])) =
+      sym (leading_pairs-settled a.before kept a.answered)
+      ∙ ap (λ (xs : List Exchange). leading_pairs (ledger_of xs)) (sym all)
+      ∙ ap leading_pairs (ledger_of-recorded (events ++ Replied reply ∷ [])) in
+      let settled_pairs : List (Request × Reply) = leading_pairs (ledger_of a.before) in
+      let more_pairs : List (Request × Reply) = leading_pairs (ledger_of kept) in
+      record {
+        sound = record {
+          in_turn = in_turn-replied events reply stands.sound.in_turn turn;
+          within_window = window-replied events reply stands.sound.within_window stands.sound.in_turn turn;
+          run = subst (λ (xs : List (Request × Reply)). Run step start xs new.state) pairs
+              (run-append step start settled_pairs old.state more_pairs new.state a.run run);
+        };
+        kept = settled ∙ sym (unsettled-answered a.before kept a.answered) ∙ ap unsettled (sym all);
+        followed = stays ∙ stands.followed;
+      }
+
+  pub result-replied : {T : Type 0} (result : Result T Refusal) (reply : Reply) (old : Audited S) (kept : List Exchange)
+      (new : Audited S) → HasReply reply old kept → OnOk result (new.kept ≡ unsettled kept)
+      → OnOk result (Run step old.state (leading_pairs (ledger_of kept)) new.state)
+      → OnOk result (new.follows ≡ old.follows) → OnOk result (HasNoted step old (Replied reply) new)
+  result-replied (Ok x) reply old kept new has settled run stays =
+      noted-replied reply old kept new has settled run stays
+  result-replied (Err e) reply old kept new has settled run stays = tt
+
+  -- a reply that is not taken is refused, and it is not wrong
+  pub refused-replied : (reply : Reply) (old : Audited S) (refusal : Refusal)
+      → RefusesReply old.kept (record { reply = reply; number = old.number }) refusal
+      → HasReason step old (Replied reply) refusal
+  refused-replied reply old (refusals.UnknownReply number) r start events stands =
+      (r.0 ∙ stands.number, closed_of start events old reply.id stands r.1)
+  refused-replied reply old other r start events stands = absurd r
+
+  pub wrong-replied : (reply : Reply) (old : Audited S) (state : S) (refusal : Refusal)
+      → RefusesReply old.kept (record { reply = reply; number = old.number }) refusal
+      → StopsIn step old (Replied reply) state refusal
+  wrong-replied reply old state (refusals.UnknownReply n) r start events stands = tt
+  wrong-replied reply old state other r start events stands = absurd r
+
+  pub told-replied : (follows : FollowsOf S) (reply : Reply) (old : Audited S) (told : Bool) (refusal : Refusal)
+      → told ≡ old.follows
+      → RefusesReply old.kept (record { reply = reply; number = old.number }) refusal
+      → Reports step follows old (Replied reply) told refusal
+  told-replied follows reply old told (refusals.UnknownReply n) same r start events stands = same
+  told-replied follows reply old told other same r start events stands = absurd r
+
+  -- what settling finds wrong first is the first that is wrong of all
+  first_wrong : (reply : Reply) (old : Audited S) (kept : List Exchange) → HasReply reply old kept → (number : ℕ)
+      → IsFirstWrong step old.state kept number → (start : S) (events : List Event) → StandsFor step start events old
+      → IsFirstWrong step start (recorded_exchanges (events ++ Replied reply ∷ [])) number
+  first_wrong reply old kept has number r start events stands =
+      let a = answered_of start events reply old stands in
+      let one : Exchange = record {
+        request = r.request;
+        number = r.asked_in;
+        reply = Some (record { reply = r.reply; number = number });
+      } in
+      record {
+        before = a.before ++ r.before;
+        request = r.request;
+        asked_in = r.asked_in;
+        reply = r.reply;
+        behind = r.behind;
+        exchanges_are = a.recorded ∙ ap (λ (xs : List Exchange). a.before ++ xs) (sym has.1 ∙ r.exchanges_are)
+            ∙ sym (append_assoc a.before r.before (one ∷ r.behind));
+        answered = answered-append a.before r.before a.answered r.answered;
+        mid = r.mid;
+        run = subst (λ (xs : List (Request × Reply)). Run step start xs r.mid)
+            (sym (leading_pairs-settled a.before r.before a.answered))
+            (run-append step start (leading_pairs (ledger_of a.before)) old.state (leading_pairs (ledger_of r.before))
+            r.mid a.run r.run);
+        wrong = r.wrong;
+      }
+
+  -- so what settling refuses is refused
+  pub refused-settling : (reply : Reply) (old : Audited S) (kept : List Exchange) → HasReply reply old kept
+      → (refusal : Refusal) → RefusesToSettle step old.state kept refusal → HasReason step old (Replied reply) refusal
+  refused-settling reply old kept has (refusals.NotAllowed number) r start events stands =
+      (waiting_of start events old reply.id stands has.0, first_wrong reply old kept has number r start events stands)
+  refused-settling reply old kept has refusals.NoMemory r start events stands = r
+  refused-settling reply old kept has other r start events stands = absurd r
+
+  -- in the state in which it is, and with what is told of it
+  pub wrong-settling : (reply : Reply) (old : Audited S) (kept : List Exchange) (state : S) → HasReply reply old kept
+      → (refusal : Refusal) → IsWrongIn step old.state kept state refusal → StopsIn step old (Replied reply) state refusal
+  unfolding first_wrong
+  wrong-settling reply old kept state has (refusals.NotAllowed number) r start events stands =
+      (first_wrong reply old kept has number r.0 start events stands, r.1)
+  wrong-settling reply old kept state has other r start events stands = tt
+
+  pub told-settling : (follows : FollowsOf S) (reply : Reply) (old : Audited S) (kept : List Exchange) (after : Bool)
+      → HasReply reply old kept → (refusal : Refusal) → IsTold step follows old.state kept old.follows after refusal
+      → Reports step follows old (Replied reply) after refusal
+  unfolding first_wrong
+  told-settling follows reply old kept after has (refusals.NotAllowed number) r start events stands =
+      (first_wrong reply old kept has number r.0 start events stands, r.1)
+  told-settling follows reply old kept after has other r start events stands = r
+
+  -- ---- the auditor as it was seen
+
+  pub at_view : (start : S) (events : List Event) (seen old : Audited S) → old ≡ seen → StandsFor step start events seen
+      → StandsFor step start events old
+  at_view start events seen old view stands = subst (StandsFor step start events) (sym view) stands
+
+  -- ---- the end
+
+  nothing_first : (xs : List Exchange) → slice_get xs 0 ≡ None → xs ≡ []
+  nothing_first [] is = refl
+  nothing_first (x ∷ xs) is = absurd cc
+
+  others_of : (xs : List Exchange) (x : Exchange) → slice_get xs 0 ≡ Some x → (others : List Exchange) × (xs ≡ x ∷ others)
+  others_of [] x is = absurd cc
+  others_of (y ∷ xs) x is = (xs, let same : y ≡ x = cc in ap (λ (z : Exchange). z ∷ xs) same)
+
+  -- where nothing is kept, the events are explained
+  pub explained-settled : (start : S) (events : List Event) (old : Audited S) → StandsFor step start events old
+      → slice_get old.kept 0 ≡ None → Explained step start events old.state
+  unfolding is_open
+  explained-settled start events old stands none = record {
+    matching = λ id. closed_of start events old id stands (ap (is_open id) (nothing_first old.kept none));
+    within_window = stands.sound.within_window;
+    run = stands.sound.run;
+  }
+
+  -- the first exchange that is kept is the oldest one without a reply
+  pub lacks_reply : (start : S) (events : List Event) (old : Audited S) (exchange : Exchange)
+      → StandsFor step start events old → slice_get old.kept 0 ≡ Some exchange
+      → LacksReply events (refusals.Unanswered exchange.number)
+  lacks_reply start events old exchange stands first =
+      let found = others_of old.kept exchange first in
+      (exchange, found.0, sym stands.kept ∙ found.1, refl)

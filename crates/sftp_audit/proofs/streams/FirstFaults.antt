@@ -1,7 +1,7 @@
 -- An audit meets one fault first.
 use Rattle.sftp_audit.proofs.Imports.{◌≡◌, ◌≢◌, ◌⊎◌, inl, inr, ℕ, List, [], ◌∷◌, ◌++◌, length, refl, sym, ap, ◌∙◌}
-use Rattle.sftp_audit.proofs.Imports.{subst, append_assoc, arith, length-append, Tree, IsStart, one_start, Profile}
-use Rattle.sftp_audit.proofs.Imports.{State, begun, Permitted, TranscriptError, Event, Sound, records_are_one_lem}
+use Rattle.sftp_audit.proofs.Imports.{subst, append_assoc, arith, length-append, Tree, IsStart, one_start}
+use Rattle.sftp_audit.proofs.Imports.{StepOf, TranscriptError, Event, Sound, records_are_one_lem}
 use Rattle.sftp_audit.proofs.Imports.{AuditError, Refusal, Exchange, Refuses, LacksReply, RefusedAt, RefusedAtEnd}
 use Rattle.sftp_audit.proofs.Imports.{FaultAt, IsFirstFaultBy, IsTreeError, IsPlain, begins_each, faulty_records_none}
 use Rattle.sftp_audit.specs.Auditor.{IsOldestOpen}
@@ -9,9 +9,23 @@ use Rattle.sftp_transcript.specs.declared.errors.TranscriptError.TheVariants as 
 use Rattle.sftp_transcript.proofs.transcripts.FirstFaults.{Extends, beginnings_compared, one_fault, first_before_fault}
 use Rattle.sftp_audit.specs.declared.errors.AuditError.TheVariants as audit_errors
 use Rattle.sftp_audit.specs.declared.errors.Refusal.TheVariants as refusals
+use Rattle.sftp_audit.proofs.steps.StepLaws.{HasOneEnd}
 use Rattle.sftp_audit.proofs.auditing.Lists.{same_head, same_tail}
 use Rattle.sftp_audit.proofs.auditing.Lost.{refuses_unsound}
 use Rattle.sftp_audit.proofs.auditing.Refusals.{one_refusal}
+
+-- ---- what an error is not, if it is plain
+
+pub unlike_fault : (error : TranscriptError) → IsPlain (audit_errors.Transcript error) → error ≢ transcript_errors.NoMemory
+unlike_fault transcript_errors.NoMemory plain same = plain
+unlike_fault other plain same = absurd cc
+
+pub unlike_refusal : (refusal : Refusal) → IsPlain (audit_errors.Refused refusal) → refusal ≢ refusals.NoMemory
+unlike_refusal refusals.NoMemory plain same = plain
+unlike_refusal other plain same = absurd cc
+
+same_start : (tree : List ℕ) (t u : Tree) → IsStart t tree → IsStart u tree → u ≡ t
+same_start tree t u of_t of_u = one_start u t tree of_u of_t
 
 -- ---- two refusals of events
 
@@ -41,39 +55,40 @@ last_or_before (w ∷ ws) (z ∷ zs) more x y same =
       })
     ]
 
--- a session that is sound goes past no event that is refused
-not_before : (start : State) (transcript : List ℕ) (refusal : Refusal) (events : List Event) (end : State)
-    → refusal ≢ refusals.NoMemory → (at : RefusedAt Permitted start transcript refusal)
-    → Sound Permitted start events end
-    → Before at.events at.event events → ⊥
-not_before start transcript refusal events end apart at sound before =
-    refuses_unsound start at.events at.event refusal at.end at.sound at.refuses apart before.between end
-    (subst (λ (l : List Event). Sound Permitted start l end) before.are sound)
+module _ {S : Type 0} (step : StepOf S) (one_end : HasOneEnd step) where
+  -- a session that is sound goes past no event that is refused
+  not_before : (start : S) (transcript : List ℕ) (refusal : Refusal) (events : List Event) (end : S)
+      → refusal ≢ refusals.NoMemory → (at : RefusedAt step start transcript refusal)
+      → Sound step start events end
+      → Before at.events at.event events → ⊥
+  not_before start transcript refusal events end apart at sound before =
+      refuses_unsound step one_end start at.events at.event refusal at.end at.sound at.refuses apart before.between end
+      (subst (λ (l : List Event). Sound step start l end) before.are sound)
 
-at_one : (start : State) (transcript : List ℕ) (a b : Refusal) → a ≢ refusals.NoMemory → b ≢ refusals.NoMemory
-    → (one : RefusedAt Permitted start transcript a) (other : RefusedAt Permitted start transcript b)
-    → Extends (one.events ++ one.event ∷ []) one.rest (other.events ++ other.event ∷ []) other.rest → a ≡ b
-at_one start transcript a b not_a not_b one other on =
-    elim (last_or_before one.events other.events on.more one.event other.event on.others_are) [
-      | inl both ↦
-          let here : Refuses Permitted start other.events one.event a =
-          subst (λ (l : List Event). Refuses Permitted start l one.event a) both.0 one.refuses in
-          one_refusal start other.events other.event a b
-          (subst (λ (e : Event). Refuses Permitted start other.events e a) both.1 here)
-          other.refuses not_a not_b
-      | inr before ↦
-          absurd (not_before start transcript a other.events other.end not_a one other.sound before)
-    ]
+  at_one : (start : S) (transcript : List ℕ) (a b : Refusal) → a ≢ refusals.NoMemory → b ≢ refusals.NoMemory
+      → (one : RefusedAt step start transcript a) (other : RefusedAt step start transcript b)
+      → Extends (one.events ++ one.event ∷ []) one.rest (other.events ++ other.event ∷ []) other.rest → a ≡ b
+  at_one start transcript a b not_a not_b one other on =
+      elim (last_or_before one.events other.events on.more one.event other.event on.others_are) [
+        | inl both ↦
+            let here : Refuses step start other.events one.event a =
+            subst (λ (l : List Event). Refuses step start l one.event a) both.0 one.refuses in
+            one_refusal step one_end start other.events other.event a b
+            (subst (λ (e : Event). Refuses step start other.events e a) both.1 here)
+            other.refuses not_a not_b
+        | inr before ↦
+            absurd (not_before start transcript a other.events other.end not_a one other.sound before)
+      ]
 
-two_refused : (start : State) (transcript : List ℕ) (a b : Refusal) → a ≢ refusals.NoMemory → b ≢ refusals.NoMemory
-    → RefusedAt Permitted start transcript a → RefusedAt Permitted start transcript b → a ≡ b
-two_refused start transcript a b not_a not_b one other =
-    elim
-    (beginnings_compared transcript (one.events ++ one.event ∷ []) (other.events ++ other.event ∷ []) one.rest
-    other.rest one.begins other.begins) [
-      | inl on ↦ at_one start transcript a b not_a not_b one other on
-      | inr on ↦ sym (at_one start transcript b a not_b not_a other one on)
-    ]
+  two_refused : (start : S) (transcript : List ℕ) (a b : Refusal) → a ≢ refusals.NoMemory → b ≢ refusals.NoMemory
+      → RefusedAt step start transcript a → RefusedAt step start transcript b → a ≡ b
+  two_refused start transcript a b not_a not_b one other =
+      elim
+      (beginnings_compared transcript (one.events ++ one.event ∷ []) (other.events ++ other.event ∷ []) one.rest
+      other.rest one.begins other.begins) [
+        | inl on ↦ at_one start transcript a b not_a not_b one other on
+        | inr on ↦ sym (at_one start transcript b a not_b not_a other one on)
+      ]
 
 -- ---- an event is refused, or a request has no reply
 
@@ -93,92 +108,81 @@ one_lack events a b for_a for_b =
     let other = why_lacks events b for_b in
     one.1 ∙ ap (λ (n : ℕ). refusals.Unanswered n) (one_lack_by events one.0 other.0 one.2 other.2) ∙ sym other.1
 
-two_ends : (start : State) (transcript : List ℕ) (a b : Refusal) → RefusedAtEnd Permitted start transcript a
-    → RefusedAtEnd Permitted start transcript b → a ≡ b
-two_ends start transcript a b one other =
-    let same : other.events ≡ one.events =
-    records_are_one_lem other.events one.events transcript other.recorded one.recorded in
-    one_lack one.events a b one.lacks (subst (λ (l : List Event). LacksReply l b) same other.lacks)
+module _ {S : Type 0} (step : StepOf S) (one_end : HasOneEnd step) where
+  two_ends : (start : S) (transcript : List ℕ) (a b : Refusal) → RefusedAtEnd step start transcript a
+      → RefusedAtEnd step start transcript b → a ≡ b
+  two_ends start transcript a b one other =
+      let same : other.events ≡ one.events =
+      records_are_one_lem other.events one.events transcript other.recorded one.recorded in
+      one_lack one.events a b one.lacks (subst (λ (l : List Event). LacksReply l b) same other.lacks)
 
-refused_before_end : (start : State) (transcript : List ℕ) (a b : Refusal) → a ≢ refusals.NoMemory
-    → RefusedAt Permitted start transcript a → RefusedAtEnd Permitted start transcript b → ⊥
-refused_before_end start transcript a b not_a at atend =
-    let on = begins_each (at.events ++ at.event ∷ []) atend.events transcript at.rest at.begins atend.recorded in
-    not_before start transcript a atend.events atend.end not_a at atend.sound (record {
-      between = on.more;
-      are = on.others_are ∙ append_assoc at.events (at.event ∷ []) on.more;
-    })
+  refused_before_end : (start : S) (transcript : List ℕ) (a b : Refusal) → a ≢ refusals.NoMemory
+      → RefusedAt step start transcript a → RefusedAtEnd step start transcript b → ⊥
+  refused_before_end start transcript a b not_a at atend =
+      let on = begins_each (at.events ++ at.event ∷ []) atend.events transcript at.rest at.begins atend.recorded in
+      not_before start transcript a atend.events atend.end not_a at atend.sound (record {
+        between = on.more;
+        are = on.others_are ∙ append_assoc at.events (at.event ∷ []) on.more;
+      })
 
-abbrev IsRefused : State → List ℕ → Refusal → Type 0
-IsRefused start transcript refusal =
-    RefusedAt Permitted start transcript refusal ⊎ RefusedAtEnd Permitted start transcript refusal
+  abbrev IsRefused : S → List ℕ → Refusal → Type 0
+  IsRefused start transcript refusal =
+      RefusedAt step start transcript refusal ⊎ RefusedAtEnd step start transcript refusal
 
-one_refused : (start : State) (transcript : List ℕ) (a b : Refusal) → a ≢ refusals.NoMemory → b ≢ refusals.NoMemory
-    → IsRefused start transcript a → IsRefused start transcript b → a ≡ b
-one_refused start transcript a b not_a not_b (inl one) (inl other) =
-    two_refused start transcript a b not_a not_b one other
-one_refused start transcript a b not_a not_b (inl one) (inr other) =
-    absurd (refused_before_end start transcript a b not_a one other)
-one_refused start transcript a b not_a not_b (inr one) (inl other) =
-    absurd (refused_before_end start transcript b a not_b other one)
-one_refused start transcript a b not_a not_b (inr one) (inr other) = two_ends start transcript a b one other
+  one_refused : (start : S) (transcript : List ℕ) (a b : Refusal) → a ≢ refusals.NoMemory → b ≢ refusals.NoMemory
+      → IsRefused start transcript a → IsRefused start transcript b → a ≡ b
+  one_refused start transcript a b not_a not_b (inl one) (inl other) =
+      two_refused start transcript a b not_a not_b one other
+  one_refused start transcript a b not_a not_b (inl one) (inr other) =
+      absurd (refused_before_end start transcript a b not_a one other)
+  one_refused start transcript a b not_a not_b (inr one) (inl other) =
+      absurd (refused_before_end start transcript b a not_b other one)
+  one_refused start transcript a b not_a not_b (inr one) (inr other) = two_ends start transcript a b one other
 
--- ---- a record has a fault, or an event is refused
+  -- ---- a record has a fault, or an event is refused
 
-fault_alone : (start : State) (transcript : List ℕ) (error : TranscriptError) (refusal : Refusal)
-    → error ≢ transcript_errors.NoMemory → refusal ≢ refusals.NoMemory → FaultAt Permitted start transcript error
-    → IsRefused start transcript refusal → ⊥
-fault_alone start transcript error refusal apart not_memory at (inl refused) =
-    let first = first_before_fault transcript at.events (refused.events ++ refused.event ∷ []) refused.rest error apart
-    at.fault refused.begins in
-    not_before start transcript refusal at.events at.end not_memory refused at.sound (record {
-      between = first.more;
-      are = first.events_are ∙ append_assoc refused.events (refused.event ∷ []) first.more;
-    })
-fault_alone start transcript error refusal apart not_memory at (inr atend) =
-    faulty_records_none transcript at.events atend.events error apart at.fault atend.recorded
+  fault_alone : (start : S) (transcript : List ℕ) (error : TranscriptError) (refusal : Refusal)
+      → error ≢ transcript_errors.NoMemory → refusal ≢ refusals.NoMemory → FaultAt step start transcript error
+      → IsRefused start transcript refusal → ⊥
+  fault_alone start transcript error refusal apart not_memory at (inl refused) =
+      let first = first_before_fault transcript at.events (refused.events ++ refused.event ∷ []) refused.rest error apart
+      at.fault refused.begins in
+      not_before start transcript refusal at.events at.end not_memory refused at.sound (record {
+        between = first.more;
+        are = first.events_are ∙ append_assoc refused.events (refused.event ∷ []) first.more;
+      })
+  fault_alone start transcript error refusal apart not_memory at (inr atend) =
+      faulty_records_none transcript at.events atend.events error apart at.fault atend.recorded
 
--- ---- the first fault
+  -- ---- the first fault
 
-pub unlike_fault : (error : TranscriptError) → IsPlain (audit_errors.Transcript error) → error ≢ transcript_errors.NoMemory
-unlike_fault transcript_errors.NoMemory plain same = plain
-unlike_fault other plain same = absurd cc
-
-pub unlike_refusal : (refusal : Refusal) → IsPlain (audit_errors.Refused refusal) → refusal ≢ refusals.NoMemory
-unlike_refusal refusals.NoMemory plain same = plain
-unlike_refusal other plain same = absurd cc
-
-same_start : (tree : List ℕ) (t u : Tree) → IsStart t tree → IsStart u tree → u ≡ t
-same_start tree t u of_t of_u = one_start u t tree of_u of_t
-
-module _ (profile : Profile) (tree transcript : List ℕ) where
-  pub one_first_fault : (a b : AuditError) → IsFirstFaultBy profile tree transcript a
-      → IsFirstFaultBy profile tree transcript b → IsPlain a → IsPlain b → a ≢ audit_errors.NoMemory
+  pub one_first_fault : (begin : Tree → S) (tree transcript : List ℕ) (a b : AuditError) → IsFirstFaultBy step begin tree transcript a
+      → IsFirstFaultBy step begin tree transcript b → IsPlain a → IsPlain b → a ≢ audit_errors.NoMemory
       → b ≢ audit_errors.NoMemory → (IsTreeError a × IsTreeError b) ⊎ (a ≡ b)
-  one_first_fault audit_errors.NoMemory b for_a for_b plain_a plain_b not_a not_b = absurd (not_a refl)
-  one_first_fault a audit_errors.NoMemory for_a for_b plain_a plain_b not_a not_b = absurd (not_b refl)
-  one_first_fault (audit_errors.Tree e) (audit_errors.Tree f) for_a for_b plain_a plain_b not_a not_b =
+  one_first_fault begin tree transcript audit_errors.NoMemory b for_a for_b plain_a plain_b not_a not_b = absurd (not_a refl)
+  one_first_fault begin tree transcript a audit_errors.NoMemory for_a for_b plain_a plain_b not_a not_b = absurd (not_b refl)
+  one_first_fault begin tree transcript (audit_errors.Tree e) (audit_errors.Tree f) for_a for_b plain_a plain_b not_a not_b =
       inl (tt, tt)
-  one_first_fault (audit_errors.Tree e) other for_a for_b plain_a plain_b not_a not_b =
+  one_first_fault begin tree transcript (audit_errors.Tree e) other for_a for_b plain_a plain_b not_a not_b =
       absurd (for_a (for_b.0, for_b.1))
-  one_first_fault other (audit_errors.Tree f) for_a for_b plain_a plain_b not_a not_b =
+  one_first_fault begin tree transcript other (audit_errors.Tree f) for_a for_b plain_a plain_b not_a not_b =
       absurd (for_b (for_a.0, for_a.1))
-  one_first_fault (audit_errors.Transcript e) (audit_errors.Transcript f) for_a for_b plain_a plain_b not_a not_b =
+  one_first_fault begin tree transcript (audit_errors.Transcript e) (audit_errors.Transcript f) for_a for_b plain_a plain_b not_a not_b =
       let same = one_fault transcript for_a.2.events for_b.2.events e f for_a.2.fault for_b.2.fault
       (unlike_fault e plain_a) (unlike_fault f plain_b) in
       inr (ap (λ (x : TranscriptError). audit_errors.Transcript x) same.1)
-  one_first_fault (audit_errors.Transcript e) (audit_errors.Refused f) for_a for_b plain_a plain_b not_a not_b =
+  one_first_fault begin tree transcript (audit_errors.Transcript e) (audit_errors.Refused f) for_a for_b plain_a plain_b not_a not_b =
       let start : for_b.0 ≡ for_a.0 = same_start tree for_a.0 for_b.0 for_a.1 for_b.1 in
       absurd
-      (fault_alone (begun profile for_a.0) transcript e f (unlike_fault e plain_a) (unlike_refusal f plain_b) for_a.2
-      (subst (λ (t : Tree). IsRefused (begun profile t) transcript f) start for_b.2))
-  one_first_fault (audit_errors.Refused e) (audit_errors.Transcript f) for_a for_b plain_a plain_b not_a not_b =
+      (fault_alone (begin for_a.0) transcript e f (unlike_fault e plain_a) (unlike_refusal f plain_b) for_a.2
+      (subst (λ (t : Tree). IsRefused (begin t) transcript f) start for_b.2))
+  one_first_fault begin tree transcript (audit_errors.Refused e) (audit_errors.Transcript f) for_a for_b plain_a plain_b not_a not_b =
       let start : for_a.0 ≡ for_b.0 = same_start tree for_b.0 for_a.0 for_b.1 for_a.1 in
       absurd
-      (fault_alone (begun profile for_b.0) transcript f e (unlike_fault f plain_b) (unlike_refusal e plain_a) for_b.2
-      (subst (λ (t : Tree). IsRefused (begun profile t) transcript e) start for_a.2))
-  one_first_fault (audit_errors.Refused e) (audit_errors.Refused f) for_a for_b plain_a plain_b not_a not_b =
+      (fault_alone (begin for_b.0) transcript f e (unlike_fault f plain_b) (unlike_refusal e plain_a) for_b.2
+      (subst (λ (t : Tree). IsRefused (begin t) transcript e) start for_a.2))
+  one_first_fault begin tree transcript (audit_errors.Refused e) (audit_errors.Refused f) for_a for_b plain_a plain_b not_a not_b =
       let start : for_b.0 ≡ for_a.0 = same_start tree for_a.0 for_b.0 for_a.1 for_b.1 in
       inr (ap (λ (x : Refusal). audit_errors.Refused x)
-      (one_refused (begun profile for_a.0) transcript e f (unlike_refusal e plain_a) (unlike_refusal f plain_b) for_a.2
-      (subst (λ (t : Tree). IsRefused (begun profile t) transcript f) start for_b.2)))
+      (one_refused (begin for_a.0) transcript e f (unlike_refusal e plain_a) (unlike_refusal f plain_b) for_a.2
+      (subst (λ (t : Tree). IsRefused (begin t) transcript f) start for_b.2)))

@@ -1,7 +1,7 @@
 -- What an auditor is fed from a reader, event by event.
 use Rattle.sftp_audit.proofs.Imports.{◌≡◌, inl, inr, ℕ, ◌+◌, ◌-◌, ◌^◌, min, List, [], ◌∷◌, ◌++◌, length, Bool, Option}
-use Rattle.sftp_audit.proofs.Imports.{Some, None, if◌then◌else◌, refl, subst, arith, TranscriptError, Event, Asked}
-use Rattle.sftp_audit.proofs.Imports.{Replied, exchanges_of, Reading, State, Permitted, Refusal, Audited, StandsFor}
+use Rattle.sftp_audit.proofs.Imports.{Some, None, if◌then◌else◌, refl, subst, true, arith, TranscriptError, Event, Asked}
+use Rattle.sftp_audit.proofs.Imports.{Replied, exchanges_of, Reading, StepOf, FollowsOf, Refusal, Audited, StandsFor}
 use Rattle.sftp_audit.proofs.Imports.{Refuses, IsTold, IsNew, IsNoJudgement, WasFed, StopsFeed, IsToldOf, request_count}
 use Rattle.sftp_audit.proofs.Imports.{is_request, HasRefused, error_of_transcript, error_of_session, recorded_exchanges}
 use Rattle.sftp_transcript.specs.Transcript.{BeginsRecord, IsRecord}
@@ -12,24 +12,25 @@ use Rattle.sftp_transcript.specs.declared.stage.Stage.TheVariants as stages
 use Rattle.sftp_audit.specs.declared.errors.Refusal.TheVariants as refusals
 
 -- the events so far were given and fed, and so many of them are requests
-pub record IsFeeding (start : State) (transcript : List ℕ) (requests : ℕ) (auditor : Audited) (records : Reading)
-    : Type 0
+pub record IsFeeding {S : Type 0} (step : StepOf S) (start : S) (transcript : List ℕ) (requests : ℕ)
+    (auditor : Audited S) (records : Reading) : Type 0
   where
     pub seen : List Event
     pub ahead : List ℕ
     pub given : HasGiven transcript seen ahead records
-    pub stands : StandsFor start seen auditor
+    pub stands : StandsFor step start seen auditor
     pub counted : requests ≡ request_count seen
 
 -- from wherever nothing was read and nothing was fed
-abbrev pub KeepsFeeding : Audited → Reading → ℕ → Audited → Reading → Type 0
-KeepsFeeding auditor records requests auditor_now records_now =
-    (start : State) (transcript : List ℕ) → IsNew transcript records → StandsFor start [] auditor
-    → IsFeeding start transcript requests auditor_now records_now
+abbrev pub KeepsFeeding : {S : Type 0} → StepOf S → Audited S → Reading → ℕ → Audited S → Reading → Type 0
+KeepsFeeding {S} step auditor records requests auditor_now records_now =
+    (start : S) (transcript : List ℕ) → IsNew transcript records → StandsFor step start [] auditor
+    → IsFeeding step start transcript requests auditor_now records_now
 
-pub feeding-start : (auditor : Audited) (records : Reading) → KeepsFeeding auditor records 0 auditor records
+pub feeding-start : {S : Type 0} (step : StepOf S) (auditor : Audited S) (records : Reading)
+    → KeepsFeeding step auditor records 0 auditor records
 unfolding exchanges_of
-feeding-start auditor records = λ start transcript new stands. record {
+feeding-start step auditor records = λ start transcript new stands. record {
   seen = [];
   ahead = transcript;
   given = new.0;
@@ -63,19 +64,20 @@ pub gave_event : (transcript : List ℕ) (seen : List Event) (given : Option Eve
 gave_event transcript seen given records event is gave =
     subst (λ (o : Option Event). GaveFrom transcript seen o records) is gave
 
-pub feeding-next : (start : State) (transcript : List ℕ) (requests : ℕ) (auditor auditor_now : Audited)
-    (records records_now : Reading) (event : Event)
-    → (feeding : IsFeeding start transcript requests auditor records)
-    → GaveFrom transcript feeding.seen (Some event) records_now
-    → StandsFor start (feeding.seen ++ event ∷ []) auditor_now
-    → IsFeeding start transcript (min (requests + ones (is_request event)) (2 ^ 64 - 1)) auditor_now records_now
-feeding-next start transcript requests auditor auditor_now records records_now event feeding gave stands = record {
-  seen = feeding.seen ++ event ∷ [];
-  ahead = gave.0;
-  given = gave.1;
-  stands = stands;
-  counted = request_count-one_more feeding.seen event requests feeding.counted;
-}
+module _ {S : Type 0} (step : StepOf S) where
+  pub feeding-next : (start : S) (transcript : List ℕ) (requests : ℕ) (auditor auditor_now : Audited S)
+      (records records_now : Reading) (event : Event)
+      → (feeding : IsFeeding step start transcript requests auditor records)
+      → GaveFrom transcript feeding.seen (Some event) records_now
+      → StandsFor step start (feeding.seen ++ event ∷ []) auditor_now
+      → IsFeeding step start transcript (min (requests + ones (is_request event)) (2 ^ 64 - 1)) auditor_now records_now
+  feeding-next start transcript requests auditor auditor_now records records_now event feeding gave stands = record {
+    seen = feeding.seen ++ event ∷ [];
+    ahead = gave.0;
+    given = gave.1;
+    stands = stands;
+    counted = request_count-one_more feeding.seen event requests feeding.counted;
+  }
 
 -- ---- the end
 
@@ -85,33 +87,35 @@ none_given transcript events (Some event) new other gave = absurd (other event r
 none_given transcript events None new other gave =
     subst (λ (stage : Stage). ReadUpTo stage transcript events []) gave.1 gave.0.read
 
-pub all-fed : (start : State) (transcript : List ℕ) (requests : ℕ) (auditor : Audited)
-    (records records_now : Reading) (given : Option Event)
-    → (feeding : IsFeeding start transcript requests auditor records) → ((event : Event) → given ≡ Some event → ⊥)
-    → GaveFrom transcript feeding.seen given records_now → WasFed start transcript requests auditor
-all-fed start transcript requests auditor records records_now given feeding other gave = record {
-  events = feeding.seen;
-  recorded = none_given transcript feeding.seen given records_now other gave;
-  stands = feeding.stands;
-  counted = feeding.counted;
-}
+module _ {S : Type 0} (step : StepOf S) where
+  pub all-fed : (start : S) (transcript : List ℕ) (requests : ℕ) (auditor : Audited S)
+      (records records_now : Reading) (given : Option Event)
+      → (feeding : IsFeeding step start transcript requests auditor records) → ((event : Event) → given ≡ Some event → ⊥)
+      → GaveFrom transcript feeding.seen given records_now → WasFed step start transcript requests auditor
+  all-fed start transcript requests auditor records records_now given feeding other gave = record {
+    events = feeding.seen;
+    recorded = none_given transcript feeding.seen given records_now other gave;
+    stands = feeding.stands;
+    counted = feeding.counted;
+  }
 
 -- ---- stops
 
-pub stops-fault : (start : State) (transcript : List ℕ) (requests : ℕ) (auditor : Audited) (records : Reading)
-    (error : TranscriptError) → (feeding : IsFeeding start transcript requests auditor records)
-    → FaultOf transcript feeding.seen error
-    → (IsNoJudgement (error_of_transcript error) → ⊥) → StopsFeed start transcript (error_of_transcript error)
-stops-fault start transcript requests auditor records transcript_errors.NoMemory feeding why judged = tt
-stops-fault start transcript requests auditor records (transcript_errors.Io number) feeding why judged =
-    absurd (judged tt)
-stops-fault start transcript requests auditor records other feeding (inl excuse) judged = absurd excuse
-stops-fault start transcript requests auditor records other feeding (inr fault) judged = record {
-  events = feeding.seen;
-  end = auditor.state;
-  sound = feeding.stands.sound;
-  fault = fault;
-}
+module _ {S : Type 0} (step : StepOf S) where
+  pub stops-fault : (start : S) (transcript : List ℕ) (requests : ℕ) (auditor : Audited S) (records : Reading)
+      (error : TranscriptError) → (feeding : IsFeeding step start transcript requests auditor records)
+      → FaultOf transcript feeding.seen error
+      → (IsNoJudgement (error_of_transcript error) → ⊥) → StopsFeed step start transcript (error_of_transcript error)
+  stops-fault start transcript requests auditor records transcript_errors.NoMemory feeding why judged = tt
+  stops-fault start transcript requests auditor records (transcript_errors.Io number) feeding why judged =
+      absurd (judged tt)
+  stops-fault start transcript requests auditor records other feeding (inl excuse) judged = absurd excuse
+  stops-fault start transcript requests auditor records other feeding (inr fault) judged = record {
+    events = feeding.seen;
+    end = auditor.state;
+    sound = feeding.stands.sound;
+    fault = fault;
+  }
 
 begun_by : (stage : Stage) (bytes : List ℕ) (seen : List Event) (event : Event) (ahead : List ℕ)
     → ReadUpTo stage bytes (seen ++ event ∷ []) ahead → BeginsRecord (seen ++ event ∷ []) bytes ahead
@@ -119,30 +123,31 @@ begun_by stages.Events bytes seen event ahead read = read
 begun_by stage bytes [] event ahead read = cc
 begun_by stage bytes (first ∷ seen) event ahead read = cc
 
-pub stops-refused : (start : State) (transcript : List ℕ) (requests : ℕ) (auditor : Audited)
-    (records records_now : Reading) (event : Event) (refusal : Refusal)
-    → (feeding : IsFeeding start transcript requests auditor records)
-    → GaveFrom transcript feeding.seen (Some event) records_now → Refuses Permitted start feeding.seen event refusal
-    → StopsFeed start transcript (error_of_session refusal)
-stops-refused start transcript requests auditor records records_now event refusals.NoMemory feeding gave why = tt
-stops-refused start transcript requests auditor records records_now event other feeding gave why = record {
-  events = feeding.seen;
-  event = event;
-  rest = gave.0;
-  begins = begun_by records_now.stage transcript feeding.seen event gave.0 gave.1.read;
-  end = auditor.state;
-  sound = feeding.stands.sound;
-  refuses = why;
-}
+module _ {S : Type 0} (step : StepOf S) where
+  pub stops-refused : (start : S) (transcript : List ℕ) (requests : ℕ) (auditor : Audited S)
+      (records records_now : Reading) (event : Event) (refusal : Refusal)
+      → (feeding : IsFeeding step start transcript requests auditor records)
+      → GaveFrom transcript feeding.seen (Some event) records_now → Refuses step start feeding.seen event refusal
+      → StopsFeed step start transcript (error_of_session refusal)
+  stops-refused start transcript requests auditor records records_now event refusals.NoMemory feeding gave why = tt
+  stops-refused start transcript requests auditor records records_now event other feeding gave why = record {
+    events = feeding.seen;
+    event = event;
+    rest = gave.0;
+    begins = begun_by records_now.stage transcript feeding.seen event gave.0 gave.1.read;
+    end = auditor.state;
+    sound = feeding.stands.sound;
+    refuses = why;
+  }
 
 -- ---- after a stop
 
-pub fault-refuses_nothing : (auditor : Audited) (error : TranscriptError)
+pub fault-refuses_nothing : {S : Type 0} (auditor : Audited S) (error : TranscriptError)
     → HasRefused (error_of_transcript error) auditor
 fault-refuses_nothing auditor transcript_errors.NoMemory = tt
 fault-refuses_nothing auditor other = tt
 
-pub refused-for_good : (auditor : Audited) (refusal : Refusal)
+pub refused-for_good : {S : Type 0} (auditor : Audited S) (refusal : Refusal)
     → (auditor.refusal ≡ Some refusal) × (auditor.kept ≡ []) → HasRefused (error_of_session refusal) auditor
 refused-for_good auditor refusals.NoMemory why = tt
 refused-for_good auditor other why = why
@@ -150,23 +155,27 @@ refused-for_good auditor other why = why
 -- ---- what is told of a stop
 
 -- a fault that is not one of memory or of the source tells nothing
-pub told-fault : (start : State) (transcript : List ℕ) (before after : Bool) (error : TranscriptError) → after ≡ before
-    → IsToldOf start transcript before after (error_of_transcript error)
-told-fault start transcript before after transcript_errors.NoMemory same = same
-told-fault start transcript before after other same = same
+pub told-fault : {S : Type 0} (step : StepOf S) (follows : FollowsOf S) (start : S) (transcript : List ℕ) (told : Bool)
+    (error : TranscriptError) → told ≡ true → IsToldOf step follows start transcript told (error_of_transcript error)
+told-fault step follows start transcript told transcript_errors.NoMemory same = same
+told-fault step follows start transcript told other same = same
 
-pub told-refused : (start : State) (transcript : List ℕ) (requests : ℕ) (auditor : Audited)
-    (records records_now : Reading) (event : Event) (before after : Bool) (refusal : Refusal)
-    → (feeding : IsFeeding start transcript requests auditor records)
+pub told-refused : {S : Type 0} (step : StepOf S) (follows : FollowsOf S) (start : S) (transcript : List ℕ)
+    (requests : ℕ) (auditor : Audited S) (records records_now : Reading) (event : Event) (told : Bool)
+    (refusal : Refusal) → (feeding : IsFeeding step start transcript requests auditor records)
     → GaveFrom transcript feeding.seen (Some event) records_now
-    → IsTold start (recorded_exchanges (feeding.seen ++ event ∷ [])) before after refusal
-    → IsToldOf start transcript before after (error_of_session refusal)
-told-refused start transcript requests auditor records records_now event before after refusals.NoMemory feeding gave told =
-    told
-told-refused start transcript requests auditor records records_now event before after other feeding gave told = record {
-  events = feeding.seen;
-  event = event;
-  rest = gave.0;
-  begins = begun_by records_now.stage transcript feeding.seen event gave.0 gave.1.read;
-  told = told;
-}
+    → IsTold step follows start (recorded_exchanges (feeding.seen ++ event ∷ [])) auditor.follows told refusal
+    → IsToldOf step follows start transcript told (error_of_session refusal)
+told-refused step follows start transcript requests auditor records records_now event told refusals.NoMemory feeding
+    gave is = is ∙ feeding.stands.followed
+told-refused step follows start transcript requests auditor records records_now event told other feeding gave is =
+    record {
+      events = feeding.seen;
+      event = event;
+      rest = gave.0;
+      begins = begun_by records_now.stage transcript feeding.seen event gave.0 gave.1.read;
+      is_told = subst
+          (λ (before : Bool).
+          IsTold step follows start (recorded_exchanges (feeding.seen ++ event ∷ [])) before told other)
+          feeding.stands.followed is;
+    }

@@ -1,6 +1,6 @@
 -- Worked examples: what an auditor keeps, and what it refuses.
 use Rattle.sftp_audit.proofs.Imports.{◌≡◌, ℕ, List, [], ◌∷◌, codes, Some, None, refl, sym, ◌∙◌, inl, inr, arith}
-use Rattle.sftp_audit.proofs.Imports.{Request, Reply, no_attributes, blank, Allowed, strict, begun, closed, waiting}
+use Rattle.sftp_audit.proofs.Imports.{Request, Reply, no_attributes, blank, Allowed, closed, waiting}
 use Rattle.sftp_audit.proofs.Imports.{turn_after, leading_pairs, Run, Sound, Exchange, started, RefusedAt, StandsFor}
 use Rattle.sftp_audit.proofs.Imports.{IsFirstWrong, Refuses, LacksReply, recorded_exchanges, unsettled, ledger_of}
 use Rattle.sftp_transcript.specs.Examples.{mkdir, status}
@@ -10,11 +10,10 @@ use Rattle.sftp_audit.specs.Examples.{first_answered, second_waits}
 use Rattle.sftp_packets.specs.declared.requests.Ask.TheVariants.{Mkdir, Rmdir}
 use Rattle.sftp_packets.specs.declared.replies.Answer.TheVariants.{Status}
 use Rattle.sftp_handles.specs.State.{State}
+use Rattle.sftp_handles.proofs.Judged.Steps.{allowed-one_end}
 use Rattle.sftp_audit.specs.declared.errors.Refusal.TheVariants as refusals
 use Rattle.sftp_audit.proofs.auditing.Refusals.{one_refusal}
 use Rattle.sftp_audit.proofs.steps.RunEnds.{run-of_run_end, no_run-of_run_end}
-use Rattle.sftp_audit.proofs.steps.StrictRuns.{sound-permitted, strict-permits}
-use Rattle.sftp_audit.proofs.streams.StrictFaults.{refuses-permitted}
 use Rattle.sftp_audit.proofs.worked.Computed.{computed}
 use Rattle.sftp_audit.proofs.worked.Records.{removal_done_recorded}
 use Rattle.sftp_audit.proofs.worked.Runs.{sound_by}
@@ -27,16 +26,15 @@ two_replies_sound =
     sound_by blank (two_backward_replies 0) blank
     (inr refl, (inl refl, (inl refl, (inl refl, (inl refl, tt))))) refl refl
 
-pub nothing_settled : StandsFor (begun strict blank) (two_backward_replies 0)
+pub nothing_settled : StandsFor Allowed (started blank) (two_backward_replies 0)
     (auditor_with blank (recorded_exchanges (two_backward_replies 0)) 8)
 unfolding computed
 nothing_settled = record {
-  sound =
-      sound-permitted strict strict-permits (started blank) (two_backward_replies 0) (started blank)
-      two_replies_sound;
+  sound = two_replies_sound;
   kept = refl;
   number = refl;
   unrefused = refl;
+  followed = refl;
 }
 
 -- the removal, and the reply that says that it is done
@@ -99,10 +97,8 @@ not_memory number e = cc
 
 pub not_the_last : ¬ Refuses Allowed (started blank) (two_backward_replies 0) (status 1 0) (refusals.NotAllowed 8)
 not_the_last other =
-    let one = one_refusal (begun strict blank) (two_backward_replies 0) (status 1 0) in
-    let under_strict = refuses-permitted (started blank) (two_backward_replies 0) (status 1 0) in
-    other_record (one (refusals.NotAllowed 6) (refusals.NotAllowed 8) (under_strict (refusals.NotAllowed 6) refused)
-    (under_strict (refusals.NotAllowed 8) other) (not_memory 6) (not_memory 8))
+    other_record (one_refusal Allowed allowed-one_end (started blank) (two_backward_replies 0) (status 1 0)
+    (refusals.NotAllowed 6) (refusals.NotAllowed 8) refused other (not_memory 6) (not_memory 8))
 
 pub in_bytes : RefusedAt Allowed (started blank) removal_done_bytes (refusals.NotAllowed 6)
 in_bytes = record {
@@ -137,13 +133,14 @@ unfolding computed
 id_used_again_sound =
     sound_by blank id_used_again blank (inr refl, (inr refl, (inr refl, (inr refl, (inr refl, tt))))) refl refl
 
-pub used_again : StandsFor (begun strict blank) id_used_again (auditor_with blank (recorded_exchanges id_used_again) 8)
+pub used_again : StandsFor Allowed (started blank) id_used_again (auditor_with blank (recorded_exchanges id_used_again) 8)
 unfolding computed
 used_again = record {
-  sound = sound-permitted strict strict-permits (started blank) id_used_again (started blank) id_used_again_sound;
+  sound = id_used_again_sound;
   kept = refl;
   number = refl;
   unrefused = refl;
+  followed = refl;
 }
 
 -- ---- the oldest request that waits
@@ -152,13 +149,14 @@ first_answered_sound : Sound Allowed (started blank) first_answered (started wit
 unfolding computed
 first_answered_sound = sound_by blank first_answered with_a (inl refl, (inr refl, (inl refl, tt))) refl refl
 
-pub settled : StandsFor (begun strict blank) first_answered (auditor_with with_a second_waits 6)
+pub settled : StandsFor Allowed (started blank) first_answered (auditor_with with_a second_waits 6)
 unfolding computed
 settled = record {
-  sound = sound-permitted strict strict-permits (started blank) first_answered (started with_a) first_answered_sound;
+  sound = first_answered_sound;
   kept = refl;
   number = refl;
   unrefused = refl;
+  followed = refl;
 }
 
 second_left : unsettled (recorded_exchanges first_answered) ≡ second_waits

@@ -1,6 +1,5 @@
 -- Each turn of the loop gives an event and feeds it; the feed ends where no event is left, or at an error.
-use Rattle.sftp_audit.proofs.Imports.{ℕ, Bool, [], ◌∷◌, ◌++◌, refl, subst, ◌∙◌, arith, err_from_is_err_and, IsTold}
-use Rattle.sftp_audit.proofs.Imports.{recorded_exchanges}
+use Rattle.sftp_audit.proofs.Imports.{ℕ, refl, subst, ◌∙◌, arith, err_from_is_err_and}
 use Rattle.std.proofs.lemmas.Grind.{common_steps}
 use Rattle.sftp_audit.proofs.streams.Given.{gave_event, IsFeeding, feeding-start, feeding-next, all-fed, stops-fault}
 use Rattle.sftp_audit.proofs.streams.Given.{stops-refused, fault-refuses_nothing, refused-for_good, told-fault}
@@ -9,8 +8,7 @@ use Rattle.sftp_audit.proofs.audits.feed_all.Goals as goal
 
 pub events-init : goal.events-init
 events-init g c = record {
-  feeding = feeding-start c.args.auditor.now c.args.records.now;
-  untold = refl;
+  feeding = feeding-start g.J.Judges.allowed c.args.auditor.now c.args.records.now;
   faultless = λ is. is;
   sound = λ is. refl;
 }
@@ -20,7 +18,7 @@ returns-in_err-event-clause-stopped g c =
     let p = err_from_is_err_and c.from_residual.result c.from_residual.ensures.1 in
     rw (p.1, p.2) (λ judged start transcript new stands.
     let feeding = c.events.invariant.feeding start transcript new stands in
-    stops-fault start transcript c.events.requests c.events.auditor c.events.records c.in_err-event.field-0.0 feeding
+    stops-fault g.J.Judges.allowed start transcript c.events.requests c.events.auditor c.events.records c.in_err-event.field-0.0 feeding
     (c.in_err-event.ensures.first transcript feeding.ahead feeding.seen feeding.given) judged)
 
 pub returns-in_err-event-clause-for_good : goal.returns-in_err-event-clause-for_good
@@ -35,54 +33,50 @@ events-preserved g c = record {
       let gave = gave_event transcript feeding.seen _ c.next.new.self c.in-Some.event c.in-Some.is
       (c.in_ok-event.ensures.first transcript feeding.ahead feeding.seen feeding.given) in
       let fed =
-      feeding-next start transcript c.events.requests c.events.auditor c.feed_by.new.self c.events.records
-      c.next.new.self c.in-Some.event feeding gave (c.in_ok-feed_by.ensures.stands start feeding.seen feeding.stands) in
-      subst (λ (m : ℕ). IsFeeding start transcript m c.feed_by.new.self c.next.new.self) (grind (arith, common_steps)) fed;
-  untold = c.in_ok-feed_by.ensures.untold ∙ c.events.invariant.untold;
+      feeding-next g.J.Judges.allowed start transcript c.events.requests c.events.auditor c.judge_event.new.self c.events.records
+      c.next.new.self c.in-Some.event feeding gave (c.in_ok-judge_event.ensures.stands start feeding.seen feeding.stands) in
+      subst (λ (m : ℕ). IsFeeding g.J.Judges.allowed start transcript m c.judge_event.new.self c.next.new.self) (grind (arith, common_steps)) fed;
   faultless = λ is. c.in_ok-event.ensures.fault;
   sound = λ is. c.in_ok-event.ensures.counts (c.events.invariant.faultless is) ∙ c.events.invariant.sound is;
 }
 
-pub returns-in_err-feed_by-clause-stopped : goal.returns-in_err-feed_by-clause-stopped
-returns-in_err-feed_by-clause-stopped g c =
-    let p = err_from_is_err_and c.from_residual-in_err-feed_by.result c.from_residual-in_err-feed_by.ensures.1 in
+pub returns-in_err-judge_event-clause-stopped : goal.returns-in_err-judge_event-clause-stopped
+returns-in_err-judge_event-clause-stopped g c =
+    let p = err_from_is_err_and c.from_residual-in_err-judge_event.result c.from_residual-in_err-judge_event.ensures.1 in
     rw (p.1, p.2) (λ judged start transcript new stands.
     let feeding = c.events.invariant.feeding start transcript new stands in
     let gave = gave_event transcript feeding.seen _ c.next.new.self c.in-Some.event c.in-Some.is
     (c.in_ok-event.ensures.first transcript feeding.ahead feeding.seen feeding.given) in
-    stops-refused start transcript c.events.requests c.events.auditor c.events.records c.next.new.self c.in-Some.event
-    c.in_err-feed_by.field-0.0 feeding gave (c.in_err-feed_by.ensures.refused start feeding.seen feeding.stands))
+    stops-refused g.J.Judges.allowed start transcript c.events.requests c.events.auditor c.events.records c.next.new.self c.in-Some.event
+    c.in_err-judge_event.field-0.0 feeding gave (c.in_err-judge_event.ensures.refused start feeding.seen feeding.stands))
 
-pub returns-in_err-feed_by-clause-for_good : goal.returns-in_err-feed_by-clause-for_good
-returns-in_err-feed_by-clause-for_good g c =
-    let p = err_from_is_err_and c.from_residual-in_err-feed_by.result c.from_residual-in_err-feed_by.ensures.1 in
-    rw (p.1, p.2) (refused-for_good c.feed_by.new.self c.in_err-feed_by.field-0.0 c.in_err-feed_by.ensures.for_good)
+pub returns-in_err-judge_event-clause-for_good : goal.returns-in_err-judge_event-clause-for_good
+returns-in_err-judge_event-clause-for_good g c =
+    let p = err_from_is_err_and c.from_residual-in_err-judge_event.result c.from_residual-in_err-judge_event.ensures.1 in
+    rw (p.1, p.2) (refused-for_good c.judge_event.new.self c.in_err-judge_event.field-0.0 c.in_err-judge_event.ensures.for_good)
 
 pub returns-in_err-event-clause-told : goal.returns-in_err-event-clause-told
 returns-in_err-event-clause-told g c =
     let p = err_from_is_err_and c.from_residual.result c.from_residual.ensures.1 in
     rw (p.1, p.2) (λ judged start transcript new stands.
-    told-fault start transcript c.args.is_modelled.now c.events.is_modelled c.in_err-event.field-0.0
-    c.events.invariant.untold)
+    let feeding = c.events.invariant.feeding start transcript new stands in
+    told-fault g.J.Judges.allowed g.J.Judges.follows start transcript c.events.auditor.follows
+    c.in_err-event.field-0.0 feeding.stands.followed)
 
-pub returns-in_err-feed_by-clause-told : goal.returns-in_err-feed_by-clause-told
-returns-in_err-feed_by-clause-told g c =
-    let p = err_from_is_err_and c.from_residual-in_err-feed_by.result c.from_residual-in_err-feed_by.ensures.1 in
+pub returns-in_err-judge_event-clause-told : goal.returns-in_err-judge_event-clause-told
+returns-in_err-judge_event-clause-told g c =
+    let p = err_from_is_err_and c.from_residual-in_err-judge_event.result c.from_residual-in_err-judge_event.ensures.1 in
     rw (p.1, p.2) (λ judged start transcript new stands.
     let feeding = c.events.invariant.feeding start transcript new stands in
     let gave = gave_event transcript feeding.seen _ c.next.new.self c.in-Some.event c.in-Some.is
     (c.in_ok-event.ensures.first transcript feeding.ahead feeding.seen feeding.given) in
-    told-refused start transcript c.events.requests c.events.auditor c.events.records c.next.new.self c.in-Some.event
-    c.args.is_modelled.now c.feed_by.new.is_modelled c.in_err-feed_by.field-0.0 feeding gave
-    (subst
-    (λ (before : Bool).
-    IsTold start (recorded_exchanges (feeding.seen ++ c.in-Some.event ∷ [])) before c.feed_by.new.is_modelled
-    c.in_err-feed_by.field-0.0) c.events.invariant.untold
-    (c.in_err-feed_by.ensures.told start feeding.seen feeding.stands)))
+    told-refused g.J.Judges.allowed g.J.Judges.follows start transcript c.events.requests c.events.auditor
+    c.events.records c.next.new.self c.in-Some.event c.judge_event.new.self.follows c.in_err-judge_event.field-0.0
+    feeding gave (c.in_err-judge_event.ensures.told start feeding.seen feeding.stands))
 
 pub returns-clause-fed : goal.returns-clause-fed
 returns-clause-fed g c = λ start transcript new stands.
     let feeding = c.events.invariant.feeding start transcript new stands in
-    all-fed start transcript c.events.requests c.events.auditor c.events.records c.next.new.self
+    all-fed g.J.Judges.allowed start transcript c.events.requests c.events.auditor c.events.records c.next.new.self
     c.in_ok-event.field-0 feeding
     c.in_default.not-Some (c.in_ok-event.ensures.first transcript feeding.ahead feeding.seen feeding.given)

@@ -6,8 +6,7 @@ use Rattle.sftp_audit.proofs.audits.feed_all.Given as goal
 
 abbrev pub invariant-events : goal.invariant-events
 invariant-events g l = record {
-  feeding : KeepsFeeding l.initial.auditor l.initial.records l.requests l.auditor l.records;
-  untold : l.is_modelled ≡ l.initial.is_modelled;
+  feeding : KeepsFeeding g.J.Judges.allowed l.initial.auditor l.initial.records l.requests l.auditor l.records;
   faultless : l.initial.records.fault ≡ None → l.records.fault ≡ None;
   sound : l.initial.records.fault ≡ None → l.records.ahead.failures ≡ l.initial.records.ahead.failures;
 }

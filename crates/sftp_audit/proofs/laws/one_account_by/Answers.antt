@@ -1,11 +1,14 @@
-use Rattle.sftp_audit.proofs.streams.OneAccount.{same_start_by, same_events_by, same_end_by}
+use Rattle.sftp_audit.proofs.streams.OneAccount.{same_start, same_events, same_end}
 use Rattle.sftp_audit.proofs.laws.one_account_by.Goals as goal
 
 pub returns-clause-start : goal.returns-clause-start
-returns-clause-start c = same_start_by
+returns-clause-start g c by =
+    same_start g.J.Judges.allowed g.met.J.Judges.one_end (g.J.Judges.begun by) g.J.Judges.closed
 
 pub returns-clause-events : goal.returns-clause-events
-returns-clause-events c = same_events_by
+returns-clause-events g c by =
+    same_events g.J.Judges.allowed g.met.J.Judges.one_end (g.J.Judges.begun by) g.J.Judges.closed
 
 pub returns-clause-end : goal.returns-clause-end
-returns-clause-end c = same_end_by
+returns-clause-end g c by =
+    same_end g.J.Judges.allowed g.met.J.Judges.one_end (g.J.Judges.begun by) g.J.Judges.closed

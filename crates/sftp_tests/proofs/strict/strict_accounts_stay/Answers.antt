@@ -1,6 +1,6 @@
 use Rattle.sftp_profile.proofs.Permissions.{strictly-permitted}
-use Rattle.sftp_audit.proofs.streams.StrictAccounts.{accounts-permitted}
-use Rattle.sftp_audit.proofs.laws.strict_accounts_stay.Goals as goal
+use Rattle.sftp_tests.proofs.StrictRuns.{accounts-permitted}
+use Rattle.sftp_tests.proofs.strict.strict_accounts_stay.Goals as goal
 
 pub returns : goal.returns
 returns c profile tree transcript start events end keeps stateless =

@@ -1,8 +1,22 @@
--- Runs that are allowed strictly, and runs under a profile.
-use Rattle.sftp_audit.proofs.Imports.{◌≡◌, List, [], ◌∷◌, refl, sym, ap, subst, ◌∙◌, Request, Reply, Allowed, Profile}
-use Rattle.sftp_audit.proofs.Imports.{strict, State, bare, Permitted, strict-both, Event, exchanges_of, leading_pairs}
-use Rattle.sftp_audit.proofs.Imports.{Run, Explained, Sound}
+-- Sessions strictly and under the strict profile, and under every profile that permits what is allowed strictly.
+use Rattle.std.proofs.Common.{◌≡◌, ◌↔◌, ℕ, List, [], ◌∷◌, ◌⊎◌, inl, inr, refl, sym, ap, subst}
+use Rattle.sftp_packets.specs.declared.packets.Request.{Request}
+use Rattle.sftp_packets.specs.declared.packets.Reply.{Reply}
+use Rattle.sftp_tree.specs.Tree.{Tree}
 use Rattle.sftp_handles.specs.State as sessions
+use Rattle.sftp_handles.specs.State.{started, closed_tree}
+use Rattle.sftp_handles.specs.Allowed.{Allowed}
+use Rattle.sftp_profile.specs.declared.profiles.Profile.{Profile}
+use Rattle.sftp_profile.specs.Profiles.{strict}
+use Rattle.sftp_profile.specs.State.{State, bare, begun}
+use Rattle.sftp_profile.specs.Permitted.{Permitted}
+use Rattle.sftp_profile.proofs.Permissions.{strict-both}
+use Rattle.sftp_transcript.specs.declared.events.Event.{Event}
+use Rattle.sftp_transcript.specs.Explained.{Run, Explained}
+unfoldable use Rattle.sftp_transcript.specs.Explained.{exchanges_of, leading_pairs}
+use Rattle.sftp_transcript.specs.Sound.{Sound}
+use Rattle.sftp_audit.specs.Audit.{Accounts, AccountsBy}
+use Rattle.sftp_tests.specs.Strict.{AccountsUnder}
 
 -- ---- a profile that permits what is allowed strictly
 
@@ -71,4 +85,27 @@ explained-strict s events end explained = record {
   matching = explained.matching;
   within_window = explained.within_window;
   run = (run-strict s (leading_pairs (exchanges_of events)) end explained.run).1;
+}
+
+-- ---- what bytes account for
+
+pub accounts-permitted : (profile : Profile) → PermitsAllowed profile → (tree transcript : List ℕ) (start : Tree)
+    (events : List Event) (end : Tree) → Accounts tree transcript start events end
+    → AccountsUnder profile tree transcript start events end
+accounts-permitted profile permits tree transcript start events end told = record {
+  start_is = told.start_is;
+  events_are = told.events_are;
+  last = bare profile told.last;
+  explained = explained-permitted profile permits (started start) events told.last told.explained;
+  end_is = told.end_is;
+}
+
+pub accounts-strict : (tree transcript : List ℕ) (start : Tree) (events : List Event) (end : Tree)
+    → AccountsUnder strict tree transcript start events end → Accounts tree transcript start events end
+accounts-strict tree transcript start events end told = record {
+  start_is = told.start_is;
+  events_are = told.events_are;
+  last = told.last.session;
+  explained = explained-strict (started start) events told.last told.explained;
+  end_is = told.end_is;
 }

@@ -1,12 +1,28 @@
 -- What an audit meets first strictly, and under the strict profile.
-use Rattle.sftp_audit.proofs.Imports.{◌≡◌, ℕ, List, ◌⊎◌, inl, inr, sym, subst, Tree, Allowed, Profile, strict, State}
-use Rattle.sftp_audit.proofs.Imports.{begun, bare, Permitted, strict-both, Event, Replied, StepOf, leading_pairs, Sound}
-use Rattle.sftp_audit.proofs.Imports.{AuditError, Refusal, Exchange, IsFirstWrong, Refuses, started, RefusedAt}
-use Rattle.sftp_audit.proofs.Imports.{RefusedAtEnd, IsFirstFaultOf, IsFirstFault, IsFirstFaultBy, ledger_of}
+use Rattle.std.proofs.Common.{◌≡◌, ℕ, List, ◌⊎◌, inl, inr, sym, subst}
+use Rattle.sftp_tree.specs.Tree.{Tree}
 use Rattle.sftp_handles.specs.State as sessions
+use Rattle.sftp_handles.specs.State.{started}
+use Rattle.sftp_handles.specs.Allowed.{Allowed}
+use Rattle.sftp_profile.specs.Profiles.{strict}
+use Rattle.sftp_profile.specs.State.{State, bare, begun}
+use Rattle.sftp_profile.specs.Permitted.{Permitted}
+use Rattle.sftp_profile.proofs.Permissions.{strict-both}
+use Rattle.sftp_transcript.specs.declared.events.Event.{Event}
+use Rattle.sftp_transcript.specs.declared.events.Event.TheVariants.{Replied}
+use Rattle.sftp_transcript.specs.Explained.{StepOf}
+unfoldable use Rattle.sftp_transcript.specs.Explained.{leading_pairs}
+use Rattle.sftp_transcript.specs.Sound.{Sound}
+use Rattle.sftp_audit.specs.declared.errors.AuditError.{AuditError}
 use Rattle.sftp_audit.specs.declared.errors.AuditError.TheVariants as audit_errors
+use Rattle.sftp_audit.specs.declared.errors.Refusal.{Refusal}
 use Rattle.sftp_audit.specs.declared.errors.Refusal.TheVariants as refusals
-use Rattle.sftp_audit.proofs.steps.StrictRuns.{run-permitted, run-strict, sound-permitted, sound-strict, strict-permits}
+use Rattle.sftp_audit.specs.declared.exchanges.Exchange.{Exchange}
+use Rattle.sftp_audit.specs.Exchanges.{ledger_of}
+use Rattle.sftp_audit.specs.Auditor.{IsFirstWrong, Refuses}
+use Rattle.sftp_audit.specs.Audit.{RefusedAt, RefusedAtEnd, IsFirstFault, IsFirstFaultBy}
+use Rattle.sftp_tests.specs.Strict.{IsFirstFaultUnder}
+use Rattle.sftp_tests.proofs.StrictRuns.{run-permitted, run-strict, sound-permitted, sound-strict, strict-permits}
 
 -- what is sound for one machine is so for another, and what it finds wrong first the other does too
 record Carries {S T : Type 0} (step : StepOf S) (other : StepOf T) (start : S) (begin : T) : Type 0 where
@@ -44,7 +60,7 @@ refused-carried step other start begin carries transcript refusal (inr at) =
 
 fault-carried : {S T : Type 0} (step : StepOf S) (other : StepOf T) (from : Tree → S) (to : Tree → T)
     → ((start : Tree) → Carries step other (from start) (to start)) → (tree transcript : List ℕ) (error : AuditError)
-    → IsFirstFaultOf step from tree transcript error → IsFirstFaultOf other to tree transcript error
+    → IsFirstFaultBy step from tree transcript error → IsFirstFaultBy other to tree transcript error
 fault-carried step other from to carries tree transcript (audit_errors.Tree error) first = first
 fault-carried step other from to carries tree transcript (audit_errors.Transcript error) first =
     let sound = (carries first.0).sound first.2.events first.2.end first.2.sound in
@@ -80,12 +96,8 @@ carries-permitted s = record {
   wrong = wrong-permitted s;
 }
 
-pub refuses-permitted : (s : sessions.State) (events : List Event) (event : Event) (refusal : Refusal)
-    → Refuses Allowed s events event refusal → Refuses Permitted (bare strict s) events event refusal
-refuses-permitted s = refuses-carried Allowed Permitted s (bare strict s) (carries-permitted s)
-
 pub fault-permitted : (tree transcript : List ℕ) (error : AuditError) → IsFirstFault tree transcript error
-    → IsFirstFaultBy strict tree transcript error
+    → IsFirstFaultUnder strict tree transcript error
 fault-permitted =
     fault-carried Allowed Permitted started (begun strict) (λ start. carries-permitted (started start))
 
@@ -118,14 +130,6 @@ carries-strict s = record {
   wrong = wrong-strict s;
 }
 
-pub fault-strict : (tree transcript : List ℕ) (error : AuditError) → IsFirstFaultBy strict tree transcript error
+pub fault-strict : (tree transcript : List ℕ) (error : AuditError) → IsFirstFaultUnder strict tree transcript error
     → IsFirstFault tree transcript error
 fault-strict = fault-carried Permitted Allowed (begun strict) started (λ start. carries-strict (started start))
-
--- ---- what an audit under the strict profile says
-
-pub first-strict : (profile : Profile) (tree : List ℕ) → profile ≡ strict → (transcript : List ℕ) (error : AuditError)
-    → IsFirstFaultBy profile tree transcript error → IsFirstFault tree transcript error
-first-strict profile tree same transcript error first =
-    fault-strict tree transcript error
-    (subst (λ (p : Profile). IsFirstFaultBy p tree transcript error) same first)
