@@ -1,5 +1,5 @@
 //! What an auditor asks of a judge.
-ghost use Rattle.std.specs.Prelude.{◌≡◌, ⊥, Bool, true, false, IsTrue, IfOk};
+ghost use Rattle.std.specs.Prelude.{◌≡◌, Bool, true, false, IsTrue, IfOk};
 ghost use Rattle.sftp_packets.specs.declared.packets.Request.{Request as Asked};
 ghost use Rattle.sftp_packets.specs.declared.packets.Reply.{Reply as Replied};
 ghost use Rattle.sftp_tree.specs.Tree as values;

@@ -1,6 +1,6 @@
 //! Tests of what no case of `sftp_cases` can say, in a module for each library: calls by values, streams that fail,
-//! cores and scripts of acts, the client's pairing. The law of `audited` is about the server and the auditor; those of `strict`
-//! are about the strict reading and the profiles.
+//! cores and scripts of acts, the client's pairing. The law of `audited` is about the server and the auditor; those of
+//! `strict` are about the strict reading and the profiles.
 //!
 //! A test goes over a table of rows, each with what it has to give, worked out by hand. The assertion names the row
 //! that fails.
