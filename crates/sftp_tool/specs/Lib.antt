@@ -1,3 +1,5 @@
 pub mod Cuts
 pub mod Failures
 pub mod Status
+pub mod Profiles
+pub mod Verdicts

@@ -218,8 +218,8 @@ pub(crate) struct AuditOptions<'a> {
     pub(crate) out: Option<&'a str>,
     /// Whether standard error explains a refusal, or where a file is malformed.
     pub(crate) explains: bool,
-    /// Which departures from the strict reading are accepted.
-    pub(crate) profile: Profile,
+    /// Which departures from the strict reading are accepted; none where the session is judged strictly.
+    pub(crate) profile: Option<Profile>,
     /// The permissions that are taken from whatever is made, as octal digits.
     pub(crate) umask: Option<&'a str>,
 }

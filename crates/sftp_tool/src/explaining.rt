@@ -4,7 +4,7 @@ use crate::messages::{Failure, write_flushed};
 use crate::subcommands::open;
 use sftp_audit::{AuditError, Auditor, Refusal, feed_all};
 use sftp_path::good_path;
-use sftp_profile::{NAMES, Profile};
+use sftp_profile::{Judge, NAMES, Profile};
 use sftp_show::{
     ExplainError, Found, Quoted, Record, explain_reply, find_record, last_of_id, number_of_request,
     put_record,
@@ -235,7 +235,7 @@ impl<R: Files + AllocGlobal, E: Write> Explanation<'_, '_, R, E> {
 
     /// Why the session does not allow an answer, and what it allows.
     fn put_causes(&mut self, ask: &Ask, answer: &Answer) -> bool {
-        match new_auditor(self.rt.alloc(), self.files.profile, self.tree) {
+        match new_auditor(self.rt.alloc(), self.profile(), self.tree) {
             Some(mut auditor) => {
                 let put = self.put_causes_by(&mut auditor, ask, answer);
                 drop(auditor);
@@ -247,23 +247,33 @@ impl<R: Files + AllocGlobal, E: Write> Explanation<'_, '_, R, E> {
 
     /// Feeds the session to an auditor that has seen nothing of it, and writes why it does not allow an answer. The
     /// auditor's session is then the one in which the wrong reply came.
-    fn put_causes_by(&mut self, auditor: &mut Auditor, ask: &Ask, answer: &Answer) -> bool {
-        let mut is_modelled = true;
-        match self.fed(auditor, &mut is_modelled) {
+    fn put_causes_by(
+        &mut self,
+        auditor: &mut Auditor<Judge>,
+        ask: &Ask,
+        answer: &Answer,
+    ) -> bool {
+        match self.fed(auditor) {
             Some(_) => {
-                self.put_allowed(auditor, ask, answer) && (is_modelled || self.put_unmodelled(ask))
+                self.put_allowed(auditor, ask, answer)
+                    && (auditor.follows() || self.put_unmodelled(ask))
             }
             None => self.stop(Unexplained::OtherTranscript),
         }
     }
 
     /// What the auditor's session allows in place of an answer.
-    fn put_allowed(&mut self, auditor: &Auditor, ask: &Ask, answer: &Answer) -> bool {
-        let session = auditor.session();
+    fn put_allowed(&mut self, auditor: &Auditor<Judge>, ask: &Ask, answer: &Answer) -> bool {
+        let session = auditor.judge().session();
         match explain_reply(self.rt.alloc(), session, ask, answer, self.errors) {
             Ok(()) => true,
             Err(error) => self.stop(Unexplained::from(error)),
         }
+    }
+
+    /// The profile by which the session was judged. Where that was done strictly, the strict one permits the same.
+    fn profile(&self) -> Profile {
+        self.files.profile.unwrap_or(Profile::strict())
     }
 
     /// What of a request the profile does not follow: an extension that it does not know, or what the tree cannot
@@ -271,7 +281,7 @@ impl<R: Files + AllocGlobal, E: Write> Explanation<'_, '_, R, E> {
     fn put_unmodelled(&mut self, ask: &Ask) -> bool {
         match ask {
             Ask::Unknown { name, .. } => self.put_extension(name.as_slice()),
-            other => self.put_lack(lack(self.files.profile, other)),
+            other => self.put_lack(lack(self.profile(), other)),
         }
     }
 
@@ -306,7 +316,7 @@ impl<R: Files + AllocGlobal, E: Write> Explanation<'_, '_, R, E> {
 
     /// Whether the session continues beyond its refusal if the departure of this name is accepted besides.
     fn goes_on_with(&mut self, name: &str) -> bool {
-        let accepted = self.files.profile;
+        let accepted = self.profile();
         let profile = accepted.with(name, true).unwrap_or(accepted);
         profile != accepted && self.goes_on_by(profile, name)
     }
@@ -315,8 +325,7 @@ impl<R: Files + AllocGlobal, E: Write> Explanation<'_, '_, R, E> {
     fn goes_on_by(&mut self, profile: Profile, name: &str) -> bool {
         match new_auditor(self.rt.alloc(), profile, self.tree) {
             Some(mut auditor) => {
-                let mut is_modelled = true;
-                let fed = self.fed(&mut auditor, &mut is_modelled);
+                let fed = self.fed(&mut auditor);
                 drop(auditor);
                 self.is_beyond(fed, name)
             }
@@ -338,10 +347,10 @@ impl<R: Files + AllocGlobal, E: Write> Explanation<'_, '_, R, E> {
     }
 
     /// Feeds the session to an auditor that has seen nothing of it, and returns the refusal, if it is refused before it
-    /// ends or is malformed. `is_modelled` then says whether the profile follows the request.
-    fn fed(&mut self, auditor: &mut Auditor, is_modelled: &mut bool) -> Option<Refusal> {
+    /// ends or is malformed.
+    fn fed(&mut self, auditor: &mut Auditor<Judge>) -> Option<Refusal> {
         let mut records = self.records()?;
-        let fed = feed_all(auditor, &mut records, is_modelled);
+        let fed = feed_all(auditor, &mut records);
         drop(records);
         self.refusal_of(fed)
     }
@@ -518,9 +527,9 @@ fn target_of(profile: Profile, ask: &Ask) -> Option<&[u8]> {
 }
 
 /// An auditor, by this profile, of sessions that start from the tree of this file, or none if memory runs out.
-fn new_auditor(alloc: Global, profile: Profile, tree: &[u8]) -> Option<Auditor> {
+fn new_auditor(alloc: Global, profile: Profile, tree: &[u8]) -> Option<Auditor<Judge>> {
     match Tree::read(alloc, tree) {
-        Ok(tree) => Auditor::by(profile, tree).ok(),
+        Ok(tree) => Auditor::<Judge>::by(profile, tree).ok(),
         Err(_) => None,
     }
 }

@@ -1,4 +1,9 @@
 //! The options of `audit` that say which departures from the strict reading are accepted.
+ghost use Rattle.std.specs.Prelude.{◌≡◌, is_some, map};
+ghost use Rattle.std.specs.Option.{option_map};
+ghost use Rattle.clap.specs.Matches.{found_of};
+ghost use Rattle.sftp_tool.specs.Profiles as spec;
+
 use crate::command_line::{Argument, Form};
 use crate::messages::{Failure, MORE};
 use clap::ArgMatches;
@@ -50,46 +55,93 @@ pub(crate) const SYMLINK: Argument = (
 /// The permissions that are taken from whatever is made, without an option.
 const USUAL_UMASK: &str = "022";
 
-/// The profile that the options name, without the umask. If there are none, it is the strict one.
-pub(crate) fn profile_of(given: &ArgMatches<'_>) -> Profile {
-    let profile = match given.get_str("profile") {
+/// The profile that the options name, without the umask; `None`, which is the strict reading, if there are none.
+pub(crate) fn profile_of(given: &ArgMatches<'_>) -> Option<Profile>
+    ensures { result ≡ spec.profile_asked (found_of given.now) }
+{
+    let order = given.get_str("symlink");
+    let base = given.get_str("profile");
+    let allowed = given.get_strs("allow");
+    let excepted = given.get_strs("except");
+    if order.is_none() && base.is_none() && allowed.is_none() && excepted.is_none() {
+        return None;
+    }
+    let profile = switched(base_of(base), allowed.unwrap_or(&[]), true);
+    let profile = switched(profile, excepted.unwrap_or(&[]), false);
+    let profile = with_rule(profile, given.get_str("new-owner"));
+    Some(with_order(profile, order))
+}
+
+/// The profile of this name, or the strict one.
+fn base_of(name: Option<&str>) -> Profile
+    ensures { result ≡ spec.base_of (is_some name) }
+{
+    match name {
         Some(_) => Profile::posix(),
         None => Profile::strict(),
-    };
-    let profile = switched(profile, given.get_strs("allow"), true);
-    let mut profile = switched(profile, given.get_strs("except"), false);
-    if profile.made {
-        profile.new_owner = new_owner(given.get_str("new-owner").unwrap_or("user"));
     }
-    profile.symlink_draft = given.get_str("symlink").is_some();
+}
+
+/// The profile with this rule of who owns what is made, if it accepts the departure `made`.
+fn with_rule(profile: Profile, rule: Option<&str>) -> Profile
+    ensures { result ≡ spec.with_rule profile (option_map (λ text. text.now) rule) }
+{
+    let mut profile = profile;
+    if profile.made {
+        profile.new_owner = new_owner(rule.unwrap_or("user"));
+    }
+    profile
+}
+
+/// The profile with the order of the draft for the paths of SYMLINK, if an order is named.
+fn with_order(profile: Profile, order: Option<&str>) -> Profile
+    ensures { result ≡ record profile { symlink_draft = is_some order } }
+{
+    let mut profile = profile;
+    profile.symlink_draft = order.is_some();
     profile
 }
 
 /// Who owns what is made by this rule.
-fn new_owner(rule: &str) -> NewOwner {
-    match rule {
-        "given" => NewOwner::Given,
-        "group" => NewOwner::Group,
-        _ => NewOwner::User,
+fn new_owner(rule: &str) -> NewOwner
+    ensures { result ≡ spec.owner_by rule.now }
+{
+    if rule == "given" {
+        return NewOwner::Given;
     }
+    if rule == "group" {
+        return NewOwner::Group;
+    }
+    NewOwner::User
 }
 
 /// The profile with each of these departures switched on or off.
-fn switched(profile: Profile, names: Option<&[&str]>, is_on: bool) -> Profile {
+fn switched(profile: Profile, names: &[&str], is_on: bool) -> Profile
+    ensures { result ≡ spec.with_names is_on profile (map (λ name. name.now) names.now) }
+{
     let mut profile = profile;
-    for name in names.unwrap_or(&[]) {
-        profile = profile.with(name, is_on).unwrap_or(profile);
+    'names: for name in names {
+        profile = with_departure(profile, name, is_on);
     }
     profile
 }
 
+/// The profile with the departure of this name switched on or off; a name that is none changes nothing.
+fn with_departure(profile: Profile, name: &str, is_on: bool) -> Profile
+    ensures { result ≡ spec.with_departure is_on profile name.now }
+{
+    profile.with(name, is_on).unwrap_or(profile)
+}
+
 /// The profile with this umask, if it accepts the departure `made`.
-pub(crate) fn with_umask(profile: Profile, umask: u32) -> Profile {
-    let mut profile = profile;
+pub(crate) fn with_umask(profile: Option<Profile>, umask: u32) -> Option<Profile>
+    ensures { result ≡ option_map (λ profile. spec.with_umask profile umask) profile }
+{
+    let mut profile = profile?;
     if profile.made {
         profile.umask = umask;
     }
-    profile
+    Some(profile)
 }
 
 /// The umask of this text, or the usual one.

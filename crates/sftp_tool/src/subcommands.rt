@@ -1,10 +1,12 @@
 //! The subcommands.
-ghost use Rattle.std.specs.Prelude.{◌≡◌, IfOk, IfErr, MatchResult};
+ghost use Rattle.std.specs.Prelude.{◌≡◌, None, Some, IfOk, IfErr, MatchResult};
 ghost use Rattle.sftp_tree.specs.Tree.{Tree as tree, raised};
 ghost use Rattle.sftp_tree.specs.Picture.{IsStart, picture};
 ghost use Rattle.sftp_tool.specs.declared.messages.Ending.TheVariants as endings;
 ghost use Rattle.sftp_tool.specs.declared.messages.Failure.TheVariants as failures;
+ghost use Rattle.sftp_profile.specs.declared.profiles.Profile.{Profile as profile};
 ghost use Rattle.sftp_tool.specs.Failures.{IsOutcome, IsUnread, IsUnwritten};
+ghost use Rattle.sftp_tool.specs.Verdicts.{IsStrictAudit, IsAuditUnder, IsStrictVerdict, IsVerdictUnder};
 
 use crate::command_line::AuditOptions;
 use crate::explaining::explain;
@@ -12,7 +14,7 @@ use crate::messages::{Ending, Failure, print};
 use crate::profiles::{umask_of, with_umask};
 use crate::saving::{write, write_last};
 use sftp_audit::{Accepted, AuditError, Refusal};
-use sftp_profile::Profile;
+use sftp_profile::{Judge, Profile};
 use sftp_transcript::{Reader, Tally};
 use sftp_tree::Tree;
 use std::alloc::Global;
@@ -48,7 +50,6 @@ fn audit_by<'a, R: Files + AllocGlobal, O: Write, E: Write>(
 }
 
 /// Audits a session that starts from the tree of this file.
-// Slow to prove: each of its exits is a call that may fail, one of them while it owns the outcome of the audit.
 fn audit_from<'a, R: Files + AllocGlobal, O: Write, E: Write>(
     rt: &R,
     files: &AuditOptions<'a>,
@@ -57,21 +58,34 @@ fn audit_from<'a, R: Files + AllocGlobal, O: Write, E: Write>(
     errors: &mut E,
 ) -> Result<Ending, Failure<'a>> {
     let transcript = open(rt, files.transcript)?;
-    let mut is_modelled = true;
-    match judge(
-        rt.alloc(),
-        files.profile,
-        tree,
-        transcript,
-        &mut is_modelled,
-    ) {
+    judge_and_report(rt, files, tree, transcript, output, errors)
+}
+
+/// Audits the session of this transcript, and says what came of it.
+// Slow to prove: each of its exits is a call that may fail, one of them while it owns the outcome of the audit.
+fn judge_and_report<'a, F: Read + Drop, R: Files + AllocGlobal, O: Write, E: Write>(
+    rt: &R,
+    files: &AuditOptions<'a>,
+    tree: &[u8],
+    transcript: F,
+    output: &mut O,
+    errors: &mut E,
+) -> Result<Ending, Failure<'a>>
+    // Without an option of a profile, the session is accepted or refused strictly.
+    ensures strictly { files.now.profile ≡ None →
+        IfOk result (IsStrictVerdict tree.now (F.remaining transcript)) }
+    ensures under { (by : profile) → files.now.profile ≡ Some by →
+        IfOk result (IsVerdictUnder by tree.now (F.remaining transcript)) }
+{
+    let mut follows = true;
+    match judge(rt.alloc(), files.profile, tree, transcript, &mut follows) {
         Ok(accepted) => {
             let ending = accept(rt, &accepted, files.out, output);
             drop(accepted);
             ending
         }
         Err(error) => match refusal_or_failure(error, files.transcript) {
-            Ok(refusal) => report_refusal(rt, files, tree, refusal, is_modelled, output, errors),
+            Ok(refusal) => report_refusal(rt, files, tree, refusal, follows, output, errors),
             Err(failure) => Err(failure),
         },
     }
@@ -83,30 +97,74 @@ fn report_refusal<'a, R: Files + AllocGlobal, O: Write, E: Write>(
     files: &AuditOptions<'a>,
     tree: &[u8],
     refusal: Refusal,
-    is_modelled: bool,
+    follows: bool,
     output: &mut O,
     errors: &mut E,
-) -> Result<Ending, Failure<'a>> {
-    let ending = refuse(refusal, is_modelled, output)?;
+) -> Result<Ending, Failure<'a>>
+    ensures ok { IfOk result (λ ending. ending ≡ endings.Refused) }
+{
+    let ending = refuse(refusal, follows, output)?;
     if files.explains {
         explain(rt, files, tree, refusal, errors);
     }
     Ok(ending)
 }
 
-/// Audits the session of a transcript that is read as a stream, and sets `is_modelled` to whether the profile follows
-/// it up to where it is refused.
+/// Audits the session of a transcript that is read as a stream: strictly, or under a profile. `follows` is set to
+/// whether the profile follows it up to where it is refused; strictly each session is followed.
 fn judge<F: Read + Drop>(
+    alloc: Global,
+    by: Option<Profile>,
+    tree: &[u8],
+    transcript: F,
+    follows: &mut bool,
+) -> Result<Accepted, AuditError>
+    ensures strictly { by ≡ None → IsStrictAudit tree.now (F.remaining transcript) result }
+    ensures under { (it : profile) → by ≡ Some it → IsAuditUnder it tree.now (F.remaining transcript) result }
+{
+    match by {
+        None => {
+            *follows = true;
+            judge_strictly(alloc, tree, transcript)
+        }
+        Some(profile) => judge_under(alloc, profile, tree, transcript, follows),
+    }
+}
+
+/// Audits such a session strictly.
+fn judge_strictly<F: Read + Drop>(
+    alloc: Global,
+    tree: &[u8],
+    transcript: F,
+) -> Result<Accepted, AuditError>
+    ensures { IsStrictAudit tree.now (F.remaining transcript) result }
+{
+    let mut records = Reader::new(alloc, Tally::new(transcript))?;
+    let audited = sftp_audit::audit_stream(alloc, tree, &mut records);
+    drop(records);
+    audited
+}
+
+/// Audits such a session under a profile.
+fn judge_under<F: Read + Drop>(
     alloc: Global,
     profile: Profile,
     tree: &[u8],
     transcript: F,
-    is_modelled: &mut bool,
-) -> Result<Accepted, AuditError> {
+    follows: &mut bool,
+) -> Result<Accepted, AuditError>
+    ensures { IsAuditUnder profile tree.now (F.remaining transcript) result }
+{
     let mut records = Reader::new(alloc, Tally::new(transcript))?;
-    let accepted = sftp_audit::audit_stream_by(alloc, profile, tree, &mut records, is_modelled);
+    let audited = sftp_audit::audit_stream_by::<Judge, Tally<F>>(
+        alloc,
+        profile,
+        tree,
+        &mut records,
+        follows,
+    );
     drop(records);
-    accepted
+    audited
 }
 
 /// Writes the blank tree to the file `name`.
@@ -181,14 +239,14 @@ fn accept<'a, R: Files + AllocGlobal, O: Write>(
 /// Says why the session is refused: `NotModelled` where the profile does not follow a request.
 fn refuse<'a, O: Write>(
     refusal: Refusal,
-    is_modelled: bool,
+    follows: bool,
     output: &mut O,
 ) -> Result<Ending, Failure<'a>>
     ensures ok { IfOk result (λ ending. ending ≡ endings.Refused) }
     ensures err { IfErr result IsUnwritten }
 {
     match refusal {
-        Refusal::NotAllowed { record } if !is_modelled => print(
+        Refusal::NotAllowed { record } if !follows => print(
             output,
             format_args!("refused record {record}: NotModelled\n"),
             Ending::Refused,

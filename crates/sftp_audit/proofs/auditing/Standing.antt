@@ -137,11 +137,11 @@ module _ {S : Type 0} (step : StepOf S) where
   wrong-asked request old state (refusals.NotAllowed n) r start events stands = absurd r
   wrong-asked request old state other r start events stands = tt
 
-  pub told-asked : (follows : FollowsOf S) (request : Request) (old : Audited S) (told : Bool) (refusal : Refusal)
-      → told ≡ old.follows → RefusesRequest old.kept request old.number refusal
+  pub told-asked : (follows : FollowsOf S) (request : Request) (old : Audited S) (told : Bool)
+      → told ≡ old.follows → (refusal : Refusal) → RefusesRequest old.kept request old.number refusal
       → Reports step follows old (Asked request) told refusal
-  told-asked follows request old told (refusals.NotAllowed n) same r start events stands = absurd r
-  told-asked follows request old told other same r start events stands = same
+  told-asked follows request old told same (refusals.NotAllowed n) r start events stands = absurd r
+  told-asked follows request old told same other r start events stands = same
 
   -- ---- one reply more
 
@@ -219,12 +219,12 @@ module _ {S : Type 0} (step : StepOf S) where
   wrong-replied reply old state (refusals.UnknownReply n) r start events stands = tt
   wrong-replied reply old state other r start events stands = absurd r
 
-  pub told-replied : (follows : FollowsOf S) (reply : Reply) (old : Audited S) (told : Bool) (refusal : Refusal)
-      → told ≡ old.follows
+  pub told-replied : (follows : FollowsOf S) (reply : Reply) (old : Audited S) (told : Bool)
+      → told ≡ old.follows → (refusal : Refusal)
       → RefusesReply old.kept (record { reply = reply; number = old.number }) refusal
       → Reports step follows old (Replied reply) told refusal
-  told-replied follows reply old told (refusals.UnknownReply n) same r start events stands = same
-  told-replied follows reply old told other same r start events stands = absurd r
+  told-replied follows reply old told same (refusals.UnknownReply n) r start events stands = same
+  told-replied follows reply old told same other r start events stands = absurd r
 
   -- what settling finds wrong first is the first that is wrong of all
   first_wrong : (reply : Reply) (old : Audited S) (kept : List Exchange) → HasReply reply old kept → (number : ℕ)

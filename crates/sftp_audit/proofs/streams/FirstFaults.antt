@@ -120,7 +120,7 @@ module _ {S : Type 0} (step : StepOf S) (one_end : HasOneEnd step) where
       → RefusedAt step start transcript a → RefusedAtEnd step start transcript b → ⊥
   refused_before_end start transcript a b not_a at atend =
       let on = begins_each (at.events ++ at.event ∷ []) atend.events transcript at.rest at.begins atend.recorded in
-      not_before start transcript a atend.events atend.end not_a at atend.sound (record {
+      not_before step one_end start transcript a atend.events atend.end not_a at atend.sound (record {
         between = on.more;
         are = on.others_are ∙ append_assoc at.events (at.event ∷ []) on.more;
       })
@@ -132,7 +132,7 @@ module _ {S : Type 0} (step : StepOf S) (one_end : HasOneEnd step) where
   one_refused : (start : S) (transcript : List ℕ) (a b : Refusal) → a ≢ refusals.NoMemory → b ≢ refusals.NoMemory
       → IsRefused start transcript a → IsRefused start transcript b → a ≡ b
   one_refused start transcript a b not_a not_b (inl one) (inl other) =
-      two_refused start transcript a b not_a not_b one other
+      two_refused step one_end start transcript a b not_a not_b one other
   one_refused start transcript a b not_a not_b (inl one) (inr other) =
       absurd (refused_before_end start transcript a b not_a one other)
   one_refused start transcript a b not_a not_b (inr one) (inl other) =
@@ -147,7 +147,7 @@ module _ {S : Type 0} (step : StepOf S) (one_end : HasOneEnd step) where
   fault_alone start transcript error refusal apart not_memory at (inl refused) =
       let first = first_before_fault transcript at.events (refused.events ++ refused.event ∷ []) refused.rest error apart
       at.fault refused.begins in
-      not_before start transcript refusal at.events at.end not_memory refused at.sound (record {
+      not_before step one_end start transcript refusal at.events at.end not_memory refused at.sound (record {
         between = first.more;
         are = first.events_are ∙ append_assoc refused.events (refused.event ∷ []) first.more;
       })

@@ -1,6 +1,6 @@
 -- What an auditor is fed from a reader, event by event.
 use Rattle.sftp_audit.proofs.Imports.{◌≡◌, inl, inr, ℕ, ◌+◌, ◌-◌, ◌^◌, min, List, [], ◌∷◌, ◌++◌, length, Bool, Option}
-use Rattle.sftp_audit.proofs.Imports.{Some, None, if◌then◌else◌, refl, subst, true, arith, TranscriptError, Event, Asked}
+use Rattle.sftp_audit.proofs.Imports.{Some, None, if◌then◌else◌, refl, subst, ◌∙◌, true, arith, TranscriptError, Event, Asked}
 use Rattle.sftp_audit.proofs.Imports.{Replied, exchanges_of, Reading, StepOf, FollowsOf, Refusal, Audited, StandsFor}
 use Rattle.sftp_audit.proofs.Imports.{Refuses, IsTold, IsNew, IsNoJudgement, WasFed, StopsFeed, IsToldOf, request_count}
 use Rattle.sftp_audit.proofs.Imports.{is_request, HasRefused, error_of_transcript, error_of_session, recorded_exchanges}

@@ -70,9 +70,10 @@ returns-clause-judged g c = (c.in_ok-read.field-0, c.in_ok-read.ensures.found)
 pub returns-in-Err-clause-told : goal.returns-in-Err-clause-told
 returns-in-Err-clause-told g c = λ judged transcript new.
     let start = c.in_ok-read.field-0 in
-    told-feed g.J.Judges.allowed g.J.Judges.follows (g.J.Judges.begun c.args.by) start c.args.tree.now transcript c.feed_all.new.auditor.follows c.in-Err.error
+    rw c.follows.ensures
+    (told-feed g.J.Judges.allowed g.J.Judges.follows (g.J.Judges.begun c.args.by) start c.args.tree.now transcript c.feed_all.new.auditor.follows c.in-Err.error
     c.in_ok-read.ensures.found
-    (c.in-Err.ensures.told judged (g.J.Judges.begun c.args.by start) transcript new c.in_ok-auditor.ensures.stands)
+    (c.in-Err.ensures.told judged (g.J.Judges.begun c.args.by start) transcript new c.in_ok-auditor.ensures.stands))
 
 pub returns-in_err-end-clause-told : goal.returns-in_err-end-clause-told
 returns-in_err-end-clause-told g c =
