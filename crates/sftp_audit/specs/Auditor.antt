@@ -110,7 +110,8 @@ pub record IsNoted {S : Type 0} (step : StepOf S) (start : S) (events : List Eve
 -- it then stands for these events and this one
 abbrev pub GoesOn : {S : Type 0} → StepOf S → Audited S → Event → Audited S → Type 0
 GoesOn {S} step old event new =
-    (start : S) (events : List Event) → StandsFor step start events old → StandsFor step start (events ++ event ∷ []) new
+    (start : S) (events : List Event) → StandsFor step start events old
+    → StandsFor step start (events ++ event ∷ []) new
 
 -- it has noted this one, whatever the number
 abbrev pub HasNoted : {S : Type 0} → StepOf S → Audited S → Event → Audited S → Type 0

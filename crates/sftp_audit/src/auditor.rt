@@ -44,7 +44,12 @@ impl<J: Judges> Model for Auditor<J> {
     ghost Value = { Audited J };
 
     ghost view = { λ a. record {
-        state = a.judge; kept = a.ledger; number = a.number; refusal = a.refusal; follows = a.follows } };
+      state = a.judge;
+      kept = a.ledger;
+      number = a.number;
+      refusal = a.refusal;
+      follows = a.follows;
+    } };
 
     ghost invariant = { λ a. length a.ledger ≤ window };
 }
@@ -59,7 +64,12 @@ impl Auditor {
     /// `NoMemory` if memory runs out.
     pub fn new(tree: Tree) -> Result<Auditor, NoMemory>
         ensures fresh { IfOk result (λ auditor. auditor ≡ record {
-            state = started tree; kept = []; number = first_number; refusal = None; follows = true }) }
+          state = started tree;
+          kept = [];
+          number = first_number;
+          refusal = None;
+          follows = true;
+        }) }
         // It stands for no events.
         ensures stands { IfOk result (StandsFor Allowed (started tree) []) }
     {
@@ -121,7 +131,12 @@ impl<J: Judges> Auditor<J> {
     /// `NoMemory` if memory runs out.
     pub fn by(by: J::By, tree: Tree) -> Result<Auditor<J>, NoMemory>
         ensures fresh { IfOk result (λ auditor. auditor ≡ record {
-            state = J.begun by tree; kept = []; number = first_number; refusal = None; follows = true }) }
+          state = J.begun by tree;
+          kept = [];
+          number = first_number;
+          refusal = None;
+          follows = true;
+        }) }
         // It stands for no events.
         ensures stands { IfOk result (StandsFor J.allowed (J.begun by tree) []) }
     {

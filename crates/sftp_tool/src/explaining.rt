@@ -247,12 +247,7 @@ impl<R: Files + AllocGlobal, E: Write> Explanation<'_, '_, R, E> {
 
     /// Feeds the session to an auditor that has seen nothing of it, and writes why it does not allow an answer. The
     /// auditor's session is then the one in which the wrong reply came.
-    fn put_causes_by(
-        &mut self,
-        auditor: &mut Auditor<Judge>,
-        ask: &Ask,
-        answer: &Answer,
-    ) -> bool {
+    fn put_causes_by(&mut self, auditor: &mut Auditor<Judge>, ask: &Ask, answer: &Answer) -> bool {
         match self.fed(auditor) {
             Some(_) => {
                 self.put_allowed(auditor, ask, answer)
