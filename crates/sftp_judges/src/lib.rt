@@ -1,4 +1,4 @@
-//! Judges of sessions: what an auditor asks of the one that judges each reply, and the strict judge, which is a session.
+//! Judges of sessions: what an auditor asks of the one that judges each reply; and the strict judge, a session.
 #![tactic(auto)]
 
 mod judges;
