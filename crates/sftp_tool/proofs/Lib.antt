@@ -1,2 +1,3 @@
 mod CutLaws
 mod VerdictLaws
+mod ProfileLaws

@@ -1,8 +1,6 @@
 -- The profile that the options of `audit` name.
-use Rattle.std.specs.Prelude.{◌&&◌, not, ℕ, Bool, true, false, if◌then◌else◌, List, [], ◌∷◌, Option, Some, None}
+use Rattle.std.specs.Prelude.{◌||◌, ℕ, Bool, true, false, if◌then◌else◌, List, [], ◌∷◌, Option, Some, None}
 use Rattle.std.specs.Prelude.{is_some, unwrap_or, bytes_eq, codes}
-use Rattle.std.specs.Option.{option_map_or}
-use Rattle.clap.specs.Matches.{Found, matched_of, raw_values, first_value}
 use Rattle.sftp_profile.specs.declared.profiles.Profile.{Profile}
 use Rattle.sftp_profile.specs.declared.profiles.NewOwner.{NewOwner}
 use Rattle.sftp_profile.specs.declared.profiles.NewOwner.TheVariants.{User, Given, Group}
@@ -37,29 +35,26 @@ with_rule profile rule =
 abbrev pub with_umask : Profile → ℕ → Profile
 with_umask profile umask = if profile.made then record profile { umask = umask } else profile
 
--- the values of an option, in the order given
-abbrev pub values_of : Found → List ℕ → List (List ℕ)
-values_of found option = option_map_or raw_values (matched_of found option) []
+-- What the options say, each by its values, in the order given: what the profile is based on, the departures that are
+-- allowed besides, those that are excepted, the rule of who owns what is made, and the order of the paths of SYMLINK.
+pub record Options : Type 0 where
+  pub base : Option (List ℕ)
+  pub allowed : Option (List (List ℕ))
+  pub excepted : Option (List (List ℕ))
+  pub rule : Option (List ℕ)
+  pub order : Option (List ℕ)
 
--- the profile by the options that were given, but for the umask: what it is based on, with the departures that are
--- allowed besides, without those that are excepted, with the rule of who owns what is made, and the order of the paths
--- of SYMLINK
-abbrev pub profile_by : Found → Profile
-profile_by found =
+-- the profile by these options, but for the umask
+abbrev pub profile_by : Options → Profile
+profile_by options =
     record (with_rule
-    (with_names false
-    (with_names true (base_of (is_some (first_value found (codes "profile")))) (values_of found (codes "allow")))
-    (values_of found (codes "except")))
-    (first_value found (codes "new-owner"))) {
-      symlink_draft = is_some (first_value found (codes "symlink"));
+    (with_names false (with_names true (base_of (is_some options.base)) (unwrap_or options.allowed []))
+    (unwrap_or options.excepted [])) options.rule) {
+      symlink_draft = is_some options.order;
     }
 
--- an option of a profile was given
-abbrev pub asks_for_profile : Found → Bool
-asks_for_profile found =
-    not (not (is_some (first_value found (codes "symlink"))) && not (is_some (first_value found (codes "profile")))
-    && not (is_some (matched_of found (codes "allow"))) && not (is_some (matched_of found (codes "except"))))
-
--- the profile, if an option of one was given; without one the session is judged strictly
-abbrev pub profile_asked : Found → Option Profile
-profile_asked found = if asks_for_profile found then Some (profile_by found) else None
+-- the profile, if one of these four options was given; without one the session is judged strictly
+abbrev pub profile_asked : Options → Option Profile
+profile_asked options =
+    if is_some options.order || (is_some options.base || (is_some options.allowed || is_some options.excepted))
+    then Some (profile_by options) else None

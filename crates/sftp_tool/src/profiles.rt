@@ -1,7 +1,7 @@
 //! The options of `audit` that say which departures from the strict reading are accepted.
-ghost use Rattle.std.specs.Prelude.{◌≡◌, is_some, map};
+ghost use Rattle.std.specs.Prelude.{◌≡◌, codes, map};
 ghost use Rattle.std.specs.Option.{option_map};
-ghost use Rattle.clap.specs.Matches.{found_of};
+ghost use Rattle.clap.specs.Matches.{found_of, matched_of, raw_values, first_value};
 ghost use Rattle.sftp_tool.specs.Profiles as spec;
 
 use crate::command_line::{Argument, Form};
@@ -57,34 +57,40 @@ const USUAL_UMASK: &str = "022";
 
 /// The profile that the options name, without the umask; `None`, which is the strict reading, if there are none.
 pub(crate) fn profile_of(given: &ArgMatches<'_>) -> Option<Profile>
-    ensures { result ≡ spec.profile_asked (found_of given.now) }
+    ensures { result ≡ spec.profile_asked (record {
+        base = first_value (found_of given.now) (codes "profile");
+        allowed = option_map raw_values (matched_of (found_of given.now) (codes "allow"));
+        excepted = option_map raw_values (matched_of (found_of given.now) (codes "except"));
+        rule = first_value (found_of given.now) (codes "new-owner");
+        order = first_value (found_of given.now) (codes "symlink") }) }
 {
-    let order = given.get_str("symlink");
     let base = given.get_str("profile");
     let allowed = given.get_strs("allow");
     let excepted = given.get_strs("except");
-    if order.is_none() && base.is_none() && allowed.is_none() && excepted.is_none() {
-        return None;
+    let order = given.get_str("symlink");
+    if order.is_some() || base.is_some() || allowed.is_some() || excepted.is_some() {
+        let profile = switched(base_of(base.is_some()), allowed.unwrap_or(&[]), true);
+        let profile = switched(profile, excepted.unwrap_or(&[]), false);
+        let profile = with_rule(profile, given.get_str("new-owner"));
+        return Some(with_order(profile, order.is_some()));
     }
-    let profile = switched(base_of(base), allowed.unwrap_or(&[]), true);
-    let profile = switched(profile, excepted.unwrap_or(&[]), false);
-    let profile = with_rule(profile, given.get_str("new-owner"));
-    Some(with_order(profile, order))
+    None
 }
 
-/// The profile of this name, or the strict one.
-fn base_of(name: Option<&str>) -> Profile
-    ensures { result ≡ spec.base_of (is_some name) }
+/// The one profile that has a name, or the strict one.
+fn base_of(is_named: bool) -> Profile
+    ensures { result ≡ spec.base_of is_named }
 {
-    match name {
-        Some(_) => Profile::posix(),
-        None => Profile::strict(),
+    if is_named {
+        Profile::posix()
+    } else {
+        Profile::strict()
     }
 }
 
 /// The profile with this rule of who owns what is made, if it accepts the departure `made`.
 fn with_rule(profile: Profile, rule: Option<&str>) -> Profile
-    ensures { result ≡ spec.with_rule profile (option_map (λ text. text.now) rule) }
+    ensures { result ≡ spec.with_rule profile (option_map (λ text. text.now) rule.entry) }
 {
     let mut profile = profile;
     if profile.made {
@@ -93,12 +99,12 @@ fn with_rule(profile: Profile, rule: Option<&str>) -> Profile
     profile
 }
 
-/// The profile with the order of the draft for the paths of SYMLINK, if an order is named.
-fn with_order(profile: Profile, order: Option<&str>) -> Profile
-    ensures { result ≡ record profile { symlink_draft = is_some order } }
+/// The profile with the paths of SYMLINK in the order of the draft, or in OpenSSH's.
+fn with_order(profile: Profile, is_draft: bool) -> Profile
+    ensures { result ≡ record profile { symlink_draft = is_draft } }
 {
     let mut profile = profile;
-    profile.symlink_draft = order.is_some();
+    profile.symlink_draft = is_draft;
     profile
 }
 
