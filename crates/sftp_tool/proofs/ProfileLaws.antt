@@ -32,4 +32,4 @@ pub names-end : {A : Type 0} (text : A → List ℕ) (is_on : Bool) (profile : P
     → length names ≤ i → with_names is_on profile (map text (drop i names)) ≡ profile
 unfolding with_names
 names-end text is_on profile names i within =
-    ap (λ (l : List _). with_names is_on profile (map text l)) (drop_of_length-le i names within)
+    ap (λ (l : List _). with_names is_on profile (map text l)) (drop_of_length-le names within)
