@@ -1,5 +1,5 @@
 -- Sessions strictly and under the strict profile, and under every profile that permits what is allowed strictly.
-use Rattle.std.proofs.Common.{◌≡◌, ◌↔◌, ℕ, List, [], ◌∷◌, ◌⊎◌, inl, inr, refl, sym, ap, subst}
+use Rattle.std.proofs.Common.{◌≡◌, ◌↔◌, ℕ, List, [], ◌∷◌, sym, ap, ◌∙◌, refl, subst}
 use Rattle.sftp_packets.specs.declared.packets.Request.{Request}
 use Rattle.sftp_packets.specs.declared.packets.Reply.{Reply}
 use Rattle.sftp_tree.specs.Tree.{Tree}
