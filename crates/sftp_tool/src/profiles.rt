@@ -58,11 +58,12 @@ const USUAL_UMASK: &str = "022";
 /// The profile that the options name, without the umask; `None`, which is the strict reading, if there are none.
 pub(crate) fn profile_of(given: &ArgMatches<'_>) -> Option<Profile>
     ensures { result ≡ spec.profile_asked (record {
-        base = first_value (found_of given.now) (codes "profile");
-        allowed = option_map raw_values (matched_of (found_of given.now) (codes "allow"));
-        excepted = option_map raw_values (matched_of (found_of given.now) (codes "except"));
-        rule = first_value (found_of given.now) (codes "new-owner");
-        order = first_value (found_of given.now) (codes "symlink") }) }
+      base = first_value (found_of given.now) (codes "profile");
+      allowed = option_map raw_values (matched_of (found_of given.now) (codes "allow"));
+      excepted = option_map raw_values (matched_of (found_of given.now) (codes "except"));
+      rule = first_value (found_of given.now) (codes "new-owner");
+      order = first_value (found_of given.now) (codes "symlink");
+    }) }
 {
     let base = given.get_str("profile");
     let allowed = given.get_strs("allow");

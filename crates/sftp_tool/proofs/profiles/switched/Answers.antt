@@ -1,5 +1,5 @@
 -- Each turn of the loop switches the next departure.
-use Rattle.std.proofs.Common.{refl, sym, ◌∙◌, arith, rules}
+use Rattle.std.proofs.Common.{refl, sym, ◌∙◌, arith}
 use Rattle.sftp_tool.proofs.ProfileLaws.{names-turn, names-end}
 use Rattle.sftp_tool.proofs.profiles.switched.Goals as goal
 
@@ -9,9 +9,9 @@ names-init c = (omega arith, refl)
 pub names-preserved : goal.names-preserved
 names-preserved c = (
   omega (arith, c.names-test.true),
-  rw c.with_departure.ensures
+  rw c.with_departure-profile.ensures
       (sym (names-turn (λ name. name.now) c.args.is_on c.names.profile c.args.names.now c.names.name-index _
-      c.names-test.true (search rules)) ∙ c.names.invariant.1),
+      c.names-test.true) ∙ c.names.invariant.1),
 )
 
 pub returns : goal.returns
