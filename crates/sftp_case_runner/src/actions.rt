@@ -8,12 +8,14 @@ use crate::text::Text;
 use crate::wanted::Form;
 use std::fs::Files;
 
-const SERVE: &str = "sftpv3 serve --tree start.tree --save end.tree --record session.transcript";
+const SERVE: &str =
+    "sftpv3 serve --tree start.tree --save end.tree --record session.transcript --no-sync";
 
-const AUDIT: &str = "sftpv3 audit --tree start.tree --transcript session.transcript --out end.tree";
+const AUDIT: &str =
+    "sftpv3 audit --tree start.tree --transcript session.transcript --out end.tree --no-sync";
 
 const AUDIT_OF_RECORD: &str =
-    "sftpv3 audit --tree start.tree --transcript session.transcript --out audited.tree";
+    "sftpv3 audit --tree start.tree --transcript session.transcript --out audited.tree --no-sync";
 
 /// Runs the program on the words of a line and some more, with the input of the case.
 pub fn run_line<R: Files + AllocGlobal, P: Program>(

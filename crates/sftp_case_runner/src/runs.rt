@@ -26,9 +26,8 @@ impl Came {
 pub trait Program {
     /// Runs the program on the words of its command line, the first of which is its name, and these streams, and
     /// returns its exit status.
-    fn run<R: Files + AllocGlobal>(
+    fn run(
         &self,
-        rt: &R,
         words: &[String],
         input: &mut Pieces<'_>,
         output: &mut Stream,
@@ -125,7 +124,7 @@ pub fn run_program<R: Files + AllocGlobal, P: Program>(
         kept: Vec::new(rt.alloc()),
         fails: streams.errors,
     };
-    came.status = program.run(rt, words, &mut pieces, &mut output, &mut errors);
+    came.status = program.run(words, &mut pieces, &mut output, &mut errors);
     came.output = output.kept;
     came.errors = errors.kept;
 }

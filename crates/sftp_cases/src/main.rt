@@ -3,23 +3,23 @@
 #![tactic(auto)]
 
 use sftp_case_runner::{Count, Pieces, Program, Stream, run_file};
-use std::fs::Files;
 use std::process::ExitCode;
 use std::{env, io};
 
-/// The program `sftpv3`.
-struct Tool;
+/// The program `sftpv3` on this system.
+struct Tool<'a> {
+    rt: &'a HostRuntime,
+}
 
-impl Program for Tool {
-    fn run<R: Files + AllocGlobal>(
+impl Program for Tool<'_> {
+    fn run(
         &self,
-        rt: &R,
         words: &[String],
         input: &mut Pieces<'_>,
         output: &mut Stream,
         errors: &mut Stream,
     ) -> u8 {
-        sftp_tool::run(rt, words, input, output, errors)
+        sftp_tool::run(self.rt, words, input, output, errors)
     }
 }
 
@@ -38,8 +38,9 @@ fn main(rt: HostRuntime) -> ExitCode {
 /// Runs the cases of each file that a word of the command line names.
 fn run_files(rt: &HostRuntime, count: &mut Count) -> io::Result<()> {
     let words: Vec<String> = env::args(rt)?.collect(rt.alloc())?;
+    let tool = Tool { rt };
     for name in words.as_slice().get(1..).unwrap_or(&[]) {
-        run_file(rt, &Tool, name.as_str(), count)?;
+        run_file(rt, &tool, name.as_str(), count)?;
     }
     Ok(())
 }

@@ -36,10 +36,11 @@ IsUnread (failures.CannotRead _ _) = Unit {0}
 IsUnread failures.OutOfMemory = Unit {0}
 IsUnread _ = ⊥
 
--- a file or a stream cannot be written, or memory ran out
+-- a file or a stream cannot be written or is not, or memory ran out
 abbrev pub IsUnwritten : Failure → Type 0
 IsUnwritten (failures.CannotWrite _ _) = Unit {0}
 IsUnwritten (failures.CannotReplace _ _) = Unit {0}
+IsUnwritten (failures.Unfit _ _) = Unit {0}
 IsUnwritten failures.OutOfMemory = Unit {0}
 IsUnwritten _ = ⊥
 

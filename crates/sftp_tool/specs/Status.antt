@@ -23,4 +23,6 @@ failure_status failures.UnknownFile = 2
 failure_status (failures.CannotRead _ _) = 3
 failure_status (failures.CannotWrite _ _) = 3
 failure_status (failures.CannotReplace _ _) = 3
+failure_status (failures.Unfit _ _) = 3
+failure_status (failures.OverLimit _) = 3
 failure_status failures.OutOfMemory = 3

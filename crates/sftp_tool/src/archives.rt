@@ -6,9 +6,11 @@ ghost use Rattle.sftp_tar.specs.Archive.{archive};
 ghost use Rattle.sftp_tool.specs.declared.messages.Ending.TheVariants as endings;
 ghost use Rattle.sftp_tool.specs.declared.messages.Failure.TheVariants as failures;
 
+use crate::gathering::Gathered;
 use crate::messages::{Ending, Failure, STANDARD_INPUT, STANDARD_OUTPUT};
-use crate::saving::write_last;
+use crate::saving::{Keeping, write_last};
 use crate::subcommands::read;
+use crate::system::System;
 use sftp_show::Quoted;
 use sftp_tar::{ImportError, Refusal};
 use sftp_treefile::{read_rows, write_rows};
@@ -17,33 +19,50 @@ use std::fs::Files;
 use std::io;
 use std::io::{Read, Write};
 
+/// How many times the bytes of an archive the memory has at most that its import takes.
+const SHARE: u64 = 4;
+
 /// Writes the tree file `name` of the archive on standard input. The archive is judged before the file is written.
-pub(crate) fn import<'a, R: Files + AllocGlobal, I: Read>(
+pub(crate) fn import<'a, R: System, I: Read>(
     rt: &R,
     name: &'a str,
+    keeping: Keeping,
+    memory: Option<u64>,
     input: &mut I,
 ) -> Result<Ending, Failure<'a>>
     ensures { IfOk result (λ ending. ending ≡ endings.Done) }
 {
-    let mut archive = Vec::new(rt.alloc());
-    match input.read_to_end(&mut archive) {
-        Ok(_) => import_from(rt, name, archive),
+    let most = memory.map_or(u64::MAX, |bytes| bytes / SHARE);
+    let mut archive = Gathered::new(rt.alloc(), most);
+    match archive.gather(input) {
+        Ok(()) => import_from(rt, name, keeping, archive.into_bytes()),
         Err(error) => {
+            let failure = unread(archive.is_over(), &error);
             drop(archive);
-            Err(Failure::reading(STANDARD_INPUT, &error))
+            Err(failure)
         }
     }
 }
 
+/// Why an archive was not read: it has more bytes than it may, or its stream failed.
+fn unread<'a>(is_over: bool, error: &io::Error) -> Failure<'a> {
+    if is_over {
+        Failure::OverLimit(STANDARD_INPUT)
+    } else {
+        Failure::reading(STANDARD_INPUT, error)
+    }
+}
+
 /// Writes the tree file `name` of an archive.
-fn import_from<'a, R: Files + AllocGlobal>(
+fn import_from<'a, R: System>(
     rt: &R,
     name: &'a str,
+    keeping: Keeping,
     archive: Vec<u8>,
 ) -> Result<Ending, Failure<'a>>
     ensures { IfOk result (λ ending. ending ≡ endings.Done) }
 {
-    write_last(rt, name, tree_of(rt.alloc(), archive)?)
+    write_last(rt, name, keeping, tree_of(rt.alloc(), archive)?)
 }
 
 /// The tree file of an archive. The archive is dropped before the file is made, since each has the bytes of all files.

@@ -1,6 +1,7 @@
 //! The command line: the table of arguments, the help texts, and what a command line asks for.
-use crate::messages::Failure;
+use crate::messages::{Failure, MORE};
 use crate::profiles;
+use crate::saving::{Keeping, PRIVATE};
 use clap::error::ErrorKind;
 use clap::{Arg, ArgAction, ArgMatches, Command, Error, value_parser};
 use sftp_profile::Profile;
@@ -24,7 +25,12 @@ const ABOUT_SERVE: &str =
 const AFTER_SERVE: &str =
     "Nothing but packets is written to standard output, so sshd can run this as a subsystem, and
 'sftp -D' and sshfs as their server. The tree file itself does not change; --save keeps the changes. The file is
-replaced whole: the tree goes into FILE.new beside it, which is then renamed. If that fails, FILE is unchanged.
+replaced whole: the tree goes into a new file beside it, FILE.new-N, which is on the disk when it is renamed. If that
+fails, FILE is unchanged. FILE has to be a regular file or standard output. --record empties its file, which no other
+session may be recording into, and which may not be that of --tree or --save.
+
+With --memory, the session ends as if memory ran out when a reply is due and the process has more than BYTES. One
+request may take as much as a file or a listing has before that, and saving the tree takes its bytes once more.
 
 With --verbose, standard error has a line when the session opens, and one when it ends: how, the number of requests, the
 bytes read and written, the number of entries in the tree, and whether the tree was saved.
@@ -87,7 +93,9 @@ and its bytes in hexadecimal. Of a text in quotes, and of a raw record, the firs
 With --data all, nothing is cut off, and 'make' makes the same file of the lines.
 
 With --explain, a line on standard error says where a malformed file is so: the field of the fault, and the place of its
-first byte in the file, from 0.";
+first byte in the file, from 0.
+
+With --full and --memory, a file of more than a thirty-second of BYTES is not shown.";
 
 const ABOUT_DIFF: &str = "Prints how two tree files differ, a line for each path";
 
@@ -104,7 +112,7 @@ const AFTER_DIFF: &str = "A line has the path, and then one or more of
 
 If the home differs, the owner of new entries, or the limits, the first line begins with head and has home, owner and
 limits. The bytes of a file are compared at its first name. The exit status is 0 if the trees are the same, and 1 if
-they differ.";
+they differ. With --memory, files of more than a thirty-second of BYTES are not compared.";
 
 const ABOUT_IMPORT: &str =
     "Writes the tree file of the archive on standard input, which is in a format of tar";
@@ -123,7 +131,8 @@ and its path if it can be read:
 
 Refused are, among others, a wrong checksum, a path with '..', a device, a FIFO, a sparse file, a hard link to a name
 that does not come before it, a directory that is also a file or a link, a name of more than 255 bytes, a path of more
-than 64 names, a file of more than 16,777,216 bytes, and more than 65,536 entries.";
+than 64 names, a file of more than 16,777,216 bytes, and more than 65,536 entries. With --memory, an archive of more
+than a quarter of BYTES is not taken; zeros at its end do not count.";
 
 const ABOUT_EXPORT: &str =
     "Writes the archive of a tree file to standard output, in a format of tar";
@@ -165,7 +174,10 @@ for UnknownReply, the last request of the id, and its reply; for IdInUse and Win
 NotAllowed, the causes that refuse the request with the status codes that they allow, the reply that is expected, and
 how the reply found differs; for NotModelled, the name of the extension or what the tree lacks, too. For this the
 transcript is read again, so it cannot be a pipe. If the tree file or the transcript is malformed, a line has the field
-of the fault, and the place of its first byte in the file, from 0.";
+of the fault, and the place of its first byte in the file, from 0.
+
+With --memory, the transcript is judged only as long as the process has at most BYTES. One request may take as much as a
+file or a listing has before that, and the tree at the end is encoded once more.";
 
 /// What a command line asks for.
 #[derive(Drop)]
@@ -175,19 +187,39 @@ pub(crate) enum Request<'a> {
     /// Audit a session.
     Audit(AuditOptions<'a>),
     /// Write the blank tree to a file.
-    Blank { file: &'a str },
+    Blank {
+        file: &'a str,
+        keeping: Keeping,
+    },
     /// Write the tree of a tree file, with the highest limits, to another file.
-    Raise { tree: &'a str, file: &'a str },
+    Raise {
+        tree: &'a str,
+        file: &'a str,
+        keeping: Keeping,
+    },
     /// Show what a transcript or a tree file holds.
     Show(ShowOptions<'a>),
     /// Make a transcript or a tree file from its text.
-    Make { file: &'a str },
+    Make {
+        file: &'a str,
+        keeping: Keeping,
+    },
     /// Show how two tree files differ.
-    Diff { old: &'a str, new: &'a str },
+    Diff {
+        old: &'a str,
+        new: &'a str,
+        memory: Option<u64>,
+    },
     /// Make a tree file from an archive.
-    Import { file: &'a str },
+    Import {
+        file: &'a str,
+        keeping: Keeping,
+        memory: Option<u64>,
+    },
     /// Make an archive from a tree file.
-    Export { file: &'a str },
+    Export {
+        file: &'a str,
+    },
     /// Print this text: help or the version.
     Help(String),
 }
@@ -205,6 +237,10 @@ pub(crate) struct ServeOptions<'a> {
     pub(crate) shuffle: Option<u64>,
     /// Whether standard error says when the session opens and how it ends.
     pub(crate) is_verbose: bool,
+    /// The most bytes of memory that the process may have.
+    pub(crate) memory: Option<u64>,
+    /// How the files are written.
+    pub(crate) keeping: Keeping,
 }
 
 /// The options of `audit`.
@@ -216,6 +252,10 @@ pub(crate) struct AuditOptions<'a> {
     pub(crate) transcript: &'a str,
     /// The file to write the final tree to.
     pub(crate) out: Option<&'a str>,
+    /// How that file is written.
+    pub(crate) keeping: Keeping,
+    /// The most bytes of memory that the process may have.
+    pub(crate) memory: Option<u64>,
     /// Whether standard error explains a refusal, or where a file is malformed.
     pub(crate) explains: bool,
     /// Which departures from the strict reading are accepted; none where the session is judged strictly.
@@ -235,6 +275,8 @@ pub(crate) struct ShowOptions<'a> {
     pub(crate) data: Option<&'a str>,
     /// Whether standard error says where a malformed file has its fault.
     pub(crate) explains: bool,
+    /// The most bytes of memory that the whole text may take.
+    pub(crate) memory: Option<u64>,
 }
 
 /// Parses the command line of the program in this version. The first word is the program's name. To ask for help or the
@@ -247,24 +289,59 @@ pub(crate) fn parse<'a>(
     match matched(alloc, version, words) {
         Ok(request) => Ok(request),
         Err(error) => {
-            let request = help_or_usage(alloc, &error);
+            let request = help_or_usage(alloc, &error, words);
             drop(error);
             request
         }
     }
 }
 
-/// What an error of the parser means: memory ran out, help or the version was asked for, or usage is bad.
-fn help_or_usage<'a>(alloc: Global, error: &Error) -> Result<Request<'a>, Failure<'a>> {
+/// What an error of the parser means: memory ran out, help or the version was asked for, or usage is bad. The parser's
+/// message may have words of the command line as they are.
+fn help_or_usage<'a>(
+    alloc: Global,
+    error: &Error,
+    words: &[String],
+) -> Result<Request<'a>, Failure<'a>> {
     if error.kind() == ErrorKind::OutOfMemory {
         return Err(Failure::OutOfMemory);
     }
     let text = format!(in alloc; "{error}")?;
     if error.use_stderr() {
-        Err(Failure::Usage(text))
+        Err(usage_failure(alloc, text, words))
     } else {
         Ok(Request::Help(text))
     }
+}
+
+/// Bad usage with the parser's message, or with another one if a word could pass for lines of it.
+fn usage_failure<'a>(alloc: Global, text: String, words: &[String]) -> Failure<'a> {
+    if !has_control(words) {
+        return Failure::Usage(text);
+    }
+    drop(text);
+    Failure::of_usage(format!(in alloc;
+        "error: bad usage, and a word of the command line has a control character\n{MORE}"
+    ))
+}
+
+/// Whether one of the words has a control character.
+fn has_control(words: &[String]) -> bool {
+    for word in words {
+        if has_control_character(word.as_str()) {
+            return true;
+        }
+    }
+    false
+}
+
+fn has_control_character(word: &str) -> bool {
+    for character in word.chars() {
+        if character.is_control() {
+            return true;
+        }
+    }
+    false
 }
 
 fn matched<'a>(alloc: Global, version: &'a str, words: &'a [String]) -> Result<Request<'a>, Error> {
@@ -293,17 +370,17 @@ fn requested<'a>(matches: &ArgMatches<'a>) -> Option<Request<'a>> {
         "show" => show_options(given).map(Request::Show),
         "raise" => raise_request(given),
         "diff" => diff_request(given),
-        _ => file_request(name, given.get_str("file")?),
+        "import" => import_request(given),
+        _ => file_request(name, given.get_str("file")?, keeping_of(given)),
     }
 }
 
 /// The request of a subcommand that takes nothing but a file.
-fn file_request<'a>(name: &str, file: &'a str) -> Option<Request<'a>> {
+fn file_request<'a>(name: &str, file: &'a str, keeping: Keeping) -> Option<Request<'a>> {
     Some(match name {
-        "make" => Request::Make { file },
-        "import" => Request::Import { file },
+        "make" => Request::Make { file, keeping },
         "export" => Request::Export { file },
-        _ => Request::Blank { file },
+        _ => Request::Blank { file, keeping },
     })
 }
 
@@ -312,6 +389,7 @@ fn show_options<'a>(given: &ArgMatches<'a>) -> Option<ShowOptions<'a>> {
         file: given.get_str("file")?,
         is_full: given.get_flag("full"),
         data: given.get_str("data"),
+        memory: given.get_one("memory"),
         explains: given.get_flag("explain"),
     })
 }
@@ -319,13 +397,46 @@ fn show_options<'a>(given: &ArgMatches<'a>) -> Option<ShowOptions<'a>> {
 fn diff_request<'a>(given: &ArgMatches<'a>) -> Option<Request<'a>> {
     let old = given.get_str("old")?;
     let new = given.get_str("new")?;
-    Some(Request::Diff { old, new })
+    let memory = given.get_one("memory");
+    Some(Request::Diff { old, new, memory })
+}
+
+fn import_request<'a>(given: &ArgMatches<'a>) -> Option<Request<'a>> {
+    let file = given.get_str("file")?;
+    let keeping = keeping_of(given);
+    let memory = given.get_one("memory");
+    Some(Request::Import {
+        file,
+        keeping,
+        memory,
+    })
 }
 
 fn raise_request<'a>(given: &ArgMatches<'a>) -> Option<Request<'a>> {
     let tree = given.get_str("tree")?;
     let file = given.get_str("file")?;
-    Some(Request::Raise { tree, file })
+    let keeping = keeping_of(given);
+    Some(Request::Raise {
+        tree,
+        file,
+        keeping,
+    })
+}
+
+/// How the options say that files are written.
+fn keeping_of(given: &ArgMatches<'_>) -> Keeping {
+    Keeping {
+        mode: mode_of(given.get_str("mode")),
+        is_synced: !given.get_flag("no-sync"),
+    }
+}
+
+/// The permissions of this text, or those without the option.
+fn mode_of(text: Option<&str>) -> u32 {
+    match text {
+        Some(text) => profiles::octal(text).unwrap_or(PRIVATE),
+        None => PRIVATE,
+    }
 }
 
 fn serve_options<'a>(given: &ArgMatches<'a>) -> Option<ServeOptions<'a>> {
@@ -335,6 +446,8 @@ fn serve_options<'a>(given: &ArgMatches<'a>) -> Option<ServeOptions<'a>> {
         record: given.get_str("record"),
         shuffle: given.get_one("shuffle"),
         is_verbose: given.get_flag("verbose"),
+        memory: given.get_one("memory"),
+        keeping: keeping_of(given),
     })
 }
 
@@ -343,6 +456,8 @@ fn audit_options<'a>(given: &ArgMatches<'a>) -> Option<AuditOptions<'a>> {
         tree: given.get_str("tree")?,
         transcript: given.get_str("transcript")?,
         out: given.get_str("out"),
+        memory: given.get_one("memory"),
+        keeping: keeping_of(given),
         explains: given.get_flag("explain"),
         profile: profiles::profile_of(given),
         umask: given.get_str("umask"),
@@ -381,6 +496,24 @@ const TREE: Argument = (
     "The tree file: the tree at the start of the session",
 );
 
+const MODE: Argument = (
+    "mode",
+    Form::OneOf("OCTAL", &["0600", "0640", "0644", "0660", "0664"]),
+    "The permissions of a file that is made new, 0600 by default",
+);
+
+const NO_SYNC: Argument = (
+    "no-sync",
+    Form::Flag,
+    "Do not wait until what is written is on the disk",
+);
+
+const MEMORY: Argument = (
+    "memory",
+    Form::Number("BYTES"),
+    "End as if memory ran out once more than these bytes are taken",
+);
+
 const SERVE: &[Argument] = &[
     TREE,
     (
@@ -403,6 +536,9 @@ const SERVE: &[Argument] = &[
         Form::Flag,
         "Print on standard error when the session opens and how it ends",
     ),
+    MEMORY,
+    MODE,
+    NO_SYNC,
 ];
 
 const AUDIT: &[Argument] = &[
@@ -428,6 +564,9 @@ const AUDIT: &[Argument] = &[
     profiles::UMASK,
     profiles::NEW_OWNER,
     profiles::SYMLINK,
+    MEMORY,
+    MODE,
+    NO_SYNC,
 ];
 
 const SHOW: &[Argument] = &[
@@ -446,23 +585,32 @@ const SHOW: &[Argument] = &[
         Form::Flag,
         "Print on standard error where a malformed file is so",
     ),
+    MEMORY,
     ("file", FILE, "The transcript or the tree file"),
 ];
 
 const DIFF: &[Argument] = &[
+    MEMORY,
     ("old", Form::Place("A"), "The tree file of before"),
     ("new", Form::Place("B"), "The tree file of after"),
 ];
 
-const MAKE: &[Argument] = &[("file", FILE, "The file to write")];
+const MAKE: &[Argument] = &[MODE, NO_SYNC, ("file", FILE, "The file to write")];
 
-const IMPORT: &[Argument] = &[("file", FILE, "The tree file to write")];
+const IMPORT: &[Argument] = &[
+    MEMORY,
+    MODE,
+    NO_SYNC,
+    ("file", FILE, "The tree file to write"),
+];
 
 const EXPORT: &[Argument] = &[("file", FILE, "The tree file")];
 
-const BLANK: &[Argument] = &[("file", FILE, "The file to write")];
+const BLANK: &[Argument] = &[MODE, NO_SYNC, ("file", FILE, "The file to write")];
 
 const RAISE: &[Argument] = &[
+    MODE,
+    NO_SYNC,
     ("tree", Form::Place("TREE"), "The tree file to read"),
     ("file", FILE, "The file to write"),
 ];

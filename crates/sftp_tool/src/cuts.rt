@@ -5,6 +5,7 @@ ghost use Rattle.sftp_text.specs.Quoted.{byte_text, hex_text};
 ghost use Rattle.sftp_tool.specs.Cuts.{escapes_in};
 
 use crate::messages::{Failure, MORE, STANDARD_OUTPUT};
+use crate::names::Named;
 use bstr::ByteSlice;
 use std::alloc::{AllocError, Global};
 use std::io;
@@ -45,6 +46,7 @@ fn number_of(text: &str) -> Option<usize> {
 
 /// The message for an option `--data` with this value.
 fn bad_limit(alloc: Global, text: &str) -> Result<String, AllocError> {
+    let text = Named(text);
     format!(in alloc;
         "error: invalid value '{text}' for '--data <N|all>': neither a number below 2^64 nor 'all'\n{MORE}"
     )

@@ -3,7 +3,7 @@ ghost use Rattle.std.specs.Prelude.{◌≡◌, ◌≢◌};
 ghost use Rattle.sftp_tool.specs.declared.messages.Ending.TheVariants as endings;
 
 use crate::messages::{Ending, Failure, STANDARD_OUTPUT};
-use crate::subcommands::read;
+use crate::subcommands::read_at_most;
 use sftp_audit::TreeError;
 use sftp_diff::put_differences;
 use sftp_treefile::{TreeFile, read_rows};
@@ -12,15 +12,20 @@ use std::fs::Files;
 use std::io;
 use std::io::Write;
 
+/// How many times the bytes of either file the memory has at most that a comparison takes.
+const SHARE: u64 = 32;
+
 /// Shows how two tree files differ. Both are read and judged before any line is written.
 pub(crate) fn diff<'a, R: Files + AllocGlobal, O: Write>(
     rt: &R,
     old: &'a str,
     new: &'a str,
+    memory: Option<u64>,
     output: &mut O,
 ) -> Result<Ending, Failure<'a>> {
-    let bytes = read(rt, old)?;
-    let ending = diff_from(rt, (old, bytes.as_slice()), new, output);
+    let most = memory.map(|bytes| bytes / SHARE);
+    let bytes = read_at_most(rt, old, most)?;
+    let ending = diff_from(rt, (old, bytes.as_slice()), new, most, output);
     drop(bytes);
     ending
 }
@@ -30,9 +35,10 @@ fn diff_from<'a, R: Files + AllocGlobal, O: Write>(
     rt: &R,
     old: (&'a str, &[u8]),
     new: &'a str,
+    most: Option<u64>,
     output: &mut O,
 ) -> Result<Ending, Failure<'a>> {
-    let bytes = read(rt, new)?;
+    let bytes = read_at_most(rt, new, most)?;
     let ending = diff_bytes(rt.alloc(), old, (new, bytes.as_slice()), output);
     drop(bytes);
     ending

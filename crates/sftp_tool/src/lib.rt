@@ -9,7 +9,10 @@ mod command_line;
 mod cuts;
 mod diffing;
 mod explaining;
+mod gathering;
+mod memory;
 mod messages;
+mod names;
 mod profiles;
 mod recording;
 mod saving;
@@ -18,6 +21,7 @@ mod showing;
 mod spotting;
 mod subcommands;
 mod summaries;
+mod system;
 mod texts;
 mod watching;
 
@@ -27,6 +31,7 @@ use sftp_faults::Spot;
 use spotting::spot_of;
 use std::fs::Files;
 use std::io::{Read, Write};
+pub use system::System;
 
 /// The version of the program.
 pub const VERSION: &str = "0.2.0";
@@ -51,7 +56,7 @@ pub fn run<R, I, O, E>(
     errors: &mut E,
 ) -> u8
 where
-    R: Files + AllocGlobal,
+    R: System,
     I: Read,
     O: Write,
     E: Write,
@@ -70,7 +75,7 @@ pub fn run_versioned<R, I, O, E>(
     errors: &mut E,
 ) -> u8
 where
-    R: Files + AllocGlobal,
+    R: System,
     I: Read,
     O: Write,
     E: Write,
@@ -87,7 +92,7 @@ where
     }
 }
 
-fn perform<'a, R: Files + AllocGlobal, I: Read, O: Write, E: Write>(
+fn perform<'a, R: System, I: Read, O: Write, E: Write>(
     rt: &R,
     version: &'a str,
     words: &'a [String],
@@ -151,14 +156,14 @@ fn show<'a, R: Files + AllocGlobal, O: Write>(
     output: &mut O,
 ) -> Result<Ending, Failure<'a>> {
     if options.is_full {
-        texts::show_full(rt, options.file, options.data, output)
+        texts::show_full(rt, options, output)
     } else {
         showing::show(rt, options.file, output)
     }
 }
 
 // Slow to prove: ten calls that may fail, each of which borrows streams.
-fn perform_request<'a, R: Files + AllocGlobal, I: Read, O: Write, E: Write>(
+fn perform_request<'a, R: System, I: Read, O: Write, E: Write>(
     rt: &R,
     request: &Request<'a>,
     input: &mut I,
@@ -168,12 +173,20 @@ fn perform_request<'a, R: Files + AllocGlobal, I: Read, O: Write, E: Write>(
     match request {
         Request::Serve(options) => serving::serve(rt, options, input, output, errors),
         Request::Audit(files) => subcommands::audit(rt, files, output, errors),
-        Request::Blank { file } => subcommands::blank(rt, file),
-        Request::Raise { tree, file } => subcommands::raise(rt, tree, file),
+        Request::Blank { file, keeping } => subcommands::blank(rt, file, *keeping),
+        Request::Raise {
+            tree,
+            file,
+            keeping,
+        } => subcommands::raise(rt, tree, file, *keeping),
         Request::Show(options) => show(rt, options, output),
-        Request::Make { file } => texts::make(rt, file, input),
-        Request::Diff { old, new } => diffing::diff(rt, old, new, output),
-        Request::Import { file } => archives::import(rt, file, input),
+        Request::Make { file, keeping } => texts::make(rt, file, *keeping, input),
+        Request::Diff { old, new, memory } => diffing::diff(rt, old, new, *memory, output),
+        Request::Import {
+            file,
+            keeping,
+            memory,
+        } => archives::import(rt, file, *keeping, *memory, input),
         Request::Export { file } => archives::export(rt, file, output),
         Request::Help(text) => subcommands::help(text.as_str(), output),
     }

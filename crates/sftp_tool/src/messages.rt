@@ -6,6 +6,7 @@ ghost use Rattle.sftp_tool.specs.declared.messages.Failure.TheVariants as failur
 ghost use Rattle.sftp_tool.specs.Failures.{tree_failure, IsTranscriptFailure};
 ghost use Rattle.sftp_tool.specs.Failures.{IsUnreadFile, IsUnwritten, IsUnwrittenFile, IsUnreplacedFile};
 
+use crate::names::Named;
 use sftp_audit::{TranscriptError, TreeError};
 use sftp_server::SessionFault;
 use sftp_tree::NoMemory;
@@ -60,16 +61,20 @@ pub(crate) enum Failure<'a> {
     /// The file with this name cannot be replaced, and is unchanged. The number is the system's for the error, if it
     /// gave one.
     CannotReplace(&'a str, Option<i32>),
+    /// The file with this name is not written to, for this reason.
+    Unfit(&'a str, &'a str),
+    /// The file or stream with this name needs more memory than the run may have.
+    OverLimit(&'a str),
     /// Memory ran out.
     OutOfMemory,
 }
 
 impl Failure<'_> {
-    /// How the failure's line begins, and the text or the name that comes next.
+    /// How the failure's line begins, and the name that comes next.
     fn beginning(&self) -> (&str, &str) {
         match self {
-            Failure::Usage(text) => ("", text.as_str()),
-            Failure::Text(text) => ("sftpv3: ", text.as_str()),
+            Failure::Usage(text) => (text.as_str(), ""),
+            Failure::Text(_) => ("sftpv3: ", ""),
             Failure::Tree(_) => ("sftpv3: tree: ", ""),
             Failure::TreeOf(name, _) => ("sftpv3: tree ", name),
             Failure::Transcript(_) => ("sftpv3: transcript: ", ""),
@@ -78,17 +83,22 @@ impl Failure<'_> {
             Failure::CannotRead(name, _) => ("sftpv3: cannot read ", name),
             Failure::CannotWrite(name, _) => ("sftpv3: cannot write ", name),
             Failure::CannotReplace(name, _) => ("sftpv3: cannot write ", name),
+            Failure::Unfit(name, _) => ("sftpv3: cannot write ", name),
+            Failure::OverLimit(name) => ("sftpv3: out of memory: ", name),
             Failure::OutOfMemory => ("sftpv3: out of memory", ""),
         }
     }
 
-    /// Writes the fault of a file or a session, if the failure is one.
+    /// Writes the fault of a file, a text or a session, or the reason, if the failure has one.
     fn put_fault<W: fmt::Write>(&self, f: &mut fmt::Formatter<W>) -> fmt::Result {
         match self {
             Failure::Tree(fault) => write!(f, "{fault}"),
             Failure::TreeOf(_, fault) => write!(f, ": {fault}"),
             Failure::Transcript(fault) => write!(f, "{fault}"),
             Failure::Session(fault) => write!(f, "{fault}"),
+            Failure::Text(text) => f.write_str(text.as_str()),
+            Failure::Unfit(_, reason) => write!(f, ": {reason}"),
+            Failure::OverLimit(_) => f.write_str(" needs more than '--memory' allows"),
             _ => Ok(()),
         }
     }
@@ -97,9 +107,9 @@ impl Failure<'_> {
 // `thiserror` would write each text by itself, which is slow to prove.
 impl fmt::Display for Failure<'_> {
     fn fmt<W: fmt::Write>(&self, f: &mut fmt::Formatter<W>) -> fmt::Result {
-        let (start, rest) = self.beginning();
+        let (start, name) = self.beginning();
         f.write_str(start)?;
-        f.write_str(rest)?;
+        write!(f, "{}", Named(name))?;
         self.put_fault(f)
     }
 }
@@ -138,7 +148,8 @@ impl Failure<'_> {
             | Failure::Text(_)
             | Failure::UnknownFile => 2,
             Failure::CannotRead(..) | Failure::CannotWrite(..) => 3,
-            Failure::CannotReplace(..) | Failure::OutOfMemory => 3,
+            Failure::CannotReplace(..) | Failure::Unfit(..) => 3,
+            Failure::OverLimit(_) | Failure::OutOfMemory => 3,
         }
     }
 }

@@ -6,6 +6,7 @@ ghost use Rattle.sftp_tool.specs.Profiles as spec;
 
 use crate::command_line::{Argument, Form};
 use crate::messages::{Failure, MORE};
+use crate::names::Named;
 use clap::ArgMatches;
 use sftp_profile::{NAMES, NewOwner, Profile};
 use std::alloc::{AllocError, Global};
@@ -166,13 +167,14 @@ pub(crate) fn umask_of<'a>(alloc: Global, text: Option<&str>) -> Result<u32, Fai
 
 /// The message for an option `--umask` with this value.
 fn bad_umask(alloc: Global, text: &str) -> Result<String, AllocError> {
+    let text = Named(text);
     format!(in alloc;
         "error: invalid value '{text}' for '--umask <OCTAL>': not an octal number up to 0777\n{MORE}"
     )
 }
 
 /// The number of this text, if it has one to four octal digits and is at most 0777.
-fn octal(text: &str) -> Option<u32> {
+pub(crate) fn octal(text: &str) -> Option<u32> {
     let digits = text.as_bytes();
     if digits.is_empty() || digits.len() > 4 {
         return None;

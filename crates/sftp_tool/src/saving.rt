@@ -5,48 +5,81 @@ ghost use Rattle.sftp_tool.specs.declared.messages.Ending.TheVariants as endings
 ghost use Rattle.sftp_tool.specs.Failures.{IsUnwritten};
 
 use crate::messages::{Ending, Failure};
-use std::alloc::{AllocError, Global};
-use std::fs::{Files, OpenFile, OpenOptions};
+use crate::system::System;
+use std::fs::{File, Files, Metadata, OpenOptions, Permissions};
 use std::io::{ErrorKind, Write};
-use std::os::unix::fs::{MetadataExt, chown};
+use std::os::fd::AsFd;
+use std::os::unix::fs::{MetadataExt, OpenOptionsExt, PermissionsExt, fchown};
+use std::path::PathBuf;
 use std::{fs, io};
 
-/// How many names are tried for the new file, since others may be writing to files of the same name.
-const TRIES: u32 = 100;
+/// The permissions of a file that is made, without an option, and of every new file until it is complete.
+pub(crate) const PRIVATE: u32 = 0o600;
+
+/// What is kept of the permissions of a file whose group the new one does not get.
+const WITHOUT_GROUP: u32 = 0o707;
+
+/// The permissions of a file that can be kept: those to read, write and run it.
+const PERMISSIONS: u32 = 0o777;
+
+/// Why nothing is written to a file.
+const UNFIT: &str = "neither a regular file nor standard output";
+
+/// The name of standard output, which is open already.
+const OUTPUT: &str = "/dev/stdout";
+
+/// How files are written.
+#[derive(Clone, Copy)]
+pub(crate) struct Keeping {
+    /// The permissions of a file that is made. One that is replaced keeps its own.
+    pub(crate) mode: u32,
+    /// Whether the bytes and the name have to be on the disk before the run ends.
+    pub(crate) is_synced: bool,
+}
+
+/// Where bytes for a name go.
+#[derive(Clone, Copy)]
+enum Place {
+    /// To a regular file, which is replaced or made.
+    File,
+    /// To standard output, which is no regular file.
+    Output,
+    /// Nowhere.
+    Unfit,
+}
 
 /// Writes these bytes to the file `name`, which is made or replaced. If that fails, the file is unchanged.
 ///
-/// A link is followed, and stays. The bytes go straight to what is no regular file, such as a device or a pipe, and to
-/// a link that leads to no file.
-pub(crate) fn write<'a, R: Files + AllocGlobal>(
+/// A link is followed, and stays. What is no regular file is written to only if it is standard output.
+pub(crate) fn write<'a, R: System>(
     rt: &R,
     name: &'a str,
+    keeping: Keeping,
     bytes: &[u8],
 ) -> Result<(), Failure<'a>>
     ensures { IfErr result IsUnwritten }
 {
-    if is_written_in_place(rt, name) {
-        return match fs::write(rt, name, bytes) {
+    match place_of(rt, name) {
+        Place::File => write_file(rt, name, keeping, bytes),
+        Place::Output => match write_output(rt, bytes) {
             Ok(()) => Ok(()),
             Err(error) => Err(Failure::writing(name, &error)),
-        };
-    }
-    match replace(rt, name, bytes) {
-        Ok(()) => Ok(()),
-        Err(error) => Err(Failure::replacing(name, &error)),
+        },
+        Place::Unfit => Err(Failure::Unfit(name, UNFIT)),
     }
 }
 
 /// Writes these bytes to the file `name`, which is made or replaced, as the last step of a run.
-pub(crate) fn write_last<'a, R: Files + AllocGlobal>(
+pub(crate) fn write_last<'a, R: System>(
     rt: &R,
     name: &'a str,
+    keeping: Keeping,
     bytes: Vec<u8>,
 ) -> Result<Ending, Failure<'a>>
     ensures ok { IfOk result (λ ending. ending ≡ endings.Done) }
     ensures err { IfErr result IsUnwritten }
 {
-    let written = write(rt, name, bytes.as_slice());
+    let written = write(rt, name, keeping, bytes.as_slice());
     drop(bytes);
     match written {
         Ok(()) => Ok(Ending::Done),
@@ -54,11 +87,46 @@ pub(crate) fn write_last<'a, R: Files + AllocGlobal>(
     }
 }
 
-/// Whether the name is that of something other than a regular file, or of a link that leads to no file.
-fn is_written_in_place<R: Files>(rt: &R, name: &str) -> bool {
+/// Fails if the name is that of something that is never written to.
+pub(crate) fn require_fit<'a, R: Files>(rt: &R, name: &'a str) -> Result<(), Failure<'a>>
+    ensures { IfErr result IsUnwritten }
+{
+    match place_of(rt, name) {
+        Place::File => Ok(()),
+        Place::Output => Ok(()),
+        Place::Unfit => Err(Failure::Unfit(name, UNFIT)),
+    }
+}
+
+/// Where bytes for this name go. A link to no file is not followed, so nothing is made where another user says.
+fn place_of<R: Files>(rt: &R, name: &str) -> Place {
     match fs::metadata(rt, name) {
-        Ok(metadata) => !metadata.is_file(),
-        Err(_) => is_link(rt, name),
+        Ok(found) => place_of_file(rt, &found),
+        Err(_) => {
+            if is_link(rt, name) {
+                Place::Unfit
+            } else {
+                Place::File
+            }
+        }
+    }
+}
+
+fn place_of_file<R: Files>(rt: &R, found: &Metadata) -> Place {
+    if found.is_file() {
+        Place::File
+    } else if is_file_of(rt, OUTPUT, found) {
+        Place::Output
+    } else {
+        Place::Unfit
+    }
+}
+
+/// Whether the name leads to this file.
+pub(crate) fn is_file_of<R: Files>(rt: &R, name: &str, file: &Metadata) -> bool {
+    match fs::metadata(rt, name) {
+        Ok(found) => found.dev() == file.dev() && found.ino() == file.ino(),
+        Err(_) => false,
     }
 }
 
@@ -69,98 +137,197 @@ fn is_link<R: Files>(rt: &R, name: &str) -> bool {
     }
 }
 
+fn write_output<R: Files<File = File>>(rt: &R, bytes: &[u8]) -> io::Result<()> {
+    let mut file = OpenOptions::new().write(true).open(rt, OUTPUT)?;
+    let written = file.write_all(bytes);
+    drop(file);
+    written
+}
+
 /// Replaces the file to which the name leads, or makes it.
-fn replace<R: Files + AllocGlobal>(rt: &R, name: &str, bytes: &[u8]) -> io::Result<()> {
-    if !is_link(rt, name) {
-        return replace_at(rt, name, bytes);
+fn write_file<'a, R: System>(
+    rt: &R,
+    name: &'a str,
+    keeping: Keeping,
+    bytes: &[u8],
+) -> Result<(), Failure<'a>>
+    ensures { IfErr result IsUnwritten }
+{
+    match path_of(rt, name) {
+        Ok(path) => {
+            let written = write_at(rt, name, path.as_str(), keeping, bytes);
+            drop(path);
+            written
+        }
+        Err(error) => Err(Failure::replacing(name, &error)),
     }
-    let path = fs::canonicalize(rt, name)?;
-    let replaced = replace_at(rt, path.as_str(), bytes);
-    drop(path);
-    replaced
+}
+
+/// The path to which the name leads. That of a link is looked up once.
+fn path_of<R: System>(rt: &R, name: &str) -> io::Result<PathBuf> {
+    if is_link(rt, name) {
+        fs::canonicalize(rt, name)
+    } else {
+        Ok(PathBuf::from_str(rt.alloc(), name)?)
+    }
+}
+
+/// Replaces the file at the path to which the name leads, or makes it. Then the folder is on the disk, too.
+fn write_at<'a, R: System>(
+    rt: &R,
+    name: &'a str,
+    path: &str,
+    keeping: Keeping,
+    bytes: &[u8],
+) -> Result<(), Failure<'a>>
+    ensures { IfErr result IsUnwritten }
+{
+    if let Err(error) = replace(rt, path, keeping, bytes) {
+        return Err(Failure::replacing(name, &error));
+    }
+    match sync_folder(rt, path, keeping) {
+        Ok(()) => Ok(()),
+        Err(error) => Err(Failure::writing(name, &error)),
+    }
 }
 
 /// Replaces the file at this path, which is no link, or makes it.
-fn replace_at<R: Files + AllocGlobal>(rt: &R, path: &str, bytes: &[u8]) -> io::Result<()> {
-    let (fresh, file) = new_file(rt, path)?;
-    let replaced = replace_by(rt, path, fresh.as_str(), file, bytes);
-    if replaced.is_err() {
-        let _ = fs::remove_file(rt, fresh.as_str());
-    }
+fn replace<R: System>(rt: &R, path: &str, keeping: Keeping, bytes: &[u8]) -> io::Result<()> {
+    let fresh = fresh_path(rt, path)?;
+    let replaced = replace_by(rt, path, fresh.as_str(), keeping, bytes);
     drop(fresh);
     replaced
 }
 
-/// Makes a file beside the one at this path, and returns its path too. No file with its name was there.
-fn new_file<R: Files + AllocGlobal>(rt: &R, path: &str) -> io::Result<(String, R::File)> {
-    for number in 1..TRIES {
-        let made = try_new_file(rt, path, number);
-        if !is_taken(&made) {
-            return made;
-        }
-        drop(made);
-    }
-    Err(io::Error::from(ErrorKind::AlreadyExists))
+/// The path of a new file beside the one at this path, which nobody can foresee.
+fn fresh_path<R: System>(rt: &R, path: &str) -> io::Result<String> {
+    let mut bytes = [0; 8];
+    rt.fill_bytes(&mut bytes)?;
+    let number = u64::from_le_bytes(bytes);
+    Ok(format!(in rt.alloc(); "{path}.new-{number:016x}")?)
 }
 
-/// Makes the file with the name of this number beside the one at this path. It is an error if there is one.
-fn try_new_file<R: Files + AllocGlobal>(
-    rt: &R,
-    path: &str,
-    number: u32,
-) -> io::Result<(String, R::File)> {
-    let fresh = fresh_path(rt.alloc(), path, number)?;
-    match OpenOptions::new()
-        .write(true)
-        .create_new(true)
-        .open(rt, fresh.as_str())
-    {
-        Ok(file) => Ok((fresh, file)),
-        Err(error) => {
-            drop(fresh);
-            Err(error)
-        }
-    }
-}
-
-/// Whether a file was not made because there is one of that name.
-fn is_taken<F>(made: &io::Result<(String, F)>) -> bool {
-    match made {
-        Ok(_) => false,
-        Err(error) => error.kind() == ErrorKind::AlreadyExists,
-    }
-}
-
-/// The path of a new file beside the one at this path: the path, `.new`, and from 2 on the number.
-fn fresh_path(alloc: Global, path: &str, number: u32) -> Result<String, AllocError> {
-    if number == 1 {
-        format!(in alloc; "{path}.new")
-    } else {
-        format!(in alloc; "{path}.new{number}")
-    }
-}
-
-/// Fills the new file and gives it this path. If a file is there, the new one takes its owner and permissions.
-fn replace_by<R: Files>(
+/// Makes a new file at the path `fresh`, and gives it this path.
+fn replace_by<R: System>(
     rt: &R,
     path: &str,
     fresh: &str,
-    mut file: R::File,
+    keeping: Keeping,
     bytes: &[u8],
 ) -> io::Result<()> {
-    take_owner(rt, path, fresh, &file);
-    let filled = file.write_all(bytes);
-    drop(file);
-    filled?;
-    fs::rename(rt, fresh, path)
+    let file = new_file(rt, fresh, PRIVATE)?;
+    let replaced = match fill(rt, path, file, keeping, bytes) {
+        Ok(()) => fs::rename(rt, fresh, path),
+        Err(error) => Err(error),
+    };
+    if replaced.is_err() {
+        let _ = fs::remove_file(rt, fresh);
+    }
+    replaced
 }
 
-/// Gives the new file the owner and the permissions of the file at this path, if there is one, as far as the system
-/// allows that.
-fn take_owner<R: Files>(rt: &R, path: &str, fresh: &str, file: &R::File) {
-    if let Ok(old) = fs::metadata(rt, path) {
-        let _ = chown(rt, fresh, None, Some(old.gid()));
-        let _ = chown(rt, fresh, Some(old.uid()), None);
-        let _ = file.set_permissions(old.permissions());
+/// Makes a file with these permissions. There must be none of that name, nor a link.
+pub(crate) fn new_file<R: Files>(rt: &R, name: &str, mode: u32) -> io::Result<R::File> {
+    OpenOptions::new()
+        .write(true)
+        .create_new(true)
+        .mode(mode)
+        .open(rt, name)
+}
+
+/// Fills the new file that is to take this path, and gives it its owner and permissions.
+fn fill<R: Files<File = File>>(
+    rt: &R,
+    path: &str,
+    mut file: File,
+    keeping: Keeping,
+    bytes: &[u8],
+) -> io::Result<()> {
+    let filled = fill_open(rt, path, &mut file, keeping, bytes);
+    drop(file);
+    filled
+}
+
+fn fill_open<R: Files<File = File>>(
+    rt: &R,
+    path: &str,
+    file: &mut File,
+    keeping: Keeping,
+    bytes: &[u8],
+) -> io::Result<()> {
+    file.write_all(bytes)?;
+    let mode = mode_of(rt, path, file, keeping.mode);
+    let _ = file.set_permissions(Permissions::from_mode(mode));
+    if keeping.is_synced {
+        file.sync_all()
+    } else {
+        Ok(())
+    }
+}
+
+/// The permissions that the file at this path has or is to have. If it is there, the new one takes its owner.
+fn mode_of<R: Files>(rt: &R, path: &str, file: &File, mode: u32) -> u32 {
+    match fs::symlink_metadata(rt, path) {
+        Ok(old) => {
+            if old.is_file() {
+                take_owner(&old, file)
+            } else {
+                mode
+            }
+        }
+        Err(_) => mode,
+    }
+}
+
+/// Gives the new file the owner of the old one, as far as the system allows that, and returns the permissions that it
+/// may have then: those of the old one, but for its group's if the group is another one.
+fn take_owner(old: &Metadata, file: &File) -> u32 {
+    let mode = old.mode() & PERMISSIONS;
+    let kept = fchown(file.as_fd(), None, Some(old.gid()));
+    let _ = fchown(file.as_fd(), Some(old.uid()), None);
+    if kept.is_ok() {
+        mode
+    } else {
+        mode & WITHOUT_GROUP
+    }
+}
+
+/// Has the names in the folder of this path on the disk, unless that is not wanted. A folder that cannot be opened, or
+/// whose file system knows nothing of it, is passed by.
+pub(crate) fn sync_folder<R: Files<File = File>>(
+    rt: &R,
+    path: &str,
+    keeping: Keeping,
+) -> io::Result<()> {
+    if !keeping.is_synced {
+        return Ok(());
+    }
+    match fs::open(rt, folder_of(path)) {
+        Ok(folder) => {
+            let synced = folder.sync_all();
+            drop(folder);
+            unless_unknown(synced)
+        }
+        Err(_) => Ok(()),
+    }
+}
+
+/// How a call ended, where it is no failure that the file system does not know it.
+fn unless_unknown(done: io::Result<()>) -> io::Result<()> {
+    match done {
+        Ok(()) => Ok(()),
+        Err(error) => match error.kind() {
+            ErrorKind::InvalidInput | ErrorKind::Unsupported => Ok(()),
+            _ => Err(error),
+        },
+    }
+}
+
+/// The folder of the file at this path.
+fn folder_of(path: &str) -> &str {
+    match path.rsplit_once('/') {
+        Some(("", _)) => "/",
+        Some((folder, _)) => folder,
+        None => ".",
     }
 }

@@ -4,11 +4,13 @@ ghost use Rattle.sftp_server.specs.Served.{IsUnused};
 ghost use Rattle.sftp_tool.specs.declared.messages.Ending.TheVariants as endings;
 
 use crate::command_line::ServeOptions;
+use crate::memory::{Bounded, Meter};
 use crate::messages::{Ending, Failure, STANDARD_INPUT, STANDARD_OUTPUT, report, write_flushed};
 use crate::recording::{Record, Recording};
-use crate::saving::write;
-use crate::subcommands::read;
+use crate::saving::{Keeping, require_fit, write};
+use crate::subcommands::read_at_most;
 use crate::summaries::{Close, Summary, Traffic};
+use crate::system::System;
 use crate::watching::{Announcing, Watched};
 use sftp_server::{Ended, InOrder, Schedule, SessionEnd, Shuffle, Stream, serve_keeping_tree};
 use sftp_transcript::{Tally, Writer};
@@ -20,7 +22,7 @@ use std::io::{Read, Write};
 
 /// Serves a session. The tree file is read and judged before the file of the record is made.
 // Slow to prove: it owns the tree while the record's file is made, and then both.
-pub(crate) fn serve<'a, R: Files + AllocGlobal, I: Read, O: Write, E: Write>(
+pub(crate) fn serve<'a, R: System, I: Read, O: Write, E: Write>(
     rt: &R,
     options: &ServeOptions<'a>,
     input: &mut I,
@@ -29,10 +31,15 @@ pub(crate) fn serve<'a, R: Files + AllocGlobal, I: Read, O: Write, E: Write>(
 ) -> Result<Ending, Failure<'a>>
     ensures { IfOk result (λ ending. ending ≡ endings.Done) }
 {
-    let tree = read_tree(rt, options.tree)?;
-    match new_log(rt, options.record) {
+    require_place(rt, options.save)?;
+    let mut meter = Meter::new(rt, options.memory)?;
+    let order = Order::new(rt, options)?;
+    let tree = read_tree(rt, options)?;
+    match new_log(rt, options) {
         Ok(log) => {
-            let (end, traffic) = session(tree, log, options, input, output, errors);
+            let is_verbose = options.is_verbose;
+            let output = Announcing::new(output, errors, is_verbose);
+            let (end, traffic) = session(tree, log, order, &mut meter, input, output);
             conclude(rt, end, traffic, options, errors)
         }
         Err(failure) => {
@@ -42,22 +49,30 @@ pub(crate) fn serve<'a, R: Files + AllocGlobal, I: Read, O: Write, E: Write>(
     }
 }
 
-/// The tree of the file `name`.
-fn read_tree<'a, R: Files + AllocGlobal>(rt: &R, name: &'a str) -> Result<Tree, Failure<'a>> {
-    let bytes = read(rt, name)?;
+/// Fails if the tree could not be saved to this file for what it is.
+fn require_place<'a, R: Files>(rt: &R, save: Option<&'a str>) -> Result<(), Failure<'a>> {
+    match save {
+        Some(name) => require_fit(rt, name),
+        None => Ok(()),
+    }
+}
+
+/// The tree that the session starts from.
+fn read_tree<'a, R: System>(rt: &R, options: &ServeOptions<'a>) -> Result<Tree, Failure<'a>> {
+    let bytes = read_at_most(rt, options.tree, options.memory)?;
     let tree = Tree::read(rt.alloc(), bytes.as_slice());
     drop(bytes);
     Ok(tree?)
 }
 
 /// The writer of a new record.
-fn new_log<'a, R: Files + AllocGlobal>(
+fn new_log<'a, R: System>(
     rt: &R,
-    name: Option<&'a str>,
-) -> Result<Writer<Tally<Record<R::File>>>, Failure<'a>>
+    options: &ServeOptions<'a>,
+) -> Result<Writer<Tally<Record>>, Failure<'a>>
     ensures { IfOk result IsUnused }
 {
-    let recording = Recording::new(rt, name)?;
+    let recording = Recording::new(rt, options)?;
     match Writer::new(rt.alloc(), Tally::new(Record::new(recording))) {
         Ok(log) => Ok(log),
         Err(_no_memory) => Err(Failure::OutOfMemory),
@@ -66,39 +81,40 @@ fn new_log<'a, R: Files + AllocGlobal>(
 
 /// Serves a session on a tree, and returns how it ended and what went through its streams.
 // Slow to prove: each stream is put together of layers, and taken apart again.
-fn session<L: Write + Drop, I: Read, O: Write, E: Write>(
+fn session<I: Read, O: Write + Drop>(
     tree: Tree,
-    mut log: Writer<Tally<Record<L>>>,
-    options: &ServeOptions<'_>,
+    mut log: Writer<Tally<Record>>,
+    mut order: Order,
+    meter: &mut Meter,
     input: &mut I,
-    output: &mut O,
-    errors: &mut E,
+    output: O,
 ) -> (SessionEnd, Traffic)
     requires { IsUnused log }
 {
-    let mut order = Order::new(options.shuffle);
     let mut reader = Tally::new(Watched::new(input));
-    let output = Announcing::new(output, errors, options.is_verbose);
-    let mut writer = Tally::new(Watched::new(output));
+    let mut writer = Tally::new(Watched::new(Bounded::new(output, meter)));
     let end = serve_keeping_tree(tree, &mut reader, &mut writer, &mut log, &mut order);
     let reader = reader.into_inner();
     let writer = writer.into_inner();
     let record = log.into_sink().into_inner();
-    let traffic = Traffic {
+    let mut traffic = Traffic {
         requests: record.request_count(),
         input: reader.flow(),
         output: writer.flow(),
         record: record.flow(),
+        is_over: false,
     };
     drop(reader);
     drop(writer);
     drop(record);
+    drop(order);
+    traffic.is_over = meter.is_over();
     (end, traffic)
 }
 
 /// The outcome of a run by how its session ended. The tree that it left is saved, unless the session was not opened.
 // Slow to prove: it owns the tree that was left, and then how saving it ended.
-fn conclude<'a, R: Files + AllocGlobal, E: Write>(
+fn conclude<'a, R: System, E: Write>(
     rt: &R,
     end: SessionEnd,
     traffic: Traffic,
@@ -107,7 +123,7 @@ fn conclude<'a, R: Files + AllocGlobal, E: Write>(
 ) -> Result<Ending, Failure<'a>>
     ensures { IfOk result (λ ending. ending ≡ endings.Done) }
 {
-    let (tree, close) = parts(end);
+    let (tree, close) = parts(end, traffic.is_over);
     let saved = save_any(rt, &tree, options);
     let has_tree = tree.is_some();
     drop(tree);
@@ -128,7 +144,7 @@ fn say_summary<E: Write>(summary: Summary, errors: &mut E) {
 }
 
 /// The tree that a session left, if it is to be saved, and how the session ended.
-fn parts(end: SessionEnd) -> (Option<Tree>, Close) {
+fn parts(end: SessionEnd, is_over: bool) -> (Option<Tree>, Close) {
     let SessionEnd { ended, left } = end;
     match ended {
         Ended::Finished(tree) => {
@@ -139,8 +155,17 @@ fn parts(end: SessionEnd) -> (Option<Tree>, Close) {
             drop(left);
             (Some(tree), Close::Fault(fault))
         }
-        Ended::Io(stream) => (left, Close::Io(stream)),
+        Ended::Io(stream) => (left, stopped(stream, is_over)),
         Ended::NoMemory => (left, Close::NoMemory),
+    }
+}
+
+/// How a session ended whose stream failed, which it also does if the process has too much memory.
+fn stopped(stream: Stream, is_over: bool) -> Close {
+    if is_over {
+        Close::NoMemory
+    } else {
+        Close::Io(stream)
     }
 }
 
@@ -215,26 +240,27 @@ fn report_unsaved<E: Write>(errors: &mut E, close: Close, failure: &Failure<'_>)
 
 /// Writes the tree that was left to the file that an option names, if there are both. Returns how many entries the tree
 /// has, if they were counted.
-fn save_any<'a, R: Files + AllocGlobal>(
+fn save_any<'a, R: System>(
     rt: &R,
     tree: &Option<Tree>,
     options: &ServeOptions<'a>,
 ) -> Result<Option<u32>, Failure<'a>> {
     match (tree, options.save) {
-        (Some(tree), Some(name)) => save(rt, tree, name),
+        (Some(tree), Some(name)) => save(rt, tree, name, options.keeping),
         (Some(tree), None) if options.is_verbose => Ok(counted(tree)),
         _ => Ok(None),
     }
 }
 
 /// Writes a tree to the file `name`, and returns how many entries it has.
-fn save<'a, R: Files + AllocGlobal>(
+fn save<'a, R: System>(
     rt: &R,
     tree: &Tree,
     name: &'a str,
+    keeping: Keeping,
 ) -> Result<Option<u32>, Failure<'a>> {
     let bytes = tree.write()?;
-    let written = write(rt, name, bytes.as_slice());
+    let written = write(rt, name, keeping, bytes.as_slice());
     let entries = entry_count(bytes.as_slice(), tree.tree_limits());
     drop(bytes);
     match written {
@@ -308,15 +334,18 @@ fn stream_failure<'a>(stream: Stream, traffic: Traffic, options: &ServeOptions<'
 enum Order {
     /// The order in which the requests were asked.
     Asked(InOrder),
-    /// A pseudorandom one.
-    Shuffled(Shuffle),
+    /// A pseudorandom one, as long as the process may have more memory.
+    Shuffled(Shuffle, Meter),
 }
 
 impl Order {
-    fn new(shuffle: Option<u64>) -> Order {
-        match shuffle {
-            Some(state) => Order::Shuffled(Shuffle(state)),
-            None => Order::Asked(InOrder),
+    fn new<'a, R: System>(rt: &R, options: &ServeOptions<'a>) -> Result<Order, Failure<'a>> {
+        match options.shuffle {
+            Some(state) => {
+                let meter = Meter::new(rt, options.memory)?;
+                Ok(Order::Shuffled(Shuffle(state), meter))
+            }
+            None => Ok(Order::Asked(InOrder)),
         }
     }
 }
@@ -325,7 +354,12 @@ impl Schedule for Order {
     fn pick(&mut self, count: usize) -> usize {
         match self {
             Order::Asked(order) => order.pick(count),
-            Order::Shuffled(order) => order.pick(count),
+            // The first request that is not answered: at the latest after its work a reply is due, and then the session
+            // ends.
+            Order::Shuffled(order, meter) => match meter.room() {
+                Ok(_) => order.pick(count),
+                Err(_) => 0,
+            },
         }
     }
 }

@@ -6,13 +6,15 @@ ghost use Rattle.sftp_tool.specs.declared.messages.Ending.TheVariants as endings
 ghost use Rattle.sftp_tool.specs.declared.messages.Failure.TheVariants as failures;
 ghost use Rattle.sftp_profile.specs.declared.profiles.Profile.{Profile as profile};
 ghost use Rattle.sftp_tool.specs.Failures.{IsOutcome, IsUnread, IsUnwritten};
-ghost use Rattle.sftp_tool.specs.Verdicts.{IsStrictAudit, IsAuditUnder, IsStrictVerdict, IsVerdictUnder};
+ghost use Rattle.sftp_tool.specs.Verdicts.{IsStrictAudit, IsAuditUnder};
 
 use crate::command_line::AuditOptions;
 use crate::explaining::explain;
+use crate::memory::{Bounded, Meter};
 use crate::messages::{Ending, Failure, print};
 use crate::profiles::{umask_of, with_umask};
-use crate::saving::{write, write_last};
+use crate::saving::{Keeping, write, write_last};
+use crate::system::System;
 use sftp_audit::{Accepted, AuditError, Refusal};
 use sftp_profile::{Judge, Profile};
 use sftp_transcript::{Reader, Tally};
@@ -24,7 +26,7 @@ use std::io::{Read, Write};
 
 /// Audits a session. The tree file is read and the transcript is opened before either is judged. The transcript is read
 /// as a stream.
-pub(crate) fn audit<'a, R: Files + AllocGlobal, O: Write, E: Write>(
+pub(crate) fn audit<'a, R: System, O: Write, E: Write>(
     rt: &R,
     files: &AuditOptions<'a>,
     output: &mut O,
@@ -37,20 +39,20 @@ pub(crate) fn audit<'a, R: Files + AllocGlobal, O: Write, E: Write>(
 }
 
 /// Audits a session by a profile with its umask.
-fn audit_by<'a, R: Files + AllocGlobal, O: Write, E: Write>(
+fn audit_by<'a, R: System, O: Write, E: Write>(
     rt: &R,
     files: &AuditOptions<'a>,
     output: &mut O,
     errors: &mut E,
 ) -> Result<Ending, Failure<'a>> {
-    let tree = read(rt, files.tree)?;
+    let tree = read_at_most(rt, files.tree, files.memory)?;
     let ending = audit_from(rt, files, tree.as_slice(), output, errors);
     drop(tree);
     ending
 }
 
 /// Audits a session that starts from the tree of this file.
-fn audit_from<'a, R: Files + AllocGlobal, O: Write, E: Write>(
+fn audit_from<'a, R: System, O: Write, E: Write>(
     rt: &R,
     files: &AuditOptions<'a>,
     tree: &[u8],
@@ -58,29 +60,43 @@ fn audit_from<'a, R: Files + AllocGlobal, O: Write, E: Write>(
     errors: &mut E,
 ) -> Result<Ending, Failure<'a>> {
     let transcript = open(rt, files.transcript)?;
-    judge_and_report(rt, files, tree, transcript, output, errors)
+    match files.memory {
+        Some(_) => audit_within(rt, files, tree, transcript, output, errors),
+        None => judge_and_report(rt, files, tree, transcript, output, errors),
+    }
 }
 
-/// Audits the session of this transcript, and says what came of it.
-// Slow to prove: each of its exits is a call that may fail, one of them while it owns the outcome of the audit.
-fn judge_and_report<'a, F: Read + Drop, R: Files + AllocGlobal, O: Write, E: Write>(
+/// Audits the session of this transcript within the limit on memory.
+fn audit_within<'a, F: Read + Drop, R: System, O: Write, E: Write>(
     rt: &R,
     files: &AuditOptions<'a>,
     tree: &[u8],
     transcript: F,
     output: &mut O,
     errors: &mut E,
-) -> Result<Ending, Failure<'a>>
-    // Without an option of a profile, the session is accepted or refused strictly.
-    ensures strictly { files.now.profile ≡ None →
-        IfOk result (IsStrictVerdict tree.now (F.remaining transcript)) }
-    ensures under { (by : profile) → files.now.profile ≡ Some by →
-        IfOk result (IsVerdictUnder by tree.now (F.remaining transcript)) }
-{
+) -> Result<Ending, Failure<'a>> {
+    let mut meter = Meter::new(rt, files.memory)?;
+    let bounded = Bounded::new(transcript, &mut meter);
+    match judge_and_report(rt, files, tree, bounded, output, errors) {
+        Err(_) if meter.is_over() => Err(Failure::OverLimit(files.transcript)),
+        ending => ending,
+    }
+}
+
+/// Audits the session of this transcript, and says what came of it.
+// Slow to prove: each of its exits is a call that may fail, one of them while it owns the outcome of the audit.
+fn judge_and_report<'a, F: Read + Drop, R: System, O: Write, E: Write>(
+    rt: &R,
+    files: &AuditOptions<'a>,
+    tree: &[u8],
+    transcript: F,
+    output: &mut O,
+    errors: &mut E,
+) -> Result<Ending, Failure<'a>> {
     let mut follows = true;
     match judge(rt.alloc(), files.profile, tree, transcript, &mut follows) {
         Ok(accepted) => {
-            let ending = accept(rt, &accepted, files.out, output);
+            let ending = accept(rt, &accepted, files, output);
             drop(accepted);
             ending
         }
@@ -168,31 +184,33 @@ fn judge_under<F: Read + Drop>(
 }
 
 /// Writes the blank tree to the file `name`.
-pub(crate) fn blank<'a, R: Files + AllocGlobal>(
+pub(crate) fn blank<'a, R: System>(
     rt: &R,
     name: &'a str,
+    keeping: Keeping,
 ) -> Result<Ending, Failure<'a>>
     ensures ok { IfOk result (λ ending. ending ≡ endings.Done) }
     ensures err { IfErr result IsUnwritten }
 {
     match sftp_audit::blank_tree(rt.alloc()) {
-        Ok(tree) => write_last(rt, name, tree),
+        Ok(tree) => write_last(rt, name, keeping, tree),
         Err(_no_memory) => Err(Failure::OutOfMemory),
     }
 }
 
 /// Writes the tree of the tree file `tree`, with the highest limits, to the file `name`.
-pub(crate) fn raise<'a, R: Files + AllocGlobal>(
+pub(crate) fn raise<'a, R: System>(
     rt: &R,
     tree: &'a str,
     name: &'a str,
+    keeping: Keeping,
 ) -> Result<Ending, Failure<'a>>
     ensures ok { IfOk result (λ ending. ending ≡ endings.Done) }
 {
     let bytes = read(rt, tree)?;
     let raised = raised_file(rt.alloc(), bytes.as_slice());
     drop(bytes);
-    write_last(rt, name, raised?)
+    write_last(rt, name, keeping, raised?)
 }
 
 /// The file of this one's tree, with the highest limits.
@@ -216,17 +234,17 @@ pub(crate) fn help<'a, O: Write>(text: &str, output: &mut O) -> Result<Ending, F
 }
 
 /// Writes the final tree, if a file is named for it, and then says that the session is accepted.
-fn accept<'a, R: Files + AllocGlobal, O: Write>(
+fn accept<'a, R: System, O: Write>(
     rt: &R,
     accepted: &Accepted,
-    out: Option<&'a str>,
+    files: &AuditOptions<'a>,
     output: &mut O,
 ) -> Result<Ending, Failure<'a>>
     ensures ok { IfOk result (λ ending. ending ≡ endings.Done) }
     ensures err { IfErr result IsUnwritten }
 {
-    if let Some(name) = out {
-        write(rt, name, accepted.tree.as_slice())?;
+    if let Some(name) = files.out {
+        write(rt, name, files.keeping, accepted.tree.as_slice())?;
     }
     let requests = accepted.requests;
     print(
@@ -274,6 +292,38 @@ pub(crate) fn open<'a, R: Files>(rt: &R, name: &'a str) -> Result<R::File, Failu
     match fs::open(rt, name) {
         Ok(file) => Ok(file),
         Err(error) => Err(Failure::reading(name, &error)),
+    }
+}
+
+/// The bytes of the file `name`, if there are at most as many as a limit says.
+pub(crate) fn read_at_most<'a, R: Files + AllocGlobal>(
+    rt: &R,
+    name: &'a str,
+    most: Option<u64>,
+) -> Result<Vec<u8>, Failure<'a>> {
+    match most {
+        Some(most) => read_some(rt, name, most),
+        None => read(rt, name),
+    }
+}
+
+fn read_some<'a, R: Files + AllocGlobal>(
+    rt: &R,
+    name: &'a str,
+    most: u64,
+) -> Result<Vec<u8>, Failure<'a>> {
+    let file = open(rt, name)?;
+    let mut bytes = Vec::new(rt.alloc());
+    match file.take(most.saturating_add(1)).read_to_end(&mut bytes) {
+        Ok(_) if bytes.len() as u64 <= most => Ok(bytes),
+        Ok(_) => {
+            drop(bytes);
+            Err(Failure::OverLimit(name))
+        }
+        Err(error) => {
+            drop(bytes);
+            Err(Failure::reading(name, &error))
+        }
     }
 }
 

@@ -34,6 +34,8 @@ pub(crate) struct Traffic {
     pub(crate) input: Flow,
     pub(crate) output: Flow,
     pub(crate) record: Flow,
+    /// Whether the process had more memory than it may.
+    pub(crate) is_over: bool,
 }
 
 /// How a session ended, and what it left.

@@ -2,11 +2,13 @@
 ghost use Rattle.std.specs.Prelude.{◌≡◌, IfOk};
 ghost use Rattle.sftp_tool.specs.declared.messages.Ending.TheVariants as endings;
 
+use crate::command_line::ShowOptions;
 use crate::cuts::{is_mark, limit_of, print_lines};
 use crate::messages::{Ending, Failure, STANDARD_INPUT};
-use crate::saving::write_last;
+use crate::saving::{Keeping, write_last};
 use crate::showing::outcome;
-use crate::subcommands::read;
+use crate::subcommands::read_at_most;
+use crate::system::System;
 use sftp_audit::{TranscriptError, TreeError};
 use sftp_show::Quoted;
 use sftp_text::{
@@ -22,18 +24,21 @@ use std::io::{Read, Write};
 /// What the text of a tree file begins with, after blank lines and comments.
 const TREE_LABEL: &[u8] = b"home ";
 
-/// Shows every field of a file, and as many bytes of each text as `data` says. The first bytes say which kind of file
-/// it is.
+/// How many times the bytes of the file the memory has at most that its text takes.
+const SHARE: u64 = 32;
+
+/// Shows every field of a file, and as many bytes of each text as the options say. The first bytes say which kind of
+/// file it is.
 pub(crate) fn show_full<'a, R: Files + AllocGlobal, O: Write>(
     rt: &R,
-    name: &'a str,
-    data: Option<&str>,
+    options: &ShowOptions<'a>,
     output: &mut O,
 ) -> Result<Ending, Failure<'a>>
     ensures { IfOk result (λ ending. ending ≡ endings.Done) }
 {
-    let limit = limit_of(rt.alloc(), data)?;
-    let bytes = read(rt, name)?;
+    let limit = limit_of(rt.alloc(), options.data)?;
+    let most = options.memory.map(|bytes| bytes / SHARE);
+    let bytes = read_at_most(rt, options.file, most)?;
     let ending = put_full(rt.alloc(), bytes.as_slice(), limit, output);
     drop(bytes);
     ending
@@ -118,32 +123,34 @@ fn malformed<'a>(alloc: Global, bytes: &[u8]) -> Failure<'a> {
 
 /// Writes the file `name`, whose text is on standard input. It is a tree file if the first line has `home`, and else a
 /// transcript.
-pub(crate) fn make<'a, R: Files + AllocGlobal, I: Read>(
+pub(crate) fn make<'a, R: System, I: Read>(
     rt: &R,
     name: &'a str,
+    keeping: Keeping,
     input: &mut I,
 ) -> Result<Ending, Failure<'a>>
     ensures { IfOk result (λ ending. ending ≡ endings.Done) }
 {
     let mut text = Vec::new(rt.alloc());
     let made = match input.read_to_end(&mut text) {
-        Ok(_) => make_from(rt, name, text.as_slice()),
+        Ok(_) => make_from(rt, name, keeping, text.as_slice()),
         Err(error) => Err(Failure::reading(STANDARD_INPUT, &error)),
     };
     drop(text);
     made
 }
 
-fn make_from<'a, R: Files + AllocGlobal>(
+fn make_from<'a, R: System>(
     rt: &R,
     name: &'a str,
+    keeping: Keeping,
     text: &[u8],
 ) -> Result<Ending, Failure<'a>>
     ensures { IfOk result (λ ending. ending ≡ endings.Done) }
 {
     let mut bytes = Vec::new(rt.alloc());
     match read_text(text, &mut bytes) {
-        Ok(()) => write_last(rt, name, bytes),
+        Ok(()) => write_last(rt, name, keeping, bytes),
         Err(fault) => {
             drop(bytes);
             Err(text_failure(rt.alloc(), fault, text))

@@ -1,0 +1,81 @@
+"""Attacks on memory: short sessions and files that unfold."""
+import os
+
+from attacking import sessions
+from attacking.ground import attack
+from attacking.measured import MEBI, run
+
+LIMIT = 256 * MEBI
+
+
+def wrong_end(found, said, most):
+    """Says so if a run did not end for want of memory, with this line, and with at most this memory."""
+    status, errors, used = found
+    if status != 3 or errors != f"sftpv3: out of memory{said}\n":
+        yield f"status {status}: {errors!r}"
+    if used > most:
+        yield f"{used // MEBI} MiB"
+
+
+@attack()
+def a_session_takes_all_memory(field):
+    """A session ends at the limit, in whatever order it works, and what was done is saved."""
+    tree = field.blank()
+    asked = sessions.sparse(60)
+    for words in ([], ["--shuffle", "1"], ["--shuffle", "7"]):
+        words = ["serve", "--tree", tree, "--memory", str(LIMIT), *words]
+        most = LIMIT + sessions.USUAL_FILE + 16 * MEBI
+        yield from wrong_end(run(field, words, asked), "", most)
+        yield from wrong_end(run(field, [*words, "--save", "end.tree"], asked), "", 2 * most)
+        if field.run("show", "end.tree").stdout.count(b" F ") < 10:
+            yield "what was done is not saved"
+    status, errors, _ = run(field, ["serve", "--tree", tree, "--memory", str(4 << 30)], sessions.sparse(4))
+    if status != 0 or errors:
+        yield f"a session that needs little ends with status {status}: {errors!r}"
+
+
+@attack()
+def listings_take_all_memory(field):
+    field.put("wide.tree", sessions.wide_tree(65_000))
+    words = ["serve", "--tree", "wide.tree", "--memory", str(LIMIT)]
+    yield from wrong_end(run(field, words, sessions.listings(200)), "", LIMIT + 64 * MEBI)
+
+
+@attack()
+def a_transcript_unfolds(field):
+    """A transcript of some kilobytes is judged within the limit, or not to its end, which is told by its name."""
+    tree = field.blank()
+    field.put("sparse", sessions.sparse_transcript(100))
+    words = ["audit", "--tree", tree, "--transcript", "sparse", "--memory"]
+    said = ": sparse needs more than '--memory' allows"
+    yield from wrong_end(run(field, [*words, str(LIMIT)]), said, LIMIT + sessions.USUAL_FILE + 16 * MEBI)
+    field.put("few", sessions.sparse_transcript(4))
+    words[4] = "few"
+    status, errors, _ = run(field, [*words, str(LIMIT)])
+    if status != 0 or errors:
+        yield f"a transcript that needs little ends with status {status}: {errors!r}"
+
+
+@attack(is_small=True)
+def an_archive_ends_in_zeros(field):
+    """The zeros behind an archive are not held."""
+    archive = field.run("export", field.blank()).stdout
+    status, errors, used = run(field, ["import", "made.tree"], archive, 128 * MEBI)
+    if status != 0 or field.read("made.tree") != field.read("start.tree"):
+        yield f"status {status}: {errors!r}"
+    if used > 64 * MEBI:
+        yield f"{used // MEBI} MiB"
+
+
+@attack(is_small=True)
+def files_that_are_too_long(field):
+    """A file that would need more than the limit is not read to its end, and named."""
+    blank = field.blank()
+    long = field.put("long", b"SFTREE01" + bytes(16 * MEBI))
+    for words, named in ((["show", "--full", "long"], "long"), (["diff", "long", blank], "long"),
+                         (["diff", blank, "long"], "long"), (["import", "made"], "standard input"),
+                         (["audit", "--tree", "long", "--transcript", blank], "long")):
+        asked = b"x" * (16 * MEBI) if words[0] == "import" else b""
+        said = f": {named} needs more than '--memory' allows"
+        yield from wrong_end(run(field, [*words, "--memory", str(8 * MEBI)], asked), said, 40 * MEBI)
+    os.remove(long)
