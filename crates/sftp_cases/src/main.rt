@@ -7,6 +7,7 @@ use std::process::ExitCode;
 use std::{env, io};
 
 /// The program `sftpv3` on this system.
+#[derive(Drop)]
 struct Tool<'a> {
     rt: &'a HostRuntime,
 }
