@@ -1,6 +1,6 @@
 -- What the server logs accounts for a run, so the auditor accepts it.
-use Rattle.std.proofs.Common.{◌≡◌, ◌≢◌, ◌⊎◌, ⊥, ℕ, List, [], ◌++◌, Option, Some, Result, Ok, Err, refl, sym, ap, subst}
-use Rattle.std.proofs.Common.{inl, inr, absurd, ◌∙◌}
+use Rattle.std.proofs.Common.{◌≡◌, ◌≢◌, ◌⊎◌, ℕ, List, [], ◌++◌, Option, Some, Result, Ok, Err, refl, sym, ap, subst}
+use Rattle.std.proofs.Common.{inl, inr, ◌∙◌}
 use Rattle.std.specs.Prelude.{IfOk, IfErr}
 use Rattle.std.specs.Io.KnownBytes.{Appends, IsAtEnd}
 use Rattle.sftp_transcript.specs.declared.events.Event.{Event}
@@ -17,7 +17,8 @@ use Rattle.sftp_server.specs.declared.ends.Ended.{Ended}
 use Rattle.sftp_server.specs.declared.ends.Ended.TheVariants.{Finished, Fault}
 use Rattle.sftp_server.specs.declared.ends.Ended.TheVariants as ends
 use Rattle.sftp_server.specs.declared.ends.SessionFault.{SessionFault}
-use Rattle.sftp_server.specs.Served.{IsFinished, IsFaulty, IsUnopened, IsOpened, IsServed, Served, StreamBytes, Serves}
+use Rattle.sftp_server.specs.Served.{IsFinished, IsFaulty, IsUnopened, IsOpened, IsServed, Served, StreamBytes}
+use Rattle.sftp_server.specs.Served.{stream_bytes, Serves}
 use Rattle.sftp_server.proofs.Sessions.Logged.{log-is-transcript}
 use Rattle.sftp_audit.specs.declared.audits.Accepted.{Accepted}
 use Rattle.sftp_audit.specs.declared.errors.AuditError.{AuditError}
@@ -67,12 +68,12 @@ faulty start end fault bytes log past now is logged serves =
 -- ---- the audit
 
 -- what the contract of `audit` says of its result
-AccountsIfOk : List ℕ → List ℕ → Result Accepted AuditError → Type 0
+abbrev pub AccountsIfOk : List ℕ → List ℕ → Result Accepted AuditError → Type 0
 AccountsIfOk tree log audited =
     IfOk audited (λ accepted. (start : Tree) × (events : List Event) × (end : Tree) × Accounts tree log start events end
     × (accepted.tree.items ≡ picture end) × (accepted.requests ≡ request_count events))
 
-NoneIfErr : List ℕ → List ℕ → Result Accepted AuditError → Type 0
+abbrev pub NoneIfErr : List ℕ → List ℕ → Result Accepted AuditError → Type 0
 NoneIfErr tree log audited =
     IfErr audited (λ e. e ≢ errors.NoMemory → (start : Tree) (events : List Event) (end : Tree)
     → Accounts tree log start events end → ⊥)
@@ -114,3 +115,28 @@ agrees start tree log past now (ends.Fault end fault) audited is logged serves o
     ]
 agrees start tree log past now (ends.Io stream) audited is logged serves ok err = tt
 agrees start tree log past now ends.NoMemory audited is logged serves ok err = tt
+
+-- the same of a log that was empty before, of which the server's own contract speaks
+pub agreement : (start : Tree) (tree log seen : List ℕ) (left written left_after written_after before after : Option (List ℕ))
+    (ended : Ended) (audited : Result Accepted AuditError) → IsStart start tree → before ≡ Some [] → after ≡ Some log
+    → seen ≡ log
+    → Serves start (stream_bytes left written before) (stream_bytes left_after written_after after) ended
+    → AccountsIfOk tree seen audited → NoneIfErr tree seen audited
+    → (x : Tree) × IsStart x tree
+    × Serves x (stream_bytes left written (Some [])) (stream_bytes left_after written_after (Some log)) ended
+    × Agrees x log ended audited
+agreement start tree log seen left written left_after written_after before after ended audited is nothing all same serves ok err =
+    let past = stream_bytes left written (Some []) in
+    let now = stream_bytes left_after written_after (Some log) in
+    let served : Serves start past now ended =
+    subst (λ (o : Option (List ℕ)). Serves start past (stream_bytes left_after written_after o) ended) all
+    (subst (λ (o : Option (List ℕ)). Serves start (stream_bytes left written o)
+    (stream_bytes left_after written_after after) ended) nothing serves) in
+    let logged : IsLogged past now log = record { nothing_before = refl; all_now = refl } in (
+      start,
+      is,
+      served,
+      agrees start tree log past now ended audited is logged served
+          (subst (λ (l : List ℕ). AccountsIfOk tree l audited) same ok)
+          (subst (λ (l : List ℕ). NoneIfErr tree l audited) same err),
+    )

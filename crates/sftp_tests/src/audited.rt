@@ -1,5 +1,5 @@
 //! What the server logs, the auditor accepts, with the tree that the server reports.
-ghost use Rattle.std.specs.Prelude.{◌≡◌, ◌≢◌, ◌⊎◌, ⊥, ℕ, List, [], Some, IfOk, IfErr};
+ghost use Rattle.std.specs.Prelude.{◌≡◌, ◌≢◌, ◌⊎◌, ℕ, List, [], Some, IfOk, IfErr};
 ghost use Rattle.sftp_tree.specs.Tree as values;
 ghost use Rattle.sftp_tree.specs.Picture.{IsStart};
 ghost use Rattle.sftp_transcript.specs.declared.events.Event.{Event};
