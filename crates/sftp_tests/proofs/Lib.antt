@@ -1,3 +1,4 @@
+pub mod AnsweredLaws
 pub mod AuditedLaws
 pub mod StrictRuns
 pub mod StrictFaults

@@ -1,7 +1,28 @@
--- What was logged between two moments, where nothing was logged before.
-use Rattle.std.specs.Prelude.{◌≡◌, ℕ, List, [], Some}
+-- What the server logs, and what the auditor says of it.
+use Rattle.std.specs.Prelude.{◌≡◌, ◌⊎◌, ⊤, ℕ, List, [], Some, Result, Ok, Err}
+use Rattle.sftp_tree.specs.Tree.{Tree}
+use Rattle.sftp_tree.specs.Picture.{picture}
+use Rattle.sftp_server.specs.declared.ends.Ended.{Ended}
+use Rattle.sftp_server.specs.declared.ends.Ended.TheVariants as ends
 use Rattle.sftp_server.specs.Served.{StreamBytes}
+use Rattle.sftp_audit.specs.declared.audits.Accepted.{Accepted}
+use Rattle.sftp_audit.specs.declared.errors.AuditError.{AuditError}
+use Rattle.sftp_audit.specs.declared.errors.AuditError.TheVariants.{NoMemory}
 
+-- what was logged between two moments, where nothing was logged before
 pub record IsLogged (past now : StreamBytes) (log : List ℕ) : Type 0 where
   pub nothing_before : past.logged ≡ Some []
   pub all_now : now.logged ≡ Some log
+
+-- the auditor accepts, with the picture of this tree, or its memory ran out
+abbrev pub AcceptsWith : Tree → Result Accepted AuditError → Type 0
+AcceptsWith end (Ok accepted) = accepted.tree.items ≡ picture end
+AcceptsWith end (Err error) = error ≡ NoMemory
+
+-- What the auditor says of the log of a session that began on this tree and ended so: of a session that ended by itself
+-- or by a fault, it accepts with the tree that the server reports, but where no session was opened nothing was logged.
+abbrev pub Agrees : Tree → List ℕ → Ended → Result Accepted AuditError → Type 0
+Agrees start log (ends.Finished end) audited = AcceptsWith end audited
+Agrees start log (ends.Fault end fault) audited = ((log ≡ []) × (end ≡ start)) ⊎ AcceptsWith end audited
+Agrees start log (ends.Io stream) audited = ⊤
+Agrees start log ends.NoMemory audited = ⊤

@@ -1,11 +1,15 @@
 //! Tests of what no case of `sftp_cases` can say, in a module for each library: calls by values, streams that fail,
-//! cores and scripts of acts, the client's pairing. The law of `audited` is about the server and the auditor; those of
-//! `strict` are about the strict reading and the profiles.
+//! cores and scripts of acts, the client's pairing. `audited` is about the server and the auditor, `answered` about
+//! `answer` and `accept`: what the one gives, the other takes. The laws of `strict` are about the strict reading and
+//! the profiles.
 //!
 //! A test goes over a table of rows, each with what it has to give, worked out by hand. The assertion names the row
 //! that fails.
 #![tactic(auto)]
 
+pub mod answered;
+#[cfg(test)]
+mod answering;
 #[cfg(test)]
 mod audit;
 pub mod audited;
@@ -18,6 +22,7 @@ pub mod from_memory;
 mod handles;
 #[cfg(test)]
 mod memory;
+pub mod pieces;
 #[cfg(test)]
 mod scripts;
 #[cfg(test)]

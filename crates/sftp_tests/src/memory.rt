@@ -14,7 +14,7 @@ const WITH_F: &[u8] = b"SFTREE01\0\0\0\x01/\0\0\0\0\0\0\0\0\0\0\0\x01\0\0\0\0\0\
 \0\0\0\x02/fF\0\0\0\0\0\0\0\0\0\0\x01\xa4\0\0\0\0";
 
 /// OPEN of `f`, which is new, to write.
-fn open_new(alloc: Global) -> Result<Request, AllocError> {
+pub(crate) fn open_new(alloc: Global) -> Result<Request, AllocError> {
     let ask = Ask::Open {
         path: ByteString::from_slice(alloc, b"f")?,
         pflags: 0x0A,

@@ -11,6 +11,7 @@ use sftp_tree::Tree;
 use std::alloc::Global;
 use std::test::Fail;
 
+mod agreed;
 mod failing;
 mod scheduled;
 
