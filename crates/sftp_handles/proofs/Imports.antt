@@ -94,7 +94,7 @@ pub use Rattle.sftp_handles.specs.Answered.{IsSpelledAnswer, IsReplyOf, status_o
 pub use Rattle.sftp_handles.specs.Clash.{Touched, untouched, everything, share, is_barrier, touched_through, touched_by}
 pub use Rattle.sftp_handles.specs.Clash.{ComesFirst, reads_file, writes_file, takes_names, may_change, bars, bars_by}
 unfoldable pub use Rattle.sftp_handles.specs.Clash.{touched, clash}
-pub use Rattle.sftp_handles.specs.FirstNames.{item_of, first_items, names_in_reply, AreFirst, AreFirstNames}
+pub use Rattle.sftp_handles.specs.FirstNames.{item_of, first_items, names_in_reply, AreFirst, AreFirstNames, AreUpTo}
 pub use Rattle.sftp_handles.specs.Found.{found_file, IsWritable, with_room, refusing, granted, read_said}
 pub use Rattle.sftp_handles.specs.Given.{named, handles_in}
 pub use Rattle.sftp_handles.specs.Giving.{IsListing, gives_names, with_struck}

@@ -94,10 +94,10 @@ pub(crate) fn give_first<T: HandleTable>(
     room: Vec<NameItem>,
 ) -> Names
     requires listing { IsListing (open_at (T.handles table.old) handle.now) }
-    requires names { AreFirstNames (open_at (T.handles table.old) handle.now) longnames.items }
+    requires names { AreFirstNames (length longnames.items) (open_at (T.handles table.old) handle.now) longnames.items }
     requires empty { room.items ≡ [] }
     requires room { length longnames.items ≤ vec_capacity room }
-    ensures first { AreFirst (open_at (T.handles table.old) handle.now) result }
+    ensures first { AreFirst (length longnames.items) (open_at (T.handles table.old) handle.now) result }
     ensures count { length result ≡ length longnames.items }
     ensures struck { T.handles table.new
         ≡ with_struck (T.handles table.old) handle.now (names_in result) (open_at (T.handles table.old) handle.now) }

@@ -19,7 +19,3 @@ item_of e = record { filename = e.0; longname = e.0; attrs = e.1 }
 -- the first `most` names of a listing, as items, or all if there are fewer
 abbrev pub first_items : ℕ → Left → List NameItem
 first_items most left = map item_of (take most left)
-
--- how many names a reply gives at most
-abbrev pub names_in_reply : ℕ
-names_in_reply = 32

@@ -12,21 +12,18 @@ use sftp_tree::Item;
 use sftp_wire::{ByteString, NameItem, Names};
 use std::alloc::Global;
 
-/// How many names a reply to READDIR gives at most.
-pub const NAMES_IN_REPLY: usize = 32;
-
 impl Listing {
-    /// Copies of the first names that are left, `NAMES_IN_REPLY` or fewer.
+    /// Copies of the first names that are left, `most` or fewer.
     ///
     /// # Errors
     ///
     /// `NoMemory` if memory runs out.
-    pub fn first_names(&self, alloc: Global) -> Result<Vec<ByteString>, NoMemory>
-        ensures { IfOk result (λ names. names.items ≡ first.first_names first.names_in_reply self.now) }
+    pub fn first_names(&self, alloc: Global, most: usize) -> Result<Vec<ByteString>, NoMemory>
+        ensures { IfOk result (λ names. names.items ≡ first.first_names most self.now) }
     {
-        let mut names = Vec::with_capacity(alloc, NAMES_IN_REPLY.min(self.left))?;
+        let mut names = Vec::with_capacity(alloc, most.min(self.left))?;
         for place in 0..self.items.len() {
-            if names.len() >= NAMES_IN_REPLY {
+            if names.len() >= most {
                 break;
             }
             push_name(&mut names, alloc, item_at(&self.items, &self.marks, place))?;

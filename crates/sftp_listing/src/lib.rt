@@ -11,5 +11,4 @@ mod marks;
 mod strike;
 
 pub use attributes::same_attributes;
-pub use first_names::NAMES_IN_REPLY;
 pub use listing::Listing;

@@ -1,17 +1,19 @@
 -- READDIR: the reply that gives the first names of a listing, and the reply that there are no more.
-use Rattle.sftp_handles.proofs.Imports.{◌≡◌, ◌==◌, nat_lt, ℕ, Bool, true, false, List, [], ◌∷◌, length, Option, Some}
+use Rattle.sftp_handles.proofs.Imports.{◌≡◌, ◌==◌, nat_lt, ℕ, zero, suc, ◌<◌, ◌≤◌, Bool, true, false, List, [], ◌∷◌, length, Option, Some}
 use Rattle.sftp_handles.proofs.Imports.{None, refl, sym, ap, subst, ◌∙◌, arith, lit<, inl, inr, both_ways, eqb-true}
 use Rattle.sftp_handles.proofs.Imports.{lt-ltb, NameItem, Ask, Answer, Name, Open, File, Listing, Handles, open_at}
 use Rattle.sftp_handles.proofs.Imports.{State, Good, names_in, refuses, causes, Does, IsJudged, IsSpelledAnswer}
-use Rattle.sftp_handles.proofs.Imports.{IsAnswered, IsListing, gives_names, with_struck, AreFirst, AreFirstNames}
+use Rattle.sftp_handles.proofs.Imports.{IsAnswered, IsListing, gives_names, with_struck, are_some_left, AreFirst, AreFirstNames, AreUpTo}
 use Rattle.sftp_handles.proofs.Imports.{IsReplyOf, Readdir}
 use Rattle.sftp_packets.specs.declared.replies.Answer.TheVariants as replies
+use Rattle.sftp_listing.proofs.FirstNames.{first-again, first-some}
+use Rattle.sftp_handles.specs.FirstNames.{first_names}
 use Rattle.sftp_handles.specs.Replies.{lists}
 use Rattle.sftp_handles.proofs.Judged.GivenNames.{has_none, listing-left, given-judged, readdir-ends}
 use Rattle.sftp_handles.proofs.Judged.Judgements.{allow-one}
 use Rattle.sftp_handles.proofs.Good.NewStates.{state_of}
 use Rattle.sftp_handles.proofs.Judged.Steps.{step-is_allowed}
-use Rattle.sftp_handles.proofs.TotalSteps.SaidReplies.{status-spelled, reply-listed}
+use Rattle.sftp_handles.proofs.TotalSteps.SaidReplies.{FitInPacket, few-names, status-spelled, reply-listed}
 
 -- ---- whether there are names, as the code finds out
 
@@ -37,66 +39,99 @@ judged-does s ask answer end unlike judged =
       | inr d ↦ d
     ]
 
--- a listing that gives no names has none
-none-in : (names : List Name) (found : Option Open) → AreFirstNames found names → length names ≡ 0
-    → has_none found ≡ true
-none-in names None first none = absurd first
-none-in names (Some (File number flags)) first none = absurd first
-none-in names (Some (Listing [])) first none = refl
-none-in names (Some (Listing (e ∷ es))) first none =
+-- a listing that gives no names, though it may give some, has none
+none-in : (most : ℕ) (names : List Name) (found : Option Open) → 0 < most → AreFirstNames most found names
+    → length names ≡ 0 → has_none found ≡ true
+none-in most names None some first none = absurd first
+none-in most names (Some (File number flags)) some first none = absurd first
+none-in most names (Some (Listing [])) some first none = refl
+none-in zero names (Some (Listing (e ∷ es))) some first none = absurd (omega (arith, some))
+none-in (suc n) names (Some (Listing (e ∷ es))) some first none =
     absurd (omega (arith, none, ap (λ (xs : List Name). length xs) first))
+
+-- the first names are as many as there are of them
+counted-in : (most : ℕ) (names : List Name) (found : Option Open) → AreFirstNames most found names
+    → AreFirstNames (length names) found names
+counted-in most names None first = absurd first
+counted-in most names (Some (File number flags)) first = absurd first
+counted-in most names (Some (Listing left)) first = first-again most names left first
+
+pub counted-names : (most : ℕ) (names : List Name) (found : Option Open) → AreUpTo most found names
+    → AreFirstNames (length names) found names
+counted-names most names found up = counted-in most names found up.first
+
+-- if so many fit in a packet, they do
+fit-in : (most : ℕ) (names : List Name) (found : Option Open) → FitInPacket most → AreFirstNames most found names
+    → FitInPacket (length names)
+fit-in most names None fit first = absurd first
+fit-in most names (Some (File number flags)) fit first = absurd first
+fit-in most names (Some (Listing left)) fit first =
+    omega (arith, fit, few-names most left, ap (λ (xs : List Name). length xs) first)
+
+pub names-fit : (most : ℕ) (names : List Name) (found : Option Open) → FitInPacket most → AreUpTo most found names
+    → FitInPacket (length names)
+names-fit most names found fit up = fit-in most names found fit up.first
 
 -- ---- the listing that is open
 
 module _ (s : State) (handle : List ℕ) (good : Good s) where
-  given-in : (items : List NameItem) (found : Option Open) → open_at s.handles handle ≡ found → AreFirst found items
-      → nat_lt 0 (length items) ≡ true
-      → (gives_names found items ≡ true) × IsSpelledAnswer (replies.Name items)
-  given-in items None there first some = absurd first
-  given-in items (Some (File number flags)) there first some = absurd first
-  given-in items (Some (Listing left)) there first some =
+  given-some : (most : ℕ) (items : List NameItem) (found : Option Open) → open_at s.handles handle ≡ found
+      → AreFirst most found items → nat_lt 0 (length items) ≡ true → gives_names found items ≡ true
+  given-some most items None there first some = absurd first
+  given-some most items (Some (File number flags)) there first some = absurd first
+  given-some most items (Some (Listing left)) there first some =
+      subst (λ (xs : List NameItem). are_some_left left xs ≡ true) (sym first)
+      (first-some most left (listing-left s handle left good there)
+      (subst (λ (xs : List NameItem). nat_lt 0 (length xs) ≡ true) first some))
+
+  given-spelled : (most : ℕ) (items : List NameItem) (found : Option Open) → FitInPacket most
+      → open_at s.handles handle ≡ found → AreFirst most found items → nat_lt 0 (length items) ≡ true
+      → IsSpelledAnswer (replies.Name items)
+  given-spelled most items None fit there first some = absurd first
+  given-spelled most items (Some (File number flags)) fit there first some = absurd first
+  given-spelled most items (Some (Listing left)) fit there first some =
       let reply : IsReplyOf (lists left) (replies.Name items) =
       subst (λ (xs : List NameItem). IsReplyOf (lists left) (replies.Name xs)) (sym first)
-      (reply-listed left (listing-left s handle left good there)
+      (reply-listed most left fit (listing-left s handle left good there)
       (subst (λ (xs : List NameItem). nat_lt 0 (length xs) ≡ true) first some)) in
-      (reply.says, reply.spelled)
+      reply.spelled
 
-  named-in : (names : List Name) (found : Option Open) → open_at s.handles handle ≡ found → AreFirstNames found names
-      → IsListing found
-  named-in names None there first = absurd first
-  named-in names (Some (File number flags)) there first = absurd first
-  named-in names (Some (Listing left)) there first = (listing-left s handle left good there).ordered
+  named-in : (most : ℕ) (names : List Name) (found : Option Open) → open_at s.handles handle ≡ found
+      → AreFirstNames most found names → IsListing found
+  named-in most names None there first = absurd first
+  named-in most names (Some (File number flags)) there first = absurd first
+  named-in most names (Some (Listing left)) there first = (listing-left s handle left good there).ordered
 
   -- what has first names is a listing
-  pub first-listing : (names : List Name) → AreFirstNames (open_at s.handles handle) names
+  pub first-listing : (most : ℕ) (names : List Name) → AreFirstNames most (open_at s.handles handle) names
       → IsListing (open_at s.handles handle)
-  first-listing names first = named-in names (open_at s.handles handle) refl first
+  first-listing most names first = named-in most names (open_at s.handles handle) refl first
 
   -- its names are given
-  pub first-given : (items : List NameItem) → AreFirst (open_at s.handles handle) items
+  pub first-given : (most : ℕ) (items : List NameItem) → AreFirst most (open_at s.handles handle) items
       → nat_lt 0 (length items) ≡ true → gives_names (open_at s.handles handle) items ≡ true
-  first-given items first some = (given-in items (open_at s.handles handle) refl first some).0
+  first-given most items first some = given-some most items (open_at s.handles handle) refl first some
 
   -- the names that were struck are those of the reply
-  pub readdir-answered : (items : List NameItem) (given : List Name) (handles : Handles)
-      → AreFirst (open_at s.handles handle) items → nat_lt 0 (length items) ≡ true → given ≡ names_in items
-      → handles ≡ with_struck s.handles handle given (open_at s.handles handle)
+  pub readdir-answered : (most : ℕ) (items : List NameItem) (given : List Name) (handles : Handles)
+      → FitInPacket most → AreFirst most (open_at s.handles handle) items → nat_lt 0 (length items) ≡ true
+      → given ≡ names_in items → handles ≡ with_struck s.handles handle given (open_at s.handles handle)
       → IsAnswered s (Readdir handle) (replies.Name items) (state_of s.tree handles)
-  readdir-answered items given handles first some same is =
-      let gives = given-in items (open_at s.handles handle) refl first some in
+  readdir-answered most items given handles fit first some same is =
+      let gives = first-given most items first some in
       record {
         does =
             judged-does s (Readdir handle) (replies.Name items) (state_of s.tree handles) refl
-            (given-judged s handle items given handles good (sym gives.0) same is);
-        spelled = gives.1;
+            (given-judged s handle items given handles good (sym gives) same is);
+        spelled = given-spelled most items (open_at s.handles handle) fit refl first some;
       }
 
   -- it has nothing left
-  pub readdir-ended : (names : List Name) → AreFirstNames (open_at s.handles handle) names → length names ≡ 0
-      → IsAnswered s (Readdir handle) (replies.Status 1 [] []) s
-  readdir-ended names first none = record {
+  pub readdir-ended : (most : ℕ) (names : List Name) → 0 < most → AreUpTo most (open_at s.handles handle) names
+      → length names ≡ 0 → IsAnswered s (Readdir handle) (replies.Status 1 [] []) s
+  readdir-ended most names some up none = record {
     does =
         judged-does s (Readdir handle) (replies.Status 1 [] []) s (allow-one (causes s (Readdir handle)))
-        (readdir-ends s handle true good (sym (none-in names (open_at s.handles handle) first none)) [] []);
+        (readdir-ends s handle true good (sym (none-in most names (open_at s.handles handle) some up.first none)) [] []);
     spelled = status-spelled 1 (lit< tt);
   }

@@ -4,10 +4,10 @@ use Rattle.sftp_handles.proofs.Imports.{sym, ap, subst, ◌∙◌, is_eq, Equal-
 use Rattle.sftp_handles.proofs.Imports.{bytes_cmp, InOrder, bytes_cmp-same, get-put}
 use Rattle.sftp_handles.proofs.Imports.{InOrder-put, same_table, Open, Listing, Left, Handles, open_at}
 use Rattle.sftp_handles.proofs.Imports.{with_open, names_in, struck, IsListing, with_struck, first_items, AreFirstNames}
-use Rattle.sftp_handles.proofs.Imports.{names_in_reply, AreFirst}
+use Rattle.sftp_handles.proofs.Imports.{AreFirst}
 use Rattle.sftp_listing.proofs.Strikes.{struck-first_items}
 use Rattle.sftp_handles.specs.FirstNames.{first_names}
-use Rattle.sftp_listing.proofs.FirstNames.{as-many-items, items-counted}
+use Rattle.sftp_listing.proofs.FirstNames.{items-counted}
 
 same-there : (handles : Handles) (handle at : List ℕ) (it : Open) (b : Bool) → open_at handles handle ≡ Some it
     → is_eq (bytes_cmp at handle) ≡ b → cond b (Some it) (open_at handles at) ≡ open_at handles at
@@ -37,24 +37,21 @@ struck-lent before after handle names left next there struck_is lent =
 
 -- the first names of a listing were taken from it
 module _ (items : List NameItem) (longnames : List Name) (left next : Left) (found : Option Open)
-    (there : found ≡ Some (Listing left)) (first : AreFirstNames found longnames)
+    (there : found ≡ Some (Listing left)) (first : AreFirstNames (length longnames) found longnames)
     (given : items ≡ first_items (length longnames) left) where
-  are_names : longnames ≡ first_names names_in_reply left
-  are_names = subst (λ o. AreFirstNames o longnames) there first
+  are_names : longnames ≡ first_names (length longnames) left
+  are_names = subst (λ o. AreFirstNames (length longnames) o longnames) there first
 
-  are_items : items ≡ first_items names_in_reply left
-  are_items = given ∙ as-many-items names_in_reply longnames left are_names
-
-  pub first-taken : AreFirst found items
-  first-taken = subst (λ o. AreFirst o items) (sym there) are_items
+  pub first-taken : AreFirst (length longnames) found items
+  first-taken = subst (λ o. AreFirst (length longnames) o items) (sym there) given
 
   pub first-counted : length items ≡ length longnames
-  first-counted = ap length are_items ∙ items-counted names_in_reply longnames left are_names
+  first-counted = ap length given ∙ items-counted (length longnames) longnames left are_names
 
   -- as many entries are dropped
   pub first-struck : IsListing found → next ≡ drop (length longnames) left → next ≡ struck left (names_in items)
   first-struck order dropped =
       dropped
-      ∙ (ap (λ count. drop count left) (sym first-counted ∙ ap length are_items)
-      ∙ (sym (struck-first_items names_in_reply left (subst IsListing there order))
-      ∙ ap (λ xs. struck left (names_in xs)) (sym are_items)))
+      ∙ (ap (λ count. drop count left) (sym first-counted ∙ ap length given)
+      ∙ (sym (struck-first_items (length longnames) left (subst IsListing there order))
+      ∙ ap (λ xs. struck left (names_in xs)) (sym given)))

@@ -10,6 +10,7 @@ use Rattle.sftp_handles.proofs.Imports.{same_attributes, FitsSaid, FitsTwice, Fi
 use Rattle.sftp_handles.proofs.Imports.{IsSpelledAnswer, IsReplyOf, status_of, only_name}
 use Rattle.sftp_packets.specs.declared.replies.Answer.TheVariants as replies
 use Rattle.sftp_treefile.specs.Limits.{highest_limits}
+use Rattle.sftp_handles.specs.FirstNames.{first_names}
 use Rattle.sftp_listing.proofs.FirstNames.{Extended, attributes_of, same-itself, first-some}
 use Rattle.sftp_handles.specs.Replies.{ok, shows, names, gives, ended, lists, opens, extends}
 use Rattle.sftp_handles.specs.declared.payloads.Payload.{Payload}
@@ -89,10 +90,10 @@ names-length : (id : ℕ) (items : List NameItem)
 unfolding spelling
 names-length id items = omega arith
 
-names-spelled : (items : List NameItem) → length items ≤ names_in_reply → AllByRecursion FitsNameItem items
+names-spelled : (items : List NameItem) → length items < 2 ^ 32 → AllByRecursion FitsNameItem items
     → 13 + length (flat_map name_item items) ≤ packet_limit → IsSpelledAnswer (replies.Name items)
 names-spelled items few fit short id small = record {
-  fields = (small, (omega (arith, few), fit));
+  fields = (small, (few, fit));
   whole = omega (arith, names-length id items, short);
   handle = tt;
   canonical = refl;
@@ -109,7 +110,7 @@ reply-name : (text : List ℕ) → FitsTwice text → IsReplyOf (names (Some tex
 reply-name text fits = record {
   says = nat_list_eq_equiv.refl text;
   spelled =
-      names-spelled (record { filename = text; longname = text; attrs = no_attributes } ∷ []) (lit≤ tt) (
+      names-spelled (record { filename = text; longname = text; attrs = no_attributes } ∷ []) (lit< tt) (
         record {
           filename = fits.string;
           longname = fits.string;
@@ -153,15 +154,25 @@ few-items zero (e ∷ es) = omega arith
 few-items (suc n) [] = omega arith
 few-items (suc n) (e ∷ es) = omega (arith, few-items n es)
 
-pub reply-listed : (left : Left) → IsLeft left → nat_lt 0 (length (first_items names_in_reply left)) ≡ true
-    → IsReplyOf (lists left) (replies.Name (first_items names_in_reply left))
-reply-listed left is some =
-    let short = items-length names_in_reply left is.items in
+pub few-names : (n : ℕ) (left : Left) → length (first_names n left) ≤ n
+few-names zero [] = omega arith
+few-names zero (e ∷ es) = omega arith
+few-names (suc n) [] = omega arith
+few-names (suc n) (e ∷ es) = omega (arith, few-names n es)
+
+-- so many entries of any listing fit in a packet
+abbrev pub FitInPacket : ℕ → Type 0
+FitInPacket most = 13 + 542 * most ≤ packet_limit
+
+pub reply-listed : (most : ℕ) (left : Left) → FitInPacket most → IsLeft left
+    → nat_lt 0 (length (first_items most left)) ≡ true → IsReplyOf (lists left) (replies.Name (first_items most left))
+reply-listed most left fit is some =
+    let short = items-length most left is.items in
     record {
-      says = first-some names_in_reply left is some;
+      says = first-some most left is some;
       spelled =
-          names-spelled (first_items names_in_reply left) (few-items names_in_reply left)
-          (items-fit names_in_reply left is.items) (omega (arith, short));
+          names-spelled (first_items most left) (omega (arith, few-items most left, fit))
+          (items-fit most left is.items) (omega (arith, short, fit));
     }
 
 -- ---- bytes
@@ -244,7 +255,7 @@ fits-sayable ended fits = (status_of 1, reply-end)
 fits-sayable (lists []) fits = absurd fits
 fits-sayable (lists (e ∷ es)) fits =
     let items = first_items names_in_reply (e ∷ es) in
-    (replies.Name items, reply-listed (e ∷ es) fits (lt-ltb 0 (length items) (omega arith)))
+    (replies.Name items, reply-listed names_in_reply (e ∷ es) (lit≤ tt) fits (lt-ltb 0 (length items) (omega arith)))
 fits-sayable (opens handles) fits = new-sayable handles fits
 fits-sayable (extends bytes) fits = (replies.Extended bytes, reply-extended bytes fits)
 

@@ -5,7 +5,7 @@ ghost use Rattle.sftp_handles.specs.Handles.{open_at};
 ghost use Rattle.sftp_handles.specs.State as state;
 ghost use Rattle.sftp_handles.specs.declared.requests.Kind.TheVariants as variants;
 ghost use Rattle.sftp_handles.specs.Kinds as kinds;
-ghost use Rattle.sftp_handles.specs.FirstNames.{AreFirstNames};
+ghost use Rattle.sftp_handles.specs.FirstNames.{AreFirstNames, AreUpTo, names_in_reply};
 ghost use Rattle.sftp_handles.specs.Judged.{IsRefusal};
 ghost use Rattle.sftp_handles.specs.Answered.{IsAnswered};
 
@@ -17,6 +17,9 @@ use crate::tables::HandleTable;
 use sftp_tree::{Cause, Refused};
 use sftp_wire::status::EOF;
 use sftp_wire::{Answer, Ask, ByteString};
+
+/// How many names a reply to READDIR gives at most.
+const NAMES_IN_REPLY: usize = 32;
 
 impl<T: HandleTable> Session<T> {
     /// OPEN and OPENDIR: a new handle.
@@ -86,7 +89,7 @@ impl<T: HandleTable> Session<T> {
         ensures refused { IfErr result (IsRefusal self.old (asks.Readdir handle.now)) }
         ensures kept { OnErr result (self.new ≡ self.old) }
     {
-        let longnames = self.first_names(handle)?;
+        let longnames = self.names_up_to(handle, NAMES_IN_REPLY)?;
         let alloc = self.tree.allocator();
         if longnames.is_empty() {
             return Ok(status(alloc, EOF));
@@ -102,12 +105,25 @@ impl<T: HandleTable> Session<T> {
     ///
     /// `BadHandle` if the handle is not open, `WrongKind` if it is a file's. `NoMemory` if memory runs out.
     pub fn first_names(&self, handle: &[u8]) -> Result<Vec<ByteString>, Refused>
-        ensures first { IfOk result (λ names. AreFirstNames (open_at self.now.handles handle.now) names.items) }
+        ensures first { IfOk result
+            (λ names. AreFirstNames names_in_reply (open_at self.now.handles handle.now) names.items) }
+        ensures refused { IfErr result (IsRefusal self.now (asks.Readdir handle.now)) }
+    {
+        self.names_up_to(handle, NAMES_IN_REPLY)
+    }
+
+    /// The first remaining entries of a listing: `most` or fewer, in rising order of their bytes.
+    ///
+    /// # Errors
+    ///
+    /// `BadHandle` if the handle is not open, `WrongKind` if it is a file's. `NoMemory` if memory runs out.
+    fn names_up_to(&self, handle: &[u8], most: usize) -> Result<Vec<ByteString>, Refused>
+        ensures first { IfOk result (λ names. AreUpTo most (open_at self.now.handles handle.now) names.items) }
         ensures refused { IfErr result (IsRefusal self.now (asks.Readdir handle.now)) }
     {
         match self.listing_at(handle) {
             Ok(left) => {
-                let names = left.first_names(self.tree.allocator())?;
+                let names = left.first_names(self.tree.allocator(), most)?;
                 Ok(names)
             }
             Err(cause) => Err(Refused::Cause(cause)),

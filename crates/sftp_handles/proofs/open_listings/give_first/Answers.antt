@@ -1,14 +1,12 @@
-use Rattle.sftp_handles.proofs.Imports.{sym, ap, subst, ◌∙◌, Some, Listing, open_at, names_in, names_in_reply}
+use Rattle.sftp_handles.proofs.Imports.{sym, ap, subst, ◌∙◌, Some, Listing, open_at, names_in, length}
 use Rattle.sftp_handles.proofs.Imports.{AreFirstNames}
-use Rattle.sftp_listing.proofs.FirstNames.{first-again}
 use Rattle.sftp_handles.proofs.HandleTables.LentListings.{struck-lent, first-taken, first-counted, first-struck}
 use Rattle.sftp_handles.proofs.open_listings.give_first.Goals as goal
 
 pub take_first-requires-clause-names : goal.take_first-requires-clause-names
 take_first-requires-clause-names g c =
-    first-again names_in_reply c.args.longnames.items c.listing_of.result.now
-    (subst (λ o. AreFirstNames o c.args.longnames.items)
-    (sym c.in-Some.ensures.found ∙ ap Some c.listing_of.ensures.found) c.requires.names)
+    subst (λ o. AreFirstNames (length c.args.longnames.items) o c.args.longnames.items)
+    (sym c.in-Some.ensures.found ∙ ap Some c.listing_of.ensures.found) c.requires.names
 
 pub returns-clause-first : goal.returns-clause-first
 returns-clause-first g c =

@@ -1,6 +1,6 @@
 use Rattle.sftp_handles.proofs.Imports.{Readdir}
 use Rattle.sftp_handles.proofs.OpenFiles.SeenAnswers.{only-holds}
-use Rattle.sftp_handles.proofs.sessions.Session.first_names.Goals as goal
+use Rattle.sftp_handles.proofs.sessions.Session.names_up_to.Goals as goal
 
 pub returns-in-Err-clause-refused : goal.returns-in-Err-clause-refused
 returns-in-Err-clause-refused g c =
