@@ -35,11 +35,11 @@ impl Touch {
 }
 
 impl<T: HandleTable> Session<T> {
-    /// Whether two requests have to be done in the order asked: whether one of them touches everything, or both touch
-    /// one file or one listing and not both only read it. Files are compared by their numbers, whatever the handles.
-    /// Does not allocate.
+    /// Whether two requests conflict by what they touch: whether one of them touches everything, or both touch one file
+    /// or one listing and not both only read it. Files are compared by their numbers, whatever the handles. `clash` also
+    /// compares the ranges. Does not allocate.
     #[tactic(auto, unfolding(crate::specs::Clash::clash))]
-    pub fn clash(&self, earlier: &Request, later: &Request) -> bool
+    pub fn touch_clash(&self, earlier: &Request, later: &Request) -> bool
         ensures { result ≡ clashes.clash self.now earlier.now later.now }
     {
         let touch = self.touch(&earlier.ask);

@@ -36,10 +36,11 @@ impl<T: HandleTable> Session<T> {
     /// Whether two requests have to be done in the order asked, if READs and WRITEs of one file whose ranges do not
     /// meet may change places. Does not allocate.
     #[tactic(auto, unfolding(crate::specs::Ranges::range_clash))]
-    pub fn range_clash(&self, earlier: &Request, later: &Request) -> bool
+    pub fn clash(&self, earlier: &Request, later: &Request) -> bool
         ensures { result ≡ ranges.range_clash self.now earlier.now later.now }
     {
-        self.clash(earlier, later) && !are_apart(self.range(&earlier.ask), self.range(&later.ask))
+        self.touch_clash(earlier, later)
+            && !are_apart(self.range(&earlier.ask), self.range(&later.ask))
     }
 
     /// The range of its file that a request keeps to: of a READ the bytes that it asks for, up to the tree's limit of
