@@ -1,5 +1,5 @@
 -- READDIR: the reply that gives the first names of a listing, and the reply that there are no more.
-use Rattle.sftp_handles.proofs.Imports.{◌≡◌, ◌==◌, nat_lt, ℕ, zero, suc, ◌<◌, ◌≤◌, Bool, true, false, List, [], ◌∷◌, length, Option, Some}
+use Rattle.sftp_handles.proofs.Imports.{◌≡◌, ◌==◌, nat_lt, ℕ, zero, suc, ◌<◌, Bool, true, false, List, [], ◌∷◌, length, Option, Some}
 use Rattle.sftp_handles.proofs.Imports.{None, refl, sym, ap, subst, ◌∙◌, arith, lit<, inl, inr, both_ways, eqb-true}
 use Rattle.sftp_handles.proofs.Imports.{lt-ltb, NameItem, Ask, Answer, Name, Open, File, Listing, Handles, open_at}
 use Rattle.sftp_handles.proofs.Imports.{State, Good, names_in, refuses, causes, Does, IsJudged, IsSpelledAnswer}
@@ -7,7 +7,6 @@ use Rattle.sftp_handles.proofs.Imports.{IsAnswered, IsListing, gives_names, with
 use Rattle.sftp_handles.proofs.Imports.{IsReplyOf, Readdir}
 use Rattle.sftp_packets.specs.declared.replies.Answer.TheVariants as replies
 use Rattle.sftp_listing.proofs.FirstNames.{first-again, first-some}
-use Rattle.sftp_handles.specs.FirstNames.{first_names}
 use Rattle.sftp_handles.specs.Replies.{lists}
 use Rattle.sftp_handles.proofs.Judged.GivenNames.{has_none, listing-left, given-judged, readdir-ends}
 use Rattle.sftp_handles.proofs.Judged.Judgements.{allow-one}

@@ -1,5 +1,5 @@
 use Rattle.sftp_handles.proofs.Imports.{◌<◌, ◌^◌, refl, sym, ap, subst, ◌∙◌, Tree, WellFormed, HasFile, times_pinned}
-use Rattle.sftp_handles.proofs.Imports.{pins-stay, State, has_handle_left, Does, Good}
+use Rattle.sftp_handles.proofs.Imports.{pins-stay, Does, Good}
 use Rattle.sftp_packets.specs.declared.requests.Ask.TheVariants as asks
 use Rattle.sftp_packets.specs.declared.replies.Answer.TheVariants as replies
 use Rattle.sftp_handles.proofs.Good.NewStates.{state_of}

@@ -1,4 +1,4 @@
-use Rattle.sftp_handles.proofs.Imports.{◌≡◌, ◌==◌, true, nat_lt, length, refl, sym, ap, subst, ◌∙◌, arith, lit<, lit≤}
+use Rattle.sftp_handles.proofs.Imports.{◌≡◌, ◌==◌, true, nat_lt, length, refl, sym, ap, subst, ◌∙◌, lit<, lit≤}
 use Rattle.sftp_handles.proofs.Imports.{Readdir, Answer, State, Good, open_at, names_in, AreFirstNames, IsAnswered}
 use Rattle.sftp_packets.specs.declared.replies.Answer.TheVariants.{Name}
 use Rattle.sftp_handles.proofs.Judged.GivenNames.{good-given}

@@ -1,4 +1,4 @@
-use Rattle.sftp_handles.proofs.Imports.{ap, subst, ◌∙◌, IfOk, IfErr, State, has_handle_left, Does}
+use Rattle.sftp_handles.proofs.Imports.{ap, subst, ◌∙◌, IfOk, IfErr, has_handle_left, Does}
 use Rattle.sftp_packets.specs.declared.replies.Answer.TheVariants as replies
 use Rattle.sftp_handles.specs.Opening.{IsNotOpened}
 use Rattle.sftp_handles.proofs.Good.NewStates.{state_of}
