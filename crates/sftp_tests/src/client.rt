@@ -1,5 +1,5 @@
-//! A client's session with a server: how many requests may be open, and each kind of request with its reply. Which
-//! calls are refused, and why, is in the contracts.
+//! A client's session with a server: how many requests may be open, replies that come in another order, and each kind
+//! of request with its reply. Which calls are refused, and why, is in the contracts.
 use crate::scripts::request;
 use crate::serving::VERSION as ALL_EXTENSIONS;
 use crate::wire::{attributes, written};
@@ -97,6 +97,98 @@ fn at_most_1024_are_open(rt: HostRuntime) -> Result<(), Fail> {
     let full = is_full(rt.alloc(), &mut pairing);
     drop(pairing);
     assert!(rt; full);
+    Ok(())
+}
+
+/// MKDIR of `/a`, STAT of `/a`, and STAT of `/b`.
+const ASKED: [&[u8]; 3] = [
+    b"\x0e\0\0\0\x02/a\0\0\0\0",
+    b"\x11\0\0\0\x02/a",
+    b"\x11\0\0\0\x02/b",
+];
+
+/// The same requests as packets, with the ids from 0 on, the last one first, each with its reply: there is no `/b`, and
+/// `/a` was made. On the blank tree these are status 2, ATTRS, and status 0.
+const PAIRS: [(&[u8], &[u8]); 3] = [
+    (
+        b"\0\0\0\x0b\x11\0\0\0\x02\0\0\0\x02/b",
+        b"\0\0\0\x11\x65\0\0\0\x02\0\0\0\x02\0\0\0\0\0\0\0\0",
+    ),
+    (
+        b"\0\0\0\x0b\x11\0\0\0\x01\0\0\0\x02/a",
+        b"\0\0\0\x1d\x69\0\0\0\x01\0\0\0\x07\0\0\0\0\0\0\0\0\0\0\0\0\0\0\0\0\0\0\x41\xed",
+    ),
+    (
+        b"\0\0\0\x0f\x0e\0\0\0\0\0\0\0\x02/a\0\0\0\0",
+        b"\0\0\0\x11\x65\0\0\0\0\0\0\0\0\0\0\0\0\0\0\0\0",
+    ),
+];
+
+/// The replies to the three requests, in the order sent, up to the first that is missing.
+fn replies(alloc: Global, pairing: &mut Pairing, session: &mut Session<SlabTable>) -> Vec<Reply> {
+    let mut replies = Vec::new(alloc);
+    for asked in ASKED {
+        let is_kept = match exchanged(alloc, pairing, session, asked) {
+            Some(reply) => replies.push(reply).is_ok(),
+            None => false,
+        };
+        if !is_kept {
+            break;
+        }
+    }
+    replies
+}
+
+/// Whether a packet has these bytes.
+fn is_packet(alloc: Global, packet: Packet, bytes: &[u8]) -> bool {
+    let (said, out) = written(Vec::new(alloc), packet);
+    said == Ok(()) && out.as_slice() == bytes
+}
+
+/// Whether a session pairs a reply, and the request and the reply have these bytes.
+fn pairs(alloc: Global, pairing: &mut Pairing, reply: Reply, pair: (&[u8], &[u8])) -> bool {
+    match pairing.on_reply(reply) {
+        Ok((request, reply)) => {
+            let is_request = is_packet(alloc, Packet::Request(request), pair.0);
+            let is_reply = is_packet(alloc, Packet::Reply(reply), pair.1);
+            is_request && is_reply
+        }
+        Err(_) => false,
+    }
+}
+
+/// Whether the replies, taken from the last to the first, are paired so.
+fn pairs_backwards(alloc: Global, pairing: &mut Pairing, replies: &mut Vec<Reply>) -> bool {
+    for pair in PAIRS {
+        let is_paired = match replies.pop() {
+            Some(reply) => pairs(alloc, pairing, reply, pair),
+            None => false,
+        };
+        if !is_paired {
+            return false;
+        }
+    }
+    replies.is_empty()
+}
+
+/// Whether three requests of a session on the blank tree are answered in the order sent, and their replies are paired
+/// in the opposite order.
+fn pairs_out_of_order(alloc: Global, pairing: &mut Pairing) -> Result<bool, NoMemory> {
+    let mut session: Session<SlabTable> = Session::new(Tree::blank(alloc)?)?;
+    let mut replies = replies(alloc, pairing, &mut session);
+    drop(session);
+    let paired = pairs_backwards(alloc, pairing, &mut replies);
+    drop(replies);
+    Ok(paired)
+}
+
+#[test]
+fn replies_out_of_order(rt: HostRuntime) -> Result<(), Fail> {
+    let mut pairing = Pairing::new(rt.alloc())?;
+    let started = starts(rt.alloc(), &mut pairing);
+    let paired = pairs_out_of_order(rt.alloc(), &mut pairing);
+    drop(pairing);
+    assert!(rt; started && paired == Ok(true));
     Ok(())
 }
 

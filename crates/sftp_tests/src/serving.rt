@@ -75,10 +75,28 @@ fn session<S: Schedule>(
     log: Room,
     schedule: &mut S,
 ) -> Result<Outcome, Fail> {
+    session_on(Tree::blank(alloc)?, input, output, log, schedule)
+}
+
+/// Serves a session on a tree.
+fn session_on<S: Schedule>(
+    tree: Tree,
+    input: Input<'_>,
+    output: Room,
+    log: Room,
+    schedule: &mut S,
+) -> Result<Outcome, Fail> {
+    let alloc = tree.allocator();
     let mut reader = Tally::new(input);
     let mut writer = Tally::new(output);
-    let mut record = Writer::new(alloc, Tally::new(log))?;
-    let tree = Tree::blank(alloc)?;
+    let started = Writer::new(alloc, Tally::new(log));
+    let mut record = match started {
+        Ok(record) => record,
+        Err(error) => {
+            drop(tree);
+            return Err(error.into());
+        }
+    };
     let served = serve_keeping_tree(tree, &mut reader, &mut writer, &mut record, schedule);
     let end = end_of(&served.ended);
     let file = file_of(alloc, &served);
@@ -93,9 +111,10 @@ fn session<S: Schedule>(
     })
 }
 
-/// How many requests the log of a session on the blank tree has, if it is accepted with the tree of the session's end.
-fn accepted_requests(alloc: Global, outcome: &Outcome) -> Option<u64> {
-    match audit(alloc, BLANK, outcome.logged.as_slice()) {
+/// How many requests the log of a session on the tree of this file has, if it is accepted with the tree of the session's
+/// end.
+fn accepted_requests(alloc: Global, file: &[u8], outcome: &Outcome) -> Option<u64> {
+    match audit(alloc, file, outcome.logged.as_slice()) {
         Ok(accepted) if accepted.tree.as_slice() == outcome.tree.as_slice() => {
             Some(accepted.requests)
         }

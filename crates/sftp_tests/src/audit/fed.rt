@@ -1,6 +1,6 @@
 //! The auditor, event by event: what it keeps, and which refusal it returns from the first one on.
 use super::{BLANK, DONE, MAKE_A, recorded};
-use sftp_audit::{Auditor, Refusal};
+use sftp_audit::{Auditor, Refusal, audit};
 use sftp_transcript::{Memory, Reader};
 use sftp_tree::Tree;
 use std::alloc::{AllocError, Global};
@@ -216,19 +216,49 @@ fn windows(rt: HostRuntime) -> Result<(), Fail> {
     Ok(())
 }
 
-/// Whether a session of many requests, each with its reply at once, keeps at most one, and ends as it began.
+/// Whether so many requests, each with its reply at once, are taken, with one kept after each request and none after
+/// each reply.
+fn settles_each(alloc: Global, auditor: &mut Auditor, transcript: &[u8], count: u32) -> bool {
+    let Ok(mut reader) = Reader::new(alloc, Memory::new(transcript)) else {
+        return false;
+    };
+    for _ in 0..count {
+        let asked = feed_next(&mut reader, auditor);
+        let replied = feed_next(&mut reader, auditor);
+        if asked != Some((Ok(()), 1)) || replied != Some((Ok(()), 0)) {
+            return false;
+        }
+    }
+    true
+}
+
+/// Whether a session of so many requests, each with its reply at once, keeps nothing, and ends as it began.
 fn forgets(alloc: Global, transcript: &[u8], count: u32) -> bool {
     let Some(mut auditor) = auditor(alloc) else {
         return false;
     };
-    let taken = takes_all(alloc, &mut auditor, transcript, count, 1);
+    let taken = settles_each(alloc, &mut auditor, transcript, count);
     let ended = ends(auditor, Ok(BLANK));
     taken && ended
 }
 
+/// Whether a transcript of so many requests, which change nothing, is accepted.
+fn is_accepted(alloc: Global, transcript: &[u8], count: u64) -> bool {
+    let judged = audit(alloc, BLANK, transcript);
+    let accepted = match &judged {
+        Ok(accepted) => accepted.requests == count && accepted.tree.as_slice() == BLANK,
+        Err(_) => false,
+    };
+    drop(judged);
+    accepted
+}
+
+/// A STAT and its ATTRS take 49 bytes, and the opening with INIT and VERSION 28.
 #[test]
 fn long_sessions(rt: HostRuntime) -> Result<(), Fail> {
-    let transcript = stats(rt.alloc(), 1_100, true)?;
-    assert!(rt; forgets(rt.alloc(), transcript.as_slice(), 2_200));
+    let transcript = stats(rt.alloc(), 100_000, true)?;
+    assert!(rt; transcript.len() == 4_900_028);
+    assert!(rt; forgets(rt.alloc(), transcript.as_slice(), 100_000));
+    assert!(rt; is_accepted(rt.alloc(), transcript.as_slice(), 100_000));
     Ok(())
 }

@@ -1,8 +1,9 @@
 //! A session whose replies a schedule of given choices puts in order, and the audit of what was logged.
-use super::{End, Outcome, VERSION, accepted_requests, session};
+use super::{End, Outcome, VERSION, accepted_requests, session, session_on};
 use crate::audit::BLANK;
 use crate::streams::{Input, Room};
-use sftp_server::{Schedule, Stream};
+use sftp_server::{Schedule, Shuffle, Stream};
+use sftp_tree::Tree;
 use std::alloc::Global;
 use std::test::Fail;
 
@@ -79,8 +80,69 @@ const SCHEDULES: &[(&[u8], &[usize], [u8; 4])] = &[
 fn schedules_are_followed(rt: HostRuntime) -> Result<(), Fail> {
     for (input, rest, ids) in SCHEDULES {
         let outcome = served(rt.alloc(), input, rest, usize::MAX)?;
-        let accepted = accepted_requests(rt.alloc(), &outcome);
+        let accepted = accepted_requests(rt.alloc(), BLANK, &outcome);
         assert!(rt; has_ids(&outcome, *ids) && accepted == Some(4), "{rest:?}");
+    }
+    Ok(())
+}
+
+/// The files `/f` with the bytes `abc`, and `/g` with `x`.
+const TWO_FILES: &[u8] =
+    b"SFTREE01\0\0\0\x01/\0\0\0\0\0\0\0\0\0\0\0\x02\0\0\0\0\0\0\0\0\0\0\x01\xed\
+\0\0\0\x02/fF\0\0\0\0\0\0\0\0\0\0\x01\xa4\0\0\0\x03abc\
+\0\0\0\x02/gF\0\0\0\0\0\0\0\0\0\0\x01\xa4\0\0\0\x01x";
+
+/// INIT, OPEN of `/f` and `/g` to read with the ids 1 and 2, and READs of ten bytes at 0 of the handles 0 and 1 with the
+/// ids 3 and 4.
+const READS_OF_TWO: &[u8] = b"\0\0\0\x05\x01\0\0\0\x03\
+\0\0\0\x13\x03\0\0\0\x01\0\0\0\x02/f\0\0\0\x01\0\0\0\0\
+\0\0\0\x13\x03\0\0\0\x02\0\0\0\x02/g\0\0\0\x01\0\0\0\0\
+\0\0\0\x21\x05\0\0\0\x03\0\0\0\x0c\0\0\0\0\0\0\0\0\0\0\0\0\0\0\0\0\0\0\0\0\0\0\0\x0a\
+\0\0\0\x21\x05\0\0\0\x04\0\0\0\x0c\0\0\0\0\0\0\0\x01\0\0\0\x01\0\0\0\0\0\0\0\0\0\0\0\x0a";
+
+/// Work 0, work 1, work 3, send 3, send 0, send 0, work 0, send 0.
+const READ_OVERTAKES: &[usize] = &[0, 1, 3, 3, 0, 0, 0, 0];
+
+/// The replies in that order: DATA `x` to 4, the handles to 1 and 2, DATA `abc` to 3.
+const OVERTAKEN: &[u8] = b"\0\0\0\x0a\x67\0\0\0\x04\0\0\0\x01x\
+\0\0\0\x15\x66\0\0\0\x01\0\0\0\x0c\0\0\0\0\0\0\0\0\0\0\0\0\
+\0\0\0\x15\x66\0\0\0\x02\0\0\0\x0c\0\0\0\0\0\0\0\x01\0\0\0\x01\
+\0\0\0\x0c\x67\0\0\0\x03\0\0\0\x03abc";
+
+/// The session of the READs of both files, by this schedule.
+fn reads_of_two<S: Schedule>(alloc: Global, schedule: &mut S) -> Result<Outcome, Fail> {
+    let input = Input::whole(READS_OF_TWO, false);
+    let tree = Tree::read(alloc, TWO_FILES)?;
+    session_on(
+        tree,
+        input,
+        Room::ample(alloc),
+        Room::ample(alloc),
+        schedule,
+    )
+}
+
+/// Whether the record of that session is accepted, and the tree is as it was.
+fn is_kept(alloc: Global, outcome: &Outcome) -> bool {
+    outcome.end == End::Finished
+        && outcome.tree.as_slice() == TWO_FILES
+        && accepted_requests(alloc, TWO_FILES, outcome) == Some(4)
+}
+
+#[test]
+fn read_of_another_file_overtakes(rt: HostRuntime) -> Result<(), Fail> {
+    let rest = READ_OVERTAKES;
+    let outcome = reads_of_two(rt.alloc(), &mut Choices { rest })?;
+    assert!(rt; outcome.written.get(VERSION.len()..) == Some(OVERTAKEN));
+    assert!(rt; is_kept(rt.alloc(), &outcome));
+    Ok(())
+}
+
+#[test]
+fn shuffled_reads_are_accepted(rt: HostRuntime) -> Result<(), Fail> {
+    for start in 0..100 {
+        let outcome = reads_of_two(rt.alloc(), &mut Shuffle(start))?;
+        assert!(rt; is_kept(rt.alloc(), &outcome), "{start}");
     }
     Ok(())
 }
