@@ -253,12 +253,18 @@ fn is_accepted(alloc: Global, transcript: &[u8], count: u64) -> bool {
     accepted
 }
 
-/// A STAT and its ATTRS take 49 bytes, and the opening with INIT and VERSION 28.
 #[test]
 fn long_sessions(rt: HostRuntime) -> Result<(), Fail> {
     let transcript = stats(rt.alloc(), 100_000, true)?;
-    assert!(rt; transcript.len() == 4_900_028);
     assert!(rt; forgets(rt.alloc(), transcript.as_slice(), 100_000));
+    Ok(())
+}
+
+/// A STAT and its ATTRS take 49 bytes, and the opening with INIT and VERSION 28.
+#[test]
+fn long_transcripts(rt: HostRuntime) -> Result<(), Fail> {
+    let transcript = stats(rt.alloc(), 100_000, true)?;
+    assert!(rt; transcript.len() == 4_900_028);
     assert!(rt; is_accepted(rt.alloc(), transcript.as_slice(), 100_000));
     Ok(())
 }
