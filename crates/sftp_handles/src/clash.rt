@@ -36,8 +36,8 @@ impl Touch {
 
 impl<T: HandleTable> Session<T> {
     /// Whether two requests conflict by what they touch: whether one of them touches everything, or both touch one file
-    /// or one listing and not both only read it. Files are compared by their numbers, whatever the handles. `clash` also
-    /// compares the ranges. Does not allocate.
+    /// or one listing and not both only read it. Files are compared by their numbers, whatever the handles. Ranges are
+    /// compared by `clash`. Does not allocate.
     #[tactic(auto, unfolding(crate::specs::Clash::clash))]
     pub fn touch_clash(&self, earlier: &Request, later: &Request) -> bool
         ensures { result ≡ clashes.clash self.now earlier.now later.now }

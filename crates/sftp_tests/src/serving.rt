@@ -111,8 +111,8 @@ fn session_on<S: Schedule>(
     })
 }
 
-/// How many requests the log of a session on the tree of this file has, if it is accepted with the tree of the session's
-/// end.
+/// How many requests the log of a session that began on this tree file has, if it is accepted with the tree of the
+/// session's end.
 fn accepted_requests(alloc: Global, file: &[u8], outcome: &Outcome) -> Option<u64> {
     match audit(alloc, file, outcome.logged.as_slice()) {
         Ok(accepted) if accepted.tree.as_slice() == outcome.tree.as_slice() => {

@@ -92,8 +92,8 @@ const TWO_FILES: &[u8] =
 \0\0\0\x02/fF\0\0\0\0\0\0\0\0\0\0\x01\xa4\0\0\0\x03abc\
 \0\0\0\x02/gF\0\0\0\0\0\0\0\0\0\0\x01\xa4\0\0\0\x01x";
 
-/// INIT, OPEN of `/f` and `/g` to read with the ids 1 and 2, and READs of ten bytes at 0 of the handles 0 and 1 with the
-/// ids 3 and 4.
+/// INIT, OPEN of `/f` and `/g` to read with the ids 1 and 2, and READs of ten bytes at 0 of the handles 0 and 1 with
+/// the ids 3 and 4.
 const READS_OF_TWO: &[u8] = b"\0\0\0\x05\x01\0\0\0\x03\
 \0\0\0\x13\x03\0\0\0\x01\0\0\0\x02/f\0\0\0\x01\0\0\0\0\
 \0\0\0\x13\x03\0\0\0\x02\0\0\0\x02/g\0\0\0\x01\0\0\0\0\
