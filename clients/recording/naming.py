@@ -1,5 +1,6 @@
 """Names of transcripts, and how they are opened: made anew, and no link followed."""
 import errno
+import fcntl
 import os
 import pwd
 import re
@@ -88,13 +89,26 @@ def open_stream(name, is_wanted):
         time.sleep(0.02)
 
 
+def hold(file):
+    """Locks a record for as long as its session runs: what reads records sees by this that it has not ended."""
+    try:
+        fcntl.flock(file, fcntl.LOCK_EX | fcntl.LOCK_NB)
+    except BlockingIOError:
+        os.close(file)
+        raise OSError(errno.EBUSY, "another session records into it") from None
+    except OSError:
+        # a file system without locks
+        pass
+    return file
+
+
 def open_anew(name):
     """Makes the file, or the first of NAME.2, NAME.3, .. that is not taken. Returns it and its name."""
     flags = os.O_WRONLY | os.O_CREAT | os.O_EXCL | os.O_NOFOLLOW | os.O_CLOEXEC
     for number in range(1, MOST_NAMES):
         tried = name if number == 1 else f"{name}.{number}"
         try:
-            return os.open(tried, flags, 0o600), tried
+            return hold(os.open(tried, flags, 0o600)), tried
         except FileExistsError:
             pass
     raise OSError(errno.EEXIST, f"{MOST_NAMES} files of this name")
@@ -107,7 +121,7 @@ def open_over(name):
     if not stat.S_ISREG(os.fstat(file).st_mode):
         os.close(file)
         raise OSError(errno.EINVAL, "not a regular file")
-    return file
+    return hold(file)
 
 
 def reason(error):

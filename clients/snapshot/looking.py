@@ -17,11 +17,12 @@ class Trouble(Exception):
 
 class Entry(NamedTuple):
     """An entry: its place as clients see it, what `lstat` says, and where it is: a name in a directory, which is open
-    until the next entry is asked for, or a whole path in none."""
+    until the next entry is asked for, or a whole path in none. What is below a mount is not looked for."""
     place: Place
     state: os.stat_result
     directory: Optional[int]
     name: bytes
+    is_mount: bool = False
 
 
 def shown(place: Place) -> str:
@@ -33,23 +34,24 @@ def names(path: bytes) -> Place:
     return tuple(name for name in path.split(b"/") if name)
 
 
-def below(directory: int, place: Place) -> Iterator[Entry]:
-    """All below a directory, in the order of tree files."""
+def below(directory: int, place: Place, device: Optional[int] = None) -> Iterator[Entry]:
+    """All below a directory, in the order of tree files; with a device, what is on this one."""
     with os.scandir(directory) as found:
         listed = sorted(os.fsencode(entry.name) for entry in found)
     for name in listed:
-        entry = Entry(place + (name,), os.stat(name, dir_fd=directory, follow_symlinks=False), directory, name)
+        state = os.stat(name, dir_fd=directory, follow_symlinks=False)
+        entry = Entry(place + (name,), state, directory, name, device not in (None, state.st_dev))
         if len(entry.place) > DEEPEST:
             raise Trouble(f"{shown(entry.place)}: more than {DEEPEST} names below the root")
         yield entry
-        if stat.S_ISDIR(entry.state.st_mode):
-            yield from below_entry(entry)
+        if stat.S_ISDIR(state.st_mode) and not entry.is_mount:
+            yield from below_entry(entry, device)
 
 
-def below_entry(entry: Entry) -> Iterator[Entry]:
+def below_entry(entry: Entry, device: Optional[int] = None) -> Iterator[Entry]:
     held = os.open(entry.name, DIRECTORY, dir_fd=entry.directory)
     try:
-        yield from below(held, entry.place)
+        yield from below(held, entry.place, device)
     finally:
         os.close(held)
 
@@ -58,5 +60,7 @@ SPECIAL = {stat.S_IFSOCK: "a socket", stat.S_IFIFO: "a FIFO", stat.S_IFCHR: "a d
 
 
 def special(entry: Entry) -> str:
-    """What an entry is, if no tree can hold it."""
-    return SPECIAL.get(stat.S_IFMT(entry.state.st_mode), "")
+    """What an entry is, if no tree can hold it, or if it is no directory and on another file system."""
+    is_directory = stat.S_ISDIR(entry.state.st_mode)
+    found = "mounted" if entry.is_mount and not is_directory else ""
+    return SPECIAL.get(stat.S_IFMT(entry.state.st_mode), found)

@@ -13,10 +13,10 @@ MOST_LINKS = 40
 
 class View:
     """What clients see: these folders, below the root `/` or, where the server changes its root, the one folder as the
-    root."""
+    root. Of `one_device`, what is mounted below a folder is not."""
 
-    def __init__(self, folders: List[str], is_root: bool, stack: ExitStack):
-        self.is_root = is_root
+    def __init__(self, folders: List[str], is_root: bool, stack: ExitStack, one_device: bool = False):
+        self.is_root, self.one_device = is_root, one_device
         self.root = self.open(folders[0] if is_root else "/", stack)
         self.above: Dict[Place, Entry] = {}
         self.tops: List[Place] = []
@@ -59,16 +59,19 @@ class View:
         path = b"/" + b"/".join(place)
         return Entry(place, os.lstat(path), None, path)
 
+    def below(self, held: int, place: Place) -> Iterator[Entry]:
+        return below(held, place, os.fstat(held).st_dev if self.one_device else None)
+
     def root_state(self) -> os.stat_result:
         return os.fstat(self.root)
 
     def entries(self) -> Iterator[Entry]:
         """All entries in the order of tree files, each once."""
         if self.is_root:
-            yield from below(self.root, ())
+            yield from self.below(self.root, ())
             return
         parts = [iter(sorted(self.above.values(), key=lambda entry: entry.place))]
-        parts += [below(self.folders[place], place) for place in self.tops]
+        parts += [self.below(self.folders[place], place) for place in self.tops]
         last = None
         for entry in heapq.merge(*parts, key=lambda entry: entry.place):
             if entry.place != last:
