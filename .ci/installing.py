@@ -88,7 +88,7 @@ def wrong_scripts(prefix, room):
         yield "install: a script ran a module of the user's"
     servers = [it for it in prefix.glob("lib/sftpv3/servers/*") if it.is_file() and not it.suffix]
     for script in [*prefix.glob("bin/sftpv3-*"), *servers]:
-        if not script.read_bytes().startswith(b"#!/usr/bin/python3 -I\n"):
+        if not re.match(rb"#!/usr/bin/python3 -IS?\n", script.read_bytes()):
             yield f"install: {script} does not start with a fixed interpreter and -I"
 
 

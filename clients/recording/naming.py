@@ -3,7 +3,6 @@ import errno
 import fcntl
 import os
 import pwd
-import re
 import stat
 import time
 
@@ -29,7 +28,7 @@ def user_name(number):
 
 def as_part(text):
     """A text as a part of a file's name: without slashes and without what a shell or a terminal acts on."""
-    return re.sub(r"[^\w.:@+%-]", "_", text, flags=re.ASCII)[:100] or "_"
+    return "".join(it if it.isascii() and (it.isalnum() or it in "_.:@+%-") else "_" for it in text)[:100] or "_"
 
 
 def address(environment):
@@ -44,12 +43,15 @@ def expand(name, environment=os.environ):
              "t": lambda: time.strftime("%Y%m%dT%H%M%SZ", time.gmtime()), "h": lambda: address(environment),
              "%": lambda: "%"}
 
-    def word(found):
-        if found[1] not in words:
-            raise BadName(f"{name}: %{found[1]} is none of %p, %u, %t, %h and %%")
-        return words[found[1]]()
-
-    return re.sub("%(.?)", word, name)
+    parts, place = [], 0
+    while "%" in name[place:]:
+        at = name.index("%", place)
+        letter = name[at + 1:at + 2]
+        if letter not in words:
+            raise BadName(f"{name}: %{letter} is none of %p, %u, %t, %h and %%")
+        parts += [name[place:at], words[letter]()]
+        place = at + 2
+    return "".join(parts) + name[place:]
 
 
 def folder_warning(name):

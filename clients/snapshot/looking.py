@@ -1,7 +1,11 @@
 """What a folder has, found through descriptors of its directories: no link is followed, whatever changes meanwhile."""
 import os
+import re
 import stat
-from typing import Iterator, NamedTuple, Optional, Tuple
+from typing import FrozenSet, Iterator, List, NamedTuple, Optional, Tuple
+
+# What is mounted where, in the fifth word of each line; spaces and the like are written as octal numbers.
+MOUNTS = "/proc/self/mountinfo"
 
 DIRECTORY = os.O_RDONLY | os.O_DIRECTORY | os.O_NOFOLLOW
 
@@ -34,24 +38,31 @@ def names(path: bytes) -> Place:
     return tuple(name for name in path.split(b"/") if name)
 
 
-def below(directory: int, place: Place, device: Optional[int] = None) -> Iterator[Entry]:
-    """All below a directory, in the order of tree files; with a device, what is on this one."""
+def mount_points() -> List[Place]:
+    """Where something is mounted, also what is of the same file system."""
+    with open(MOUNTS, "rb") as file:
+        paths = [line.split()[4] for line in file]
+    return [names(re.sub(rb"\\([0-7]{3})", lambda found: bytes([int(found[1], 8)]), path)) for path in paths]
+
+
+def below(directory: int, place: Place, mounts: FrozenSet[Place] = frozenset()) -> Iterator[Entry]:
+    """All below a directory, in the order of tree files, without what is below one of these mounts."""
     with os.scandir(directory) as found:
         listed = sorted(os.fsencode(entry.name) for entry in found)
     for name in listed:
         state = os.stat(name, dir_fd=directory, follow_symlinks=False)
-        entry = Entry(place + (name,), state, directory, name, device not in (None, state.st_dev))
+        entry = Entry(place + (name,), state, directory, name, place + (name,) in mounts)
         if len(entry.place) > DEEPEST:
             raise Trouble(f"{shown(entry.place)}: more than {DEEPEST} names below the root")
         yield entry
         if stat.S_ISDIR(state.st_mode) and not entry.is_mount:
-            yield from below_entry(entry, device)
+            yield from below_entry(entry, mounts)
 
 
-def below_entry(entry: Entry, device: Optional[int] = None) -> Iterator[Entry]:
+def below_entry(entry: Entry, mounts: FrozenSet[Place] = frozenset()) -> Iterator[Entry]:
     held = os.open(entry.name, DIRECTORY, dir_fd=entry.directory)
     try:
-        yield from below(held, entry.place, device)
+        yield from below(held, entry.place, mounts)
     finally:
         os.close(held)
 
@@ -60,7 +71,7 @@ SPECIAL = {stat.S_IFSOCK: "a socket", stat.S_IFIFO: "a FIFO", stat.S_IFCHR: "a d
 
 
 def special(entry: Entry) -> str:
-    """What an entry is, if no tree can hold it, or if it is no directory and on another file system."""
+    """What an entry is, if no tree can hold it, or if it is mounted and no directory."""
     is_directory = stat.S_ISDIR(entry.state.st_mode)
     found = "mounted" if entry.is_mount and not is_directory else ""
     return SPECIAL.get(stat.S_IFMT(entry.state.st_mode), found)

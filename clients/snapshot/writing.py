@@ -24,7 +24,7 @@ def tell_of(entry: Entry, tell: Callable[[str], None]) -> None:
     """Names what is left out of a tree."""
     if entry.is_mount:
         what = "it is" if special(entry) else "what it has is"
-        tell(f"{shown(entry.place)}: another file system: {what} left out")
+        tell(f"{shown(entry.place)}: mounted: {what} left out")
     elif special(entry):
         tell(f"{shown(entry.place)}: {special(entry)}, which no tree holds: left out")
 
