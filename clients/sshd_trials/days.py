@@ -40,9 +40,9 @@ def five_hundred(where):
 
 
 def sizes(where):
-    return where.shell("for n in 0 1 4095 4096 4097 32768 65537 1000000 16777216 20000000; do "
-                       "head -c $n /dev/zero >size-$n && truncate -s 5000 size-$n && truncate -s $((n / 2)) size-$n; "
-                       "done; truncate -s 3000000 hole && echo end >>hole")
+    return where.shell("for n in 1 4095 4096 4097 32768 65537 1000000 16777216 20000000; do "
+                       "dd if=/dev/zero bs=$n count=1 of=size-$n status=none && truncate -s 5000 size-$n && "
+                       "truncate -s $((n / 2)) size-$n; done; truncate -s 3000000 hole && echo end >>hole")
 
 
 def copies(where):
@@ -85,8 +85,9 @@ def cut(where):
     asked = [sftp3.encode(sftp3.Request(it, "STAT", [where.seen.encode()])) for it in range(3)]
     with subprocess.Popen(["ssh", *OPTIONS, f"{where.user}@127.0.0.1", "-s", "sftp"], stdin=subprocess.PIPE,
                           stdout=subprocess.PIPE, stderr=subprocess.DEVNULL, bufsize=0) as process:
-        process.stdin.write(sftp3.init() + asked[0])
+        process.stdin.write(sftp3.init())
         is_open = process.stdout.read(4) != b""
+        process.stdin.write(asked[0])
         time.sleep(0.5)
         run(["pkill", "-STOP", "-x", "sftp-server"])
         process.stdin.write(asked[1] + asked[2])
