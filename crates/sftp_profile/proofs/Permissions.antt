@@ -18,7 +18,8 @@ use Rattle.sftp_handles.specs.Allowed as strictly
 use Rattle.sftp_handles.proofs.Judged.Steps.{step-is_allowed, allowed-step}
 use Rattle.sftp_profile.specs.declared.profiles.Profile.{Profile}
 use Rattle.sftp_profile.specs.Profiles.{strict, keeps_requests, is_stateless}
-use Rattle.sftp_profile.specs.Replaced.{put, replaced, attributes_where}
+use Rattle.sftp_profile.specs.Replaced.{put, replaced, directory_where, file_where, keeps_half, kept_attributes}
+use Rattle.sftp_profile.specs.Shown.{shown_at, shown_open}
 use Rattle.sftp_profile.specs.State.{State, bare}
 use Rattle.sftp_profile.specs.declared.notes.Note.{Note}
 use Rattle.sftp_profile.specs.Notes.{note_of, led_to}
@@ -67,35 +68,55 @@ pub permitted-profile : (s : State) (request : Request) (reply : Reply) (end : S
     → end.profile ≡ s.profile
 unfolding step
 permitted-profile s request reply end p =
-    judged-profile s (put s.profile s.session.tree request.ask) reply.answer end p.step
+    judged-profile s (put s.profile s.session request.ask) reply.answer end p.step
 
 -- ---- requests that stand as they are
 
-both-not : (a b : Bool) → (not a && not b) ≡ true → (a ≡ false) × (b ≡ false)
-both-not true b is = absurd cc
-both-not false true is = absurd cc
-both-not false false is = (refl, refl)
+record KeepsAll (profile : Profile) : Type 0 where
+  makes : profile.made ≡ false
+  owners : profile.keep_owner ≡ false
+  links : profile.symlink_draft ≡ false
 
-not-replaced : (profile : Profile) (t : Tree) (ask : Ask) → profile.made ≡ false → profile.symlink_draft ≡ false
-    → replaced profile t ask ≡ None
-not-replaced profile t (asks.Mkdir path attrs) made draft =
+none-of : (a b c : Bool) → (not a && (not b && not c)) ≡ true → (a ≡ false) × (b ≡ false) × (c ≡ false)
+none-of true b c is = absurd cc
+none-of false true c is = absurd cc
+none-of false false true is = absurd cc
+none-of false false false is = (refl, refl, refl)
+
+keeps-all : (profile : Profile) → IsTrue (keeps_requests profile) → KeepsAll profile
+keeps-all profile keeps =
+    let parts = none-of profile.made profile.keep_owner profile.symlink_draft keeps in
+    record { makes = parts.0; owners = parts.1; links = parts.2 }
+
+not-replaced : (profile : Profile) (s : sessions.State) (ask : Ask) → KeepsAll profile → replaced profile s ask ≡ None
+not-replaced profile s (asks.Mkdir path attrs) keeps =
     ap
     (λ b.
-    if b then Some (asks.Mkdir path (attributes_where profile t (led_to t false path) 0o777 attrs)) else None) made
-not-replaced profile t (asks.Open path pflags attrs) made draft =
+    if b then Some (asks.Mkdir path (directory_where profile s.tree (led_to s.tree false path) attrs)) else None)
+    keeps.makes
+not-replaced profile s (asks.Open path pflags attrs) keeps =
     ap
     (λ b.
     if b
-    then Some (asks.Open path pflags (attributes_where profile t (led_to t (not (excludes pflags)) path) 0o666 attrs))
-    else None) made
-not-replaced profile t (asks.Symlink targetpath linkpath) made draft =
-    ap (λ b. if b then Some (asks.Symlink linkpath targetpath) else None) draft
-not-replaced profile t other made draft = refl
+    then Some (asks.Open path pflags (file_where profile s.tree (led_to s.tree (not (excludes pflags)) path) attrs))
+    else None) keeps.makes
+not-replaced profile s (asks.Setstat path attrs) keeps =
+    ap
+    (λ b.
+    if b && keeps_half attrs.owner
+    then Some (asks.Setstat path (kept_attributes (shown_at s.tree (asks.Stat path)) attrs)) else None) keeps.owners
+not-replaced profile s (asks.Fsetstat handle attrs) keeps =
+    ap
+    (λ b.
+    if b && keeps_half attrs.owner
+    then Some (asks.Fsetstat handle (kept_attributes (shown_open s handle) attrs)) else None) keeps.owners
+not-replaced profile s (asks.Symlink targetpath linkpath) keeps =
+    ap (λ b. if b then Some (asks.Symlink linkpath targetpath) else None) keeps.links
+not-replaced profile s other keeps = refl
 
-pub put-same : (profile : Profile) (t : Tree) (ask : Ask) → IsTrue (keeps_requests profile) → put profile t ask ≡ ask
-put-same profile t ask keeps =
-    let parts = both-not profile.made profile.symlink_draft keeps in
-    ap (λ o. unwrap_or o ask) (not-replaced profile t ask parts.0 parts.1)
+pub put-same : (profile : Profile) (s : sessions.State) (ask : Ask) → IsTrue (keeps_requests profile)
+    → put profile s ask ≡ ask
+put-same profile s ask keeps = ap (λ o. unwrap_or o ask) (not-replaced profile s ask (keeps-all profile keeps))
 
 -- ---- what is allowed strictly
 
@@ -117,7 +138,7 @@ unfolding step permitted
 strictly-permitted profile s request reply end keeps stateless a = record {
   same_id = a.same_id;
   step =
-      ap (λ ask. judged (bare profile s) ask reply.answer) (put-same profile s.tree request.ask keeps)
+      ap (λ ask. judged (bare profile s) ask reply.answer) (put-same profile s request.ask keeps)
       ∙ (stateless-judged (bare profile s) request.ask reply.answer stateless
       ∙ ap (λ o. under (bare profile s) (first_of o (forgiven profile s request.ask reply.answer)))
       (allowed-step s request reply end a));
@@ -173,7 +194,7 @@ strict-allowed s request reply end p =
     let found =
     under-session (bare strict s) (permitted strict s request.ask reply.answer) end
     (sym (stateless-judged (bare strict s) request.ask reply.answer refl)
-    ∙ (ap (λ ask. judged (bare strict s) ask reply.answer) (sym (put-same strict s.tree request.ask refl))
+    ∙ (ap (λ ask. judged (bare strict s) ask reply.answer) (sym (put-same strict s request.ask refl))
     ∙ p.step)) in (
       found.1,
       step-is_allowed s request reply end.session p.same_id
@@ -334,7 +355,7 @@ refused-reply s end request reply false found is other p =
 
 -- the answer to the request that stands for this one
 pub replaced-outcome : (s end : State) (ask other : Ask) (answer : Answer) (ok : Bool)
-    → put s.profile s.session.tree ask ≡ other → IsJudged s other answer ok end → IsStep s ask answer ok end
+    → put s.profile s.session ask ≡ other → IsJudged s other answer ok end → IsStep s ask answer ok end
 unfolding step
 replaced-outcome s end ask other answer ok is found = record {
   is = ap (λ ask. judged s ask answer) is ∙ found.is;

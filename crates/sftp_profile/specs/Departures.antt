@@ -1,5 +1,6 @@
--- Answers that a profile lets pass and that change nothing (draft-ietf-secsh-filexfer-02, sections 6 and 7).
-use Rattle.std.specs.Prelude.{length, nat_lt, ◌&&◌, ◌||◌, not, Bool, false}
+-- Answers that a profile lets pass and that change nothing (draft-ietf-secsh-filexfer-02, sections 6 and 7; POSIX,
+-- EACCES and ENOSPC).
+use Rattle.std.specs.Prelude.{length, nat_lt, ◌&&◌, ◌||◌, not, ℕ, Bool, true, false, Option, Some, None}
 use Rattle.std.specs.List.{list_all}
 use Rattle.sftp_packets.specs.declared.attributes.Attrs.{Attrs}
 use Rattle.sftp_packets.specs.declared.requests.Ask.{Ask}
@@ -8,6 +9,7 @@ use Rattle.sftp_packets.specs.declared.replies.Answer.{Answer}
 use Rattle.sftp_packets.specs.declared.replies.Answer.TheVariants as replies
 use Rattle.std.specs.Prelude.{is_some}
 use Rattle.sftp_tree.specs.Causes.{is_none}
+use Rattle.sftp_tree.specs.OpenFlags.{creates}
 use Rattle.sftp_handles.specs.State.{State}
 use Rattle.sftp_handles.specs.Requests.{causes}
 use Rattle.sftp_handles.specs.Replies.{has_code}
@@ -64,6 +66,32 @@ passes_limits profile ask answer = is_beyond ask && (has_code 4 answer || profil
 abbrev pub passes_extensions : Ask → Answer → Bool
 passes_extensions ask answer = is_unknown ask && is_refusal answer || is_looked_at ask answer
 
+-- a file may get longer by this size
+abbrev pub is_some_size : Option ℕ → Bool
+is_some_size (Some size) = nat_lt 0 size
+is_some_size None = false
+
+-- the request may need room on a disk: for an entry, or for bytes
+abbrev pub needs_room : Ask → Bool
+needs_room (asks.Open path pflags attrs) = creates pflags
+needs_room (asks.Write handle offset bytes) = nat_lt 0 (length bytes)
+needs_room (asks.Setstat path attrs) = is_some_size attrs.size
+needs_room (asks.Fsetstat handle attrs) = is_some_size attrs.size
+needs_room (asks.Mkdir path attrs) = true
+needs_room (asks.Symlink targetpath linkpath) = true
+needs_room (asks.Hardlink oldpath newpath) = true
+needs_room (asks.Rename oldpath newpath) = true
+needs_room (asks.PosixRename oldpath newpath) = true
+needs_room other = false
+
+-- there is none, and the answer refuses the request
+abbrev pub passes_full : Ask → Answer → Bool
+passes_full ask answer = needs_room ask && has_code 4 answer
+
+-- the user may not do this, or the disk has no room for it, and the answer refuses it
+abbrev pub passes_user : Profile → Ask → Answer → Bool
+passes_user profile ask answer = profile.denied && has_code 3 answer || profile.full && passes_full ask answer
+
 -- ---- by what the session has
 
 -- a READ or a REALPATH may be answered so
@@ -82,7 +110,8 @@ abbrev pub passes_alone : Profile → Ask → Answer → Bool
 passes_alone profile ask answer =
     profile.slash && passes_slash profile ask answer
     || (profile.empty_setstat && passes_empty_setstat ask answer
-    || (profile.limits && passes_limits profile ask answer || profile.extensions && passes_extensions ask answer))
+    || (profile.limits && passes_limits profile ask answer
+    || (profile.extensions && passes_extensions ask answer || passes_user profile ask answer)))
 
 -- the profile lets the answer pass; the session stays as it is
 unfoldable pub is_forgiven : Profile → State → Ask → Answer → Bool

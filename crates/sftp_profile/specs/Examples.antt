@@ -11,11 +11,11 @@ use Rattle.sftp_tree.specs.Picture.{blank}
 use Rattle.sftp_tree.specs.Tree.{Tree}
 use Rattle.sftp_tree.specs.WalkExamples.{tree_of}
 use Rattle.sftp_handles.specs.State.{State}
-use Rattle.sftp_handles.specs.Examples.{closed, item, with_three, with_text}
+use Rattle.sftp_handles.specs.Examples.{closed, item, with_three, with_text, with_owned}
 use Rattle.sftp_handles.specs.Handles.{kept_flags}
 use Rattle.sftp_handles.specs.declared.opens.Open.TheVariants.{File, Listing}
 use Rattle.sftp_tree.specs.Listings.{listing}
-use Rattle.sftp_profile.specs.declared.profiles.NewOwner.TheVariants.{Given, Group}
+use Rattle.sftp_profile.specs.declared.profiles.NewOwner.TheVariants.{Given, Group, Posix}
 use Rattle.sftp_profile.specs.declared.profiles.Profile.{Profile}
 use Rattle.sftp_profile.specs.Profiles.{strict}
 
@@ -63,7 +63,19 @@ owned_as_given = record owned_by_user { new_owner = Given }
 abbrev pub owned_by_group : Profile
 owned_by_group = record owned_by_user { new_owner = Group }
 
--- ---- a tree
+abbrev pub owned_by_bit : Profile
+owned_by_bit = record owned_by_user { new_owner = Posix }
+
+abbrev pub kept_owners : Profile
+kept_owners = record strict { keep_owner = true }
+
+abbrev pub denied_requests : Profile
+denied_requests = record strict { denied = true }
+
+abbrev pub full_disks : Profile
+full_disks = record strict { full = true }
+
+-- ---- trees
 
 -- of user 1 and group 2, with the directory `/d` of user 5 and group 9, and the link `/l` to `d/f`, where nothing is
 abbrev pub with_other_group : Tree
@@ -71,7 +83,17 @@ with_other_group =
     record (tree_of ((codes "d" ∷ [], Dir (record { uid = 5; gid = 9; permissions = 0o755 }))
     ∷ (codes "l" ∷ [], Link (codes "d/f")) ∷ [])) { uid = 1; gid = 2 }
 
+-- the same, with the set-gid bit of `/d`
+abbrev pub with_set_group : Tree
+with_set_group =
+    record (tree_of ((codes "d" ∷ [], Dir (record { uid = 5; gid = 9; permissions = 0o2755 }))
+    ∷ (codes "l" ∷ [], Link (codes "d/f")) ∷ [])) { uid = 1; gid = 2 }
+
 -- ---- attributes and names
+
+-- an owner, and nothing else
+abbrev pub owned_by : ℕ → ℕ → Attrs
+owned_by user group = record no_attributes { owner = Some (user, group) }
 
 -- those of a directory made without any, and of a file made for user 7 and group 8 with 0o777, without 0o022
 abbrev pub permitted_directory : Attrs
@@ -86,6 +108,10 @@ permitted_file = record no_attributes { permissions = Some 0o755 }
 -- the same of this user and group
 abbrev pub permitted_to : ℕ → ℕ → Attrs
 permitted_to user group = record permitted_file { owner = Some (user, group) }
+
+-- the same of a directory with the set-gid bit, made with 0o755
+abbrev pub set_group_directory : ℕ → ℕ → Attrs
+set_group_directory user group = record no_attributes { owner = Some (user, group); permissions = Some 0o2755 }
 
 -- a directory of 4,096 bytes, as servers with a real file system show it
 abbrev pub large_directory : Attrs
@@ -107,6 +133,13 @@ abbrev pub open_to_read : List ℕ → State
 open_to_read bytes = record {
   tree = record (with_text bytes) { pins = (0, 1) ∷ [] };
   handles = (codes "h", File 0 (kept_flags 1)) ∷ [];
+}
+
+-- the file `/f` with `abc`, of user 5 and group 9, open under the handle `h` to be written
+abbrev pub open_of_another : State
+open_of_another = record {
+  tree = record (with_owned 5 9 (codes "abc")) { pins = (0, 1) ∷ [] };
+  handles = (codes "h", File 0 (kept_flags 2)) ∷ [];
 }
 
 -- the file `/f` with `abc`, open under the handle `h` to be written, in a tree whose files have four bytes at most

@@ -11,7 +11,8 @@ use Rattle.sftp_profile.specs.Permitted.{forgiven, taken, taken_for, read_as, re
 use Rattle.sftp_profile.specs.Refusals.{is_handle}
 use Rattle.sftp_profile.specs.Permitted.{under, permitted, step}
 use Rattle.sftp_profile.specs.Permitted.{met, by_directory, judged, taken_as, listed_as, with_given, with_note}
-use Rattle.sftp_profile.specs.Through.{directory_of, stands_for}
+use Rattle.sftp_profile.specs.Permitted.{standing_for}
+use Rattle.sftp_profile.specs.Through.{directory_of}
 use Rattle.sftp_profile.specs.declared.notes.Note.{Note}
 
 -- `ok` says whether a state was found, and `end` is this state; without one it is as before
@@ -76,7 +77,8 @@ IsByDirectory s ask answer =
 abbrev pub IsStanding : State → Ask → Answer → Bool → State → Type 0
 IsStanding s ask answer =
     Outcome (under s (if s.profile.open_dir
-    then taken_as s.profile s.session (stands_for s.profile (directory_of s.directories ask) ask answer) answer
+    then taken_as s.profile s.session
+    (standing_for s.profile s.session (directory_of s.directories ask) ask answer) answer
     else None)) s
 
 -- of the names that a READDIR gives

@@ -21,7 +21,10 @@ name_of departures.LinkAttrs = codes "link-attrs"
 name_of departures.OpenDir = codes "open-dir"
 name_of departures.Listing = codes "listing"
 name_of departures.Made = codes "made"
+name_of departures.KeepOwner = codes "keep-owner"
 name_of departures.Extensions = codes "extensions"
+name_of departures.Denied = codes "denied"
+name_of departures.Full = codes "full"
 
 -- the profile with a departure accepted, or not
 abbrev pub switched : Profile → Departure → Bool → Profile
@@ -40,14 +43,17 @@ switched profile departures.LinkAttrs is_on = record profile { link_attrs = is_o
 switched profile departures.OpenDir is_on = record profile { open_dir = is_on }
 switched profile departures.Listing is_on = record profile { listing = is_on }
 switched profile departures.Made is_on = record profile { made = is_on }
+switched profile departures.KeepOwner is_on = record profile { keep_owner = is_on }
 switched profile departures.Extensions is_on = record profile { extensions = is_on }
+switched profile departures.Denied is_on = record profile { denied = is_on }
+switched profile departures.Full is_on = record profile { full = is_on }
 
 abbrev pub every_departure : List Departure
 every_departure =
     departures.Codes ∷ departures.Slash ∷ departures.Limits ∷ departures.Flags ∷ departures.HardlinkLink
     ∷ departures.Realpath ∷ departures.Read ∷ departures.EmptySetstat ∷ departures.Dots ∷ departures.DirSize
     ∷ departures.SetId ∷ departures.LinkAttrs ∷ departures.OpenDir ∷ departures.Listing ∷ departures.Made
-    ∷ departures.Extensions ∷ []
+    ∷ departures.KeepOwner ∷ departures.Extensions ∷ departures.Denied ∷ departures.Full ∷ []
 
 -- the departure of a name
 unfoldable pub departure_of : List ℕ → Option Departure

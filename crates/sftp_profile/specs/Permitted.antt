@@ -2,6 +2,7 @@
 use Rattle.std.specs.Prelude.{◌≡◌, ◌==◌, ◌&&◌, not, Bool, true, false, if◌then◌else◌, List, [], length}
 use Rattle.std.specs.Prelude.{Option, Some, None}
 use Rattle.std.specs.Prelude.{unwrap_or}
+use Rattle.std.specs.Option.{option_map}
 use Rattle.sftp_packets.specs.declared.names.NameItem.{NameItem}
 use Rattle.sftp_packets.specs.declared.requests.Ask.{Ask}
 use Rattle.sftp_packets.specs.declared.replies.Answer.{Answer}
@@ -79,7 +80,11 @@ permitted profile s ask answer = first_of (strictly.step s ask answer) (forgiven
 
 -- ---- with the directories that are open
 
--- the session after the answer to the request that stands for one on a directory, if one does
+-- the request that stands for one on a directory, as it is judged
+abbrev pub standing_for : Profile → sessions.State → Option Directory → Ask → Answer → Option Ask
+standing_for profile s found ask answer = option_map (put profile s) (stands_for profile found ask answer)
+
+-- the session after the answer to this request, if there is one
 abbrev pub taken_as : Profile → sessions.State → Option Ask → Answer → Option sessions.State
 taken_as profile s (Some ask) answer = permitted profile s ask answer
 taken_as profile s None answer = None
@@ -98,7 +103,7 @@ listed_as profile s found ask answer =
 unfoldable pub by_directory : Profile → sessions.State → Option Directory → Ask → Answer → Option sessions.State
 by_directory profile s found ask answer =
     first_of (forgiven_by s (passes_directory profile found ask answer))
-    (first_of (if profile.open_dir then taken_as profile s (stands_for profile found ask answer) answer else None)
+    (first_of (if profile.open_dir then taken_as profile s (standing_for profile s found ask answer) answer else None)
     (if profile.listing then listed_as profile s found ask answer else None))
 
 -- the session after an answer to a request on a directory that is open, or on anything else
@@ -127,7 +132,7 @@ judged s ask answer =
 
 -- the state after an answer to the request that stands for this one, if it is permitted
 unfoldable pub step : State → Ask → Answer → Option State
-step s ask answer = judged s (put s.profile s.session.tree ask) answer
+step s ask answer = judged s (put s.profile s.session ask) answer
 
 -- the reply has the id of the request, and its answer is permitted
 pub record Permitted (s : State) (request : Request) (reply : Reply) (end : State) : Type 0 where
@@ -141,4 +146,4 @@ pub record Permitted (s : State) (request : Request) (reply : Reply) (end : Stat
 abbrev pub follows_in : State → Ask → Answer → Bool
 follows_in s ask answer =
     is_modelled s.profile ask answer
-    && not (s.profile.limits && is_outgrown s.profile s.session (put s.profile s.session.tree ask) answer)
+    && not (s.profile.limits && is_outgrown s.profile s.session (put s.profile s.session ask) answer)

@@ -22,12 +22,15 @@ strict = record {
   link_attrs = false;
   realpath = false;
   made = false;
+  keep_owner = false;
+  denied = false;
+  full = false;
   new_owner = User;
   umask = 0;
   symlink_draft = false;
 }
 
--- all departures
+-- what servers with real file systems do differently: all departures but those of users without rights or room
 abbrev pub posix : Profile
 posix = record {
   codes = true;
@@ -46,14 +49,21 @@ posix = record {
   open_dir = true;
   listing = true;
   made = true;
+  keep_owner = true;
+  denied = false;
+  full = false;
   new_owner = User;
   umask = 0;
   symlink_draft = false;
 }
 
+-- the same for users whom the server denies requests, on a disk that may be full
+abbrev pub posix_user : Profile
+posix_user = record posix { denied = true; full = true }
+
 -- each request is judged as it stands first
 abbrev pub keeps_requests : Profile → Bool
-keeps_requests profile = not profile.made && not profile.symlink_draft
+keeps_requests profile = not profile.made && (not profile.keep_owner && not profile.symlink_draft)
 
 -- it has no use for the directories that are open, so the session is all of the state
 abbrev pub is_stateless : Profile → Bool

@@ -3,11 +3,12 @@ ghost use Rattle.std.specs.Prelude.{◌≡◌};
 ghost use Rattle.sftp_profile.specs.Departures as spec;
 
 use crate::extensions::{is_looked_at, is_unknown, only_looks};
+use crate::flags::{CREAT, has};
 use crate::limits::is_beyond;
 use crate::paths::walks_loosely;
 use crate::profiles::Profile;
 use crate::refusals::{has_code, has_code_or, is_refusal};
-use sftp_wire::status::{EOF, FAILURE, NO_SUCH_FILE, OK};
+use sftp_wire::status::{EOF, FAILURE, NO_SUCH_FILE, OK, PERMISSION_DENIED};
 use sftp_wire::{Answer, Ask, Attrs};
 
 /// Whether the profile lets the answer pass, whatever the session.
@@ -18,6 +19,7 @@ pub(crate) fn passes_alone(profile: Profile, ask: &Ask, answer: &Answer) -> bool
         || (profile.empty_setstat && passes_empty_setstat(ask, answer))
         || (profile.limits && passes_limits(profile, ask, answer))
         || (profile.extensions && passes_extensions(ask, answer))
+        || passes_user(profile, ask, answer)
 }
 
 /// Whether a path ends loosely, and the answer refuses it.
@@ -40,6 +42,48 @@ fn passes_extensions(ask: &Ask, answer: &Answer) -> bool
     ensures { result ≡ spec.passes_extensions ask.now answer.now }
 {
     (is_unknown(ask) && is_refusal(answer)) || is_looked_at(ask, answer)
+}
+
+/// Whether the user may not do this, or the disk has no room for it, and the answer refuses it.
+fn passes_user(profile: Profile, ask: &Ask, answer: &Answer) -> bool
+    ensures { result ≡ spec.passes_user profile ask.now answer.now }
+{
+    (profile.denied && has_code(answer, PERMISSION_DENIED))
+        || (profile.full && passes_full(ask, answer))
+}
+
+/// Whether the request may need room on a disk, and the answer refuses it.
+fn passes_full(ask: &Ask, answer: &Answer) -> bool
+    ensures { result ≡ spec.passes_full ask.now answer.now }
+{
+    needs_room(ask) && has_code(answer, FAILURE)
+}
+
+/// Whether the request may need room on a disk: for an entry, or for bytes.
+fn needs_room(ask: &Ask) -> bool
+    ensures { result ≡ spec.needs_room ask.now }
+{
+    match ask {
+        Ask::Open { pflags, .. } => has(*pflags, CREAT),
+        Ask::Write { bytes, .. } => !bytes.as_slice().is_empty(),
+        Ask::Setstat { attrs, .. } | Ask::Fsetstat { attrs, .. } => is_some_size(attrs.size),
+        Ask::Mkdir { .. }
+        | Ask::Symlink { .. }
+        | Ask::Hardlink { .. }
+        | Ask::Rename { .. }
+        | Ask::PosixRename { .. } => true,
+        _ => false,
+    }
+}
+
+/// Whether a file may get longer by this size.
+fn is_some_size(size: Option<u64>) -> bool
+    ensures { result ≡ spec.is_some_size size }
+{
+    match size {
+        Some(size) => size > 0,
+        None => false,
+    }
 }
 
 /// Whether the profile follows a request with this answer: it does not follow an extension that it does not know and

@@ -5,7 +5,7 @@
 ghost use Rattle.std.specs.Prelude.{◌≡◌, ◌∷◌, [], Some, None, true, false, codes};
 ghost use Rattle.sftp_packets.specs.declared.requests.Ask.TheVariants.{Readdir, Remove, Lstat, Stat, Setstat};
 ghost use Rattle.sftp_packets.specs.declared.requests.Ask.TheVariants.{Open, Mkdir, Symlink, Unknown};
-ghost use Rattle.sftp_packets.specs.declared.requests.Ask.TheVariants.{Hardlink, Read, Realpath, Write};
+ghost use Rattle.sftp_packets.specs.declared.requests.Ask.TheVariants.{Hardlink, Read, Realpath, Write, Fsetstat};
 ghost use Rattle.sftp_packets.specs.declared.replies.Answer.TheVariants.{Attrs, Data, Handle, Name};
 ghost use Rattle.sftp_wire.specs.Examples.{no_attributes};
 ghost use Rattle.sftp_tree.specs.Picture.{blank};
@@ -25,6 +25,8 @@ ghost use Rattle.sftp_profile.specs.Examples.{large_directory, large_directories
 ghost use Rattle.sftp_profile.specs.Examples.{linked_links, wide_reads, free_bits, free_links, texts_of_paths};
 ghost use Rattle.sftp_profile.specs.Examples.{open_to_read, owned_link, set_group, one_text};
 ghost use Rattle.sftp_profile.specs.Examples.{with_room_for_one, with_no_room};
+ghost use Rattle.sftp_profile.specs.Examples.{owned_by_bit, with_set_group, set_group_directory};
+ghost use Rattle.sftp_profile.specs.Examples.{kept_owners, owned_by, open_of_another, denied_requests, full_disks};
 ghost use Rattle.sftp_profile.specs.Flags.{empties};
 ghost use Rattle.sftp_profile.specs.Reads.{is_count};
 ghost use Rattle.sftp_treefile.specs.Limits.{usual_limits};
@@ -197,34 +199,97 @@ pub fn texts_made_absolute()
 
 /// What is made has the tree's owner and the permissions that the mask leaves, and SYMLINK's paths change places.
 pub fn requests_replaced()
-    ensures directory { put owned_by_user blank (Mkdir (codes "d") no_attributes)
+    ensures directory { put owned_by_user (closed blank) (Mkdir (codes "d") no_attributes)
         ≡ Mkdir (codes "d") permitted_directory }
-    ensures file { put owned_by_user blank (Open (codes "f") 0xa given_file) ≡ Open (codes "f") 0xa permitted_file }
-    ensures link { put (record strict { symlink_draft = true }) blank (Symlink (codes "l") (codes "t"))
+    ensures file { put owned_by_user (closed blank) (Open (codes "f") 0xa given_file)
+        ≡ Open (codes "f") 0xa permitted_file }
+    ensures link { put (record strict { symlink_draft = true }) (closed blank) (Symlink (codes "l") (codes "t"))
         ≡ Symlink (codes "t") (codes "l") }
-    ensures strict { put strict blank (Mkdir (codes "d") no_attributes) ≡ Mkdir (codes "d") no_attributes }
+    ensures strict { put strict (closed blank) (Mkdir (codes "d") no_attributes) ≡ Mkdir (codes "d") no_attributes }
 {}
 
 /// What is made in `/d`, a directory of group 9, has the tree's user 1 and that group: a directory, and a file that the
 /// link `/l` leads to. EXCL does not follow the link, and the file would be in the root, which is of group 0. Where the
 /// path leads nowhere, the group is the tree's.
 pub fn groups_of_directories()
-    ensures directory { put owned_by_group with_other_group (Mkdir (codes "/d/x") no_attributes)
+    ensures directory { put owned_by_group (closed with_other_group) (Mkdir (codes "/d/x") no_attributes)
         ≡ Mkdir (codes "/d/x") (permitted_to 1 9) }
-    ensures link { put owned_by_group with_other_group (Open (codes "/l") 0xa given_file)
+    ensures link { put owned_by_group (closed with_other_group) (Open (codes "/l") 0xa given_file)
         ≡ Open (codes "/l") 0xa (permitted_to 1 9) }
-    ensures exclusive { put owned_by_group with_other_group (Open (codes "/l") 0x2a given_file)
+    ensures exclusive { put owned_by_group (closed with_other_group) (Open (codes "/l") 0x2a given_file)
         ≡ Open (codes "/l") 0x2a (permitted_to 1 0) }
-    ensures lost { put owned_by_group with_other_group (Mkdir (codes "/x/y") no_attributes)
+    ensures lost { put owned_by_group (closed with_other_group) (Mkdir (codes "/x/y") no_attributes)
         ≡ Mkdir (codes "/x/y") (permitted_to 1 2) }
 {}
 
 /// The group of the directory says nothing where what is made has the tree's owner, or the one that is asked for.
 pub fn owners_by_other_rules()
-    ensures user { put owned_by_user with_other_group (Open (codes "/d/x") 0xa given_file)
+    ensures user { put owned_by_user (closed with_other_group) (Open (codes "/d/x") 0xa given_file)
         ≡ Open (codes "/d/x") 0xa permitted_file }
-    ensures given { put owned_as_given with_other_group (Open (codes "/d/x") 0xa given_file)
+    ensures given { put owned_as_given (closed with_other_group) (Open (codes "/d/x") 0xa given_file)
         ≡ Open (codes "/d/x") 0xa (permitted_to 7 8) }
-    ensures unasked { put owned_as_given with_other_group (Mkdir (codes "/d/x") no_attributes)
+    ensures unasked { put owned_as_given (closed with_other_group) (Mkdir (codes "/d/x") no_attributes)
         ≡ Mkdir (codes "/d/x") permitted_directory }
+{}
+
+/// What is made in `/d`, a directory of group 9 with the set-gid bit, has that group, and a directory has the bit, too,
+/// whatever permissions are asked for. In a directory without the bit it has the tree's owner.
+pub fn groups_by_the_bit()
+    ensures directory { put owned_by_bit (closed with_set_group) (Mkdir (codes "/d/x") no_attributes)
+        ≡ Mkdir (codes "/d/x") (set_group_directory 1 9) }
+    ensures given { put owned_by_bit (closed with_set_group) (Mkdir (codes "/d/x") given_file)
+        ≡ Mkdir (codes "/d/x") (set_group_directory 1 9) }
+    ensures file { put owned_by_bit (closed with_set_group) (Open (codes "/l") 0xa given_file)
+        ≡ Open (codes "/l") 0xa (permitted_to 1 9) }
+    ensures above { put owned_by_bit (closed with_set_group) (Mkdir (codes "/x") given_file)
+        ≡ Mkdir (codes "/x") (permitted_to 1 2) }
+    ensures plain { put owned_by_bit (closed with_other_group) (Mkdir (codes "/d/x") given_file)
+        ≡ Mkdir (codes "/d/x") (permitted_to 1 2) }
+    ensures lost { put owned_by_bit (closed with_set_group) (Mkdir (codes "/x/y") given_file)
+        ≡ Mkdir (codes "/x/y") (permitted_to 1 2) }
+    ensures user { put owned_by_user (closed with_set_group) (Mkdir (codes "/d/x") no_attributes)
+        ≡ Mkdir (codes "/d/x") permitted_directory }
+{}
+
+/// A half of an owner that is 4294967295 leaves what is there: of `/d`, and of a file that is open, each of user 5 and
+/// group 9. An owner without such a half stands as it is, and so does one of what is not there.
+pub fn owners_kept()
+    ensures group { put kept_owners (closed with_other_group) (Setstat (codes "/d") (owned_by 4294967295 7))
+        ≡ Setstat (codes "/d") (owned_by 5 7) }
+    ensures user { put kept_owners (closed with_other_group) (Setstat (codes "/d") (owned_by 7 4294967295))
+        ≡ Setstat (codes "/d") (owned_by 7 9) }
+    ensures neither { put kept_owners (closed with_other_group) (Setstat (codes "/d") (owned_by 4294967295 4294967295))
+        ≡ Setstat (codes "/d") (owned_by 5 9) }
+    ensures both { put kept_owners (closed with_other_group) (Setstat (codes "/d") (owned_by 7 4294967294))
+        ≡ Setstat (codes "/d") (owned_by 7 4294967294) }
+    ensures open { put kept_owners open_of_another (Fsetstat (codes "h") (owned_by 4294967295 7))
+        ≡ Fsetstat (codes "h") (owned_by 5 7) }
+    ensures absent { put kept_owners (closed with_other_group) (Setstat (codes "/x") (owned_by 4294967295 7))
+        ≡ Setstat (codes "/x") (owned_by 4294967295 7) }
+    ensures strict { put strict (closed with_other_group) (Setstat (codes "/d") (owned_by 4294967295 7))
+        ≡ Setstat (codes "/d") (owned_by 4294967295 7) }
+{}
+
+/// By `denied` any request may be refused with the code 3, and with no other.
+pub fn requests_denied()
+    ensures denied { permitted denied_requests (closed with_link) (Stat (codes "/d")) (code 3)
+        ≡ Some (closed with_link) }
+    ensures other { permitted denied_requests (closed with_link) (Stat (codes "/d")) (code 4) ≡ None }
+    ensures strict { permitted strict (closed with_link) (Stat (codes "/d")) (code 3) ≡ None }
+{}
+
+/// By `full` a request that needs room, for an entry or for bytes, may be refused with the code 4, and no other may.
+pub fn disks_without_room()
+    ensures entry { permitted full_disks (closed blank) (Mkdir (codes "/d") no_attributes) (code 4)
+        ≡ Some (closed blank) }
+    ensures denied { permitted full_disks (closed blank) (Mkdir (codes "/d") no_attributes) (code 3) ≡ None }
+    ensures bytes { permitted full_disks open_of_another (Write (codes "h") 3 (codes "d")) (code 4)
+        ≡ Some open_of_another }
+    ensures no_bytes { permitted full_disks open_of_another (Write (codes "h") 3 []) (code 4) ≡ None }
+    ensures made { permitted full_disks (closed blank) (Open (codes "/f") 0xa no_attributes) (code 4)
+        ≡ Some (closed blank) }
+    ensures opened { permitted full_disks (closed (with_text [])) (Open (codes "/f") 2 no_attributes) (code 4) ≡ None }
+    ensures longer { permitted full_disks (closed (with_text [])) (Setstat (codes "/f") (sized 1)) (code 4)
+        ≡ Some (closed (with_text [])) }
+    ensures emptied { permitted full_disks (closed (with_text [])) (Setstat (codes "/f") (sized 0)) (code 4) ≡ None }
 {}

@@ -13,7 +13,7 @@ const WRITE: u32 = 0x02;
 const APPEND: u32 = 0x04;
 
 /// CREAT: a file is made if there is none.
-const CREAT: u32 = 0x08;
+pub(crate) const CREAT: u32 = 0x08;
 
 /// TRUNC: the file is emptied.
 pub(crate) const TRUNC: u32 = 0x10;

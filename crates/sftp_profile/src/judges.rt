@@ -6,6 +6,7 @@ ghost use Rattle.sftp_profile.specs.Replaced.{put, replaced};
 ghost use Rattle.sftp_profile.specs.Departures.{is_forgiven, passes_in, passes_codes, passes_dots};
 ghost use Rattle.sftp_profile.specs.Permitted.{Permitted, follows_in};
 ghost use Rattle.sftp_profile.specs.Room.{is_outgrown};
+ghost use Rattle.sftp_profile.specs.Tellings.{told};
 ghost use Rattle.sftp_profile.specs.Judged.{IsStrict, IsRetold, IsRead, IsTaken, IsSet, IsFollowed, IsTakenFor};
 ghost use Rattle.sftp_profile.specs.Judged.{IsForgiven, IsPermitted, IsStep};
 
@@ -132,10 +133,22 @@ impl Judge {
     /// # Errors
     ///
     /// `NoMemory` if memory runs out.
-    fn replaced(&self, ask: &Ask) -> Result<Option<Ask>, NoMemory>
-        ensures { IfOk result (λ other. other ≡ replaced self.now.profile self.now.session.tree ask.now) }
+    pub fn replaced(&self, ask: &Ask) -> Result<Option<Ask>, NoMemory>
+        ensures { IfOk result (λ other. other ≡ replaced self.now.profile self.now.session ask.now) }
     {
-        replaced(self.profile, self.session.tree(), ask)
+        replaced(self.profile, &self.session, ask)
+    }
+
+    /// The answer as it would be strictly, where the profile leaves a part of it free; `None` if it leaves none free.
+    ///
+    /// # Errors
+    ///
+    /// `NoMemory` if memory runs out.
+    pub fn told(&self, ask: &Ask, answer: &Answer) -> Result<Option<Answer>, NoMemory>
+        ensures { IfOk result
+            (λ other. other ≡ told self.now.profile self.now.session ask.now answer.now) }
+    {
+        told(&self.session, self.profile, ask, answer)
     }
 
     /// Whether the profile follows a request with this reply. It does not follow an extension that it does not know and
@@ -164,7 +177,7 @@ impl Judge {
     /// `NoMemory` if memory runs out.
     fn is_outgrown(&self, ask: &Ask, answer: &Answer) -> Result<bool, NoMemory>
         ensures { IfOk result (λ ok. ok ≡ is_outgrown self.now.profile self.now.session
-            (put self.now.profile self.now.session.tree ask.now) answer.now) }
+            (put self.now.profile self.now.session ask.now) answer.now) }
     {
         let Some(put) = self.replaced(ask)? else {
             return is_outgrown(&self.session, self.profile, ask, answer);

@@ -4,6 +4,8 @@ ghost use Rattle.std.specs.Option.{option_map};
 ghost use Rattle.sftp_packets.specs.declared.replies.Answer.TheVariants as replies;
 ghost use Rattle.sftp_profile.specs.Profiles.{is_stateless};
 ghost use Rattle.sftp_profile.specs.Notes.{note_of, noted};
+ghost use Rattle.sftp_profile.specs.Permitted.{standing_for};
+ghost use Rattle.sftp_profile.specs.Replaced.{put};
 ghost use Rattle.sftp_profile.specs.Tellings.{told};
 ghost use Rattle.sftp_profile.specs.Through as through;
 ghost use Rattle.sftp_profile.specs.Listed.{due_items};
@@ -195,6 +197,39 @@ impl Judge {
     ///
     /// `NoMemory` if memory runs out.
     fn standing(&self, ask: &Ask, answer: &Answer) -> Result<Option<Ask>, NoMemory>
+        ensures { IfOk result (λ other. other ≡ standing_for self.now.profile self.now.session
+            (through.directory_of self.now.directories ask.now) ask.now answer.now) }
+    {
+        let Some(ask) = self.stands_for(ask, answer)? else {
+            return Ok(None);
+        };
+        let other = self.put(ask)?;
+        Ok(Some(other))
+    }
+
+    /// The request that is judged in place of this one.
+    ///
+    /// # Errors
+    ///
+    /// `NoMemory` if memory runs out.
+    fn put(&self, ask: Ask) -> Result<Ask, NoMemory>
+        ensures { IfOk result (λ other. other ≡ put self.now.profile self.now.session ask) }
+    {
+        match self.replaced(&ask)? {
+            Some(other) => {
+                drop(ask);
+                Ok(other)
+            }
+            None => Ok(ask),
+        }
+    }
+
+    /// The request that stands for one on a directory.
+    ///
+    /// # Errors
+    ///
+    /// `NoMemory` if memory runs out.
+    fn stands_for(&self, ask: &Ask, answer: &Answer) -> Result<Option<Ask>, NoMemory>
         ensures { IfOk result (λ other. other ≡ through.stands_for self.now.profile
             (through.directory_of self.now.directories ask.now) ask.now answer.now) }
     {
@@ -256,7 +291,7 @@ impl Judge {
     /// # Errors
     ///
     /// `NoMemory` if memory runs out.
-    fn due(&self, ask: &Ask, answer: &Answer) -> Result<Option<Vec<NameItem>>, NoMemory>
+    pub fn due(&self, ask: &Ask, answer: &Answer) -> Result<Option<Vec<NameItem>>, NoMemory>
         ensures { IfOk result (λ due. option_map (λ v. v.items) due ≡ due_items self.now.profile self.now.session
             (through.directory_of self.now.directories ask.now) ask.now
             (unwrap_or (told self.now.profile self.now.session ask.now answer.now) answer.now)) }

@@ -22,12 +22,15 @@ pub const NAMES: &[&str] = &[
     "open-dir",
     "listing",
     "made",
+    "keep-owner",
     "extensions",
+    "denied",
+    "full",
 ];
 
 impl Profile {
-    /// What servers with real file systems do differently: all departures. What is made has the tree's owner, and all
-    /// permissions that are asked for.
+    /// What servers with real file systems do differently: all departures but `denied` and `full`. What is made has the
+    /// tree's owner, and all permissions that are asked for.
     pub fn posix() -> Profile
         ensures { result ≡ spec.posix }
     {
@@ -48,10 +51,23 @@ impl Profile {
             open_dir: true,
             listing: true,
             made: true,
+            keep_owner: true,
+            denied: false,
+            full: false,
             new_owner: NewOwner::User,
             umask: 0,
             symlink_draft: false,
         }
+    }
+
+    /// The same for users to whom the server denies requests, on a disk that may be full: all departures.
+    pub fn posix_user() -> Profile
+        ensures { result ≡ spec.posix_user }
+    {
+        let mut profile = Profile::posix();
+        profile.denied = true;
+        profile.full = true;
+        profile
     }
 
     /// The profile with the departure of this name accepted, or not; `None` if no departure has this name.
@@ -83,11 +99,14 @@ pub(crate) enum Departure {
     OpenDir,
     Listing,
     Made,
+    KeepOwner,
     Extensions,
+    Denied,
+    Full,
 }
 
 /// Every departure.
-fn every_departure() -> [Departure; 16]
+fn every_departure() -> [Departure; 19]
     ensures { result ≡ names.every_departure }
 {
     [
@@ -106,7 +125,10 @@ fn every_departure() -> [Departure; 16]
         Departure::OpenDir,
         Departure::Listing,
         Departure::Made,
+        Departure::KeepOwner,
         Departure::Extensions,
+        Departure::Denied,
+        Departure::Full,
     ]
 }
 
@@ -160,7 +182,10 @@ fn switched(profile: Profile, departure: Departure, is_on: bool) -> Profile
         Departure::OpenDir => profile.open_dir = is_on,
         Departure::Listing => profile.listing = is_on,
         Departure::Made => profile.made = is_on,
+        Departure::KeepOwner => profile.keep_owner = is_on,
         Departure::Extensions => profile.extensions = is_on,
+        Departure::Denied => profile.denied = is_on,
+        Departure::Full => profile.full = is_on,
     }
     profile
 }

@@ -11,10 +11,13 @@ pub enum NewOwner {
     Given,
     /// The tree's user, with the group of the directory that the new entry is in.
     Group,
+    /// The same if that directory has the set-gid bit 0o2000, else the tree's user and group. A new directory in such a
+    /// directory has the bit, too.
+    Posix,
 }
 
 /// Which departures from the strict reading are accepted, each a field. What is accepted strictly, each profile
-/// accepts that has neither `made` nor `symlink_draft`.
+/// accepts that has neither `made`, `keep_owner` nor `symlink_draft`.
 #[derive(Clone, Copy, Debug, PartialEq, Eq)]
 pub struct Profile {
     /// A request that some cause refuses may be refused with any of the codes 2, 3, 4, 5 and 8.
@@ -58,6 +61,12 @@ pub struct Profile {
     /// What is made has the owner that `new_owner` says, and the permissions that the request gives, else 0666 or 0777,
     /// without the bits of `umask`.
     pub made: bool,
+    /// A half of an owner that a SETSTAT or FSETSTAT gives as 4294967295 leaves the user or the group as it is.
+    pub keep_owner: bool,
+    /// Any request may be refused with the code 3.
+    pub denied: bool,
+    /// A request that may need room on a disk may be refused with the code 4.
+    pub full: bool,
     /// Who owns what is made. It says nothing without `made`.
     pub new_owner: NewOwner,
     /// The permissions that nothing new has. It says nothing without `made`.
@@ -88,6 +97,9 @@ impl Profile {
             open_dir: false,
             listing: false,
             made: false,
+            keep_owner: false,
+            denied: false,
+            full: false,
             new_owner: NewOwner::User,
             umask: 0,
             symlink_draft: false,
@@ -98,7 +110,7 @@ impl Profile {
     pub(crate) fn keeps_requests(self) -> bool
         ensures { result ≡ spec.keeps_requests self }
     {
-        !self.made && !self.symlink_draft
+        !self.made && !self.keep_owner && !self.symlink_draft
     }
 
     /// Whether the profile has no use for the directories that are open.

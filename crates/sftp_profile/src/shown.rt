@@ -30,7 +30,7 @@ pub(crate) fn shown_in(session: &Session<GivenTable>, ask: &Ask) -> Result<Optio
 /// # Errors
 ///
 /// `NoMemory` if memory runs out.
-fn shown_at(tree: &Tree, path: &[u8], follow: bool) -> Result<Option<Attrs>, NoMemory>
+pub(crate) fn shown_at(tree: &Tree, path: &[u8], follow: bool) -> Result<Option<Attrs>, NoMemory>
     ensures { IfOk result (λ shown. shown ≡ spec.shown_at tree.now (stat_ask follow path.now)) }
 {
     match tree.stat(path, follow) {
@@ -41,7 +41,7 @@ fn shown_at(tree: &Tree, path: &[u8], follow: bool) -> Result<Option<Attrs>, NoM
 }
 
 /// The attributes that an FSTAT shows.
-fn shown_open(session: &Session<GivenTable>, handle: &[u8]) -> Option<Attrs>
+pub(crate) fn shown_open(session: &Session<GivenTable>, handle: &[u8]) -> Option<Attrs>
     ensures { result ≡ spec.shown_open session.now handle.now }
 {
     match session.stat_open(handle) {

@@ -3,14 +3,18 @@ use Rattle.std.specs.Prelude.{◌||◌, ℕ, Bool, true, false, if◌then◌else
 use Rattle.std.specs.Prelude.{is_some, unwrap_or, bytes_eq, codes}
 use Rattle.sftp_profile.specs.declared.profiles.Profile.{Profile}
 use Rattle.sftp_profile.specs.declared.profiles.NewOwner.{NewOwner}
-use Rattle.sftp_profile.specs.declared.profiles.NewOwner.TheVariants.{User, Given, Group}
-use Rattle.sftp_profile.specs.Profiles.{strict, posix}
+use Rattle.sftp_profile.specs.declared.profiles.NewOwner.TheVariants.{User, Given, Group, Posix}
+use Rattle.sftp_profile.specs.Profiles.{strict, posix, posix_user}
 use Rattle.sftp_profile.specs.Names.{with_name}
 
--- the one profile that has a name, if it is named
-abbrev pub base_of : Bool → Profile
-base_of true = posix
-base_of false = strict
+-- the profile of a name
+abbrev pub named : List ℕ → Profile
+named name = if bytes_eq name (codes "posix-user") then posix_user else posix
+
+-- the same, or the strict one without a name
+abbrev pub base_of : Option (List ℕ) → Profile
+base_of (Some name) = named name
+base_of None = strict
 
 -- the profile with the departure of a name accepted or not; a name that is none changes nothing
 abbrev pub with_departure : Bool → Profile → List ℕ → Profile
@@ -24,7 +28,8 @@ with_names is_on profile (name ∷ names) = with_names is_on (with_departure is_
 -- who owns what is made by a rule
 abbrev pub owner_by : List ℕ → NewOwner
 owner_by rule =
-    if bytes_eq rule (codes "given") then Given else if bytes_eq rule (codes "group") then Group else User
+    if bytes_eq rule (codes "given") then Given else if bytes_eq rule (codes "group") then Group else
+    if bytes_eq rule (codes "posix") then Posix else User
 
 -- the profile with this rule, which says something only with the departure `made`
 abbrev pub with_rule : Profile → Option (List ℕ) → Profile
@@ -48,7 +53,7 @@ pub record Options : Type 0 where
 abbrev pub profile_by : Options → Profile
 profile_by options =
     record (with_rule
-    (with_names false (with_names true (base_of (is_some options.base)) (unwrap_or options.allowed []))
+    (with_names false (with_names true (base_of options.base) (unwrap_or options.allowed []))
     (unwrap_or options.excepted [])) options.rule) {
       symlink_draft = is_some options.order;
     }

@@ -10,8 +10,8 @@ use sftp_show::{
     put_record,
 };
 use sftp_transcript::{Reader, Tally, TranscriptError, WINDOW};
-use sftp_tree::Tree;
-use sftp_wire::{Answer, Ask, Side};
+use sftp_tree::{NoMemory, Tree};
+use sftp_wire::{Answer, Ask, NameItem, Names, Side};
 use std::alloc::Global;
 use std::fs::Files;
 use std::io;
@@ -257,8 +257,47 @@ impl<R: Files + AllocGlobal, E: Write> Explanation<'_, '_, R, E> {
         }
     }
 
-    /// What the auditor's session allows in place of an answer.
+    /// What the auditor's session allows in place of an answer to the request that the profile judges.
     fn put_allowed(&mut self, auditor: &Auditor<Judge>, ask: &Ask, answer: &Answer) -> bool {
+        match auditor.judge().replaced(ask) {
+            Ok(Some(other)) => {
+                let put = self.put_told(auditor, &other, answer);
+                drop(other);
+                put
+            }
+            Ok(None) => self.put_told(auditor, ask, answer),
+            Err(_) => self.stop(Unexplained::OutOfMemory),
+        }
+    }
+
+    /// What it allows in place of an answer, but for what the profile leaves free of that.
+    fn put_told(&mut self, auditor: &Auditor<Judge>, ask: &Ask, answer: &Answer) -> bool {
+        match auditor.judge().told(ask, answer) {
+            Ok(Some(told)) => {
+                let put = self.put_undue(auditor, ask, &told);
+                drop(told);
+                put
+            }
+            Ok(None) => self.put_undue(auditor, ask, answer),
+            Err(_) => self.stop(Unexplained::OutOfMemory),
+        }
+    }
+
+    /// What it allows in place of an answer, but for the names that a listing may give.
+    fn put_undue(&mut self, auditor: &Auditor<Judge>, ask: &Ask, answer: &Answer) -> bool {
+        match undue(self.rt.alloc(), auditor.judge(), ask, answer) {
+            Ok(Some(undue)) => {
+                let put = self.put_strict(auditor, ask, &undue);
+                drop(undue);
+                put
+            }
+            Ok(None) => self.put_strict(auditor, ask, answer),
+            Err(_) => self.stop(Unexplained::OutOfMemory),
+        }
+    }
+
+    /// What the session allows strictly in place of an answer.
+    fn put_strict(&mut self, auditor: &Auditor<Judge>, ask: &Ask, answer: &Answer) -> bool {
         let session = auditor.judge().session();
         match explain_reply(self.rt.alloc(), session, ask, answer, self.errors) {
             Ok(()) => true,
@@ -329,14 +368,14 @@ impl<R: Files + AllocGlobal, E: Write> Explanation<'_, '_, R, E> {
     }
 
     /// Whether a session that was fed with the departure of this name accepted continues beyond its refusal without it:
-    /// it is not refused, or at a later record. `made` judges another request than the one that was sent, so with it a
-    /// session may be refused at an earlier record.
+    /// it is not refused, or at a later record. A departure that judges another request than the one that was sent may
+    /// have it refused at an earlier record.
     fn is_beyond(&self, fed: Option<Refusal>, name: &str) -> bool {
         match fed {
             None => self.stopped_by.is_none(),
             Some(other) => {
                 other != self.refusal
-                    && (name != "made" || record_of(other) > record_of(self.refusal))
+                    && (!replaces_requests(name) || record_of(other) > record_of(self.refusal))
             }
         }
     }
@@ -473,6 +512,78 @@ impl<R: Files + AllocGlobal, E: Write> Explanation<'_, '_, R, E> {
             }
         }
     }
+}
+
+/// An answer to READDIR with those of its names alone that the profile does not let a listing give; `None` if there are
+/// none, or the profile goes by what was listed at first.
+///
+/// # Errors
+///
+/// `NoMemory` if memory runs out.
+fn undue(
+    alloc: Global,
+    judge: &Judge,
+    ask: &Ask,
+    answer: &Answer,
+) -> Result<Option<Answer>, NoMemory> {
+    let Answer::Name(names) = answer else {
+        return Ok(None);
+    };
+    if !judge.profile().listing {
+        return Ok(None);
+    }
+    let mut undue = Vec::new(alloc);
+    for item in names.as_slice() {
+        put_undue(&mut undue, alloc, judge, ask, item)?;
+    }
+    if undue.is_empty() {
+        return Ok(None);
+    }
+    Ok(Some(Answer::Name(Names::new(undue))))
+}
+
+/// Adds an item of an answer to READDIR that the profile does not let a listing give.
+///
+/// # Errors
+///
+/// `NoMemory` if memory runs out.
+fn put_undue(
+    undue: &mut Vec<NameItem>,
+    alloc: Global,
+    judge: &Judge,
+    ask: &Ask,
+    item: &NameItem,
+) -> Result<(), NoMemory> {
+    let mut only = Vec::new(alloc);
+    only.push(copy_of(item)?)?;
+    let answer = Answer::Name(Names::new(only));
+    let due = judge.due(ask, &answer);
+    drop(answer);
+    if due?.is_none() {
+        undue.push(copy_of(item)?)?;
+    }
+    Ok(())
+}
+
+/// An item as this one.
+///
+/// # Errors
+///
+/// `NoMemory` if memory runs out.
+fn copy_of(item: &NameItem) -> Result<NameItem, NoMemory> {
+    let filename = item.filename.clone()?;
+    let longname = item.longname.clone()?;
+    let attrs = item.attrs.clone()?;
+    Ok(NameItem {
+        filename,
+        longname,
+        attrs,
+    })
+}
+
+/// Whether the departure of this name judges other requests than those that were sent.
+fn replaces_requests(name: &str) -> bool {
+    name == "made" || name == "keep-owner"
 }
 
 /// The number of the record that a refusal names.

@@ -14,7 +14,7 @@ use std::alloc::{AllocError, Global};
 /// The option that names a profile.
 pub(crate) const PROFILE: Argument = (
     "profile",
-    Form::OneOf("NAME", &["posix"]),
+    Form::OneOf("NAME", &["posix", "posix-user"]),
     "Accept what servers with real file systems do differently",
 );
 
@@ -42,7 +42,7 @@ pub(crate) const UMASK: Argument = (
 /// The option that says who may own what is made.
 pub(crate) const NEW_OWNER: Argument = (
     "new-owner",
-    Form::OneOf("RULE", &["user", "given", "group"]),
+    Form::OneOf("RULE", &["user", "given", "group", "posix"]),
     "With the departure 'made': who owns what is made",
 );
 
@@ -71,7 +71,7 @@ pub(crate) fn profile_of(given: &ArgMatches<'_>) -> Option<Profile>
     let excepted = given.get_strs("except");
     let order = given.get_str("symlink");
     if order.is_some() || base.is_some() || allowed.is_some() || excepted.is_some() {
-        let profile = switched(base_of(base.is_some()), allowed.unwrap_or(&[]), true);
+        let profile = switched(base_of(base), allowed.unwrap_or(&[]), true);
         let profile = switched(profile, excepted.unwrap_or(&[]), false);
         let profile = with_rule(profile, given.get_str("new-owner"));
         return Some(with_order(profile, order.is_some()));
@@ -79,15 +79,24 @@ pub(crate) fn profile_of(given: &ArgMatches<'_>) -> Option<Profile>
     None
 }
 
-/// The one profile that has a name, or the strict one.
-fn base_of(is_named: bool) -> Profile
-    ensures { result ≡ spec.base_of is_named }
+/// The profile of this name, or the strict one.
+fn base_of(name: Option<&str>) -> Profile
+    ensures { result ≡ spec.base_of (option_map (λ text. text.now) name.entry) }
 {
-    if is_named {
-        Profile::posix()
-    } else {
-        Profile::strict()
+    match name {
+        Some(name) => named(name),
+        None => Profile::strict(),
     }
+}
+
+/// The profile of this name.
+fn named(name: &str) -> Profile
+    ensures { result ≡ spec.named name.now }
+{
+    if name == "posix-user" {
+        return Profile::posix_user();
+    }
+    Profile::posix()
 }
 
 /// The profile with this rule of who owns what is made, if it accepts the departure `made`.
@@ -119,6 +128,9 @@ fn new_owner(rule: &str) -> NewOwner
     }
     if rule == "group" {
         return NewOwner::Group;
+    }
+    if rule == "posix" {
+        return NewOwner::Posix;
     }
     NewOwner::User
 }

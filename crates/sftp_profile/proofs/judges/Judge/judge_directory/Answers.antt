@@ -1,8 +1,8 @@
 use Rattle.std.proofs.Common.{sym, ◌∙◌, true, None}
 use Rattle.std.specs.Prelude.{if◌then◌else◌}
 use Rattle.std.proofs.lemmas.Result.{IfOk-weaker}
-use Rattle.sftp_profile.specs.Through.{directory_of, passes_directory, stands_for}
-use Rattle.sftp_profile.specs.Permitted.{first_of, taken_as, listed_as, under, by_directory}
+use Rattle.sftp_profile.specs.Through.{directory_of, passes_directory}
+use Rattle.sftp_profile.specs.Permitted.{first_of, taken_as, listed_as, standing_for, under, by_directory}
 use Rattle.sftp_profile.specs.Judged.{Outcome, IsByDirectory}
 use Rattle.sftp_profile.proofs.Permissions.{first-outcome, second-result}
 use Rattle.sftp_profile.proofs.Meetings.{forgiven-outcome, unforgiven-outcome}
@@ -42,7 +42,7 @@ returns c =
     (under s
     (first_of
     (if s.profile.open_dir
-    then taken_as s.profile s.session (stands_for s.profile (directory_of s.directories ask) ask answer) answer
+    then taken_as s.profile s.session (standing_for s.profile s.session (directory_of s.directories ask) ask answer) answer
     else None)
     (if s.profile.listing then listed_as s.profile s.session (directory_of s.directories ask) ask answer else None))) s
     ok end)
@@ -53,7 +53,7 @@ returns c =
     (second-result
     (λ x.
     if x.profile.open_dir
-    then taken_as x.profile x.session (stands_for x.profile (directory_of x.directories ask) ask answer) answer
+    then taken_as x.profile x.session (standing_for x.profile x.session (directory_of x.directories ask) ask answer) answer
     else None)
     (λ x. if x.profile.listing then listed_as x.profile x.session (directory_of x.directories ask) ask answer else None)
     s c.take_standing.new.self end c.take_listed.result c.in_ok-take_standing.field-0 c.if-branch.false

@@ -18,7 +18,7 @@ returns-then-keeps_requests c =
     (λ ok. IsStep s ask answer ok c.judge.new.self)
     (λ ok found.
     replaced-outcome s c.judge.new.self ask ask answer ok
-    (put-same s.profile s.session.tree ask keeps) found) c.judge.ensures
+    (put-same s.profile s.session ask keeps) found) c.judge.ensures
 
 pub returns-in_default : goal.returns-in_default
 returns-in_default c =

@@ -1,6 +1,7 @@
 use Rattle.std.proofs.Common.{sym, ◌∙◌}
 use Rattle.std.proofs.lemmas.Result.{IfOk-weaker}
-use Rattle.sftp_profile.specs.Through.{directory_of, stands_for}
+use Rattle.sftp_profile.specs.Through.{directory_of}
+use Rattle.sftp_profile.specs.Permitted.{standing_for}
 use Rattle.sftp_profile.specs.Judged.{IsPermitted, IsStanding}
 use Rattle.sftp_profile.proofs.Meetings.{off-outcome, on-outcome, standing-outcome, no-standing}
 use Rattle.sftp_profile.proofs.judges.Judge.take_standing.Goals as goal
@@ -16,7 +17,7 @@ returns-in_default c =
     let ask = c.args.ask.now in
     let answer = c.args.reply.now.answer in
     on-outcome s s s.profile.open_dir _ _ (sym c.opens_directories.ensures ∙ c.if-not-opens_directories.false)
-    (no-standing s (stands_for s.profile (directory_of s.directories ask) ask answer) answer
+    (no-standing s (standing_for s.profile s.session (directory_of s.directories ask) ask answer) answer
     (sym c.in_ok-ask.ensures ∙ c.in_default.is))
 
 pub returns : goal.returns
@@ -29,6 +30,6 @@ returns c =
     (λ ok. IsStanding s ask answer ok end)
     (λ ok found.
     on-outcome s end s.profile.open_dir _ ok (sym c.opens_directories.ensures ∙ c.if-not-opens_directories.false)
-    (standing-outcome s end (stands_for s.profile (directory_of s.directories ask) ask answer) c.in-Some.ask answer ok
+    (standing-outcome s end (standing_for s.profile s.session (directory_of s.directories ask) ask answer) c.in-Some.ask answer ok
     (sym c.in_ok-ask.ensures ∙ c.in-Some.is) found))
     c.permit-permitted.ensures.ok
