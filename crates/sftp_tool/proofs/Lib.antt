@@ -1,3 +1,4 @@
 mod CutLaws
 mod VerdictLaws
 mod ProfileLaws
+mod OptionLaws

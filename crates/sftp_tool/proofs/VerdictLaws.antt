@@ -8,16 +8,13 @@ use Rattle.sftp_transcript.specs.declared.stage.Stage.TheVariants as stages
 use Rattle.sftp_transcript.specs.Explained.{StepOf}
 use Rattle.sftp_transcript.specs.Recorded.{Reading}
 use Rattle.sftp_audit.specs.declared.audits.Accepted.{Accepted}
-use Rattle.sftp_audit.specs.declared.errors.Refusal.{Refusal}
-use Rattle.sftp_audit.specs.declared.errors.Refusal.TheVariants as refusals
 use Rattle.sftp_audit.specs.declared.errors.AuditError.{AuditError}
 use Rattle.sftp_audit.specs.declared.errors.AuditError.TheVariants as audit_errors
 use Rattle.sftp_audit.specs.Audit.{AccountsBy, IsFirstFaultBy, IsNoJudgement, IsNew, request_count}
 use Rattle.sftp_tool.specs.declared.messages.Ending.{Ending}
 use Rattle.sftp_tool.specs.declared.messages.Ending.TheVariants as endings
 use Rattle.sftp_tool.specs.declared.messages.Failure.{Failure}
-use Rattle.sftp_tool.specs.Failures.{IsOutcome}
-use Rattle.sftp_tool.specs.Verdicts.{HasNoRun, IsAudit, IsVerdict}
+use Rattle.sftp_tool.specs.Verdicts.{HasNoRun, IsAudit, IsVerdict, IsReportOf}
 
 -- ---- a reader of a stream whose bytes are known
 
@@ -84,11 +81,8 @@ module _ {S : Type 0} (step : StepOf S) (begin : Tree → S) (close : S → Tree
     refused-verdict error (Ok other) is judged audit = absurd cc
     refused-verdict error (Err failure) is judged audit = tt
 
--- what is a refusal is a judgement
-pub outcome-judged : (name : List ℕ) (error : AuditError) (refusal : Refusal) → IsOutcome name error (Ok refusal)
-    → IsNoJudgement error → ⊥
-outcome-judged name (audit_errors.Refused refusals.NoMemory) refusal outcome none = absurd cc
-outcome-judged name (audit_errors.Refused other) refusal outcome none = absurd none
-outcome-judged name (audit_errors.Tree error) refusal outcome none = absurd cc
-outcome-judged name (audit_errors.Transcript error) refusal outcome none = absurd outcome
-outcome-judged name audit_errors.NoMemory refusal outcome none = absurd cc
+    pub reported : (judged : Result Accepted AuditError) (result : Result Ending Failure) → IsReportOf judged result
+        → IsAudit step begin close tree known judged → IfOk result (IsVerdict step begin close tree known)
+    reported (Ok accepted) result says audit = accepted-verdict accepted result says audit
+    reported (Err error) (Ok ending) says audit = refused-verdict error (Ok ending) says.0 says.1 audit
+    reported (Err error) (Err failure) says audit = tt

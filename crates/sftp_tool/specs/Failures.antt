@@ -30,6 +30,12 @@ abbrev pub IsUnreplacedFile : List ℕ → Failure → Type 0
 IsUnreplacedFile name (failures.CannotReplace file _) = file.now ≡ name
 IsUnreplacedFile name _ = ⊥
 
+-- usage is bad, or memory ran out
+abbrev pub IsUsage : Failure → Type 0
+IsUsage (failures.Usage _) = Unit {0}
+IsUsage failures.OutOfMemory = Unit {0}
+IsUsage _ = ⊥
+
 -- a file cannot be read, or memory ran out
 abbrev pub IsUnread : Failure → Type 0
 IsUnread (failures.CannotRead _ _) = Unit {0}

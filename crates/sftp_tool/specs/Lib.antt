@@ -3,3 +3,5 @@ pub mod Failures
 pub mod Status
 pub mod Profiles
 pub mod Verdicts
+pub mod Options
+pub mod Requests

@@ -1,11 +1,16 @@
 -- The profile that the options of `audit` name.
 use Rattle.std.specs.Prelude.{◌||◌, ℕ, Bool, true, false, if◌then◌else◌, List, [], ◌∷◌, Option, Some, None}
 use Rattle.std.specs.Prelude.{is_some, unwrap_or, bytes_eq, codes}
+use Rattle.std.specs.Option.{option_map}
+use Rattle.clap.specs.declared.parser.matches.Found.{Found}
+use Rattle.clap.specs.Matches.{matched_of, raw_values, first_value}
+use Rattle.clap.specs.Walk.{Row}
 use Rattle.sftp_profile.specs.declared.profiles.Profile.{Profile}
 use Rattle.sftp_profile.specs.declared.profiles.NewOwner.{NewOwner}
 use Rattle.sftp_profile.specs.declared.profiles.NewOwner.TheVariants.{User, Given, Group, Posix}
 use Rattle.sftp_profile.specs.Profiles.{strict, posix, posix_user}
 use Rattle.sftp_profile.specs.Names.{with_name}
+use Rattle.sftp_tool.specs.Options.{value_in, values_in}
 
 -- the profile of a name
 abbrev pub named : List ℕ → Profile
@@ -48,6 +53,26 @@ pub record Options : Type 0 where
   pub excepted : Option (List (List ℕ))
   pub rule : Option (List ℕ)
   pub order : Option (List ℕ)
+
+-- what the command line gives for each of them
+abbrev pub options_in : List Row → Options
+options_in rows = record {
+  base = value_in rows (codes "profile");
+  allowed = values_in rows (codes "allow");
+  excepted = values_in rows (codes "except");
+  rule = value_in rows (codes "new-owner");
+  order = value_in rows (codes "symlink");
+}
+
+-- the same by what the parser found
+abbrev pub options_found : Found → Options
+options_found found = record {
+  base = first_value found (codes "profile");
+  allowed = option_map raw_values (matched_of found (codes "allow"));
+  excepted = option_map raw_values (matched_of found (codes "except"));
+  rule = first_value found (codes "new-owner");
+  order = first_value found (codes "symlink");
+}
 
 -- the profile by these options, but for the umask
 abbrev pub profile_by : Options → Profile

@@ -1,5 +1,5 @@
 -- The exit status of each outcome of a run.
-use Rattle.std.specs.Prelude.{ℕ}
+use Rattle.std.specs.Prelude.{ℕ, ◌≤◌, Result, Ok, Err}
 use Rattle.sftp_tool.specs.declared.messages.Ending.{Ending}
 use Rattle.sftp_tool.specs.declared.messages.Ending.TheVariants.{Done, Refused, Different, Explained}
 use Rattle.sftp_tool.specs.declared.messages.Failure.{Failure}
@@ -26,3 +26,8 @@ failure_status (failures.CannotReplace _ _) = 3
 failure_status (failures.Unfit _ _) = 3
 failure_status (failures.OverLimit _) = 3
 failure_status failures.OutOfMemory = 3
+
+-- An audit that has a verdict ends with 0 or 1, and one that failed with 2 or 3.
+abbrev pub IsAuditStatus : Result Ending Failure → Type 0
+IsAuditStatus (Ok ending) = ending_status ending ≤ 1
+IsAuditStatus (Err failure) = 2 ≤ failure_status failure

@@ -1,5 +1,5 @@
 -- What an audit of a tree file and of a transcript says, where the bytes of the transcript are known.
-use Rattle.std.specs.Prelude.{◌≡◌, ℕ, List, Option, Some, Result, Ok, Err}
+use Rattle.std.specs.Prelude.{◌≡◌, ℕ, List, Option, Some, Result, Ok, Err, IfOk}
 use Rattle.sftp_tree.specs.Tree.{Tree}
 use Rattle.sftp_tree.specs.Picture.{picture}
 use Rattle.sftp_handles.specs.State.{started, closed_tree}
@@ -14,6 +14,7 @@ use Rattle.sftp_audit.specs.declared.errors.AuditError.{AuditError}
 use Rattle.sftp_audit.specs.Audit.{AccountsBy, IsFirstFaultBy, IsNoJudgement, request_count}
 use Rattle.sftp_tool.specs.declared.messages.Ending.{Ending}
 use Rattle.sftp_tool.specs.declared.messages.Ending.TheVariants as endings
+use Rattle.sftp_tool.specs.declared.messages.Failure.{Failure}
 
 -- the tree file and the transcript account for a run
 abbrev pub HasRun : {S : Type 0} → StepOf S → (Tree → S) → (S → Tree) → List ℕ → List ℕ → Type 0
@@ -45,6 +46,17 @@ IsVerdict step begin close tree known endings.Done =
 IsVerdict step begin close tree known endings.Refused =
     (transcript : List ℕ) → known ≡ Some transcript → HasNoRun step begin close tree transcript
 IsVerdict step begin close tree known other = ⊥
+
+-- ---- what the program says of an audit
+
+-- The session is refused where the error is a judgement.
+abbrev pub IsReportOfError : AuditError → Ending → Type 0
+IsReportOfError error ending = (ending ≡ endings.Refused) × (IsNoJudgement error → ⊥)
+
+-- The session is accepted or refused as by the audit. Where the run fails this says nothing.
+abbrev pub IsReportOf : Result Accepted AuditError → Result Ending Failure → Type 0
+IsReportOf (Ok accepted) result = IfOk result (λ ending. ending ≡ endings.Done)
+IsReportOf (Err error) result = IfOk result (IsReportOfError error)
 
 -- ---- strictly, or under a profile
 

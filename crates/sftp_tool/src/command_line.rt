@@ -1,4 +1,13 @@
 //! The command line: the table of arguments, the help texts, and what a command line asks for.
+ghost use Rattle.std.specs.Prelude.{◌≡◌, ℕ, List, None, Some, MatchOption, codes};
+ghost use Rattle.std.specs.Option.{option_map};
+ghost use Rattle.std.specs.Str.Parse.{digits_value};
+ghost use Rattle.clap.specs.Matches.{found_of};
+ghost use Rattle.clap.specs.Simple.{subcommand_rows_of};
+ghost use Rattle.clap.specs.Walk.{Row, rows_of};
+ghost use Rattle.sftp_tool.specs.Options.{IsPermissions, value_in};
+ghost use Rattle.sftp_tool.specs.Requests.{IsAuditAsked, IsAuditRequest, LacksFile};
+
 use crate::messages::{Failure, MORE};
 use crate::profiles;
 use crate::saving::{Keeping, PRIVATE};
@@ -362,7 +371,10 @@ fn matched_by<'a>(command: &mut Command<'a>, words: &'a [String]) -> Result<Requ
 }
 
 // Slow to prove: six calls each of which may give no request.
-fn requested<'a>(matches: &ArgMatches<'a>) -> Option<Request<'a>> {
+fn requested<'a>(matches: &ArgMatches<'a>) -> Option<Request<'a>>
+    ensures { (rows : List Row) → subcommand_rows_of matches.now ≡ Some (codes "audit", rows)
+        → MatchOption result (LacksFile rows) (IsAuditRequest rows) }
+{
     let (name, given) = matches.subcommand()?;
     match name {
         "serve" => serve_options(given).map(Request::Serve),
@@ -432,7 +444,11 @@ fn keeping_of(given: &ArgMatches<'_>) -> Keeping {
 }
 
 /// The permissions of this text, or those without the option.
-fn mode_of(text: Option<&str>) -> u32 {
+fn mode_of(text: Option<&str>) -> u32
+    ensures given { (digits : List ℕ) → option_map (λ mode. mode.now) text.entry ≡ Some digits
+        → IsPermissions digits → result ≡ digits_value 8 digits }
+    ensures usual { option_map (λ mode. mode.now) text.entry ≡ None → result ≡ PRIVATE }
+{
     match text {
         Some(text) => profiles::octal(text).unwrap_or(PRIVATE),
         None => PRIVATE,
@@ -451,17 +467,26 @@ fn serve_options<'a>(given: &ArgMatches<'a>) -> Option<ServeOptions<'a>> {
     })
 }
 
-fn audit_options<'a>(given: &ArgMatches<'a>) -> Option<AuditOptions<'a>> {
+fn audit_options<'a>(given: &ArgMatches<'a>) -> Option<AuditOptions<'a>>
+    ensures { let rows = rows_of (found_of given.now) in MatchOption result (LacksFile rows) (IsAuditAsked rows) }
+{
     Some(AuditOptions {
-        tree: given.get_str("tree")?,
-        transcript: given.get_str("transcript")?,
-        out: given.get_str("out"),
+        tree: value(given, "tree")?,
+        transcript: value(given, "transcript")?,
+        out: value(given, "out"),
         memory: given.get_one("memory"),
         keeping: keeping_of(given),
         explains: given.get_flag("explain"),
         profile: profiles::profile_of(given),
-        umask: given.get_str("umask"),
+        umask: value(given, "umask"),
     })
+}
+
+/// The value that the command line gives for the option of this name.
+fn value<'a>(given: &ArgMatches<'a>, name: &str) -> Option<&'a str>
+    ensures { option_map (λ text. text.now) result ≡ value_in (rows_of (found_of given.now)) name.now }
+{
+    given.get_str(name)
 }
 
 /// An argument of a subcommand: its name, its form, and what the help says of it.

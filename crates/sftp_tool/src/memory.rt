@@ -1,4 +1,7 @@
 //! A limit on the memory of the process, and streams that end with it.
+ghost use Rattle.std.specs.Prelude.{◌≡◌, ◌<◌, IfErr};
+ghost use Rattle.sftp_tool.specs.Failures.{IsUnread};
+
 use crate::messages::Failure;
 use crate::system::System;
 use std::fs::File;
@@ -30,7 +33,9 @@ pub(crate) struct Meter {
 
 impl Meter {
     /// With this limit in bytes, or none.
-    pub(crate) fn new<'a, R: System>(rt: &R, limit: Option<u64>) -> Result<Meter, Failure<'a>> {
+    pub(crate) fn new<'a, R: System>(rt: &R, limit: Option<u64>) -> Result<Meter, Failure<'a>>
+        ensures { IfErr result IsUnread }
+    {
         match limit {
             Some(limit) => match fs::open(rt, SIZES) {
                 Ok(sizes) => Ok(Meter {
@@ -87,18 +92,24 @@ pub(crate) struct Bounded<'m, T> {
 }
 
 impl<'m, T> Bounded<'m, T> {
-    pub(crate) fn new(inner: T, meter: &'m mut Meter) -> Bounded<'m, T> {
+    pub(crate) fn new(inner: T, meter: &'m mut Meter) -> Bounded<'m, T>
+        ensures { result.inner ≡ inner }
+    {
         Bounded { inner, meter }
     }
 }
 
 /// How many bytes of a transcript may be read before the next look at the memory: so few that for each request in them
 /// there is room for a file.
-fn piece(room: u64) -> usize {
+fn piece(room: u64) -> usize
+    ensures { 0 < result }
+{
     (room / FILE_LIMIT).saturating_add(1).saturating_mul(LEAST) as usize
 }
 
 impl<R: Read> Read for Bounded<'_, R> {
+    ghost remaining = { λ bounded. R.remaining bounded.inner };
+
     fn read(&mut self, buffer: &mut [u8]) -> io::Result<usize> {
         let room = self.meter.room()?;
         let count = piece(room).min(buffer.len());

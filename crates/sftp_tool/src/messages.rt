@@ -3,7 +3,7 @@ ghost use Rattle.std.specs.Prelude.{◌≡◌, ◌≢◌, ◌≤◌, IfOk, IfErr
 ghost use Rattle.std.specs.IoError.{error_kind};
 ghost use Rattle.std.specs.declared.io.ErrorKind.TheVariants as kinds;
 ghost use Rattle.sftp_tool.specs.declared.messages.Failure.TheVariants as failures;
-ghost use Rattle.sftp_tool.specs.Failures.{tree_failure, IsTranscriptFailure};
+ghost use Rattle.sftp_tool.specs.Failures.{tree_failure, IsTranscriptFailure, IsUsage};
 ghost use Rattle.sftp_tool.specs.Failures.{IsUnreadFile, IsUnwritten, IsUnwrittenFile, IsUnreplacedFile};
 
 use crate::names::Named;
@@ -205,7 +205,9 @@ impl<'a> Failure<'a> {
 
 impl Failure<'_> {
     /// Bad usage with this message, unless there is no memory for it.
-    pub(crate) fn of_usage(message: Result<String, AllocError>) -> Self {
+    pub(crate) fn of_usage(message: Result<String, AllocError>) -> Self
+        ensures { IsUsage result }
+    {
         match message {
             Ok(message) => Failure::Usage(message),
             Err(_) => Failure::OutOfMemory,

@@ -1,8 +1,12 @@
 //! The options of `audit` that say which departures from the strict reading are accepted.
-ghost use Rattle.std.specs.Prelude.{◌≡◌, codes, map};
+ghost use Rattle.std.specs.Prelude.{◌≡◌, ◌↔◌, IsTrue, MatchOption, MatchResult, codes, map, slice_index, unwrap_or};
 ghost use Rattle.std.specs.Option.{option_map};
-ghost use Rattle.clap.specs.Matches.{found_of, matched_of, raw_values, first_value};
+ghost use Rattle.std.specs.Str.Parse.{digits_value};
+ghost use Rattle.clap.specs.Matches.{found_of};
+ghost use Rattle.clap.specs.Walk.{rows_of};
+ghost use Rattle.sftp_tool.specs.Failures.{IsUsage};
 ghost use Rattle.sftp_tool.specs.Profiles as spec;
+ghost use Rattle.sftp_tool.specs.Options.{IsPermissions};
 
 use crate::command_line::{Argument, Form};
 use crate::messages::{Failure, MORE};
@@ -58,13 +62,14 @@ const USUAL_UMASK: &str = "022";
 
 /// The profile that the options name, without the umask; `None`, which is the strict reading, if there are none.
 pub(crate) fn profile_of(given: &ArgMatches<'_>) -> Option<Profile>
-    ensures { result ≡ spec.profile_asked (record {
-      base = first_value (found_of given.now) (codes "profile");
-      allowed = option_map raw_values (matched_of (found_of given.now) (codes "allow"));
-      excepted = option_map raw_values (matched_of (found_of given.now) (codes "except"));
-      rule = first_value (found_of given.now) (codes "new-owner");
-      order = first_value (found_of given.now) (codes "symlink");
-    }) }
+    ensures { result ≡ spec.profile_asked (spec.options_in (rows_of (found_of given.now))) }
+{
+    profile_found(given)
+}
+
+/// The same, by what the parser found for each option.
+fn profile_found(given: &ArgMatches<'_>) -> Option<Profile>
+    ensures { result ≡ spec.profile_asked (spec.options_found (found_of given.now)) }
 {
     let base = given.get_str("profile");
     let allowed = given.get_strs("allow");
@@ -169,7 +174,11 @@ pub(crate) fn with_umask(profile: Option<Profile>, umask: u32) -> Option<Profile
 /// # Errors
 ///
 /// `Usage` if the text is no octal number up to 0777, and `OutOfMemory`.
-pub(crate) fn umask_of<'a>(alloc: Global, text: Option<&str>) -> Result<u32, Failure<'a>> {
+pub(crate) fn umask_of<'a>(alloc: Global, text: Option<&str>) -> Result<u32, Failure<'a>>
+    ensures { let digits = unwrap_or (option_map (λ given. given.now) text.entry) (codes "022") in
+        MatchResult result (λ umask. IsPermissions digits × (umask ≡ digits_value 8 digits))
+        (λ failure. (IsPermissions digits → ⊥) × IsUsage failure) }
+{
     let text = text.unwrap_or(USUAL_UMASK);
     match octal(text) {
         Some(umask) => Ok(umask),
@@ -186,19 +195,22 @@ fn bad_umask(alloc: Global, text: &str) -> Result<String, AllocError> {
 }
 
 /// The number of this text, if it has one to four octal digits and is at most 0777.
-pub(crate) fn octal(text: &str) -> Option<u32> {
-    let digits = text.as_bytes();
-    if digits.is_empty() || digits.len() > 4 {
+pub(crate) fn octal(text: &str) -> Option<u32>
+    ensures { MatchOption result (IsPermissions text.now → ⊥)
+        (λ number. IsPermissions text.now × (number ≡ digits_value 8 text.now)) }
+{
+    if text.len() > 4 || has_plus(text) {
         return None;
     }
-    let mut number: u32 = 0;
-    for digit in digits {
-        if !(b'0'..=b'7').contains(digit) {
-            return None;
-        }
-        number = number
-            .saturating_mul(8)
-            .saturating_add(u32::from(*digit - b'0'));
+    match u32::from_str_radix(text, 8) {
+        Ok(number) if number <= 0o777 => Some(number),
+        _ => None,
     }
-    if number > 0o777 { None } else { Some(number) }
+}
+
+/// Whether a text begins with a plus sign, which the parser of numbers takes.
+fn has_plus(text: &str) -> bool
+    ensures { IsTrue result ↔ slice_index text.now 0 ≡ 43 }
+{
+    text.as_bytes().first() == Some(&b'+')
 }

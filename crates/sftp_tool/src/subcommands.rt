@@ -1,12 +1,14 @@
 //! The subcommands.
-ghost use Rattle.std.specs.Prelude.{◌≡◌, None, Some, IfOk, IfErr, MatchResult};
+ghost use Rattle.std.specs.Prelude.{◌≡◌, ◌≤◌, None, Some, IfOk, IfErr, MatchResult};
 ghost use Rattle.sftp_tree.specs.Tree.{Tree as tree, raised};
 ghost use Rattle.sftp_tree.specs.Picture.{IsStart, picture};
 ghost use Rattle.sftp_tool.specs.declared.messages.Ending.TheVariants as endings;
 ghost use Rattle.sftp_tool.specs.declared.messages.Failure.TheVariants as failures;
 ghost use Rattle.sftp_profile.specs.declared.profiles.Profile.{Profile as profile};
 ghost use Rattle.sftp_tool.specs.Failures.{IsOutcome, IsUnread, IsUnwritten};
-ghost use Rattle.sftp_tool.specs.Verdicts.{IsStrictAudit, IsAuditUnder};
+ghost use Rattle.sftp_tool.specs.Status.{IsAuditStatus, failure_status};
+ghost use Rattle.sftp_tool.specs.Verdicts.{IsStrictAudit, IsAuditUnder, IsReportOf, IsReportOfError};
+ghost use Rattle.sftp_tool.specs.Verdicts.{IsStrictVerdict, IsVerdictUnder};
 
 use crate::command_line::AuditOptions;
 use crate::explaining::explain;
@@ -31,7 +33,9 @@ pub(crate) fn audit<'a, R: System, O: Write, E: Write>(
     files: &AuditOptions<'a>,
     output: &mut O,
     errors: &mut E,
-) -> Result<Ending, Failure<'a>> {
+) -> Result<Ending, Failure<'a>>
+    ensures { IsAuditStatus result }
+{
     let umask = umask_of(rt.alloc(), files.umask)?;
     let mut options = *files;
     options.profile = with_umask(files.profile, umask);
@@ -44,7 +48,9 @@ fn audit_by<'a, R: System, O: Write, E: Write>(
     files: &AuditOptions<'a>,
     output: &mut O,
     errors: &mut E,
-) -> Result<Ending, Failure<'a>> {
+) -> Result<Ending, Failure<'a>>
+    ensures { IsAuditStatus result }
+{
     let tree = read_at_most(rt, files.tree, files.memory)?;
     let ending = audit_from(rt, files, tree.as_slice(), output, errors);
     drop(tree);
@@ -58,8 +64,28 @@ fn audit_from<'a, R: System, O: Write, E: Write>(
     tree: &[u8],
     output: &mut O,
     errors: &mut E,
-) -> Result<Ending, Failure<'a>> {
+) -> Result<Ending, Failure<'a>>
+    ensures { IsAuditStatus result }
+{
     let transcript = open(rt, files.transcript)?;
+    audit_transcript(rt, files, tree, transcript, output, errors)
+}
+
+/// Audits the session of this transcript, within the limit on memory if there is one. Without an option of a profile
+/// the session is judged strictly.
+fn audit_transcript<'a, F: Read + Drop, R: System, O: Write, E: Write>(
+    rt: &R,
+    files: &AuditOptions<'a>,
+    tree: &[u8],
+    transcript: F,
+    output: &mut O,
+    errors: &mut E,
+) -> Result<Ending, Failure<'a>>
+    ensures strictly { files.now.profile ≡ None → IfOk result (IsStrictVerdict tree.now (F.remaining transcript)) }
+    ensures under { (by : profile) → files.now.profile ≡ Some by →
+        IfOk result (IsVerdictUnder by tree.now (F.remaining transcript)) }
+    ensures status { IsAuditStatus result }
+{
     match files.memory {
         Some(_) => audit_within(rt, files, tree, transcript, output, errors),
         None => judge_and_report(rt, files, tree, transcript, output, errors),
@@ -74,7 +100,12 @@ fn audit_within<'a, F: Read + Drop, R: System, O: Write, E: Write>(
     transcript: F,
     output: &mut O,
     errors: &mut E,
-) -> Result<Ending, Failure<'a>> {
+) -> Result<Ending, Failure<'a>>
+    ensures strictly { files.now.profile ≡ None → IfOk result (IsStrictVerdict tree.now (F.remaining transcript)) }
+    ensures under { (by : profile) → files.now.profile ≡ Some by →
+        IfOk result (IsVerdictUnder by tree.now (F.remaining transcript)) }
+    ensures status { IsAuditStatus result }
+{
     let mut meter = Meter::new(rt, files.memory)?;
     let bounded = Bounded::new(transcript, &mut meter);
     match judge_and_report(rt, files, tree, bounded, output, errors) {
@@ -84,7 +115,6 @@ fn audit_within<'a, F: Read + Drop, R: System, O: Write, E: Write>(
 }
 
 /// Audits the session of this transcript, and says what came of it.
-// Slow to prove: each of its exits is a call that may fail, one of them while it owns the outcome of the audit.
 fn judge_and_report<'a, F: Read + Drop, R: System, O: Write, E: Write>(
     rt: &R,
     files: &AuditOptions<'a>,
@@ -92,18 +122,54 @@ fn judge_and_report<'a, F: Read + Drop, R: System, O: Write, E: Write>(
     transcript: F,
     output: &mut O,
     errors: &mut E,
-) -> Result<Ending, Failure<'a>> {
+) -> Result<Ending, Failure<'a>>
+    ensures strictly { files.now.profile ≡ None → IfOk result (IsStrictVerdict tree.now (F.remaining transcript)) }
+    ensures under { (by : profile) → files.now.profile ≡ Some by →
+        IfOk result (IsVerdictUnder by tree.now (F.remaining transcript)) }
+    ensures status { IsAuditStatus result }
+{
     let mut follows = true;
-    match judge(rt.alloc(), files.profile, tree, transcript, &mut follows) {
-        Ok(accepted) => {
-            let ending = accept(rt, &accepted, files, output);
-            drop(accepted);
-            ending
-        }
-        Err(error) => match refusal_or_failure(error, files.transcript) {
-            Ok(refusal) => report_refusal(rt, files, tree, refusal, follows, output, errors),
-            Err(failure) => Err(failure),
-        },
+    let judged = judge(rt.alloc(), files.profile, tree, transcript, &mut follows);
+    let ending = report(rt, files, tree, &judged, follows, output, errors);
+    drop(judged);
+    ending
+}
+
+/// Says what came of the audit of a session of these files.
+fn report<'a, R: System, O: Write, E: Write>(
+    rt: &R,
+    files: &AuditOptions<'a>,
+    tree: &[u8],
+    judged: &Result<Accepted, AuditError>,
+    follows: bool,
+    output: &mut O,
+    errors: &mut E,
+) -> Result<Ending, Failure<'a>>
+    ensures of_audit { IsReportOf judged.now result }
+    ensures status { IsAuditStatus result }
+{
+    match judged {
+        Ok(accepted) => accept(rt, accepted, files, output),
+        Err(error) => report_error(rt, files, tree, *error, follows, output, errors),
+    }
+}
+
+/// Says why a session of these files is not accepted.
+fn report_error<'a, R: Files + AllocGlobal, O: Write, E: Write>(
+    rt: &R,
+    files: &AuditOptions<'a>,
+    tree: &[u8],
+    error: AuditError,
+    follows: bool,
+    output: &mut O,
+    errors: &mut E,
+) -> Result<Ending, Failure<'a>>
+    ensures of_error { IfOk result (IsReportOfError error) }
+    ensures status { IsAuditStatus result }
+{
+    match refusal_or_failure(error, files.transcript) {
+        Ok(refusal) => report_refusal(rt, files, tree, refusal, follows, output, errors),
+        Err(failure) => Err(failure),
     }
 }
 
@@ -118,6 +184,7 @@ fn report_refusal<'a, R: Files + AllocGlobal, O: Write, E: Write>(
     errors: &mut E,
 ) -> Result<Ending, Failure<'a>>
     ensures ok { IfOk result (λ ending. ending ≡ endings.Refused) }
+    ensures err { IfErr result IsUnwritten }
 {
     let ending = refuse(refusal, follows, output)?;
     if files.explains {
@@ -275,7 +342,8 @@ fn refuse<'a, O: Write>(
 
 /// The refusal of a session by the error of its audit, or the failure of the run. The transcript has this name.
 fn refusal_or_failure<'a>(error: AuditError, transcript: &'a str) -> Result<Refusal, Failure<'a>>
-    ensures { IsOutcome transcript.now error result }
+    ensures outcome { IsOutcome transcript.now error result }
+    ensures status { IfErr result (λ failure. 2 ≤ failure_status failure) }
 {
     match error {
         AuditError::Refused(Refusal::NoMemory) | AuditError::NoMemory => Err(Failure::OutOfMemory),
@@ -300,7 +368,9 @@ pub(crate) fn read_at_most<'a, R: Files + AllocGlobal>(
     rt: &R,
     name: &'a str,
     most: Option<u64>,
-) -> Result<Vec<u8>, Failure<'a>> {
+) -> Result<Vec<u8>, Failure<'a>>
+    ensures { IfErr result (λ failure. failure_status failure ≡ 3) }
+{
     match most {
         Some(most) => read_some(rt, name, most),
         None => read(rt, name),
@@ -311,7 +381,9 @@ fn read_some<'a, R: Files + AllocGlobal>(
     rt: &R,
     name: &'a str,
     most: u64,
-) -> Result<Vec<u8>, Failure<'a>> {
+) -> Result<Vec<u8>, Failure<'a>>
+    ensures { IfErr result (λ failure. failure_status failure ≡ 3) }
+{
     let file = open(rt, name)?;
     let mut bytes = Vec::new(rt.alloc());
     match file.take(most.saturating_add(1)).read_to_end(&mut bytes) {
