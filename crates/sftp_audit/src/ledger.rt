@@ -4,6 +4,7 @@ ghost use Rattle.std.specs.Prelude.{OnOk, OnErr, IfErr, option_copied};
 ghost use Rattle.std.specs.VecDeque.{deque_len, deque_capacity};
 ghost use Rattle.sftp_transcript.specs.Explained.{window};
 ghost use Rattle.sftp_audit.specs.Exchanges.{is_open, with_reply};
+ghost use Rattle.sftp_audit.specs.Cuts.{unanswered_count};
 ghost use Rattle.sftp_audit.specs.Ledger.{starts_answered, IsOrdinal, IsIndexed, RefusesRequest, RefusesReply};
 
 use crate::errors::Refusal;
@@ -55,6 +56,13 @@ impl Ledger {
         ensures few { result ≤ window }
     {
         self.exchanges.len()
+    }
+
+    /// How many exchanges are without a reply.
+    pub(crate) fn unanswered(&self) -> usize
+        ensures { result ≡ unanswered_count self.now }
+    {
+        count_unanswered(&self.exchanges)
     }
 
     /// Notes a request, which is unanswered. The number is that of its record.
@@ -145,6 +153,16 @@ impl Ledger {
     {
         forget_all(&mut self.exchanges, &mut self.unanswered);
     }
+}
+
+/// How many exchanges are without a reply.
+fn count_unanswered(exchanges: &VecDeque<Exchange>) -> usize
+    ensures { result ≡ unanswered_count exchanges.now.items }
+{
+    exchanges
+        .iter()
+        .filter(|exchange| exchange.reply.is_none())
+        .count()
 }
 
 /// Forgets the exchanges, and the ids in the index.
