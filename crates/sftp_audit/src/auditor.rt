@@ -158,6 +158,7 @@ impl<J: Judges> Auditor<J> {
     /// # Errors
     ///
     /// Those of `feed`, with what this judge allows.
+    #[inline(always)]
     pub fn judge_event(&mut self, event: Event) -> Result<(), Refusal>
         // It then stands for the events so far and this one.
         ensures stands { OnOk result (GoesOn J.allowed self.old event self.new) }
@@ -194,6 +195,7 @@ impl<J: Judges> Auditor<J> {
     /// # Errors
     ///
     /// Those of `feed`.
+    #[inline(always)]
     fn note(&mut self, event: Event) -> Result<(), Refusal>
         ensures same { (self.new.number ≡ self.old.number) × (self.new.refusal ≡ self.old.refusal) }
         ensures stands { OnOk result (HasNoted J.allowed self.old event self.new) }

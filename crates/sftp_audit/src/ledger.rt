@@ -71,6 +71,7 @@ impl Ledger {
     ///
     /// `IdInUse` if an unanswered request has the same id, `Window` if `WINDOW` exchanges are kept, and `NoMemory` if
     /// memory runs out. On error no exchange is kept.
+    #[inline(always)]
     pub(crate) fn ask(&mut self, request: Request, number: u64) -> Result<(), Refusal>
         ensures noted { OnOk result
             (self.new ≡ self.old ++ record { request = request; number = number; reply = None } ∷ []) }
@@ -108,6 +109,7 @@ impl Ledger {
     /// # Errors
     ///
     /// `UnknownReply` if no unanswered request has its id.
+    #[inline(always)]
     pub(crate) fn answer(&mut self, recorded: RecordedReply) -> Result<(), Refusal>
         ensures noted { OnOk result (self.new ≡ with_reply recorded self.old) }
         ensures waited { OnOk result (is_open recorded.reply.id self.old ≡ true) }

@@ -14,6 +14,7 @@ use sftp_judges::Judges;
 ///
 /// `NotAllowed`, with the record of the reply, if the judge does not allow a reply; `follows` then says whether it
 /// follows the request with this reply, and otherwise stays. `NoMemory` if memory runs out.
+#[inline(always)]
 pub(crate) fn settle<J: Judges>(
     ledger: &mut Ledger,
     judge: &mut J,

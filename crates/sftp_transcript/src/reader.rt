@@ -203,6 +203,7 @@ impl<R: Source> Reader<R> {
     }
 
     /// Takes the event in front.
+    #[inline(always)]
     fn take_event(&mut self) -> Result<Option<Event>, TranscriptError>
         requires { self.old.stage ≡ Stage.Events }
         ensures found { IfOk result (λ given. IsKnown self.old → Gave self.old given self.new) }
@@ -228,6 +229,7 @@ impl<R: Source> Reader<R> {
     }
 
     /// Takes the next event.
+    #[inline(always)]
     fn take_next(&mut self) -> Result<Option<Event>, TranscriptError>
         ensures found { IfOk result (λ given. IsKnown self.old → Gave self.old given self.new) }
         ensures known { IsKnown self.old → IsKnown self.new }
@@ -327,6 +329,7 @@ impl<R: Source> Reader<R> {
     /// - `Truncated` if the source ended inside a record: it has no bytes left.
     /// - `Io` if the source fails.
     /// - `NoMemory` if memory runs out. This one is not permanent: the same events are to come.
+    #[inline(always)]
     pub fn next(&mut self) -> Result<Option<Event>, TranscriptError>
         // An error that was returned is returned again.
         ensures again { (error : TranscriptError) → self.old.fault ≡ Some error

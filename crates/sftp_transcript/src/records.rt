@@ -34,6 +34,7 @@ pub(crate) fn take_opening(bytes: &[u8]) -> Result<&[u8], TranscriptError>
 }
 
 /// The event of the record in front, and the bytes after it.
+#[inline(always)]
 pub(crate) fn take_event(
     alloc: Global,
     bytes: &[u8],

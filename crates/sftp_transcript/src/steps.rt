@@ -38,6 +38,7 @@ pub(crate) fn pass_opening<R: Source>(input: &mut Input<R>) -> Result<(), Transc
 }
 
 /// Takes the event in front; `None` at the end.
+#[inline(always)]
 pub(crate) fn pass_event<R: Source>(
     alloc: Global,
     input: &mut Input<R>,
