@@ -35,7 +35,7 @@ AccountsCut = AccountsCutBy Allowed started closed_tree
 
 -- ---- what is not judged
 
-abbrev pub is_unanswered : Exchange → Bool
+unfoldable pub is_unanswered : Exchange → Bool
 is_unanswered exchange = not (is_answered exchange)
 
 -- how many of these requests have no reply

@@ -4,7 +4,7 @@ ghost use Rattle.std.specs.Prelude.{OnOk, OnErr, IfErr, option_copied};
 ghost use Rattle.std.specs.VecDeque.{deque_len, deque_capacity};
 ghost use Rattle.sftp_transcript.specs.Explained.{window};
 ghost use Rattle.sftp_audit.specs.Exchanges.{is_open, with_reply};
-ghost use Rattle.sftp_audit.specs.Cuts.{unanswered_count};
+ghost use Rattle.sftp_audit.specs.Cuts.{is_unanswered, unanswered_count};
 ghost use Rattle.sftp_audit.specs.Ledger.{starts_answered, IsOrdinal, IsIndexed, RefusesRequest, RefusesReply};
 
 use crate::errors::Refusal;
@@ -62,7 +62,7 @@ impl Ledger {
     pub(crate) fn unanswered(&self) -> usize
         ensures { result ≡ unanswered_count self.now }
     {
-        count_unanswered(&self.exchanges)
+        unanswered_in(&self.exchanges)
     }
 
     /// Notes a request, which is unanswered. The number is that of its record.
@@ -157,14 +157,22 @@ impl Ledger {
     }
 }
 
-/// How many exchanges are without a reply.
-fn count_unanswered(exchanges: &VecDeque<Exchange>) -> usize
+/// How many of these exchanges are without a reply.
+fn unanswered_in(exchanges: &VecDeque<Exchange>) -> usize
     ensures { result ≡ unanswered_count exchanges.now.items }
 {
     exchanges
         .iter()
-        .filter(|exchange| exchange.reply.is_none())
+        .filter(|exchange| is_unanswered(exchange))
         .count()
+}
+
+/// Whether the exchange is without a reply.
+#[tactic(auto, unfolding(crate::specs::Cuts::is_unanswered))]
+fn is_unanswered(exchange: &Exchange) -> bool
+    ensures { result ≡ is_unanswered exchange.now }
+{
+    exchange.reply.is_none()
 }
 
 /// Forgets the exchanges, and the ids in the index.

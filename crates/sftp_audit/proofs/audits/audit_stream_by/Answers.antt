@@ -21,7 +21,7 @@ returns-in_err-end-clause-refused g c =
     rw (p.1, p.2) (λ judged transcript new.
     let fed = c.in_ok-auditor.ensures.fed transcript new in
     end-lost g.J.Judges.allowed g.met.J.Judges.one_end (g.J.Judges.begun c.args.by) g.J.Judges.closed c.args.tree.now
-    transcript c.in_ok-auditor.requests c.in_ok-auditor.auditor c.in_err-end.field-0.0 fed
+    transcript _ _ c.in_err-end.field-0.0 fed
     (c.in_err-end.ensures.unanswered (g.J.Judges.begun c.args.by fed.start) fed.was.events fed.was.stands))
 
 pub returns-in_err-end-clause-first : goal.returns-in_err-end-clause-first
@@ -30,5 +30,5 @@ returns-in_err-end-clause-first g c =
     rw (p.1, p.2) (λ judged transcript new.
     let fed = c.in_ok-auditor.ensures.fed transcript new in
     end-first g.J.Judges.allowed g.met.J.Judges.one_end (g.J.Judges.begun c.args.by) g.J.Judges.closed c.args.tree.now
-    transcript c.in_ok-auditor.requests c.in_ok-auditor.auditor c.in_err-end.field-0.0 fed
+    transcript _ _ c.in_err-end.field-0.0 fed
     (c.in_err-end.ensures.unanswered (g.J.Judges.begun c.args.by fed.start) fed.was.events fed.was.stands))
