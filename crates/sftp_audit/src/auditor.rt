@@ -6,6 +6,7 @@ ghost use Rattle.sftp_transcript.specs.declared.events.Event.{Event};
 ghost use Rattle.sftp_transcript.specs.Begun.{first_number};
 ghost use Rattle.sftp_transcript.specs.Explained.{Explained, window};
 ghost use Rattle.sftp_audit.specs.declared.errors.Refusal.{Refusal};
+ghost use Rattle.sftp_audit.specs.Cuts.{unanswered_count};
 ghost use Rattle.sftp_audit.specs.Auditor.{StandsFor, LacksReply, GoesOn, HasNoted, HasReason, StopsIn, Reports};
 
 use crate::errors::Refusal;
@@ -261,6 +262,23 @@ impl<J: Judges> Auditor<J> {
                 Ok(self.judge.into_tree())
             }
         }
+    }
+
+    /// The tree after the requests that are done, as if what is still open were closed: those before the oldest
+    /// unanswered one and, after `NotAllowed`, those before the request with the reply that is not allowed. Does not
+    /// allocate.
+    pub fn into_settled(self) -> Tree
+        ensures { result ≡ J.closed self.state }
+    {
+        drop(self.ledger);
+        self.judge.into_tree()
+    }
+
+    /// How many of the requests that are kept have no reply. Does not allocate.
+    pub fn unanswered(&self) -> usize
+        ensures { result ≡ unanswered_count self.now.kept }
+    {
+        self.ledger.unanswered()
     }
 
     /// How many requests are kept with their replies: those from the oldest unanswered one on, at most 1,024; 0 where

@@ -3,18 +3,15 @@ ghost use Rattle.std.specs.Prelude.{◌≡◌, ◌≢◌, ℕ, [], List, None, f
 ghost use Rattle.sftp_audit.specs.declared.errors.AuditError.TheVariants.{NoMemory};
 ghost use Rattle.sftp_tree.specs.Tree as values;
 ghost use Rattle.sftp_tree.specs.Picture.{picture};
-ghost use Rattle.sftp_audit.specs.Auditor.{StandsFor};
 ghost use Rattle.sftp_audit.specs.Audit.{Accounts, AccountsBy, IsFirstFault, IsFirstFaultBy, IsNoJudgement};
 ghost use Rattle.sftp_audit.specs.Audit.{CountsFailure, IsExcusedBy, IsNew};
-ghost use Rattle.sftp_audit.specs.Audit.{HasStart, HasRefused, IsTreeError, JudgesTree};
-ghost use Rattle.sftp_audit.specs.Audit.{IsPlain, WasFed, StopsFeed, IsToldOf, IsToldBy, request_count, is_request};
+ghost use Rattle.sftp_audit.specs.Audit.{HasStart, JudgesTree, IsPlain, IsToldBy, request_count};
 
-use crate::auditor::Auditor;
 use crate::errors::AuditError;
+use crate::feeding::{Fed, begin_and_feed};
 use sftp_handles::{GivenTable, Session};
 use sftp_judges::Judges;
-use sftp_transcript::{Event, Memory, Reader, Source};
-use sftp_tree::Tree;
+use sftp_transcript::{Memory, Reader, Source};
 use std::alloc::Global;
 
 /// The result of an accepted session.
@@ -172,67 +169,10 @@ pub fn audit_stream_by<J: Judges, R: Source>(
     ensures may_fail { records.old.fault ≡ None → IfErr result (IsExcusedBy R.may_fail) }
     ensures plain { IfErr result IsPlain }
 {
-    // Slow to prove: it has six exits, each with all that is promised of an audit.
-    *follows = true;
-    let mut auditor = Auditor::<J>::by(by, Tree::read(alloc, tree)?)?;
-    let requests = match feed_all(&mut auditor, records) {
-        Ok(requests) => requests,
-        Err(error) => {
-            *follows = auditor.follows();
-            drop(auditor);
-            return Err(error);
-        }
-    };
+    let Fed { auditor, requests } = begin_and_feed::<J, R>(alloc, by, tree, records, follows)?;
     let end = auditor.end()?;
     let written = end.write();
     drop(end);
     let tree = written?;
     Ok(Accepted { tree, requests })
-}
-
-/// Feeds an auditor the events that are still to come, and returns how many of them are requests, up to 2^64 - 1.
-///
-/// # Errors
-///
-/// The first error: `Refused` if an event is refused, which each later call of `judge_event` then returns, `Transcript`
-/// if the next record has a fault or the source fails, and `NoMemory` if memory runs out.
-pub fn feed_all<J: Judges, R: Source>(
-    auditor: &mut Auditor<J>,
-    records: &mut Reader<R>,
-) -> Result<u64, AuditError>
-    // Of a reader that has read nothing yet, and an auditor that stands for no events, from any start.
-    ensures fed { IfOk result (λ requests. (start : J) (transcript : List ℕ) → IsNew transcript records.old
-        → StandsFor J.allowed start [] auditor.old → WasFed J.allowed start transcript requests auditor.new) }
-    ensures stopped { IfErr result (λ e. (IsNoJudgement e → ⊥) → (start : J) (transcript : List ℕ)
-        → IsNew transcript records.old → StandsFor J.allowed start [] auditor.old
-        → StopsFeed J.allowed start transcript e) }
-    // It is then known whether the judge follows the session up to there.
-    ensures told { IfErr result (λ e. (IsNoJudgement e → ⊥) → (start : J) (transcript : List ℕ)
-        → IsNew transcript records.old → StandsFor J.allowed start [] auditor.old
-        → IsToldOf J.allowed J.follows start transcript auditor.new.follows e) }
-    // After a refusal the auditor returns it from then on, and no request is kept.
-    ensures for_good { IfErr result (λ e. HasRefused e auditor.new) }
-    ensures treeless { IfErr result (λ e. IsTreeError e → ⊥) }
-    ensures counts { records.old.fault ≡ None → MatchResult result
-        (λ _. records.new.ahead.failures ≡ records.old.ahead.failures)
-        (λ e. CountsFailure e records.old.ahead.failures records.new.ahead.failures) }
-    ensures may_fail { records.old.fault ≡ None → IfErr result (IsExcusedBy R.may_fail) }
-    ensures plain { IfErr result IsPlain }
-{
-    let mut requests: u64 = 0;
-    'events: while let Some(event) = records.next()? {
-        requests = requests.saturating_add(u64::from(is_request(&event)));
-        auditor.judge_event(event)?;
-    }
-    Ok(requests)
-}
-
-/// Whether the event is a request.
-fn is_request(event: &Event) -> bool
-    ensures { result ≡ is_request event.now }
-{
-    match event {
-        Event::Asked(_) => true,
-        Event::Replied(_) => false,
-    }
 }

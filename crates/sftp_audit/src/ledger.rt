@@ -4,6 +4,7 @@ ghost use Rattle.std.specs.Prelude.{OnOk, OnErr, IfErr, option_copied};
 ghost use Rattle.std.specs.VecDeque.{deque_len, deque_capacity};
 ghost use Rattle.sftp_transcript.specs.Explained.{window};
 ghost use Rattle.sftp_audit.specs.Exchanges.{is_open, with_reply};
+ghost use Rattle.sftp_audit.specs.Cuts.{is_unanswered, unanswered_count};
 ghost use Rattle.sftp_audit.specs.Ledger.{starts_answered, IsOrdinal, IsIndexed, RefusesRequest, RefusesReply};
 
 use crate::errors::Refusal;
@@ -55,6 +56,13 @@ impl Ledger {
         ensures few { result ≤ window }
     {
         self.exchanges.len()
+    }
+
+    /// How many exchanges are without a reply.
+    pub(crate) fn unanswered(&self) -> usize
+        ensures { result ≡ unanswered_count self.now }
+    {
+        unanswered_in(&self.exchanges)
     }
 
     /// Notes a request, which is unanswered. The number is that of its record.
@@ -147,6 +155,24 @@ impl Ledger {
     {
         forget_all(&mut self.exchanges, &mut self.unanswered);
     }
+}
+
+/// How many of these exchanges are without a reply.
+fn unanswered_in(exchanges: &VecDeque<Exchange>) -> usize
+    ensures { result ≡ unanswered_count exchanges.now.items }
+{
+    exchanges
+        .iter()
+        .filter(|exchange| is_unanswered(exchange))
+        .count()
+}
+
+/// Whether the exchange is without a reply.
+#[tactic(auto, unfolding(crate::specs::Cuts::is_unanswered))]
+fn is_unanswered(exchange: &Exchange) -> bool
+    ensures { result ≡ is_unanswered exchange.now }
+{
+    exchange.reply.is_none()
 }
 
 /// Forgets the exchanges, and the ids in the index.

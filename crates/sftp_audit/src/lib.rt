@@ -5,16 +5,20 @@
 mod auditor;
 mod audits;
 mod blank;
+mod cuts;
 mod errors;
 pub mod examples;
 mod exchanges;
+mod feeding;
 pub mod laws;
 mod ledger;
 mod settling;
 
 pub use auditor::Auditor;
-pub use audits::{Accepted, audit, audit_by, audit_stream, audit_stream_by, feed_all};
+pub use audits::{Accepted, audit, audit_by, audit_stream, audit_stream_by};
 pub use blank::{blank_tree, blank_tree_is_a_start};
+pub use cuts::{AcceptedCut, audit_cut_stream, audit_cut_stream_by};
 pub use errors::{AuditError, Refusal};
+pub use feeding::feed_all;
 pub use sftp_transcript::{Event, TranscriptError};
 pub use sftp_tree::{NoMemory, TreeError};

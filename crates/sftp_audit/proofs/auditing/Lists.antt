@@ -9,6 +9,7 @@ use Rattle.sftp_audit.proofs.Imports.{unsettled, AreAnswered, is_open, reply_of,
 use Rattle.sftp_transcript.specs.Streams.{one_more, largest_count}
 use Rattle.sftp_transcript.specs.Ledger as ledgers
 use Rattle.sftp_audit.specs.Exchanges.{answered_by, with_reply, bare}
+use Rattle.sftp_audit.specs.Cuts.{is_unanswered, unanswered_count}
 
 -- ---- tests
 
@@ -335,3 +336,21 @@ pub leading_pairs-asked : (xs : List Exchange) (x : Exchange) → is_answered x 
     → leading_pairs (ledger_of (xs ++ x ∷ [])) ≡ leading_pairs (ledger_of xs)
 leading_pairs-asked xs x waits =
     rw (ledger_of-append xs (x ∷ []), none_bare x.reply waits) (leading_pairs-waiting (ledger_of xs) x.request)
+
+-- ---- how many are unanswered
+
+unanswered-past : (x : Exchange) (xs : List Exchange) → is_answered x ≡ true
+    → unanswered_count (x ∷ xs) ≡ unanswered_count xs
+unfolding is_unanswered
+unanswered-past x xs answered = rw answered refl
+
+-- those of the unsettled are all
+pub unanswered-unsettled : (xs : List Exchange) → unanswered_count (unsettled xs) ≡ unanswered_count xs
+unanswered-unsettled [] = ap unanswered_count unsettled-none
+unanswered-unsettled (x ∷ xs) = by (unanswered-unsettled xs) (cases_Bool (is_answered x))
+  where
+    by : unanswered_count (unsettled xs) ≡ unanswered_count xs → (is_answered x ≡ true) ⊎ (is_answered x ≡ false)
+        → unanswered_count (unsettled (x ∷ xs)) ≡ unanswered_count (x ∷ xs)
+    by rest (inl answered) =
+        ap unanswered_count (unsettled-past x xs answered) ∙ rest ∙ sym (unanswered-past x xs answered)
+    by rest (inr waits) = ap unanswered_count (unsettled-here x xs waits)

@@ -1,7 +1,8 @@
 -- What the parts of an audit say of the whole.
 use Rattle.sftp_audit.proofs.Imports.{◌≡◌, ◌≢◌, inl, inr, ℕ, List, [], ◌∷◌, ◌++◌, refl, sym, ap, ◌∙◌}
 use Rattle.sftp_audit.proofs.Imports.{subst, append_assoc, Bool, true, false, Some, None, Result, Ok, Err, Tree}
-use Rattle.sftp_audit.proofs.Imports.{IsStart, StepOf, FollowsOf, TranscriptError, Event, Explained}
+use Rattle.sftp_audit.proofs.Imports.{IsStart, StepOf, FollowsOf, TranscriptError, Event, Asked, Replied, Explained}
+use Rattle.sftp_audit.proofs.Imports.{Sound, sound_by, Refuses}
 use Rattle.sftp_audit.proofs.Imports.{Reading, records_are_one_lem, AuditError, Refusal, Audited, LacksReply}
 use Rattle.sftp_audit.proofs.Imports.{AccountsBy, FaultAt, RefusedAt, IsFirstFaultBy, IsNoJudgement, IsTreeError}
 use Rattle.sftp_audit.proofs.Imports.{JudgesTree, IsToldOf, IsToldBy, ToldAt, IsExcusedBy, IsNew, IsPlain, WasFed}
@@ -12,13 +13,20 @@ use Rattle.sftp_transcript.specs.declared.stage.Stage.TheVariants as stages
 use Rattle.sftp_audit.specs.declared.errors.AuditError.TheVariants as audit_errors
 use Rattle.sftp_audit.specs.declared.errors.Refusal.TheVariants as refusals
 use Rattle.sftp_audit.proofs.streams.FirstFaults.{unlike_fault, unlike_refusal}
-use Rattle.sftp_audit.proofs.auditing.Lost.{refuses_lost, lacks_lost}
+use Rattle.sftp_audit.proofs.auditing.Lost.{refuses_unsound, lacks_lost}
+use Rattle.sftp_audit.specs.Cuts.{AccountsCutBy, IsUnanswered, IsFed}
 use Rattle.sftp_audit.proofs.steps.StepLaws.{HasOneEnd}
 
 -- no run is accounted for
 abbrev pub HasNoRun : {S : Type 0} → StepOf S → (Tree → S) → (S → Tree) → List ℕ → List ℕ → Type 0
 HasNoRun step begin close tree transcript =
     (start : Tree) (events : List Event) (end : Tree) → AccountsBy step begin close tree transcript start events end → ⊥
+
+-- no session is accounted for, not even one that was cut
+abbrev pub HasNoCut : {S : Type 0} → StepOf S → (Tree → S) → (S → Tree) → List ℕ → List ℕ → Type 0
+HasNoCut step begin close tree transcript =
+    (start : Tree) (events : List Event) (end : Tree)
+    → AccountsCutBy step begin close tree transcript start events end → ⊥
 
 -- the bytes are the tree file of this tree, and of no other
 abbrev pub IsOnlyStart : Tree → List ℕ → Type 0
@@ -48,27 +56,46 @@ module _ {S : Type 0} (step : StepOf S) (one_end : HasOneEnd step) (begin : Tree
   explained_from start tree transcript other events end same told =
       subst (λ (t : Tree). Explained step (begin t) events told.last) (sym same) told.explained
 
+  -- so do those of one that was cut
+  sound_from : (start : Tree) (tree transcript : List ℕ) (other : Tree) (events : List Event) (end : Tree)
+      → start ≡ other → (told : AccountsCutBy step begin close tree transcript other events end)
+      → Sound step (begin start) events told.last
+  sound_from start tree transcript other events end same told =
+      subst (λ (t : Tree). Sound step (begin t) events told.last) (sym same) told.sound
+
+  -- a run accounts for a session that was cut at its end
+  pub no_run : (tree transcript : List ℕ) → HasNoCut step begin close tree transcript
+      → HasNoRun step begin close tree transcript
+  no_run tree transcript none start events end told =
+      none start events end (record {
+        start_is = told.start_is;
+        events_are = told.events_are;
+        last = told.last;
+        sound = sound_by step (begin start) events told.last told.explained;
+        end_is = told.end_is;
+      })
+
   fault-lost : (start : S) (tree transcript : List ℕ) (error : TranscriptError)
       → error ≢ transcript_errors.NoMemory
-      → FaultAt step start transcript error → HasNoRun step begin close tree transcript
+      → FaultAt step start transcript error → HasNoCut step begin close tree transcript
   fault-lost start tree transcript error apart at = λ other events end told.
       faulty_records_none transcript at.events events error apart at.fault told.events_are
 
   refused-lost : (start : Tree) (tree transcript : List ℕ) (refusal : Refusal)
       → refusal ≢ refusals.NoMemory
       → IsOnlyStart start tree → RefusedAt step (begin start) transcript refusal
-      → HasNoRun step begin close tree transcript
+      → HasNoCut step begin close tree transcript
   refused-lost start tree transcript refusal apart only at = λ other events end told.
       let on = begins_each (at.events ++ at.event ∷ []) events transcript at.rest at.begins told.events_are in
       let are : events ≡ at.events ++ at.event ∷ on.more =
       on.others_are ∙ append_assoc at.events (at.event ∷ []) on.more in
-      let explained = explained_from start tree transcript other events end (only.1 other told.start_is) told in
-      refuses_lost step one_end (begin start) at.events at.event refusal at.end at.sound at.refuses apart on.more told.last
-      (subst (λ (l : List Event). Explained step (begin start) l told.last) are explained)
+      let sound = sound_from start tree transcript other events end (only.1 other told.start_is) told in
+      refuses_unsound step one_end (begin start) at.events at.event refusal at.end at.sound at.refuses apart on.more
+      told.last (subst (λ (l : List Event). Sound step (begin start) l told.last) are sound)
 
   pub feed-lost : (start : Tree) (tree transcript : List ℕ) (error : AuditError)
       → IsOnlyStart start tree → IsPlain error
-      → (IsNoJudgement error → ⊥) → StopsFeed step (begin start) transcript error → HasNoRun step begin close tree transcript
+      → (IsNoJudgement error → ⊥) → StopsFeed step (begin start) transcript error → HasNoCut step begin close tree transcript
   feed-lost start tree transcript (audit_errors.Tree error) only plain judged stops = absurd stops
   feed-lost start tree transcript audit_errors.NoMemory only plain judged stops = absurd (judged tt)
   feed-lost start tree transcript (audit_errors.Transcript error) only plain judged stops =
@@ -85,48 +112,70 @@ module _ {S : Type 0} (step : StepOf S) (one_end : HasOneEnd step) (begin : Tree
 
   -- ---- the end
 
-  pub end-lost : (start : Tree) (tree transcript : List ℕ) (requests : ℕ) (auditor : Audited S)
-      (refusal : Refusal)
-      → IsOnlyStart start tree → (was : WasFed step (begin start) transcript requests auditor)
-      → LacksReply was.events refusal → HasNoRun step begin close tree transcript
-  end-lost start tree transcript requests auditor refusal only was lacks = λ other events end told.
-      let same : events ≡ was.events =
-      records_are_one_lem events was.events transcript told.events_are was.recorded in
-      let explained = explained_from start tree transcript other events end (only.1 other told.start_is) told in
-      lacks_lost step one_end (begin start) was.events refusal auditor.state was.stands.sound lacks told.last
-      (subst (λ (l : List Event). Explained step (begin start) l told.last) same explained)
+  pub end-lost : (tree transcript : List ℕ) (requests : ℕ) (auditor : Audited S) (refusal : Refusal)
+      → (fed : IsFed step begin tree transcript requests auditor) → LacksReply fed.was.events refusal
+      → HasNoRun step begin close tree transcript
+  end-lost tree transcript requests auditor refusal fed lacks = λ other events end told.
+      let same : events ≡ fed.was.events =
+      records_are_one_lem events fed.was.events transcript told.events_are fed.was.recorded in
+      let explained = explained_from fed.start tree transcript other events end (fed.only other told.start_is) told in
+      lacks_lost step one_end (begin fed.start) fed.was.events refusal auditor.state fed.was.stands.sound lacks told.last
+      (subst (λ (l : List Event). Explained step (begin fed.start) l told.last) same explained)
 
-  pub end-first : (start : Tree) (tree transcript : List ℕ) (requests : ℕ) (auditor : Audited S)
-      (refusal : Refusal)
-      → IsStart start tree → (was : WasFed step (begin start) transcript requests auditor)
-      → LacksReply was.events refusal
+  pub end-first : (tree transcript : List ℕ) (requests : ℕ) (auditor : Audited S) (refusal : Refusal)
+      → (fed : IsFed step begin tree transcript requests auditor) → LacksReply fed.was.events refusal
       → IsFirstFaultBy step begin tree transcript (error_of_session refusal)
-  end-first start tree transcript requests auditor refusals.NoMemory is was lacks = tt
-  end-first start tree transcript requests auditor other is was lacks = (
-    start,
-    is,
+  end-first tree transcript requests auditor refusals.NoMemory fed lacks = tt
+  end-first tree transcript requests auditor other fed lacks = (
+    fed.start,
+    fed.is,
     inr (record {
-      events = was.events;
-      recorded = was.recorded;
+      events = fed.was.events;
+      recorded = fed.was.recorded;
       end = auditor.state;
-      sound = was.stands.sound;
+      sound = fed.was.stands.sound;
       lacks = lacks;
     }),
   )
 
   -- the end is the tree where the run ends
-  pub accounts-fed : (start : Tree) (tree transcript : List ℕ) (requests : ℕ) (auditor : Audited S)
-      (end : Tree)
-      → IsStart start tree → (was : WasFed step (begin start) transcript requests auditor)
-      → (last : S) × Explained step (begin start) was.events last × (end ≡ close last)
-      → AccountsBy step begin close tree transcript start was.events end
-  accounts-fed start tree transcript requests auditor end is was ended = record {
-    start_is = is;
-    events_are = was.recorded;
+  pub accounts-fed : (tree transcript : List ℕ) (requests : ℕ) (auditor : Audited S) (end : Tree)
+      → (fed : IsFed step begin tree transcript requests auditor)
+      → (last : S) × Explained step (begin fed.start) fed.was.events last × (end ≡ close last)
+      → AccountsBy step begin close tree transcript fed.start fed.was.events end
+  accounts-fed tree transcript requests auditor end fed ended = record {
+    start_is = fed.is;
+    events_are = fed.was.recorded;
     last = ended.0;
     explained = ended.1;
     end_is = ended.2;
   }
+
+  -- the end of a session that was cut is the tree of the state that the auditor kept
+  pub accounts-cut : (tree transcript : List ℕ) (requests : ℕ) (auditor : Audited S) (end : Tree)
+      → (fed : IsFed step begin tree transcript requests auditor) → end ≡ close auditor.state
+      → AccountsCutBy step begin close tree transcript fed.start fed.was.events end
+  accounts-cut tree transcript requests auditor end fed same = record {
+    start_is = fed.is;
+    events_are = fed.was.recorded;
+    last = auditor.state;
+    sound = fed.was.stands.sound;
+    end_is = same;
+  }
+
+-- ---- while events are fed
+
+unanswered_at_end : {S : Type 0} (step : StepOf S) (start : S) (events : List Event) (event : Event) (number : ℕ)
+    → Refuses step start events event (refusals.Unanswered number) → ⊥
+unanswered_at_end step start events (Asked request) number why = absurd why
+unanswered_at_end step start events (Replied reply) number why = absurd why
+
+-- no error says that a request has no reply
+pub feed-answered : {S : Type 0} (step : StepOf S) (start : S) (transcript : List ℕ) (error : AuditError)
+    → StopsFeed step start transcript error → IsUnanswered error → ⊥
+feed-answered step start transcript (audit_errors.Refused (refusals.Unanswered number)) stops is =
+    unanswered_at_end step start stops.events stops.event number stops.refuses
+feed-answered step start transcript other stops is = absurd is
 
 -- ---- an audit of bytes in memory
 

@@ -2,7 +2,7 @@
 use Rattle.sftp_audit.proofs.Imports.{◌≡◌, None}
 use Rattle.sftp_transcript.specs.Ahead.{size_of}
 use Rattle.sftp_audit.proofs.streams.Given.{KeepsFeeding}
-use Rattle.sftp_audit.proofs.audits.feed_all.Given as goal
+use Rattle.sftp_audit.proofs.feeding.feed_all.Given as goal
 
 abbrev pub invariant-events : goal.invariant-events
 invariant-events g l = record {

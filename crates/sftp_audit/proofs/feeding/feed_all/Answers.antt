@@ -4,7 +4,7 @@ use Rattle.std.proofs.lemmas.Grind.{common_steps}
 use Rattle.sftp_audit.proofs.streams.Given.{gave_event, IsFeeding, feeding-start, feeding-next, all-fed, stops-fault}
 use Rattle.sftp_audit.proofs.streams.Given.{stops-refused, fault-refuses_nothing, refused-for_good, told-fault}
 use Rattle.sftp_audit.proofs.streams.Given.{told-refused}
-use Rattle.sftp_audit.proofs.audits.feed_all.Goals as goal
+use Rattle.sftp_audit.proofs.feeding.feed_all.Goals as goal
 
 pub events-init : goal.events-init
 events-init g c = record {

@@ -1,0 +1,116 @@
+//! Feeds an auditor the events of a transcript.
+ghost use Rattle.std.specs.Prelude.{◌≡◌, ℕ, [], List, None, true, OnOk, IfOk, IfErr, MatchResult};
+ghost use Rattle.sftp_tree.specs.Tree as values;
+ghost use Rattle.sftp_audit.specs.Auditor.{StandsFor};
+ghost use Rattle.sftp_audit.specs.Audit.{IsFirstFaultBy, IsNoJudgement, CountsFailure, IsExcusedBy, IsNew};
+ghost use Rattle.sftp_audit.specs.Audit.{HasStart, HasRefused, IsTreeError, JudgesTree};
+ghost use Rattle.sftp_audit.specs.Audit.{IsPlain, WasFed, StopsFeed, IsToldOf, IsToldBy, is_request};
+ghost use Rattle.sftp_audit.specs.Cuts.{AccountsCutBy, IsUnanswered, IsFed};
+
+use crate::auditor::Auditor;
+use crate::errors::AuditError;
+use sftp_judges::Judges;
+use sftp_transcript::{Event, Reader, Source};
+use sftp_tree::Tree;
+use std::alloc::Global;
+
+/// An auditor that was fed a whole transcript, and how many requests that has, up to 2^64 - 1.
+#[derive(Drop)]
+pub(crate) struct Fed<J: Judges> {
+    pub(crate) auditor: Auditor<J>,
+    pub(crate) requests: u64,
+}
+
+/// Reads a tree file, and feeds an auditor of a session that begins on this tree the events of a transcript, of which
+/// nothing was read yet. The auditor judges by a judge that is made by `by`. `follows` is set to whether the judge
+/// follows the session up to where it is refused.
+///
+/// # Errors
+///
+/// The first one: `Tree` if the bytes are not a tree file, and those of `feed_all`.
+pub(crate) fn begin_and_feed<J: Judges, R: Source>(
+    alloc: Global,
+    by: J::By,
+    tree: &[u8],
+    records: &mut Reader<R>,
+    follows: &mut bool,
+) -> Result<Fed<J>, AuditError>
+    ensures fed { IfOk result (λ fed. (transcript : List ℕ) → IsNew transcript records.old →
+        IsFed J.allowed (J.begun by) tree.now transcript fed.requests fed.auditor) }
+    // No session of these files is sound to its end.
+    ensures lost { IfErr result (λ e. (IsNoJudgement e → ⊥) → (transcript : List ℕ) → IsNew transcript records.old →
+        (start : values.Tree) (events : List _) (end : values.Tree)
+        → AccountsCutBy J.allowed (J.begun by) J.closed tree.now transcript start events end → ⊥) }
+    ensures first { IfErr result (λ e. (IsNoJudgement e → ⊥) → (transcript : List ℕ) → IsNew transcript records.old →
+        IsFirstFaultBy J.allowed (J.begun by) tree.now transcript e) }
+    ensures told { IfErr result (λ e. (IsNoJudgement e → ⊥) → (transcript : List ℕ) → IsNew transcript records.old →
+        IsToldBy J.allowed J.follows (J.begun by) tree.now transcript follows.new e) }
+    ensures judged { MatchResult result (λ _. HasStart tree.now) (JudgesTree tree.now) }
+    // It is not that a request has no reply.
+    ensures answered { IfErr result (λ e. (IsNoJudgement e → ⊥) → (transcript : List ℕ) → IsNew transcript records.old →
+        IsUnanswered e → ⊥) }
+    ensures counts { records.old.fault ≡ None → MatchResult result
+        (λ _. records.new.ahead.failures ≡ records.old.ahead.failures)
+        (λ e. CountsFailure e records.old.ahead.failures records.new.ahead.failures) }
+    ensures may_fail { records.old.fault ≡ None → IfErr result (IsExcusedBy R.may_fail) }
+    ensures plain { IfErr result IsPlain }
+    ensures followed { OnOk result (follows.new ≡ true) }
+{
+    *follows = true;
+    let mut auditor = Auditor::<J>::by(by, Tree::read(alloc, tree)?)?;
+    match feed_all(&mut auditor, records) {
+        Ok(requests) => Ok(Fed { auditor, requests }),
+        Err(error) => {
+            *follows = auditor.follows();
+            drop(auditor);
+            Err(error)
+        }
+    }
+}
+
+/// Feeds an auditor the events that are still to come, and returns how many of them are requests, up to 2^64 - 1.
+///
+/// # Errors
+///
+/// The first error: `Refused` if an event is refused, which each later call of `judge_event` then returns, `Transcript`
+/// if the next record has a fault or the source fails, and `NoMemory` if memory runs out.
+pub fn feed_all<J: Judges, R: Source>(
+    auditor: &mut Auditor<J>,
+    records: &mut Reader<R>,
+) -> Result<u64, AuditError>
+    // Of a reader that has read nothing yet, and an auditor that stands for no events, from any start.
+    ensures fed { IfOk result (λ requests. (start : J) (transcript : List ℕ) → IsNew transcript records.old
+        → StandsFor J.allowed start [] auditor.old → WasFed J.allowed start transcript requests auditor.new) }
+    ensures stopped { IfErr result (λ e. (IsNoJudgement e → ⊥) → (start : J) (transcript : List ℕ)
+        → IsNew transcript records.old → StandsFor J.allowed start [] auditor.old
+        → StopsFeed J.allowed start transcript e) }
+    // It is then known whether the judge follows the session up to there.
+    ensures told { IfErr result (λ e. (IsNoJudgement e → ⊥) → (start : J) (transcript : List ℕ)
+        → IsNew transcript records.old → StandsFor J.allowed start [] auditor.old
+        → IsToldOf J.allowed J.follows start transcript auditor.new.follows e) }
+    // After a refusal the auditor returns it from then on, and no request is kept.
+    ensures for_good { IfErr result (λ e. HasRefused e auditor.new) }
+    ensures treeless { IfErr result (λ e. IsTreeError e → ⊥) }
+    ensures counts { records.old.fault ≡ None → MatchResult result
+        (λ _. records.new.ahead.failures ≡ records.old.ahead.failures)
+        (λ e. CountsFailure e records.old.ahead.failures records.new.ahead.failures) }
+    ensures may_fail { records.old.fault ≡ None → IfErr result (IsExcusedBy R.may_fail) }
+    ensures plain { IfErr result IsPlain }
+{
+    let mut requests: u64 = 0;
+    'events: while let Some(event) = records.next()? {
+        requests = requests.saturating_add(u64::from(is_request(&event)));
+        auditor.judge_event(event)?;
+    }
+    Ok(requests)
+}
+
+/// Whether the event is a request.
+fn is_request(event: &Event) -> bool
+    ensures { result ≡ is_request event.now }
+{
+    match event {
+        Event::Asked(_) => true,
+        Event::Replied(_) => false,
+    }
+}
