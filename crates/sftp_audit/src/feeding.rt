@@ -74,6 +74,7 @@ pub(crate) fn begin_and_feed<J: Judges, R: Source>(
 ///
 /// The first error: `Refused` if an event is refused, which each later call of `judge_event` then returns, `Transcript`
 /// if the next record has a fault or the source fails, and `NoMemory` if memory runs out.
+#[inline(always)]
 pub fn feed_all<J: Judges, R: Source>(
     auditor: &mut Auditor<J>,
     records: &mut Reader<R>,

@@ -88,7 +88,7 @@ impl Judge {
     ///
     /// `NoMemory` if memory runs out. If the profile has `flags`, or a use for the directories that are open, the
     /// session may then have changed.
-    #[inline(always)]
+    #[inline(never)]
     pub fn accept(&mut self, request: &Request, reply: &Reply) -> Result<bool, NoMemory>
         ensures allowed { IfOk result (λ ok. IsTrue ok → Permitted self.old request.now reply.now self.new) }
         ensures refused { IfOk result
