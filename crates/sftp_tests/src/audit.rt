@@ -1,6 +1,7 @@
 //! The auditor fed event by event, and audits of streams.
 use std::alloc::{AllocError, Global};
 
+mod cut;
 mod fed;
 mod streamed;
 

@@ -7,13 +7,13 @@ use std::alloc::{AllocError, Global};
 use std::test::Fail;
 
 /// MKDIR of `/a/b` with the id 2, RMDIR of `/a` with the id 3, and their replies.
-const MAKE_B: &[u8] = b"C\0\0\0\x11\x0e\0\0\0\x02\0\0\0\x04/a/b\0\0\0\0";
+pub(super) const MAKE_B: &[u8] = b"C\0\0\0\x11\x0e\0\0\0\x02\0\0\0\x04/a/b\0\0\0\0";
 
-const REMOVE_A: &[u8] = b"C\0\0\0\x0b\x0f\0\0\0\x03\0\0\0\x02/a";
+pub(super) const REMOVE_A: &[u8] = b"C\0\0\0\x0b\x0f\0\0\0\x03\0\0\0\x02/a";
 
-const DONE_2: &[u8] = b"S\0\0\0\x11\x65\0\0\0\x02\0\0\0\0\0\0\0\0\0\0\0\0";
+pub(super) const DONE_2: &[u8] = b"S\0\0\0\x11\x65\0\0\0\x02\0\0\0\0\0\0\0\0\0\0\0\0";
 
-const DONE_3: &[u8] = b"S\0\0\0\x11\x65\0\0\0\x03\0\0\0\0\0\0\0\0\0\0\0\0";
+pub(super) const DONE_3: &[u8] = b"S\0\0\0\x11\x65\0\0\0\x03\0\0\0\0\0\0\0\0\0\0\0\0";
 
 const FAILED_3: &[u8] = b"S\0\0\0\x11\x65\0\0\0\x03\0\0\0\x04\0\0\0\0\0\0\0\0";
 
@@ -24,7 +24,7 @@ const ATTRS: &[u8] =
     b"S\0\0\0\x1d\x69\0\0\0\x07\0\0\0\x07\0\0\0\0\0\0\0\0\0\0\0\0\0\0\0\0\0\0\x41\xed";
 
 /// The directories `/a` and `/a/b`.
-const TWO_DIRECTORIES: &[u8] =
+pub(super) const TWO_DIRECTORIES: &[u8] =
     b"SFTREE01\0\0\0\x01/\0\0\0\0\0\0\0\0\0\0\0\x02\0\0\0\0\0\0\0\0\0\0\x01\xed\
 \0\0\0\x02/aD\0\0\0\0\0\0\0\0\0\0\x01\xed\0\0\0\x04/a/bD\0\0\0\0\0\0\0\0\0\0\x01\xed";
 
