@@ -7,7 +7,9 @@ use std::alloc::Global;
 
 /// The audit of a cut session of these records, which begins on the blank tree.
 fn audited(alloc: Global, records: &[&[u8]]) -> Result<AcceptedCut, AuditError> {
-    let transcript = recorded(alloc, records)?;
+    let Ok(transcript) = recorded(alloc, records) else {
+        return Err(AuditError::NoMemory);
+    };
     let mut reader = Reader::new(alloc, Memory::new(transcript.as_slice()))?;
     let judged = audit_cut_stream(alloc, BLANK, &mut reader);
     drop(reader);
