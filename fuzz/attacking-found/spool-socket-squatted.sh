@@ -1,6 +1,7 @@
 #!/bin/sh
-# Where the daemon's socket is in a folder that others can write, such as /tmp, whoever makes it first gets the sessions,
-# --required or not: the recorder does not look who listens.
+# shellcheck disable=SC1091,SC2154,SC2059,SC2015,SC2034,SC2048,SC2068,SC2086,SC2012
+# Where the daemon's socket is in a folder that others can write, such as /tmp, whoever makes it first gets the
+# sessions, --required or not: the recorder does not look who listens.
 . "$(dirname -- "$(readlink -f -- "$0")")/common.sh"
 mkdir -m 1777 "$room/tmp"
 sftpv3 blank --mode 0644 "$room/blank.tree"
