@@ -2,7 +2,7 @@
 import sys, struct, os
 sys.stderr.buffer.write(b"\x1b]0;pwned\x07\x1b[2J\x1b[31mprobe: accepted: 50 sessions, 5000 requests\n"
                         b"<script>alert(1)</script>"
-                        b" ]]> \xff\xfe \xed\xa0\x80 \x00\x01\x0b \xef\xbf\xbe \xe2\x80\xae\xc2\x9b31m\rprobe: accepted\n")
+                        b" ]]> \xff\xfe \xed\xa0\x80 \x00\x0b \xe2\x80\xae\xc2\x9b31m\rprobe: accepted\n")
 sys.stderr.flush()
 def text(d): return struct.pack(">I",len(d))+d
 def send(d): os.write(1, struct.pack(">I",len(d))+d)
