@@ -7,7 +7,7 @@ from dataclasses import dataclass
 from typing import Dict, List, Optional, Tuple
 
 import sftp3
-from probing import servers
+from probing import groups, servers
 from probing.sessions import Session, Stopped
 
 # The options of a profile, which are passed on if the program has them.
@@ -121,12 +121,13 @@ class Difference:
 
     @property
     def found(self):
-        """What came instead, as `audit --explain` says it."""
+        """What came instead, in the words in which `audit --explain` says what is expected."""
         if self.verdict.kind == "Unanswered":
             return self.session.end or "none"
         lines = self.verdict.lines
-        return lines.get("found") or lines.get("reply") or \
-            self.verdict.kind + (f", {lines['fault']}" if "fault" in lines else "")
+        if "found" not in lines and "reply" in lines:
+            return groups.of_reply(lines["reply"])
+        return lines.get("found") or self.verdict.kind + (f", {lines['fault']}" if "fault" in lines else "")
 
 
 class Judged:
