@@ -9,7 +9,7 @@ from pathlib import Path
 from texts import TOP
 
 # The scripts with texts of their own.
-SCRIPTS = ("sftpv3-page", "sftpv3-probe")
+SCRIPTS = ("sftpv3-page", "sftpv3-probe", "sftpv3-record", "sftpv3-recordd")
 INIT = bytes.fromhex("000000050100000003")
 
 

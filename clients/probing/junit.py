@@ -34,8 +34,8 @@ def name_of(group):
 def failed(played, group):
     """A case: what was expected and found stands in its failure, with the session that shows it."""
     lines = group.text() + (group.kept[1] if group.kept else [])
-    kind = group.first.verdict.kind
+    kind = quoted(group.first.verdict.kind)
     return (f'  <testcase classname="probe.seed-{played.seed}" name={quoted(name_of(group))} '
             f'time="{played.seconds:.3f}">\n'
-            f'    <failure type="{kind}" message={quoted(f"expected {group.expected}; found {group.found}")}>'
+            f'    <failure type={kind} message={quoted(f"expected {group.expected}; found {group.found}")}>'
             + text("\n".join(lines)) + "</failure>\n  </testcase>")

@@ -107,12 +107,18 @@ def write_page(name, given, tally, found):
     facts = [("server", shlex.join(given.command)), ("its VERSION", tally.version or "none came"),
              ("sftpv3", subprocess.run([program.program(), "--version"], stdout=subprocess.PIPE, check=False)
               .stdout.decode(errors="replace").splitlines() or "unknown"),
-             ("options", shlex.join(sys.argv[1:len(sys.argv) - len(given.command)]) or "none"),
+             ("options", options_of(given.command)),
              ("seeds", seeds_in_words(tally)),
              ("requests", f"{tally.requests:,}, {tally.unjudged:,} of which were not judged"),
              ("time", f"{sum(one.seconds for one in tally.played):,.1f} s in all sessions, until "
                       f"{time.strftime('%Y-%m-%d %H:%M:%S', time.gmtime())} UTC")]
     document.write(name, runs.page(runs.Run("sftpv3-probe", summary(tally, found), facts, seeds, differences)))
+
+
+def options_of(command):
+    """The options of this run: what stands before the command."""
+    words = sys.argv[1:len(sys.argv) - len(command)]
+    return shlex.join(words[:-1] if words[-1:] == ["--"] else words) or "none"
 
 
 def notes_of(group):
