@@ -1,6 +1,7 @@
 """What is checked of ./install with a built program: what it writes, that it says all that the help says, and that it
 takes everything away again."""
 import os
+import pwd
 import re
 import shutil
 import subprocess
@@ -9,7 +10,7 @@ from pathlib import Path
 from texts import TOP
 
 # The scripts with texts of their own.
-SCRIPTS = ("sftpv3-page", "sftpv3-probe", "sftpv3-record", "sftpv3-recordd")
+SCRIPTS = ("sftpv3-nightly", "sftpv3-page", "sftpv3-probe", "sftpv3-record", "sftpv3-recordd", "sftpv3-tree")
 INIT = bytes.fromhex("000000050100000003")
 
 
@@ -78,6 +79,7 @@ def wrong_scripts(prefix, room):
     status, printed = alone(words, room)
     if status or not re.search(r"(?m)^accepted: 2 sessions, ", printed) or not (room / "run.html").is_file():
         yield f"install: sftpv3-probe ended with status {status}: {printed}"
+    yield from wrong_tree(prefix, room)
     for name in ("any", "gesftpserver", "openssh"):
         status, printed = alone([prefix / "lib/sftpv3/servers" / name], room)
         if status != 3 or f"servers/{name} TREE" not in printed:
@@ -86,8 +88,25 @@ def wrong_scripts(prefix, room):
         yield "install: a script ran a module of the user's"
     servers = [it for it in prefix.glob("lib/sftpv3/servers/*") if it.is_file() and not it.suffix]
     for script in [*prefix.glob("bin/sftpv3-*"), *servers]:
-        if not script.read_bytes().startswith(b"#!/usr/bin/python3 -I\n"):
+        if not re.match(rb"#!/usr/bin/python3 -IS?\n", script.read_bytes()):
             yield f"install: {script} does not start with a fixed interpreter and -I"
+
+
+def wrong_tree(prefix, room):
+    """Makes the tree of a folder, and audits its sessions of a day, of which there are none."""
+    (room / "live").mkdir()
+    (room / "live/f").write_text("f")
+    status, printed = alone([prefix / "bin/sftpv3-tree", "--chroot", "--out", room / "live.tree", room / "live"], room)
+    shown = called([prefix / "bin/sftpv3", "show", room / "live.tree"], "")[1]
+    if status or ' F "/f" ' not in shown:
+        yield f"install: sftpv3-tree ended with status {status}: {printed}{shown}"
+    (room / "records").mkdir()
+    words = [prefix / "bin/sftpv3-nightly", "--records", room / "records", "--state", room / "state", "--chroot",
+             pwd.getpwuid(os.getuid()).pw_name, room / "live"]
+    for wanted in ("the tree of the start has 1 entry\n", "0 sessions accepted; the folder is as they left it\n"):
+        status, printed = alone(words, room)
+        if status or not printed.endswith(wanted):
+            yield f"install: sftpv3-nightly ended with status {status}: {printed}"
 
 
 def wrong_syntax(share):

@@ -38,7 +38,7 @@ def text(name):
 def scripts(names, kind):
     """Returns the scripts whose first line names an interpreter of this kind, and for Python its modules."""
     heads = {it: (TOP / it).open("rb").readline(80) for it in names}
-    is_script = re.compile(rb"#!.*\b" + kind.encode() + rb"[0-9.]*( -I)?\s*$")
+    is_script = re.compile(rb"#!.*\b" + kind.encode() + rb"[0-9.]*( -IS?)?\s*$")
     return [it for it in names if is_script.match(heads[it]) or kind == "python" and it.endswith(".py")]
 
 

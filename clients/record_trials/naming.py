@@ -8,6 +8,8 @@ import time
 
 from record_trials.failing import run
 from record_trials.steps import INIT, RECORD, STUB, close, ended, open_session, request
+from recording.options import plainly_read
+from recording.parsers import record_parser
 
 
 def names(steps, room):
@@ -54,6 +56,39 @@ def taken_names(steps, room):
     (room.folder / "dangling").symlink_to("absent")
     run(room, "dangling", STUB, data=INIT)
     steps.check("what a dangling link leads to is not made", not (room.folder / "absent").exists())
+
+
+def locks(steps, room):
+    """While a session runs, its transcript is locked."""
+    def is_locked():
+        return subprocess.run(["flock", "-n", room.folder / "t", "true"], check=False).returncode == 1
+
+    process = room.stub("t")
+    open_session(process)
+    steps.check("a transcript is locked while its session runs", is_locked())
+    ran = run(room, "--overwrite", "--required", "t", STUB, data=INIT)
+    steps.check("a second session does not replace it", ran.returncode == 3 and b"another session" in ran.stderr,
+                str(ran.stderr))
+    steps.check("and leaves it as it is", len(room.read("t")) == 28)
+    close(process.stdin)
+    ended(process, 5)
+    steps.check("then it is not locked any more", not is_locked())
+
+
+def quick_starts(steps, room):
+    """A usual command line is read without argparse, and to the same options."""
+    words = ["--required", "--log", "l", "--tree", "x y", "--new-owner", "group", "t", "server", "--required", "-u"]
+    plain, usual = plainly_read(words), record_parser().parse_args(words)
+    steps.check("a usual command line is read as argparse reads it", vars(plain) == vars(usual), f"{vars(plain)}")
+    steps.check("an unusual one is left to argparse", not any(plainly_read(it) for it in (
+        ["--log=l", "t", "s"], ["--lo", "l", "t", "s"], ["-h"], ["--log"], ["--log", "--plain", "t", "s"],
+        ["--grace", "1", "t", "s"], ["--", "t", "s"])))
+    ran = subprocess.run(["/usr/bin/python3", "-IS", "-X", "importtime", RECORD, "t", "/bin/true"], cwd=room.folder,
+                         stdin=subprocess.DEVNULL, stderr=subprocess.PIPE, text=True, check=False)
+    slow = {it.split("|")[-1].strip() for it in ran.stderr.splitlines()} & {"argparse", "subprocess", "re", "enum",
+                                                                            "site", "socket", "threading"}
+    steps.check("a usual start imports nothing that is slow", not slow and "recording.sessions" in ran.stderr,
+                str(slow))
 
 
 def pipes(steps, room):
@@ -113,4 +148,4 @@ def times(steps, room):
             steps.check("a times file that is cut or has another opening is refused", True)
 
 
-TRIALS = (names, taken_names, pipes, folders, times)
+TRIALS = (names, taken_names, locks, quick_starts, pipes, folders, times)

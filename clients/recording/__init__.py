@@ -5,9 +5,11 @@ times     the file of times beside a transcript
 notices   lines to standard error, to a log, to syslog
 naming    names of transcripts, and how they are opened
 sinks     where records go: files, pipes, a spool
+signals   the module `signal`, quickly imported
 server    the server's process: its start, its end, its status
 auditing  an audit that reads along
 sessions  the loop that passes packets on, and how it ends
 keeping   the daemon that keeps records in a spool
-options   the command lines
+options   the commands
+parsers   their options, with help and complaints
 """

@@ -1,8 +1,8 @@
 """Names of transcripts, and how they are opened: made anew, and no link followed."""
 import errno
+import fcntl
 import os
 import pwd
-import re
 import stat
 import time
 
@@ -28,7 +28,7 @@ def user_name(number):
 
 def as_part(text):
     """A text as a part of a file's name: without slashes and without what a shell or a terminal acts on."""
-    return re.sub(r"[^\w.:@+%-]", "_", text, flags=re.ASCII)[:100] or "_"
+    return "".join(it if it.isascii() and (it.isalnum() or it in "_.:@+%-") else "_" for it in text)[:100] or "_"
 
 
 def address(environment):
@@ -43,12 +43,15 @@ def expand(name, environment=os.environ):
              "t": lambda: time.strftime("%Y%m%dT%H%M%SZ", time.gmtime()), "h": lambda: address(environment),
              "%": lambda: "%"}
 
-    def word(found):
-        if found[1] not in words:
-            raise BadName(f"{name}: %{found[1]} is none of %p, %u, %t, %h and %%")
-        return words[found[1]]()
-
-    return re.sub("%(.?)", word, name)
+    parts, place = [], 0
+    while "%" in name[place:]:
+        at = name.index("%", place)
+        letter = name[at + 1:at + 2]
+        if letter not in words:
+            raise BadName(f"{name}: %{letter} is none of %p, %u, %t, %h and %%")
+        parts += [name[place:at], words[letter]()]
+        place = at + 2
+    return "".join(parts) + name[place:]
 
 
 def folder_warning(name):
@@ -88,13 +91,26 @@ def open_stream(name, is_wanted):
         time.sleep(0.02)
 
 
+def hold(file):
+    """Locks a record for as long as its session runs: what reads records sees by this that it has not ended."""
+    try:
+        fcntl.flock(file, fcntl.LOCK_EX | fcntl.LOCK_NB)
+    except BlockingIOError:
+        os.close(file)
+        raise OSError(errno.EBUSY, "another session records into it") from None
+    except OSError:
+        # a file system without locks
+        pass
+    return file
+
+
 def open_anew(name):
     """Makes the file, or the first of NAME.2, NAME.3, .. that is not taken. Returns it and its name."""
     flags = os.O_WRONLY | os.O_CREAT | os.O_EXCL | os.O_NOFOLLOW | os.O_CLOEXEC
     for number in range(1, MOST_NAMES):
         tried = name if number == 1 else f"{name}.{number}"
         try:
-            return os.open(tried, flags, 0o600), tried
+            return hold(os.open(tried, flags, 0o600)), tried
         except FileExistsError:
             pass
     raise OSError(errno.EEXIST, f"{MOST_NAMES} files of this name")
@@ -107,7 +123,7 @@ def open_over(name):
     if not stat.S_ISREG(os.fstat(file).st_mode):
         os.close(file)
         raise OSError(errno.EINVAL, "not a regular file")
-    return file
+    return hold(file)
 
 
 def reason(error):

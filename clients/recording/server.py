@@ -1,9 +1,8 @@
 """The server's process: its start, its end, its status."""
 import fcntl
 import os
-import signal
-import subprocess
 
+from recording import signals
 
 # Linux's F_SETPIPE_SZ, and how much a pipe to the server holds, where the system allows it: 65,536 bytes is usual.
 SET_SIZE = 1031
@@ -28,8 +27,7 @@ class NotStarted(Exception):
 def start(words):
     """Starts the command in a session of its own, so that what it starts can be ended with it."""
     try:
-        return Server(subprocess.Popen(words, stdin=subprocess.PIPE, stdout=subprocess.PIPE, bufsize=0,
-                                       start_new_session=True))
+        return Server(words)
     except (FileNotFoundError, NotADirectoryError) as error:
         raise NotStarted(f"cannot run {words[0]}: {error.strerror}", 127) from None
     except (OSError, ValueError) as error:
@@ -39,36 +37,50 @@ def start(words):
 class Server:
     """A process, and the pipes to it."""
 
-    def __init__(self, process):
-        self.process = process
-        self.input, self.output = process.stdin.fileno(), process.stdout.fileno()
+    def __init__(self, words):
+        their_input, self.input = os.pipe()
+        self.output, their_output = os.pipe()
+        try:
+            # what Python ignores has its default again
+            self.process = os.posix_spawnp(
+                words[0], words, os.environ, setsid=True, setsigdef=(signals.SIGPIPE, signals.SIGXFSZ),
+                file_actions=((os.POSIX_SPAWN_DUP2, their_input, 0), (os.POSIX_SPAWN_DUP2, their_output, 1)))
+        except BaseException:
+            os.close(self.input)
+            os.close(self.output)
+            raise
+        finally:
+            os.close(their_input)
+            os.close(their_output)
         for pipe in (self.input, self.output):
             os.set_blocking(pipe, False)
             enlarge(pipe)
-        self.ticks = None
+        self.code = self.ticks = None
 
     def look(self):
         """A process has ended: asks whether it was this one."""
-        self.process.poll()
+        if self.code is None:
+            ended, status = os.waitpid(self.process, os.WNOHANG)
+            if ended:
+                self.code = os.waitstatus_to_exitcode(status)
 
     def has_ended(self):
-        return self.process.returncode is not None
+        return self.code is not None
 
     def status(self):
         """Its status; 128 and the number of the signal that ended it."""
-        code = self.process.returncode
-        return 128 + signal.SIGKILL if code is None else code if code >= 0 else 128 - code
+        return 128 + signals.SIGKILL if self.code is None else self.code if self.code >= 0 else 128 - self.code
 
     def close_input(self):
-        self.process.stdin.close()
+        os.close(self.input)
 
     def close_output(self):
-        self.process.stdout.close()
+        os.close(self.output)
 
     def send(self, number):
         """Sends a signal to the server and to all that it started."""
         try:
-            os.killpg(self.process.pid, number)
+            os.killpg(self.process, number)
         except OSError:
             pass
 
@@ -90,7 +102,7 @@ class Server:
                     fields = file.read().rpartition(b")")[2].split()
             except OSError:
                 continue
-            if int(fields[2]) == self.process.pid:
+            if int(fields[2]) == self.process:
                 ticks += int(fields[11]) + int(fields[12])
                 is_waiting = is_waiting or fields[0] in (b"R", b"D")
         return ticks, is_waiting

@@ -7,9 +7,9 @@ seconds from the last byte that moved.
 """
 import os
 import select
-import signal
 import time
 
+from recording import signals
 from recording.packets import Flow
 from recording.sinks import Failed
 
@@ -32,12 +32,12 @@ class Signals:
         self.got = None
         self.has_child_ended = False
         self.ours, self.theirs = os.pipe2(os.O_NONBLOCK | os.O_CLOEXEC)
-        signal.set_wakeup_fd(self.theirs, warn_on_full_buffer=False)
-        signal.signal(signal.SIGCHLD, self.note_child)
-        for number in (signal.SIGTERM, signal.SIGHUP, signal.SIGINT):
+        signals.set_wakeup_fd(self.theirs, warn_on_full_buffer=False)
+        signals.signal(signals.SIGCHLD, self.note_child)
+        for number in (signals.SIGTERM, signals.SIGHUP, signals.SIGINT):
             # what was ignored at the start stays ignored, as SIGINT below sftp
-            if signal.getsignal(number) != signal.SIG_IGN:
-                signal.signal(number, self.note)
+            if signals.getsignal(number) != signals.SIG_IGN:
+                signals.signal(number, self.note)
 
     def note(self, number, _):
         self.got = self.got or number
@@ -304,7 +304,7 @@ class Session:
             # the client is still there and does not read
             self.cut(None)
         elif len(self.killing) <= 2:
-            self.server.send(signal.SIGTERM if len(self.killing) == 1 else signal.SIGKILL)
+            self.server.send(signals.SIGTERM if len(self.killing) == 1 else signals.SIGKILL)
         else:
             self.notices.say("the server does not end by SIGKILL, and is left behind")
             self.given_up = True

@@ -1,7 +1,11 @@
 """What a folder has, found through descriptors of its directories: no link is followed, whatever changes meanwhile."""
 import os
+import re
 import stat
-from typing import Iterator, NamedTuple, Optional, Tuple
+from typing import FrozenSet, Iterator, List, NamedTuple, Optional, Tuple
+
+# What is mounted where, in the fifth word of each line; spaces and the like are written as octal numbers.
+MOUNTS = "/proc/self/mountinfo"
 
 DIRECTORY = os.O_RDONLY | os.O_DIRECTORY | os.O_NOFOLLOW
 
@@ -17,11 +21,12 @@ class Trouble(Exception):
 
 class Entry(NamedTuple):
     """An entry: its place as clients see it, what `lstat` says, and where it is: a name in a directory, which is open
-    until the next entry is asked for, or a whole path in none."""
+    until the next entry is asked for, or a whole path in none. What is below a mount is not looked for."""
     place: Place
     state: os.stat_result
     directory: Optional[int]
     name: bytes
+    is_mount: bool = False
 
 
 def shown(place: Place) -> str:
@@ -33,23 +38,31 @@ def names(path: bytes) -> Place:
     return tuple(name for name in path.split(b"/") if name)
 
 
-def below(directory: int, place: Place) -> Iterator[Entry]:
-    """All below a directory, in the order of tree files."""
+def mount_points() -> List[Place]:
+    """Where something is mounted, also what is of the same file system."""
+    with open(MOUNTS, "rb") as file:
+        paths = [line.split()[4] for line in file]
+    return [names(re.sub(rb"\\([0-7]{3})", lambda found: bytes([int(found[1], 8)]), path)) for path in paths]
+
+
+def below(directory: int, place: Place, mounts: FrozenSet[Place] = frozenset()) -> Iterator[Entry]:
+    """All below a directory, in the order of tree files, without what is below one of these mounts."""
     with os.scandir(directory) as found:
         listed = sorted(os.fsencode(entry.name) for entry in found)
     for name in listed:
-        entry = Entry(place + (name,), os.stat(name, dir_fd=directory, follow_symlinks=False), directory, name)
+        state = os.stat(name, dir_fd=directory, follow_symlinks=False)
+        entry = Entry(place + (name,), state, directory, name, place + (name,) in mounts)
         if len(entry.place) > DEEPEST:
             raise Trouble(f"{shown(entry.place)}: more than {DEEPEST} names below the root")
         yield entry
-        if stat.S_ISDIR(entry.state.st_mode):
-            yield from below_entry(entry)
+        if stat.S_ISDIR(state.st_mode) and not entry.is_mount:
+            yield from below_entry(entry, mounts)
 
 
-def below_entry(entry: Entry) -> Iterator[Entry]:
+def below_entry(entry: Entry, mounts: FrozenSet[Place] = frozenset()) -> Iterator[Entry]:
     held = os.open(entry.name, DIRECTORY, dir_fd=entry.directory)
     try:
-        yield from below(held, entry.place)
+        yield from below(held, entry.place, mounts)
     finally:
         os.close(held)
 
@@ -58,5 +71,7 @@ SPECIAL = {stat.S_IFSOCK: "a socket", stat.S_IFIFO: "a FIFO", stat.S_IFCHR: "a d
 
 
 def special(entry: Entry) -> str:
-    """What an entry is, if no tree can hold it."""
-    return SPECIAL.get(stat.S_IFMT(entry.state.st_mode), "")
+    """What an entry is, if no tree can hold it, or if it is mounted and no directory."""
+    is_directory = stat.S_ISDIR(entry.state.st_mode)
+    found = "mounted" if entry.is_mount and not is_directory else ""
+    return SPECIAL.get(stat.S_IFMT(entry.state.st_mode), found)

@@ -20,15 +20,26 @@ class Owner(NamedTuple):
     group: int
 
 
+def tell_of(entry: Entry, tell: Callable[[str], None]) -> None:
+    """Names what is left out of a tree."""
+    if entry.is_mount:
+        what = "it is" if special(entry) else "what it has is"
+        tell(f"{shown(entry.place)}: mounted: {what} left out")
+    elif special(entry):
+        tell(f"{shown(entry.place)}: {special(entry)}, which no tree holds: left out")
+
+
 class Needs:
-    """What a view needs of a tree's limits: how many entries, and the largest file; and what no tree holds."""
+    """What a view needs of a tree's limits: how many entries, and the largest file; and what is left out."""
 
     def __init__(self, view: View, tell: Callable[[str], None]):
-        self.entries = self.largest = 0
+        self.entries = self.largest = self.left_out = 0
         for entry in view.entries():
+            tell_of(entry, tell)
             if special(entry):
-                tell(f"{shown(entry.place)}: {special(entry)}, which no tree holds: left out")
+                self.left_out += 1
                 continue
+            self.left_out += entry.is_mount
             self.entries += 1
             if stat.S_ISREG(entry.state.st_mode):
                 self.largest = max(self.largest, entry.state.st_size)
@@ -62,7 +73,7 @@ class Writer:
     """Writes the entries of one tree file."""
 
     def __init__(self, file: BinaryIO):
-        self.file, self.count, self.bytes = file, 0, 0
+        self.file, self.count, self.bytes, self.left_out = file, 0, 0, 0
         self.first: Dict[Tuple[int, int], int] = {}
 
     def head(self, view: View, owner: Owner, limits: Tuple[int, ...], count: int) -> None:
@@ -130,4 +141,5 @@ def write(view: View, owner: Owner, wanted: str, file: BinaryIO, tell: Callable[
             writer.put(entry)
     if writer.count != needs.entries:
         raise Trouble("the folder changed while it was read")
+    writer.left_out = needs.left_out
     return writer

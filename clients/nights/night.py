@@ -1,0 +1,150 @@
+"""One run for one user: audits what was recorded, and compares the folders with what that leaves."""
+import fcntl
+import os
+import subprocess
+import sys
+
+from nights.records import Failed, records_of
+from probing import program
+
+TREE = os.path.join(program.CLIENTS, "tree")
+MOST_LINES = 20
+
+
+def usual(program_file):
+    """The options of an audit of users' sessions, as far as the program has them."""
+    text = subprocess.run([program_file, "help", "audit"], stdout=subprocess.PIPE, check=False).stdout.decode()
+    profile = "posix-user" if "posix-user" in text else "posix"
+    return ["--profile", profile] + ["--cut"] * ("--cut" in text)
+
+
+class Night:
+    """One run for one user."""
+
+    def __init__(self, given):
+        self.given, self.program = given, program.program()
+        self.options = given.audit or usual(self.program)
+        self.folder = os.path.join(given.state, given.user)
+        os.makedirs(self.folder, mode=0o700, exist_ok=True)
+        self.tree = os.path.join(self.folder, "tree")
+        self.status = self.accepted = 0
+        self.held = os.open(self.folder, os.O_RDONLY | os.O_DIRECTORY)
+        try:
+            fcntl.flock(self.held, fcntl.LOCK_EX | fcntl.LOCK_NB)
+        except BlockingIOError:
+            raise Failed(f"another run for {given.user} has not ended") from None
+
+    def say(self, text, status=0):
+        print(f"{self.given.user}: {text}", flush=True)
+        self.status = max(self.status, status)
+
+    def pending(self):
+        return records_of(self.given.records, self.given.user, self.given.number)
+
+    def keep(self, record, kind):
+        """Moves a record into a folder of the state. Returns its new name."""
+        folder = os.path.join(self.folder, kind)
+        os.makedirs(folder, mode=0o700, exist_ok=True)
+        place, number = os.path.join(folder, record.name), 1
+        while os.path.lexists(place):
+            number += 1
+            place = os.path.join(folder, f"{record.name}.{number}")
+        record.move(place)
+        return place
+
+    def audit(self, record, note):
+        """Audits a session, and makes its last tree the one of the next. Returns whether it is accepted."""
+        after = f"{self.tree}.after"
+        ran = subprocess.run([self.program, "audit", *self.options, "--explain", "--tree", self.tree,
+                              "--transcript", f"/proc/self/fd/{record.file}", "--out", after],
+                             stdout=subprocess.PIPE, stderr=subprocess.STDOUT, check=False, pass_fds=[record.file])
+        said = ran.stdout.decode(errors="replace")
+        first, _, more = said.partition("\n")
+        if ran.returncode == 0:
+            self.keep(record, "accepted")
+            os.replace(after, self.tree)
+            self.accepted += 1
+            self.say(f"{record.name}: {first}{note}")
+            return True
+        if ran.returncode != 1 and not first.startswith("sftpv3: transcript: "):
+            raise Failed(f"{record.name}: the audit ended with status {ran.returncode}: {said.strip()}")
+        with open(f"{self.keep(record, 'refused')}.verdict", "w", encoding="utf-8") as file:
+            file.write(said)
+        self.say(f"{record.name}: {first}{note}", 1)
+        for line in more.splitlines():
+            self.say(f"  {line}")
+        return False
+
+    def audit_all(self):
+        """Audits what has ended, as far as there is a tree to start from."""
+        records = self.pending()
+        for record in records:
+            record.open()
+            if record.is_running():
+                self.say(f"{record.name}: still running; it and what comes behind it are audited when it has ended")
+                return
+            beside = [it.name for it in records if it.is_beside(record)]
+            self.judge(record, f" (beside {', '.join(beside)})" if beside else "")
+            record.close()
+
+    def judge(self, record, note):
+        """Audits a session, if there is a tree to start from; behind one that is refused there is none."""
+        if not os.path.exists(self.tree):
+            self.keep(record, "unjudged")
+            self.say(f"{record.name}: not judged, since there is no tree that it started from", 1)
+        elif not self.audit(record, note):
+            os.remove(self.tree)
+
+    def look(self):
+        """The tree of the folders as they are now, or None if a session ran meanwhile."""
+        now = f"{self.tree}.now"
+        words = [sys.executable, "-I", TREE, "--out", now,
+                 "--limits", "raised", "--user", self.given.user]
+        for name in ("home", "group"):
+            words += [f"--{name}", getattr(self.given, name)] if getattr(self.given, name) else []
+        words += [f"--{it.replace('_', '-')}" for it in ("chroot", "without_mounts") if getattr(self.given, it)]
+        ran = subprocess.run([*words, "--", *self.given.folders], stdout=subprocess.PIPE, stderr=subprocess.STDOUT,
+                             check=False)
+        said = ran.stdout.decode(errors="replace").strip()
+        if ran.returncode:
+            raise Failed(said)
+        return None if self.pending() else (now, said)
+
+    def compare(self):
+        """Compares the last tree with the folders, and starts anew from what they have."""
+        found = None if self.pending() else self.look()
+        if found is None:
+            self.say(f"{self.counted()}; a session runs, so the folder is not compared")
+            return
+        now, said = found
+        if not os.path.exists(self.tree):
+            *left_out, last = said.splitlines()
+            for line in left_out:
+                self.say(line)
+            self.say(f"the tree of the start has {last.rpartition(': ')[2].partition(',')[0]}")
+        else:
+            self.tell_difference(now)
+        os.replace(now, self.tree)
+
+    def counted(self):
+        return f"{self.accepted} session{'' if self.accepted == 1 else 's'} accepted"
+
+    def tell_difference(self, now):
+        ran = subprocess.run([self.program, "diff", self.tree, now], stdout=subprocess.PIPE, stderr=subprocess.STDOUT,
+                             check=False)
+        lines = ran.stdout.decode(errors="replace").splitlines()
+        if ran.returncode not in (0, 1):
+            raise Failed(f"sftpv3 diff ended with status {ran.returncode}: {' '.join(lines)}")
+        if ran.returncode == 0:
+            self.say(f"{self.counted()}; the folder is as they left it")
+            return
+        self.say(f"{self.counted()}; something else changed the folder:", 1)
+        for line in lines[:MOST_LINES]:
+            self.say(f"  {line}")
+        if len(lines) > MOST_LINES:
+            self.say(f"  and {len(lines) - MOST_LINES} more")
+
+    def run(self):
+        self.audit_all()
+        self.compare()
+        return self.status

@@ -1,0 +1,80 @@
+"""A copy of the whole system for one trial: all that is written is above the system's files, in memory, and is thrown
+away. It has mounts, processes and a network of its own, so sshd has port 22 of its own loopback, and the lines of a
+page can be run as they are."""
+import os
+import signal
+import subprocess
+import sys
+import tempfile
+
+INSIDE = "SFTPV3_GROUND"
+SPACES = ["unshare", "--mount", "--net", "--pid", "--fork", "--kill-child", "--propagation", "private"]
+
+
+# Where the program is in the copy that SFTPV3 names outside.
+PROGRAM = "/tmp/program"
+
+
+class NotMade(Exception):
+    """Why there can be no copy here."""
+
+
+def run(*words):
+    done = subprocess.run(words, stdout=subprocess.PIPE, stderr=subprocess.STDOUT, text=True, check=False)
+    if done.returncode:
+        raise NotMade(f"{words[0]} {words[1]}: {done.stdout.strip()}")
+
+
+def is_inside():
+    return INSIDE in os.environ
+
+
+def again(words):
+    """Runs these words on a new ground. Returns their status."""
+    signal.signal(signal.SIGTERM, lambda *_: sys.exit(143))
+    with tempfile.TemporaryDirectory(prefix="sftpv3-ground-") as room:
+        with subprocess.Popen([*SPACES, sys.executable, *words], env={**os.environ, INSIDE: room},
+                              stdin=subprocess.DEVNULL) as trial:
+            try:
+                return trial.wait()
+            except BaseException:
+                # and with it all that it started
+                trial.kill()
+                raise
+
+
+def enter():
+    """Makes the copy below the room, and goes into it."""
+    room = os.environ[INSIDE]
+    run("mount", "-t", "tmpfs", "-o", "mode=755", "none", room)
+    for name in ("above", "work", "root"):
+        os.mkdir(f"{room}/{name}")
+    root = f"{room}/root"
+    run("mount", "-t", "overlay", "overlay", "-o", f"lowerdir=/,upperdir={room}/above,workdir={room}/work", root)
+    run("mount", "-t", "proc", "proc", f"{root}/proc")
+    run("mount", "--rbind", "/dev", f"{root}/dev")
+    run("mount", "-t", "tmpfs", "-o", "mode=755", "none", f"{root}/run")
+    run("mount", "-t", "tmpfs", "-o", "mode=1777", "none", f"{root}/tmp")
+    run("ip", "link", "set", "lo", "up")
+    keep(os.environ["SFTPV3"], root + PROGRAM)
+    os.chroot(root)
+    os.chdir("/")
+    go_on_in_child()
+
+
+def go_on_in_child():
+    """The first process of a space of processes has to take in those whose parents ended; the trial is its child."""
+    trial = os.fork()
+    if trial == 0:
+        return
+    while True:
+        ended, status = os.wait()
+        if ended == trial:
+            os._exit(os.waitstatus_to_exitcode(status) & 0xff)
+
+
+def keep(path, place):
+    """Takes a file with it that may be where the copy has another folder."""
+    with open(path, "rb") as source, open(place, "wb") as target:
+        target.write(source.read())
+    os.chmod(place, 0o755)

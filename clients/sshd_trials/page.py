@@ -1,0 +1,37 @@
+"""The lines of docs/USING.md that an operator types, as they are there."""
+import re
+import subprocess
+
+from record_trials.steps import TOP
+
+PAGE = TOP / "docs/USING.md"
+
+
+def lines_of(name):
+    """The block of the page whose first line has `try=NAME`."""
+    found = re.search(rf"(?ms)^```sh [^\n]*\btry={name}\n(.*?)^```", PAGE.read_text())
+    if not found:
+        raise AssertionError(f"{PAGE} has no block try={name}")
+    return found[1]
+
+
+def for_user(text, user, folder):
+    """The lines of the page, which has `u` and `/home/u`, for another user."""
+    return re.sub(r"(?<=[\s:])u(?=[\s:])", user, text.replace("/home/u", folder)).replace(" u ", f" {user} ")
+
+
+def run(text, **options):
+    """Runs the lines in a shell, up to the first that fails. Returns the status and what is printed."""
+    done = subprocess.run(["sh", "-e", "-c", text], stdout=subprocess.PIPE, stderr=subprocess.STDOUT, text=True,
+                          timeout=120, check=False, **options)
+    return done.returncode, done.stdout
+
+
+def run_cron(path):
+    """Does what cron does with the one line of a file in /etc/cron.d."""
+    with open(path, encoding="utf-8") as file:
+        words = [it for it in file.read().splitlines() if it and not it.startswith("#")][-1].split(None, 6)
+    done = subprocess.run(["/bin/sh", "-c", words[6]], stdout=subprocess.PIPE, stderr=subprocess.STDOUT, text=True,
+                          timeout=120, check=False, cwd="/root",
+                          env={"HOME": "/root", "LOGNAME": words[5], "SHELL": "/bin/sh", "PATH": "/usr/bin:/bin"})
+    return done.returncode, done.stdout
