@@ -31,6 +31,12 @@ def size(text):
     return int(number) << units.get(text[-1:], 0)
 
 
+def count(text):
+    if not (text.isascii() and text.isdigit() and int(text)):
+        raise argparse.ArgumentTypeError(f"{text!r} is no number from 1 on")
+    return int(text)
+
+
 def seconds(text):
     try:
         found = float(text)
@@ -81,9 +87,11 @@ def daemon_parser():
                         help="how long a record may be, 16G by default")
     parser.add_argument("--per-user", metavar="SIZE", type=size, default=1 << 37,
                         help="how long the records of a user may be together, 128G by default")
+    parser.add_argument("--records-per-user", metavar="N", type=count, default=100_000,
+                        help="how many records of a user there may be, 100,000 by default")
     parser.add_argument("--keep-free", metavar="SIZE", type=size, default=1 << 28,
                         help="how much of the file system stays free, 256M by default")
-    parser.add_argument("--sessions", metavar="N", type=int, default=64,
+    parser.add_argument("--sessions", metavar="N", type=count, default=64,
                         help="how many sessions of a user are recorded at a time, 64 by default")
     parser.add_argument("--log", metavar="FILE", help="append what is said to FILE, too")
     parser.add_argument("--syslog", action="store_true", help="say it to syslog, too")
