@@ -60,6 +60,11 @@ def clean(text):
     return "".join(sign if sign in "\t\n" or sign.isprintable() else escaped(sign) for sign in text)
 
 
+def line(text):
+    """The same as one line of a terminal: without line feeds and tabs, too."""
+    return "".join(sign if sign.isprintable() else escaped(sign) for sign in text)
+
+
 def escaped(sign):
     """A character as its bytes are written. One that stands for a byte that is no UTF-8 is that byte."""
     code = ord(sign)

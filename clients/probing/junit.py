@@ -3,6 +3,7 @@ import shlex
 from xml.sax import saxutils
 
 from paging import packets
+from probing import files
 
 
 def text(value):
@@ -22,8 +23,7 @@ def write(name, tally, command):
             [f'  <testcase classname="probe.seed-{played.seed}" name="accepted" time="{played.seconds:.3f}"/>']
     suite = f'<testsuite name={quoted("sftpv3-probe -- " + shlex.join(command))} tests="{len(cases)}" ' \
         f'failures="{failures}" errors="0" skipped="0" time="{sum(played.seconds for played in tally.played):.3f}">'
-    with open(name, "w", encoding="utf-8") as file:
-        file.write("\n".join(['<?xml version="1.0" encoding="UTF-8"?>', suite, *cases, "</testsuite>", ""]))
+    files.write_text(name, "\n".join(['<?xml version="1.0" encoding="UTF-8"?>', suite, *cases, "</testsuite>", ""]))
 
 
 def name_of(group):

@@ -179,7 +179,7 @@ class Run:
             found.append((steps, self.groups.add(steps, difference), difference))
             if len(self.groups.by_key) > known:
                 self.progress.clear()
-                print(f"seed {difference.seed}: {found[-1][1].title()}; expected: {difference.expected}", flush=True)
+                program.say(f"seed {difference.seed}: {found[-1][1].title()}; expected: {difference.expected}")
         if found:
             for (_, group, _), others in zip(found, causes.behind(found, self.tree)):
                 group.put_behind(others)
@@ -214,7 +214,7 @@ class Run:
         if vain:
             print(f"probe: in {vain} session{'s' if vain != 1 else ''} no request was played", file=sys.stderr)
         if found or self.tally.left or not self.vain():
-            print(("\n" if found else "") + reports.summary(self.tally, found), flush=True)
+            program.say(("\n" if found else "") + reports.summary(self.tally, found))
 
     def run(self):
         """Gives the exit status."""

@@ -22,7 +22,11 @@ GLANCE = 0.2
 
 
 class Trouble(Exception):
-    """The program did not audit."""
+    """The program did not audit: status 2 if a file is malformed, 3 if it ran out of memory or could not read one."""
+
+    def __init__(self, text, status=2):
+        super().__init__(text)
+        self.status = status
 
 
 @dataclass
@@ -44,7 +48,8 @@ def of_audit(done):
     found = re.match(r"refused record (\d+): (\w+)$", said) if done.returncode == 1 else \
         re.match(r"sftpv3: transcript: record (\d+): (.+)$", why, re.MULTILINE)
     if not accepted and not found:
-        raise Trouble(f"the audit ended {servers.ending(done.returncode)}: {said} {why}")
+        raise Trouble(f"the audit ended {servers.ending(done.returncode)}: {said} {why}",
+                      3 if done.returncode == 3 else 2)
     lines = dict(line.split(": ", 1) for line in why.splitlines() if ": " in line and not line.startswith("sftpv3: "))
     return Verdict(accepted, said or why, *((int(found[1]), found[2]) if found else (None, None)), lines)
 
