@@ -28,6 +28,8 @@ READ, BATCHES = 1 << 18, 256
 HELLO_SECONDS = 5
 # How many connections there may be that have not said it, and in all.
 CONNECTIONS = 1000
+# How many may wait to be taken, and how many are taken in a round.
+BACKLOG, TAKEN = 1024, 128
 # How long no connection is taken when there are no descriptors left.
 PAUSE = 0.5
 PEER = struct.Struct("3i")
@@ -152,7 +154,7 @@ class Daemon:
         self.made = None
         self.listener = self.open_listener(options.socket)
         self.listener.setblocking(False)
-        self.connections = {}
+        self.connections, self.counts = {}, {}
         # when connections are taken again, when the silent ones were looked for, what was said of a user and when
         self.paused = self.looked = 0.0
         self.said = {}
@@ -181,7 +183,7 @@ class Daemon:
         try:
             listener.bind(new)
             os.chmod(new, 0o666)
-            listener.listen(128)
+            listener.listen(BACKLOG)
             # in its place only once it can be connected to
             os.rename(new, name)
         except OSError as error:
@@ -190,20 +192,26 @@ class Daemon:
         return listener
 
     def accept(self):
+        """Takes the connections that wait, as many as one round allows."""
         try:
-            link, _ = self.listener.accept()
+            for _ in range(TAKEN):
+                self.add(self.listener.accept()[0])
+        except BlockingIOError:
+            pass
         except OSError as error:
             if error.errno in (errno.EMFILE, errno.ENFILE, errno.ENOMEM, errno.ENOBUFS):
                 self.paused = time.monotonic() + PAUSE
-            return
+
+    def add(self, link):
         link.setblocking(False)
         made = Connection(link, self)
-        others = sum(it.user == made.user for it in self.connections.values())
+        others = self.counts.get(made.user, 0)
         if len(self.connections) >= CONNECTIONS or others >= self.options.sessions:
             made.close()
             whose = "this user has" if others >= self.options.sessions else "there are"
             self.say_of(made, f"{whose} too many sessions")
             return
+        self.counts[made.user] = others + 1
         self.connections[link.fileno()] = made
 
     def say_of(self, connection, text):
@@ -231,6 +239,7 @@ class Daemon:
 
     def end(self, connection):
         del self.connections[connection.fileno()]
+        self.counts[connection.user] -= 1
         if connection.name:
             self.notices.note(f"kept {connection.written} bytes in {connection.name}")
         connection.close()

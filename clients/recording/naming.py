@@ -10,7 +10,7 @@ from recording import folders
 
 # How long a pipe may be without a reader.
 PATIENCE = 5
-# How many names are tried in turn, and how many with a random end. Another user may have taken those that can be foreseen.
+# How many names are tried in turn, and how many with a random end: others may have taken those that can be foreseen.
 IN_TURN, RANDOM = 9, 9
 
 

@@ -1,7 +1,7 @@
 """The command lines of sftpv3-record and sftpv3-recordd: options, help and complaints, by argparse."""
 import argparse
 
-from recording.options import AUDIT_FLAGS, AUDIT_VALUES, GRACE, NAME
+from recording.options import AUDIT_FLAGS, AUDIT_MEMORY, AUDIT_VALUES, GRACE, NAME
 
 RECORD_NOTES = """\
 In TRANSCRIPT and in the names of --times and --log, %p is the recorder's process, %u the user, %t the time of the start
@@ -71,7 +71,8 @@ def record_parser():
     group.add_argument("--stop", action="store_true", help="cut the session where the audit refuses it")
     group.add_argument("--program", metavar="FILE", help="the program sftpv3, by default the one installed beside")
     for name, value in AUDIT_VALUES.items():
-        group.add_argument(name, metavar=value, help=f"as of 'sftpv3 audit {name}'")
+        usual = f", {AUDIT_MEMORY} by default" if name == "--memory" else ""
+        group.add_argument(name, metavar=value, help=f"as of 'sftpv3 audit {name}'{usual}")
     for name in AUDIT_FLAGS:
         group.add_argument(name, action="store_true", help=f"as of 'sftpv3 audit {name}'")
     return parser

@@ -114,9 +114,8 @@ class SpoolSink:
         self.sent = self.kept = 0
         import socket
         self.socket = socket.socket(socket.AF_UNIX)
-        self.socket.settimeout(SPOOL_SECONDS)
         try:
-            self.socket.connect(name)
+            self.connect(name)
             self.look_who_listens()
             text = claimed.encode(errors="replace")[:255]
             self.socket.sendall(SPOOL_OPENING + bytes([len(text)]) + text)
@@ -126,6 +125,13 @@ class SpoolSink:
         if first != bytes(8):
             raise Failed(f"the spool {name} does not record this session")
         self.socket.setblocking(False)
+
+    def connect(self, name):
+        """Connects, and waits for a daemon that has much to do."""
+        import socket
+        self.socket.setsockopt(socket.SOL_SOCKET, socket.SO_SNDTIMEO, struct.pack("@ll", SPOOL_SECONDS, 0))
+        self.socket.connect(name)
+        self.socket.settimeout(SPOOL_SECONDS)
 
     def look_who_listens(self):
         """Refuses a socket that another user could have made in place of the daemon's."""

@@ -98,7 +98,7 @@ class Client:
                     words = self.get(b"/proc/" + name + b"/cmdline")
                 except OSError:
                     continue
-                if b"sftpv3-record" in words and words.startswith(b"/usr/bin/python3"):
+                if b"/record\0" in words and words.startswith(b"/usr/bin/python3"):
                     if self.names(b"/proc/" + name + b"/fd"):
                         found.append(int(name))
-        return max(found)
+        return max(found, default=None)
