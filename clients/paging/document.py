@@ -3,7 +3,9 @@ import base64
 import hashlib
 import os
 
+from paging import packets
 from paging.picture import safe
+from probing import files
 
 HERE = os.path.dirname(os.path.realpath(__file__))
 
@@ -34,7 +36,7 @@ def page(title, body):
 <meta name="viewport" content="width=device-width, initial-scale=1">
 <meta name="color-scheme" content="light dark">
 <meta http-equiv="Content-Security-Policy" content="{policy}">
-<title>{safe(title)}</title>
+<title>{safe(packets.line(title))}</title>
 <style>{style}</style>
 </head>
 <body>
@@ -63,7 +65,4 @@ def key():
 
 def write(name, text):
     """Writes a page, which replaces the file whole."""
-    beside = f"{name}.new"
-    with open(beside, "w", encoding="utf-8", errors="backslashreplace") as file:
-        file.write(text)
-    os.replace(beside, name)
+    files.write_text(name, text)

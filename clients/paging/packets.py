@@ -1,12 +1,14 @@
 """A packet as a person reads it: its name, its id, one line, and its fields."""
+import bisect
+import itertools
 import string
 from dataclasses import dataclass, field
 from typing import List, Optional, Tuple
 
 import sftp3
 
-# How many bytes of a text a line has, and how many its field.
-SHORT, LONG = 32, 256
+# How many signs of a text a line has, and how many its field; and how many bytes the field of what is no packet.
+SHORT, LONG, RAW = 40, 512, 256
 
 # The most names of a NAME, and the most extensions, that are listed.
 LISTED = 20
@@ -28,6 +30,9 @@ FIELDS = {
 
 PLAIN = set(string.printable[:95].encode()) - set(b'"\\')
 
+# Each byte as `sftpv3 show` prints it in a text.
+SIGNS = [chr(byte) if byte in PLAIN else f"\\x{byte:02x}" for byte in range(256)]
+
 
 @dataclass
 class Packet:
@@ -41,15 +46,23 @@ class Packet:
 
 
 def quoted(data, most=None):
-    """A text as `sftpv3 show` prints it, cut after some bytes."""
-    if most is not None and len(data) > most:
-        return f"{quoted(data[:most])}...{len(data) - most:,} more"
-    return '"' + "".join(chr(byte) if byte in PLAIN else f"\\x{byte:02x}" for byte in data) + '"'
+    """A text as `sftpv3 show` prints it, cut after so many signs, and told how many bytes more it has."""
+    signs = [SIGNS[byte] for byte in data[:most]]
+    count = len(signs)
+    if most is not None:
+        count = bisect.bisect_right(list(itertools.accumulate(map(len, signs))), most)
+    more = f"...{len(data) - count:,} more" if count < len(data) else ""
+    return '"' + "".join(signs[:count]) + '"' + more
 
 
 def clean(text):
     """A text that may hold anything, without characters that a page or XML must not have, or that hide others."""
     return "".join(sign if sign in "\t\n" or sign.isprintable() else escaped(sign) for sign in text)
+
+
+def line(text):
+    """The same as one line of a terminal: without line feeds and tabs, too."""
+    return "".join(sign if sign.isprintable() else escaped(sign) for sign in text)
 
 
 def escaped(sign):
@@ -85,11 +98,12 @@ def attributes_of(given):
 
 
 def of_handle_bytes(data, most=None):
-    """A handle: as text if all of it can be printed, else as a number."""
+    """A handle: as text if all of it can be printed, else as a number; cut after so many signs."""
     if all(byte in PLAIN for byte in data):
         return quoted(data, most)
-    more = f"...{len(data) - most:,} more" if most is not None and len(data) > most else ""
-    return f"0x{data[:most].hex()}{more}"
+    kept = data if most is None else data[:most // 2]
+    more = f"...{len(data) - len(kept):,} more" if len(kept) < len(data) else ""
+    return f"0x{kept.hex()}{more}"
 
 
 def of(side, data, handle=None):
@@ -103,7 +117,7 @@ def of(side, data, handle=None):
 
 def raw(data, trouble):
     number = int.from_bytes(data[5:9], "big") if len(data) >= 9 else None
-    return Packet("raw", number, f"{len(data):,} bytes", [("bytes", in_hex(data[:LONG]))], trouble)
+    return Packet("raw", number, f"{len(data):,} bytes", [("bytes", in_hex(data[:RAW]))], trouble)
 
 
 def in_hex(data):

@@ -57,5 +57,6 @@ def seeds(given):
         else:
             cells.append(f'<li class="yes" title="seed {seed}: accepted">{seed}<span class="unseen"> accepted</span>'
                          '</li>')
-    return (f'<h3>Seeds <small>{counted(len(given), "session")}, {wrong:,} with ✗ differ{left}</small></h3>'
+    differ = "none differs" if not wrong else f"{wrong:,} of which differ{'s' * (wrong == 1)} (✗)"
+    return (f'<h3>Seeds <small>{counted(len(given), "session")}, {differ}{left}</small></h3>'
             f'<ol class="seeds">{"".join(cells)}</ol>')

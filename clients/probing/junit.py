@@ -3,6 +3,7 @@ import shlex
 from xml.sax import saxutils
 
 from paging import packets
+from probing import files
 
 
 def text(value):
@@ -22,8 +23,7 @@ def write(name, tally, command):
             [f'  <testcase classname="probe.seed-{played.seed}" name="accepted" time="{played.seconds:.3f}"/>']
     suite = f'<testsuite name={quoted("sftpv3-probe -- " + shlex.join(command))} tests="{len(cases)}" ' \
         f'failures="{failures}" errors="0" skipped="0" time="{sum(played.seconds for played in tally.played):.3f}">'
-    with open(name, "w", encoding="utf-8") as file:
-        file.write("\n".join(['<?xml version="1.0" encoding="UTF-8"?>', suite, *cases, "</testsuite>", ""]))
+    files.write_text(name, "\n".join(['<?xml version="1.0" encoding="UTF-8"?>', suite, *cases, "</testsuite>", ""]))
 
 
 def name_of(group):
@@ -34,8 +34,8 @@ def name_of(group):
 def failed(played, group):
     """A case: what was expected and found stands in its failure, with the session that shows it."""
     lines = group.text() + (group.kept[1] if group.kept else [])
-    kind = group.first.verdict.kind
+    kind = quoted(group.first.verdict.kind)
     return (f'  <testcase classname="probe.seed-{played.seed}" name={quoted(name_of(group))} '
             f'time="{played.seconds:.3f}">\n'
-            f'    <failure type="{kind}" message={quoted(f"expected {group.expected}; found {group.found}")}>'
+            f'    <failure type={kind} message={quoted(f"expected {group.expected}; found {group.found}")}>'
             + text("\n".join(lines)) + "</failure>\n  </testcase>")

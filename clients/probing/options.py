@@ -4,7 +4,7 @@ import os
 import textwrap
 
 import sftp3
-from probing import features, program, refusals, sessions, shrinking, trees, verdicts
+from probing import features, files, program, refusals, sessions, shrinking, trees, verdicts
 
 # The exit statuses: all sessions were accepted; there are differences; the command line is wrong, or plans nothing; the
 # server, the command of --reset or the program could not be started; no difference was found, and not all was played.
@@ -150,7 +150,9 @@ def can_write(option, name):
     while not os.path.lexists(folder) and option == "--keep":
         folder = os.path.dirname(folder)
     if not os.path.isdir(folder) or not os.access(folder, os.W_OK):
-        raise Wrong(f"{option}: {name} cannot be written")
+        raise Wrong(f"{option}: {name!r} cannot be written")
+    if option == "--keep" and files.is_foreign(name):
+        raise Wrong(f"{option}: {name!r} is no folder of this user that no other can write to")
 
 
 def options(about):

@@ -3,11 +3,17 @@ import os
 import subprocess
 import sys
 
+from paging import packets
+
 CLIENTS = os.path.dirname(os.path.dirname(os.path.realpath(__file__)))
 TOP = os.path.dirname(CLIENTS)
 
 # Installed modules are in lib/sftpv3, the program and the commands in bin.
 INSTALLED = os.path.join(os.path.dirname(TOP), "bin", "sftpv3")
+
+
+# The most memory of an audit that a script starts, unless it is told otherwise.
+MEMORY = 1 << 30
 
 
 class NotBuilt(Exception):
@@ -37,7 +43,12 @@ def called(name):
     return f"clients/{name}" if in_repository() else f"sftpv3-{name}"
 
 
+def say(text, stream=None):
+    """Prints a text that may have words of a server or of a file: no sign of it does anything to a terminal."""
+    print(packets.clean(str(text)), file=stream or sys.stdout, flush=True)
+
+
 def complain(name, why, status):
-    """Says why a command of clients/ ends, and gives the status."""
-    print(f"{os.path.basename(called(name))}: {why}", file=sys.stderr)
+    """Says in a line why a command of clients/ ends, and gives the status."""
+    say(packets.line(f"{os.path.basename(called(name))}: {why}"), sys.stderr)
     return status

@@ -9,7 +9,7 @@ import time
 
 import sftp3
 from paging import document, packets, runs
-from probing import junit, keeping, printed, program, shown, trees
+from probing import files, junit, keeping, printed, program, shown, trees
 
 
 def text_of(judge, name):
@@ -21,18 +21,17 @@ def keep(judge, folder, number, group, kept):
     """Keeps the tree, the transcript, their texts and the reason of a group in a folder of its own."""
     name = re.sub(r"[^a-z0-9]+", "-", f"{group.request} {group.found}".lower()).strip("-")[:50].strip("-")
     place = os.path.join(folder, f"{number:02}-{name}")
-    os.makedirs(place, exist_ok=True)
+    files.folder(folder)
+    files.folder(place)
     keeping.of_server(place, kept.difference)
-    trees.write(kept.tree, os.path.join(place, "start.tree"))
-    with open(os.path.join(place, "session.transcript"), "wb") as file:
-        file.write(sftp3.put_records(kept.difference.records))
+    files.write(os.path.join(place, "start.tree"), trees.put(kept.tree))
+    files.write(os.path.join(place, "session.transcript"), sftp3.put_records(kept.difference.records))
     texts = {kind: text_of(judge, os.path.join(place, kind)) for kind in ("start.tree", "session.transcript")}
     for kind, text in texts.items():
-        with open(os.path.join(place, kind.split(".")[0] + ".txt"), "w", encoding="utf-8") as file:
-            file.write(text)
+        files.write_text(os.path.join(place, kind.split(".")[0] + ".txt"), text)
     verdict = kept.difference.verdict
-    with open(os.path.join(place, "verdict.txt"), "w", encoding="utf-8") as file:
-        file.write("\n".join([verdict.text] + [f"{label}: {words}" for label, words in verdict.lines.items()]) + "\n")
+    files.write_text(os.path.join(place, "verdict.txt"), "\n".join(
+        [verdict.text] + [f"{label}: {words}" for label, words in verdict.lines.items()]) + "\n")
     session = shown.judged(kept.difference, "")
     lines = printed.session(session, texts["session.transcript"].splitlines()) + printed.byte(verdict.lines, session)
     return place, lines
@@ -47,13 +46,13 @@ def seeds_of(group):
 
 
 def print_group(number, group):
-    print(f"\n{number}. {group.title()}")
+    program.say(f"\n{number}. {group.title()}")
     for line in group.text():
-        print(f"   {line}")
+        program.say(f"   {line}")
     seeds = f"{group.count} in {len(group.seeds)} sessions, first in seed {group.seeds[0]}"
-    print(f"   {seeds}; {group.story()}; kept in {group.kept[0]}")
+    program.say(f"   {seeds}; {group.story()}; kept in {group.kept[0]}")
     for line in group.kept[1]:
-        print("      " + line)
+        program.say("      " + line)
 
 
 def summary(tally, found):
@@ -87,8 +86,7 @@ def write_json_lines(name, tally, found):
     lines = [{"seed": one.seed, "accepted": not one.groups, "differences": [group.title() for group in one.groups],
               "seconds": round(one.seconds, 3)} for one in tally.judged]
     lines += [of_group(number, group) for number, group in enumerate(found, 1)]
-    with open(name, "w", encoding="utf-8") as file:
-        file.writelines(json.dumps(clean(line)) + "\n" for line in lines)
+    files.write_text(name, "".join(json.dumps(clean(line)) + "\n" for line in lines))
 
 
 def clean(value):
@@ -107,12 +105,18 @@ def write_page(name, given, tally, found):
     facts = [("server", shlex.join(given.command)), ("its VERSION", tally.version or "none came"),
              ("sftpv3", subprocess.run([program.program(), "--version"], stdout=subprocess.PIPE, check=False)
               .stdout.decode(errors="replace").splitlines() or "unknown"),
-             ("options", shlex.join(sys.argv[1:len(sys.argv) - len(given.command)]) or "none"),
+             ("options", options_of(given.command)),
              ("seeds", seeds_in_words(tally)),
              ("requests", f"{tally.requests:,}, {tally.unjudged:,} of which were not judged"),
              ("time", f"{sum(one.seconds for one in tally.played):,.1f} s in all sessions, until "
                       f"{time.strftime('%Y-%m-%d %H:%M:%S', time.gmtime())} UTC")]
     document.write(name, runs.page(runs.Run("sftpv3-probe", summary(tally, found), facts, seeds, differences)))
+
+
+def options_of(command):
+    """The options of this run: what stands before the command."""
+    words = sys.argv[1:len(sys.argv) - len(command)]
+    return shlex.join(words[:-1] if words[-1:] == ["--"] else words) or "none"
 
 
 def notes_of(group):

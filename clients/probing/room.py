@@ -13,6 +13,9 @@ NUMBER = 0x7FFFFFFF
 # What a packet has besides the bytes of a WRITE or of DATA, at most.
 AROUND = 1024
 
+# What no offset reaches.
+OFFSETS = 1 << 64
+
 
 class Room:
     """The most bytes of a READ and of a WRITE, and the most handles; None where there is no limit."""
@@ -55,9 +58,10 @@ class Room:
 
 
 def many(step, number, of_parts):
-    """Steps with these fields in place of a step."""
+    """Steps with these fields in place of a step: a handle, an offset, and what is read or written there. Parts behind
+    the last offset that there is are left out."""
     return [Step(step.number if part == 0 else number + part, step.name, fields)
-            for part, fields in enumerate(of_parts)]
+            for part, fields in enumerate(of_parts) if fields[1] < OFFSETS]
 
 
 def question():

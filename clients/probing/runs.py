@@ -38,11 +38,15 @@ class Plan:
         self.seen, self.endings = set(), []
 
     def play(self, worker):
-        """What comes of it."""
+        """What comes of it; what came by then, once it is stopped. Raises Stopped if that is nothing."""
         started = time.monotonic()
         for number in range(MOST_PLAYED):
             try:
                 session, judged = self.play_once(worker)
+            except sessions.Stopped:
+                if not self.outcome.differences:
+                    raise
+                break
             except sessions.servers.ResetFailed:
                 raise
             except NotStarted as error:
@@ -62,7 +66,10 @@ class Plan:
         session, judged = worker.play(self.tree, self.steps, self.in_flight, self.seed, self.stop)
         self.outcome.version = single.version(session.records)
         if session.ended and session.unanswered > 1:
-            alone = worker.play(self.tree, self.steps, options.ONE, self.seed, self.stop)
+            try:
+                alone = worker.play(self.tree, self.steps, options.ONE, self.seed, self.stop)
+            except sessions.Stopped:
+                return session, judged
             if alone[0].ended:
                 self.in_flight = options.ONE
                 return alone
@@ -87,6 +94,12 @@ class Plan:
         self.endings.append((session.end, session.asked()) if session.ended else None)
         last = self.endings[-MOST_ENDED:]
         return len(last) == MOST_ENDED and last[0] is not None and len(set(last)) == 1
+
+
+def why_failed(error):
+    """Why no more is played."""
+    usual = isinstance(error, (NotStarted, verdicts.Trouble, OSError))
+    return "the server or the program could not be started" if usual else "the probe itself failed"
 
 
 class Run:
@@ -166,7 +179,7 @@ class Run:
             found.append((steps, self.groups.add(steps, difference), difference))
             if len(self.groups.by_key) > known:
                 self.progress.clear()
-                print(f"seed {difference.seed}: {found[-1][1].title()}; expected: {difference.expected}", flush=True)
+                program.say(f"seed {difference.seed}: {found[-1][1].title()}; expected: {difference.expected}")
         if found:
             for (_, group, _), others in zip(found, causes.behind(found, self.tree)):
                 group.put_behind(others)
@@ -201,7 +214,7 @@ class Run:
         if vain:
             print(f"probe: in {vain} session{'s' if vain != 1 else ''} no request was played", file=sys.stderr)
         if found or self.tally.left or not self.vain():
-            print(("\n" if found else "") + reports.summary(self.tally, found), flush=True)
+            program.say(("\n" if found else "") + reports.summary(self.tally, found))
 
     def run(self):
         """Gives the exit status."""
@@ -210,10 +223,10 @@ class Run:
             self.play()
             self.progress.clear()
             self.shrink()
-        except (NotStarted, verdicts.Trouble, OSError) as error:
+        except Exception as error:  # noqa: BLE001 (what was found is reported first, whatever failed)
             trouble = error
             self.progress.clear()
-            self.halt.set("the server or the program could not be started")
+            self.halt.set(why_failed(error))
             if not self.groups.by_key:
                 raise
         self.tally.stopped = self.halt.why or self.playing.why or ("--patience" if self.until.is_set() else None)

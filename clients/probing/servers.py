@@ -22,6 +22,10 @@ class NotStarted(Exception):
         self.session = session
 
 
+class Stopped(Exception):
+    """The run is to end: nobody waits for this session."""
+
+
 class ResetFailed(NotStarted):
     """The command of --reset failed, so no server was started."""
 
@@ -56,10 +60,12 @@ def run_reset(command, environment, seconds, stop):
                                    stdout=subprocess.DEVNULL, stderr=errors, start_new_session=True)
         deadline = None if seconds is None else time.monotonic() + seconds
         while process.poll() is None:
-            late = deadline is not None and time.monotonic() > deadline
-            if late or stop and stop.is_set():
+            if stop and stop.is_set():
                 stop_group(process)
-                raise ResetFailed(f"--reset did not end within {seconds:g} seconds" if late else "--reset was stopped")
+                raise Stopped()
+            if deadline is not None and time.monotonic() > deadline:
+                stop_group(process)
+                raise ResetFailed(f"--reset did not end within {seconds:g} seconds")
             time.sleep(0.01)
         errors.seek(max(0, errors.seek(0, os.SEEK_END) - KEPT))
         if process.returncode != 0:

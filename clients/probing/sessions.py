@@ -9,7 +9,7 @@ from typing import List, Optional, Tuple
 
 import sftp3
 from probing import room, servers
-from probing.servers import NotStarted, Server  # noqa: F401 (callers have them from here)
+from probing.servers import NotStarted, Server, Stopped  # noqa: F401 (callers have them from here)
 
 # Seconds to wait for a reply, and how many times as long for VERSION.
 TIMEOUT, OPENING = 10, 12
@@ -27,10 +27,6 @@ UNWANTED = 100
 
 # The signals that a program gets for its own mistakes.
 CRASHES = {signal.SIGSEGV, signal.SIGABRT, signal.SIGBUS, signal.SIGFPE, signal.SIGILL, signal.SIGSYS, signal.SIGTRAP}
-
-
-class Stopped(Exception):
-    """The run is to end: nobody waits for this session."""
 
 
 @dataclass

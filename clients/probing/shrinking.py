@@ -91,11 +91,12 @@ class Shrinker:
             while played < tries:
                 came += self.show(steps, tree) is not None
                 played += 1
+                # time may be over in the next try
+                self.group.came, self.group.tries = came, played
                 if came == 0 and self.in_flight != wanted or came == played == STEADY:
                     break
                 if came and self.in_flight != wanted:
                     tries = TRIES
-            self.group.came, self.group.tries = came, played
             if came:
                 self.tries = 1 if came == played else TRIES
                 return True

@@ -1,13 +1,14 @@
 """Asks `sftpv3 audit` for its verdict on a session, and goes on after a difference."""
 import os
 import re
+import signal
 import subprocess
 from dataclasses import dataclass
 from typing import Dict, List, Optional, Tuple
 
 import sftp3
-from probing import servers
-from probing.sessions import Session
+from probing import groups, servers
+from probing.sessions import Session, Stopped
 
 # The options of a profile, which are passed on if the program has them.
 PROFILE_OPTIONS = ["--profile", "--umask", "--new-owner", "--allow", "--except", "--symlink"]
@@ -16,9 +17,16 @@ PROFILE_OPTIONS = ["--profile", "--umask", "--new-owner", "--allow", "--except",
 # The most differences of a session that are told apart: each takes an audit more, and a session may have thousands.
 MOST_DIFFERENCES = 12
 
+# Seconds from a look at what may stop an audit to the next.
+GLANCE = 0.2
+
 
 class Trouble(Exception):
-    """The program did not audit."""
+    """The program did not audit: status 2 if a file is malformed, 3 if it ran out of memory or could not read one."""
+
+    def __init__(self, text, status=2):
+        super().__init__(text)
+        self.status = status
 
 
 @dataclass
@@ -40,9 +48,25 @@ def of_audit(done):
     found = re.match(r"refused record (\d+): (\w+)$", said) if done.returncode == 1 else \
         re.match(r"sftpv3: transcript: record (\d+): (.+)$", why, re.MULTILINE)
     if not accepted and not found:
-        raise Trouble(f"the audit ended {servers.ending(done.returncode)}: {said} {why}")
+        raise Trouble(f"the audit ended {servers.ending(done.returncode)}: {said} {why}",
+                      3 if done.returncode == 3 else 2)
     lines = dict(line.split(": ", 1) for line in why.splitlines() if ": " in line and not line.startswith("sftpv3: "))
     return Verdict(accepted, said or why, *((int(found[1]), found[2]) if found else (None, None)), lines)
+
+
+def run(words, stop):
+    """Runs a command to its end; raises Stopped, and ends it, once `stop` is set."""
+    # in a session of its own, so that a terminal's SIGINT does not end it
+    with subprocess.Popen(words, stdin=subprocess.DEVNULL, stdout=subprocess.PIPE, stderr=subprocess.PIPE,
+                          start_new_session=True) as running:
+        while not (stop and stop.is_set()):
+            try:
+                said, why = running.communicate(timeout=GLANCE)
+                return subprocess.CompletedProcess(words, running.returncode, said, why)
+            except subprocess.TimeoutExpired:
+                pass
+        os.killpg(running.pid, signal.SIGKILL)
+    raise Stopped()
 
 
 class Auditor:
@@ -56,13 +80,12 @@ class Auditor:
         """The same with a folder of its own."""
         return Auditor(self.program, folder, self.options)
 
-    def judge(self, tree_file, records):
+    def judge(self, tree_file, records, stop=None):
+        """The verdict. Raises Stopped, and ends the audit, once `stop` is set."""
         with open(self.file, "wb") as file:
             file.write(sftp3.put_records(records))
         words = [self.program, "audit", "--explain", "--tree", tree_file, "--transcript", self.file] + self.options
-        # in a session of its own, so that a terminal's SIGINT does not end it
-        return of_audit(subprocess.run(words, stdin=subprocess.DEVNULL, capture_output=True, check=False,
-                                       start_new_session=True))
+        return of_audit(run(words, stop))
 
     def knows(self, option):
         """Whether the program's help lists this option of an audit."""
@@ -103,12 +126,13 @@ class Difference:
 
     @property
     def found(self):
-        """What came instead, as `audit --explain` says it."""
+        """What came instead, in the words in which `audit --explain` says what is expected."""
         if self.verdict.kind == "Unanswered":
             return self.session.end or "none"
         lines = self.verdict.lines
-        return lines.get("found") or lines.get("reply") or \
-            self.verdict.kind + (f", {lines['fault']}" if "fault" in lines else "")
+        if "found" not in lines and "reply" in lines:
+            return groups.of_reply(lines["reply"])
+        return lines.get("found") or self.verdict.kind + (f", {lines['fault']}" if "fault" in lines else "")
 
 
 class Judged:
@@ -124,13 +148,20 @@ class Judged:
         return max(places, default=0)
 
 
-def judge(auditor, tree_file, session, seed=0):
-    """All differences of a session that can be told apart."""
+def judge(auditor, tree_file, session, seed=0, stop=None):
+    """All differences of a session that can be told apart; those found so far, once `stop` is set. Raises Stopped if
+    there are none."""
     judged, places = Judged(), list(range(len(session.records)))
     while places and len(judged.differences) < MOST_DIFFERENCES:
         records = [session.records[place] for place in places]
-        verdict = auditor.judge(tree_file, records)
+        try:
+            verdict = auditor.judge(tree_file, records, stop)
+        except Stopped:
+            if not judged.differences and not session.crashed():
+                raise
+            break
         if verdict.accepted:
+            places = []
             break
         request, reply = concerned(records, verdict)
         asked = request_at(records, request)
@@ -140,8 +171,7 @@ def judge(auditor, tree_file, session, seed=0):
             reply if reply is None or reply >= len(places) else places[reply]))
         gone = without(records, verdict, request, reply, judged)
         places = [] if gone is None else [place for at, place in enumerate(places) if at not in gone]
-    if len(judged.differences) == MOST_DIFFERENCES and places:
-        judged.unjudged += sum(session.records[place][0] == b"C" for place in places if place > judged.place())
+    judged.unjudged += sum(session.records[place][0] == b"C" for place in places if place > judged.place())
     if session.crashed():
         judged.differences.append(of_crash(session, seed))
     return judged

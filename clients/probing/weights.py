@@ -75,8 +75,7 @@ TRANSFERS = [
 ]
 
 # The others come each so many seeds, first with that seed. No period is even: where each second session has one request
-# in flight, each scene meets both. The first word of a row
-# is the feature that `--skip` may name.
+# in flight, each scene meets both. The first word of a row is the feature that `--skip` may name.
 PERIODS = [
     ("crowds", crowds.few_names, 3, 1),
     ("unusual-names", crowds.unusual_names, 5, 2),

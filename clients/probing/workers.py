@@ -32,10 +32,11 @@ class Worker:
             file.write(self.data)
 
     def play(self, tree, steps, in_flight, seed, stop, timeout=None):
-        """The session of these steps, and what is judged of it."""
+        """The session of these steps, and what is judged of it. Raises Stopped once `stop` is set, unless there is a
+        difference by then."""
         self.write_tree(tree)
         session = sessions.play(self.server, self.tree_file, steps, in_flight, timeout or self.timeout, stop)
-        return session, verdicts.judge(self.auditor, self.kept_tree, session, seed)
+        return session, verdicts.judge(self.auditor, self.kept_tree, session, seed, stop)
 
 
 class Pool:

@@ -1,10 +1,14 @@
-"""The daemon that keeps records in a spool, where the users who are recorded can neither read nor change them.
+"""The daemon that keeps records in a spool, where the users who are recorded cannot touch them.
 
 A recorder connects and sends `SFTPSP01`, a byte with a length, and so many bytes of the client's address. The daemon
 makes the record and replies with eight bytes 0. Then the recorder sends batches, each a length of four bytes and whole
-records, and for each the daemon replies with the number of bytes written so far, eight bytes. It closes the connection
-if it does not record (any further). A batch that does not come whole is not written.
+records, and the daemon replies with the number of bytes written so far, eight bytes, once for all batches that it found
+together. It closes the connection if it does not record (any further). A batch that does not come whole is not written.
+
+One user cannot hold up the others: a connection has one turn in each round, in which so much is read, so many batches
+are written and one reply is sent, and each user has so many connections.
 """
+import errno
 import os
 import select
 import socket
@@ -13,14 +17,21 @@ import struct
 import time
 
 from recording import naming
+from recording.shares import Refused, Shares
 
 OPENING = b"SFTPSP01"
 # The longest batch: what a buffer of recording/packets.py holds, and a byte for each of its packets.
 LONGEST_BATCH = 2 << 20
+# What a connection has in one turn.
+READ, BATCHES = 1 << 18, 256
 # How long a recorder may take to say who the client is.
 HELLO_SECONDS = 5
 # How many connections there may be that have not said it, and in all.
 CONNECTIONS = 1000
+# How many may wait to be taken, and how many are taken in a round.
+BACKLOG, TAKEN = 1024, 128
+# How long no connection is taken when there are no descriptors left.
+PAUSE = 0.5
 PEER = struct.Struct("3i")
 
 
@@ -28,15 +39,11 @@ class Unfit(Exception):
     """A spool or a socket that cannot be used."""
 
 
-class Refused(Exception):
-    """A session that is not recorded (any further)."""
-
-
 class Connection:
     """A recorder that is connected, and its record."""
 
     def __init__(self, link, daemon):
-        self.link, self.daemon = link, daemon
+        self.link, self.shares = link, daemon.shares
         self.process, self.user, _ = PEER.unpack(link.getsockopt(socket.SOL_SOCKET, socket.SO_PEERCRED, PEER.size))
         self.since = time.monotonic()
         self.held, self.replies = bytearray(), b""
@@ -50,60 +57,80 @@ class Connection:
         return select.POLLOUT if self.replies else select.POLLIN
 
     def read(self):
-        """Takes what there is. Returns whether the connection goes on."""
-        try:
-            data = self.link.recv(1 << 18)
-        except BlockingIOError:
-            return True
-        if not data:
-            return False
-        self.held += data
-        while self.step():
-            pass
-        self.write()
+        """Takes what there is, unless there is work left. Returns whether the connection goes on."""
+        if not self.is_ready():
+            try:
+                data = self.link.recv(READ)
+            except BlockingIOError:
+                return True
+            if not data:
+                return False
+            self.held += data
+        self.work()
         return True
 
-    def step(self):
-        """Does what is there whole: the beginning, or a batch. Returns whether there was any."""
+    def end_of_first(self):
+        """Where the first thing that is held ends, the beginning or a batch; None if that is not known yet."""
         head = 9 if self.file is None else 4
         if len(self.held) < head:
-            return False
+            return None
         if self.file is None:
             if self.held[:8] != OPENING:
                 raise Refused("it does not speak as a recorder")
-            end = head + self.held[8]
-        else:
-            end = head + int.from_bytes(self.held[:4], "big")
-            if end > LONGEST_BATCH:
-                raise Refused("its batch is too long")
-        if len(self.held) < end:
-            return False
-        data = bytes(self.held[head:end])
-        del self.held[:end]
-        self.begin(data) if self.file is None else self.keep(data)
-        self.replies += struct.pack(">Q", self.written)
-        return True
+            return head + self.held[8]
+        length = int.from_bytes(self.held[:4], "big")
+        if not 0 < length <= LONGEST_BATCH:
+            raise Refused("its batch is too long" if length else "its batch is empty")
+        return head + length
+
+    def is_ready(self):
+        """Whether something whole is held."""
+        end = self.end_of_first()
+        return end is not None and end <= len(self.held)
+
+    def work(self):
+        """Does what is held whole, as much as one turn allows."""
+        if self.file is None and self.is_ready():
+            end = self.end_of_first()
+            address = bytes(self.held[9:end])
+            del self.held[:end]
+            self.begin(address)
+            self.replies += bytes(8)
+        batches = self.batches() if self.file is not None else []
+        if batches:
+            self.keep(batches)
+            self.replies += struct.pack(">Q", self.written)
+        self.write()
+
+    def batches(self):
+        """Takes the batches that are held whole."""
+        found = []
+        while len(found) < BATCHES and self.is_ready():
+            end = self.end_of_first()
+            found.append(bytes(self.held[4:end]))
+            del self.held[:end]
+        return found
 
     def begin(self, address):
-        folder, self.used = self.daemon.folder_of(self.user)
+        folder = self.shares.begin(self.user)
         date = time.strftime("%Y%m%dT%H%M%SZ", time.gmtime())
         place = naming.as_part(address.decode(errors="replace"))
-        self.daemon.check(self, 0)
         try:
             self.file, self.name = naming.open_anew(f"{folder}/{date}-{place}-{self.process}.transcript")
         except OSError as error:
             raise Refused(f"cannot make a record: {error.strerror}") from None
 
-    def keep(self, data):
-        self.daemon.check(self, len(data))
-        view = memoryview(data)
+    def keep(self, batches):
+        view = memoryview(b"".join(batches))
+        count = len(view)
+        self.shares.take(self.user, self.written, count)
         try:
             while view:
                 view = view[os.write(self.file, view):]
         except OSError as error:
             os.ftruncate(self.file, self.written)
             raise Refused(f"cannot write {self.name}: {error.strerror}") from None
-        self.written += len(data)
+        self.written += count
 
     def write(self):
         try:
@@ -123,13 +150,14 @@ class Daemon:
 
     def __init__(self, options, notices, signals):
         self.options, self.notices, self.signals = options, notices, signals
-        self.spool = self.fit_spool(options.spool)
+        self.shares = Shares(self.fit_spool(options.spool), options)
         self.made = None
         self.listener = self.open_listener(options.socket)
         self.listener.setblocking(False)
-        self.connections = {}
-        # the bytes of each user's records, those of ended sessions too
-        self.used = {}
+        self.connections, self.counts = {}, {}
+        # when connections are taken again, when the silent ones were looked for, what was said of a user and when
+        self.paused = self.looked = 0.0
+        self.said = {}
 
     def fit_spool(self, name):
         try:
@@ -155,7 +183,7 @@ class Daemon:
         try:
             listener.bind(new)
             os.chmod(new, 0o666)
-            listener.listen(128)
+            listener.listen(BACKLOG)
             # in its place only once it can be connected to
             os.rename(new, name)
         except OSError as error:
@@ -163,43 +191,36 @@ class Daemon:
         self.made = name
         return listener
 
-    def folder_of(self, number):
-        """The folder of a user's records, and how long these are."""
-        folder = os.path.join(self.spool, naming.as_part(naming.user_name(number)))
+    def accept(self):
+        """Takes the connections that wait, as many as one round allows."""
         try:
-            os.mkdir(folder, 0o700)
-        except FileExistsError:
+            for _ in range(TAKEN):
+                self.add(self.listener.accept()[0])
+        except BlockingIOError:
             pass
         except OSError as error:
-            raise Refused(f"cannot make {folder}: {error.strerror}") from None
-        self.used[number] = sum(it.stat(follow_symlinks=False).st_size for it in os.scandir(folder))
-        return folder, self.used
+            if error.errno in (errno.EMFILE, errno.ENFILE, errno.ENOMEM, errno.ENOBUFS):
+                self.paused = time.monotonic() + PAUSE
 
-    def check(self, connection, count):
-        """Whether so many bytes more of a session may be kept."""
-        user = connection.user
-        others = sum(it.user == user and it.file is not None for it in self.connections.values())
-        if connection.file is None and others >= self.options.sessions:
-            raise Refused("this user has too many sessions")
-        if connection.written + count > self.options.per_session:
-            raise Refused("the record is too long")
-        if self.used[user] + count > self.options.per_user:
-            raise Refused("the records of this user are too long")
-        found = os.statvfs(self.spool)
-        if found.f_bavail * found.f_frsize - count < self.options.keep_free:
-            raise Refused("the spool is full")
-        self.used[user] += count
-
-    def accept(self):
-        try:
-            link, _ = self.listener.accept()
-        except OSError:
-            return
-        if len(self.connections) >= CONNECTIONS:
-            link.close()
-            return
+    def add(self, link):
         link.setblocking(False)
-        self.connections[link.fileno()] = Connection(link, self)
+        made = Connection(link, self)
+        others = self.counts.get(made.user, 0)
+        if len(self.connections) >= CONNECTIONS or others >= self.options.sessions:
+            made.close()
+            whose = "this user has" if others >= self.options.sessions else "there are"
+            self.say_of(made, f"{whose} too many sessions")
+            return
+        self.counts[made.user] = others + 1
+        self.connections[link.fileno()] = made
+
+    def say_of(self, connection, text):
+        """Says something of a user's connection, the same text once in a second."""
+        key, now = (connection.user, text), time.monotonic()
+        if now - self.said.get(key, -1.0) >= 1:
+            self.said = {it: at for it, at in self.said.items() if now - at < 1}
+            self.said[key] = now
+            self.notices.say(f"user {naming.user_name(connection.user)}, process {connection.process}: {text}")
 
     def act(self, connection, events):
         try:
@@ -209,7 +230,7 @@ class Daemon:
             elif events:
                 goes_on = connection.read()
         except Refused as error:
-            self.notices.say(f"user {naming.user_name(connection.user)}, process {connection.process}: {error}")
+            self.say_of(connection, str(error))
             goes_on = False
         except OSError:
             goes_on = False
@@ -218,23 +239,42 @@ class Daemon:
 
     def end(self, connection):
         del self.connections[connection.fileno()]
+        self.counts[connection.user] -= 1
         if connection.name:
             self.notices.note(f"kept {connection.written} bytes in {connection.name}")
         connection.close()
 
     def end_silent_ones(self):
         now = time.monotonic()
+        if now - self.looked < 1:
+            return
+        self.looked = now
         for it in list(self.connections.values()):
             if it.file is None and now - it.since > HELLO_SECONDS:
                 self.end(it)
 
+    def is_at_work(self, connection):
+        """Whether a connection has work left from its last turn."""
+        try:
+            return not connection.replies and connection.is_ready()
+        except Refused:
+            # said in its next turn
+            return True
+
     def step(self):
+        """A round: a new connection, and a turn for each that has something to do."""
         looking = select.poll()
         looking.register(self.signals.ours, select.POLLIN)
-        looking.register(self.listener, select.POLLIN)
+        is_paused = time.monotonic() < self.paused
+        if not is_paused:
+            looking.register(self.listener, select.POLLIN)
         for it in self.connections.values():
             looking.register(it, it.events())
-        for file, events in looking.poll(1000):
+        left = [it for it in self.connections.values() if self.is_at_work(it)]
+        found = dict(looking.poll(0 if left else 1000 * PAUSE if is_paused else 1000))
+        for it in left:
+            found.setdefault(it.fileno(), select.POLLIN)
+        for file, events in found.items():
             if file == self.listener.fileno():
                 self.accept()
             elif file in self.connections:

@@ -6,9 +6,12 @@ import pwd
 import stat
 import time
 
+from recording import folders
+
 # How long a pipe may be without a reader.
 PATIENCE = 5
-MOST_NAMES = 10_000
+# How many names are tried in turn, and how many with a random end: others may have taken those that can be foreseen.
+IN_TURN, RANDOM = 9, 9
 
 
 class BadName(Exception):
@@ -55,40 +58,46 @@ def expand(name, environment=os.environ):
 
 
 def folder_warning(name):
-    """What is wrong with the folder of this name, or None: others could rename or replace what is in it."""
-    folder = os.path.dirname(name) or "."
-    try:
-        found = os.stat(folder)
-    except OSError:
-        return None
-    if found.st_uid not in (0, os.geteuid()):
-        return f"the folder {folder} belongs to another user, who can replace the record"
-    others = stat.S_IWOTH if found.st_gid == os.getegid() else stat.S_IWOTH | stat.S_IWGRP
-    if found.st_mode & others and not found.st_mode & stat.S_ISVTX:
-        return f"the folder {folder} is writable by others, who can replace the record"
-    return None
+    """What is wrong with the folders of this name, or None: others could rename or replace what is in them."""
+    found = folders.fault(name)
+    return f"{found}, who can replace the record" if found else None
+
+
+def is_inherited(name):
+    """Whether it names a file that the process was given open. Only such a name may be a link."""
+    return os.path.normpath(name).startswith(("/dev/fd/", "/dev/std", "/proc/self/fd/"))
+
+
+def is_trusted(name, found):
+    """Whether a pipe or a device is to be written to. Others could have put theirs where a transcript is expected."""
+    return is_inherited(name) or found.st_uid in (0, os.geteuid())
 
 
 def is_stream(name):
-    """Whether the name is that of a pipe or a device that is there. A link counts only below /dev and /proc."""
-    look = os.stat if os.path.abspath(name).startswith(("/dev/", "/proc/")) else os.lstat
+    """Whether the name is that of a pipe or a device that is there, and that the user or root made."""
     try:
-        mode = look(name).st_mode
+        found = os.stat(name) if is_inherited(name) else os.lstat(name)
     except OSError:
         return False
-    return stat.S_ISFIFO(mode) or stat.S_ISCHR(mode)
+    return (stat.S_ISFIFO(found.st_mode) or stat.S_ISCHR(found.st_mode)) and is_trusted(name, found)
 
 
 def open_stream(name, is_wanted):
     """Opens a pipe or a device. Waits for a reader for some seconds, as long as the session is wanted."""
     end = time.monotonic() + PATIENCE
+    link = 0 if is_inherited(name) else os.O_NOFOLLOW
     while True:
         try:
-            return os.open(name, os.O_WRONLY | os.O_NONBLOCK | os.O_NOCTTY | os.O_CLOEXEC)
+            file = os.open(name, os.O_WRONLY | os.O_NONBLOCK | os.O_NOCTTY | os.O_CLOEXEC | link)
+            break
         except OSError as error:
             if error.errno != errno.ENXIO or time.monotonic() > end or not is_wanted():
                 raise
         time.sleep(0.02)
+    if not is_trusted(name, os.fstat(file)):
+        os.close(file)
+        raise OSError(errno.EPERM, "it belongs to another user")
+    return file
 
 
 def hold(file):
@@ -104,26 +113,39 @@ def hold(file):
     return file
 
 
+def names_of(name):
+    """The names that are tried in turn: NAME, NAME.2, NAME.3, .., and then some that nobody can foresee."""
+    yield name
+    for number in range(2, IN_TURN + 1):
+        yield f"{name}.{number}"
+    for _ in range(RANDOM):
+        yield f"{name}.{os.urandom(8).hex()}"
+
+
 def open_anew(name):
-    """Makes the file, or the first of NAME.2, NAME.3, .. that is not taken. Returns it and its name."""
+    """Makes the file, by the first of its names that is not taken. Returns it and its name."""
     flags = os.O_WRONLY | os.O_CREAT | os.O_EXCL | os.O_NOFOLLOW | os.O_CLOEXEC
-    for number in range(1, MOST_NAMES):
-        tried = name if number == 1 else f"{name}.{number}"
+    for tried in names_of(name):
         try:
             return hold(os.open(tried, flags, 0o600)), tried
         except FileExistsError:
             pass
-    raise OSError(errno.EEXIST, f"{MOST_NAMES} files of this name")
+    raise OSError(errno.EEXIST, "all names are taken")
 
 
 def open_over(name):
     """Opens a regular file that is to be replaced, or makes it. The old bytes stay until the session begins."""
     flags = os.O_WRONLY | os.O_CREAT | os.O_NOFOLLOW | os.O_CLOEXEC | os.O_NONBLOCK
     file = os.open(name, flags, 0o600)
-    if not stat.S_ISREG(os.fstat(file).st_mode):
-        os.close(file)
-        raise OSError(errno.EINVAL, "not a regular file")
-    return hold(file)
+    found = os.fstat(file)
+    if not stat.S_ISREG(found.st_mode):
+        why = OSError(errno.EINVAL, "not a regular file")
+    elif found.st_uid != os.geteuid():
+        why = OSError(errno.EPERM, "it belongs to another user")
+    else:
+        return hold(file)
+    os.close(file)
+    raise why
 
 
 def reason(error):

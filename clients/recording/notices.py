@@ -1,4 +1,5 @@
 """Lines to standard error, to a log, to syslog."""
+import errno
 import os
 import select
 import syslog
@@ -34,9 +35,13 @@ class Notices:
         self.is_syslog = True
 
     def open_log(self, path):
-        """Opens the log to append to it. No link is followed."""
+        """Opens the log to append to it. No link is followed, and nothing of another user but root is taken."""
         flags = os.O_WRONLY | os.O_CREAT | os.O_APPEND | os.O_NOFOLLOW | os.O_CLOEXEC | os.O_NONBLOCK
-        self.log = os.open(path, flags, 0o600)
+        log = os.open(path, flags, 0o600)
+        if os.fstat(log).st_uid not in (0, os.geteuid()):
+            os.close(log)
+            raise OSError(errno.EPERM, "it belongs to another user")
+        self.log = log
 
     def say(self, text):
         """Says it everywhere."""

@@ -3,6 +3,7 @@
 Each session waits for the start of the recorder, so what only few need is imported where it is needed.
 """
 import os
+import pwd
 import sys
 import time
 
@@ -24,6 +25,8 @@ AUDIT_FLAGS = ("--cut", "--keep-going", "--json")
 FLAGS = ("--plain", "--overwrite", "--required", "--syslog", "--audit", "--stop", *AUDIT_FLAGS)
 VALUES = ("--times", "--spool", "--log", "--program", *AUDIT_VALUES)
 GRACE = 30.0
+# The most memory of an audit, unless --memory says otherwise.
+AUDIT_MEMORY = str(1 << 30)
 
 
 class Options:
@@ -77,6 +80,8 @@ def program_beside():
 def audit_words(options):
     """The command of the audit, without its transcript."""
     words = [options.program or program_beside(), "audit"]
+    if options.memory is None:
+        words += ["--memory", AUDIT_MEMORY]
     for name in AUDIT_VALUES:
         if value_of(options, name) is not None:
             words += [name, value_of(options, name)]
@@ -166,6 +171,22 @@ def open_notices(options):
     return notices
 
 
+# Shells that read files of their user before they start a command: bash so if sshd starts it.
+READING = ("bash", "csh", "fish", "tcsh", "zsh")
+
+
+def shell_warning():
+    """What is wrong with the login shell of a user whose record is required, or None."""
+    try:
+        user = pwd.getpwuid(os.getuid())
+    except KeyError:
+        return None
+    shell = os.path.basename(user.pw_shell)
+    if "SSH_CONNECTION" in os.environ and shell in READING and os.access(user.pw_dir, os.W_OK):
+        return f"the login shell {shell} reads files of the user before the recorder starts: give this user /bin/sh"
+    return None
+
+
 def open_audit(options, notices):
     from recording.auditing import Audit
     try:
@@ -191,6 +212,9 @@ def record_session(options):
     records = Records(options, notices, signals)
     if not records.open():
         return OWN_FAILURE
+    warning = shell_warning() if options.required else None
+    if warning:
+        notices.say(warning)
     try:
         server = start(options.command)
     except NotStarted as error:

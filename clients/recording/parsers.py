@@ -1,7 +1,7 @@
 """The command lines of sftpv3-record and sftpv3-recordd: options, help and complaints, by argparse."""
 import argparse
 
-from recording.options import AUDIT_FLAGS, AUDIT_VALUES, GRACE, NAME
+from recording.options import AUDIT_FLAGS, AUDIT_MEMORY, AUDIT_VALUES, GRACE, NAME
 
 RECORD_NOTES = """\
 In TRANSCRIPT and in the names of --times and --log, %p is the recorder's process, %u the user, %t the time of the start
@@ -29,6 +29,12 @@ def size(text):
     if not (number.isascii() and number.isdigit()):
         raise argparse.ArgumentTypeError(f"{text!r} is no size")
     return int(number) << units.get(text[-1:], 0)
+
+
+def count(text):
+    if not (text.isascii() and text.isdigit() and int(text)):
+        raise argparse.ArgumentTypeError(f"{text!r} is no number from 1 on")
+    return int(text)
 
 
 def seconds(text):
@@ -65,7 +71,8 @@ def record_parser():
     group.add_argument("--stop", action="store_true", help="cut the session where the audit refuses it")
     group.add_argument("--program", metavar="FILE", help="the program sftpv3, by default the one installed beside")
     for name, value in AUDIT_VALUES.items():
-        group.add_argument(name, metavar=value, help=f"as of 'sftpv3 audit {name}'")
+        usual = f", {AUDIT_MEMORY} by default" if name == "--memory" else ""
+        group.add_argument(name, metavar=value, help=f"as of 'sftpv3 audit {name}'{usual}")
     for name in AUDIT_FLAGS:
         group.add_argument(name, action="store_true", help=f"as of 'sftpv3 audit {name}'")
     return parser
@@ -81,9 +88,11 @@ def daemon_parser():
                         help="how long a record may be, 16G by default")
     parser.add_argument("--per-user", metavar="SIZE", type=size, default=1 << 37,
                         help="how long the records of a user may be together, 128G by default")
+    parser.add_argument("--records-per-user", metavar="N", type=count, default=100_000,
+                        help="how many records of a user there may be, 100,000 by default")
     parser.add_argument("--keep-free", metavar="SIZE", type=size, default=1 << 28,
                         help="how much of the file system stays free, 256M by default")
-    parser.add_argument("--sessions", metavar="N", type=int, default=64,
+    parser.add_argument("--sessions", metavar="N", type=count, default=64,
                         help="how many sessions of a user are recorded at a time, 64 by default")
     parser.add_argument("--log", metavar="FILE", help="append what is said to FILE, too")
     parser.add_argument("--syslog", action="store_true", help="say it to syslog, too")

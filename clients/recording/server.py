@@ -1,19 +1,23 @@
 """The server's process: its start, its end, its status."""
-import fcntl
 import os
 
 from recording import signals
 
-# Linux's F_SETPIPE_SZ, and how much a pipe to the server holds, where the system allows it: 65,536 bytes is usual.
-SET_SIZE = 1031
-PIPE = 1 << 18
+try:
+    import _socket as sockets
+except ImportError:
+    import socket as sockets
+
+# How much a socket to the server holds, where the system allows it.
+ROOM = 1 << 19
 
 
-def enlarge(pipe):
-    try:
-        fcntl.fcntl(pipe, SET_SIZE, PIPE)
-    except OSError:
-        pass
+def one_way():
+    """Two ends of a stream, the second one to write to. They are sockets: nobody can open one by its name in /proc."""
+    reader, writer = sockets.socketpair()
+    writer.shutdown(sockets.SHUT_RD)
+    writer.setsockopt(sockets.SOL_SOCKET, sockets.SO_SNDBUF, ROOM)
+    return reader.detach(), writer.detach()
 
 
 class NotStarted(Exception):
@@ -35,11 +39,11 @@ def start(words):
 
 
 class Server:
-    """A process, and the pipes to it."""
+    """A process, and the streams to it."""
 
     def __init__(self, words):
-        their_input, self.input = os.pipe()
-        self.output, their_output = os.pipe()
+        their_input, self.input = one_way()
+        self.output, their_output = one_way()
         try:
             # what Python ignores has its default again
             self.process = os.posix_spawnp(
@@ -52,9 +56,8 @@ class Server:
         finally:
             os.close(their_input)
             os.close(their_output)
-        for pipe in (self.input, self.output):
-            os.set_blocking(pipe, False)
-            enlarge(pipe)
+        for end in (self.input, self.output):
+            os.set_blocking(end, False)
         self.code = self.ticks = None
 
     def look(self):
@@ -75,7 +78,15 @@ class Server:
         os.close(self.input)
 
     def close_output(self):
-        os.close(self.output)
+        """Closes it. What is left in it is read before, so that a server that writes gets EPIPE and no ECONNRESET."""
+        end = sockets.socket(fileno=self.output)
+        try:
+            end.shutdown(sockets.SHUT_RD)
+            while end.recv(1 << 18):
+                pass
+        except OSError:
+            pass
+        end.close()
 
     def send(self, number):
         """Sends a signal to the server and to all that it started."""

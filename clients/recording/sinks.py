@@ -3,11 +3,13 @@ import os
 import select
 import struct
 
-from recording import times
+from recording import folders, times
 
 # The form of the socket of a spool: recording/keeping.py has it.
 SPOOL_OPENING = b"SFTPSP01"
 SPOOL_SECONDS = 5
+# Who is at the other end of a socket: process, user, group.
+PEER = struct.Struct("3i")
 # How long a spool may take for a batch, lest a daemon that hangs holds up every session.
 SPOOL_PATIENCE = 10
 
@@ -112,9 +114,9 @@ class SpoolSink:
         self.sent = self.kept = 0
         import socket
         self.socket = socket.socket(socket.AF_UNIX)
-        self.socket.settimeout(SPOOL_SECONDS)
         try:
-            self.socket.connect(name)
+            self.connect(name)
+            self.look_who_listens()
             text = claimed.encode(errors="replace")[:255]
             self.socket.sendall(SPOOL_OPENING + bytes([len(text)]) + text)
             first = self.socket.recv(8, socket.MSG_WAITALL)
@@ -123,6 +125,24 @@ class SpoolSink:
         if first != bytes(8):
             raise Failed(f"the spool {name} does not record this session")
         self.socket.setblocking(False)
+
+    def connect(self, name):
+        """Connects, and waits for a daemon that has much to do."""
+        import socket
+        self.socket.setsockopt(socket.SOL_SOCKET, socket.SO_SNDTIMEO, struct.pack("@ll", SPOOL_SECONDS, 0))
+        self.socket.connect(name)
+        self.socket.settimeout(SPOOL_SECONDS)
+
+    def look_who_listens(self):
+        """Refuses a socket that another user could have made in place of the daemon's."""
+        import socket
+        _, user, _ = PEER.unpack(self.socket.getsockopt(socket.SOL_SOCKET, socket.SO_PEERCRED, PEER.size))
+        found = folders.fault(self.name, user)
+        owner = os.stat(os.path.dirname(os.path.realpath(self.name))).st_uid
+        if not found and user not in (0, os.geteuid(), owner):
+            found = "it is of a user whom its folder does not belong to"
+        if found:
+            raise Failed(f"the spool {self.name} may be another user's: {found}")
 
     def begin(self, opening):
         self.put(opening)

@@ -8,6 +8,7 @@ import tempfile
 from programs import program
 
 SECONDS = 120
+CLIENTS = os.path.join(os.path.dirname(os.path.realpath(__file__)), "../../clients")
 
 
 class Attack:
@@ -102,6 +103,14 @@ class Field:
             finally:
                 os._exit(1)
         return child
+
+    def script(self, name):
+        """Returns the path of a script of clients/, in a copy that every user can read."""
+        copy = os.path.join(os.path.dirname(self.program), "clients")
+        if not os.path.exists(copy):
+            shutil.copytree(CLIENTS, copy, ignore=shutil.ignore_patterns("__pycache__"))
+            subprocess.run(["chmod", "-R", "a+rX", copy], check=True)
+        return os.path.join(copy, name)
 
     def names(self):
         return sorted(os.listdir(self.folder))

@@ -1,0 +1,92 @@
+"""What each user has of a spool: how many records, and how many bytes."""
+import os
+import time
+
+from recording import naming
+
+# How many files a file system has to have left for a new record.
+FILES_LEFT = 64
+# How long the count of a user who has all of their share stands, before the folder is looked at again.
+STANDS = 10
+
+
+class Refused(Exception):
+    """A session that is not recorded (any further)."""
+
+
+class Share:
+    """The records of one user: those of ended sessions, too, until somebody takes them out of the folder."""
+
+    def __init__(self, folder, most):
+        self.folder, self.most = folder, most
+        self.look()
+
+    def look(self):
+        """Counts what is in the folder, no more than as many records as there may be."""
+        self.records = self.used = 0
+        with os.scandir(self.folder) as found:
+            for it in found:
+                self.records += 1
+                self.used += it.stat(follow_symlinks=False).st_size
+                if self.records >= self.most:
+                    break
+        self.looked = time.monotonic()
+
+    def allows(self, holds):
+        """Whether a limit holds, by the count, or else by a new one."""
+        if holds(self):
+            return True
+        if time.monotonic() - self.looked < STANDS:
+            return False
+        self.look()
+        return holds(self)
+
+
+class Shares:
+    """The users of a spool, as far as they came since the daemon's start."""
+
+    def __init__(self, spool, options):
+        self.spool, self.options = spool, options
+        self.by_user = {}
+
+    def share_of(self, user):
+        if user not in self.by_user:
+            folder = os.path.join(self.spool, naming.as_part(naming.user_name(user)))
+            try:
+                os.mkdir(folder, 0o700)
+            except FileExistsError:
+                pass
+            except OSError as error:
+                raise Refused(f"cannot make {folder}: {error.strerror}") from None
+            self.by_user[user] = Share(folder, self.options.records_per_user)
+        return self.by_user[user]
+
+    def begin(self, user):
+        """Takes room for a record. Returns the folder."""
+        try:
+            share = self.share_of(user)
+            if not share.allows(lambda it: it.records < self.options.records_per_user):
+                raise Refused("this user has too many records")
+            os.makedirs(share.folder, 0o700, exist_ok=True)
+        except OSError as error:
+            raise Refused(f"cannot look at the records: {error.strerror}") from None
+        self.check_free(0)
+        share.records += 1
+        return share.folder
+
+    def take(self, user, written, count):
+        """Takes room for so many bytes more of a record."""
+        share = self.by_user[user]
+        if written + count > self.options.per_session:
+            raise Refused("the record is too long")
+        if not share.allows(lambda it: it.used + count <= self.options.per_user):
+            raise Refused("the records of this user are too long")
+        self.check_free(count)
+        share.used += count
+
+    def check_free(self, count):
+        found = os.statvfs(self.spool)
+        # a file system without a number of files of its own says 0 of all
+        if found.f_bavail * found.f_frsize - count < self.options.keep_free or \
+                found.f_files and found.f_favail < FILES_LEFT:
+            raise Refused("the spool is full")

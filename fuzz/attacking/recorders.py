@@ -1,0 +1,152 @@
+"""Attacks on the recorder and on the daemon that keeps records, by another user of the machine."""
+import os
+import signal
+import subprocess
+import time
+from contextlib import contextmanager
+
+from attacking import hostile
+from attacking.ground import SECONDS, attack, wrong_status
+from packets import INIT, MKDIR, attrs, number, packet, string
+
+HELLO = packet(INIT, number(3))
+ASKED = HELLO + packet(MKDIR, number(1) + string(b"/SECRET") + attrs())
+# A user and a group that no account has, for whoever is attacked, and for the daemon.
+VICTIM, KEEPER = 64001, 64003
+
+
+@contextmanager
+def beside(field, function, *words):
+    """The other user does this as long as the block runs."""
+    child = field.start_as_user(function, *words)
+    time.sleep(0.3)
+    try:
+        yield
+    finally:
+        os.kill(child, signal.SIGKILL)
+        os.waitpid(child, 0)
+
+
+def record(field, *words, asked=ASKED, user=VICTIM):
+    """Records a session of the program as somebody. Returns how that ended."""
+    command = [field.script("record"), *words, field.program, "serve", "--tree", "start.tree"]
+    return subprocess.run(command, input=asked, capture_output=True, cwd=field.folder, timeout=SECONDS, user=user,
+                          group=user, extra_groups=[])
+
+
+@contextmanager
+def daemon(field, *words):
+    """A daemon of a user of its own. Gives its socket, and its spool."""
+    run, spool = field.path("run"), field.path("spool")
+    for it in (run, spool):
+        os.mkdir(it)
+        os.chown(it, KEEPER, KEEPER)
+    os.chmod(spool, 0o700)
+    with subprocess.Popen([field.script("recordd"), "--socket", f"{run}/s", *words, spool], user=KEEPER, group=KEEPER,
+                          extra_groups=[], stderr=subprocess.DEVNULL) as running:
+        try:
+            while not os.path.exists(f"{run}/s"):
+                time.sleep(0.05)
+            yield f"{run}/s", spool
+        finally:
+            running.kill()
+
+
+def lengths(folder):
+    return [os.path.getsize(os.path.join(place, it)) for place, _, names in os.walk(folder) for it in names]
+
+
+@attack("user")
+def a_pipe_in_place_of_a_transcript(field):
+    """In a folder of mode 1777, a FIFO of the transcript's name that another user makes in time is not written to."""
+    field.blank()
+    folder, told = field.path("shared"), field.put("told", b"", 0o666)
+    os.mkdir(folder)
+    os.chmod(folder, 0o1777)
+    with beside(field, hostile.pipes_for_transcripts, folder, "{user}-{time}-local-{process}.transcript", told):
+        for turn in range(8):
+            done = record(field, "--required", "--times", f"{folder}/times{turn}", f"{folder}/%u-%t-%h-%p.transcript")
+            yield from wrong_status(done, 0)
+    os.mkfifo(f"{folder}/taken", 0o666)
+    os.chown(f"{folder}/taken", field.user.pw_uid, field.user.pw_gid)
+    yield from wrong_status(record(field, "--required", "--times", f"{folder}/taken", f"{folder}/taken"), 0)
+    if field.read("told"):
+        yield f"another user read {len(field.read('told'))} bytes of a session"
+    transcripts = [it for it in os.listdir(folder) if os.path.isfile(f"{folder}/{it}")]
+    if sum(b"SECRET" in field.read(f"shared/{it}") for it in transcripts) != 9:
+        yield f"not all is recorded: {transcripts}"
+
+
+@attack("user")
+def a_file_to_be_replaced_is_of_another_user(field):
+    """--overwrite and --log write into no file of another user, and names that are taken end no session."""
+    field.blank()
+    folder = field.path("shared")
+    os.mkdir(folder)
+    os.chmod(folder, 0o777)
+    for name in ("record", "log", *(f"taken{end}" for end in ["", *(f".{it}" for it in range(2, 40))])):
+        os.chmod(field.put(f"shared/{name}", b"", 0o666), 0o666)
+        os.chown(f"{folder}/{name}", field.user.pw_uid, field.user.pw_gid)
+    yield from wrong_status(record(field, "--required", "--overwrite", f"{folder}/record"), 3)
+    yield from wrong_status(record(field, "--required", "--log", f"{folder}/log", f"{folder}/taken"), 0)
+    if any(field.read(f"shared/{it}") for it in ("record", "log")):
+        yield "a file of another user has it"
+
+
+@attack("user")
+def another_user_listens(field):
+    """A socket in a shared folder that another user made first is given nothing."""
+    field.blank()
+    told = field.put("told", b"", 0o666)
+    for number_of_try, (folder, mode) in enumerate((("tmp", 0o1777), ("tmp/theirs", 0o755))):
+        os.mkdir(field.path(folder))
+        os.chmod(field.path(folder), mode)
+        if number_of_try:
+            os.chown(field.path(folder), field.user.pw_uid, field.user.pw_gid)
+        name = f"{field.path(folder)}/s"
+        with beside(field, hostile.daemon_of_its_own, name, told):
+            yield from wrong_status(record(field, "--required", "--spool", name), 3)
+            done = record(field, "--spool", name)
+            yield from wrong_status(done, 0)
+            if b"not recorded" not in done.stderr:
+                yield f"no word of that: {done.stderr!r}"
+    if field.read("told"):
+        yield f"another user got {len(field.read('told'))} bytes"
+
+
+@attack("user")
+def one_user_holds_up_the_daemon(field):
+    """While one user keeps the daemon busy, the session of another one is recorded, in little time."""
+    field.blank()
+    with daemon(field, "--records-per-user", "30000") as (name, spool):
+        theirs = os.path.join(spool, field.user.pw_name)
+        os.mkdir(theirs, 0o700)
+        os.chown(theirs, KEEPER, KEEPER)
+        for it in range(20_000):
+            os.close(os.open(f"{theirs}/{it}", os.O_CREAT | os.O_WRONLY, 0o600))
+        for function in (hostile.empty_batches, hostile.small_batches, hostile.hellos, hostile.connections):
+            with beside(field, function, name):
+                time.sleep(1)
+                start = time.monotonic()
+                done = record(field, "--required", "--spool", name)
+                took = time.monotonic() - start
+                for it in wrong_status(done, 0):
+                    yield f"{function.__name__}: {it}"
+                if took > 4:
+                    yield f"{function.__name__}: {took:.1f} seconds"
+
+
+@attack("user")
+def one_user_takes_the_daemons_files(field):
+    """A user has so many records, and then so many more as were taken out of the spool."""
+    field.blank()
+    with daemon(field, "--records-per-user", "3") as (name, spool):
+        status = [record(field, "--required", "--spool", name).returncode for _ in range(5)]
+        if status != [0, 0, 0, 3, 3] or len(lengths(spool)) != 3:
+            yield f"{status}, {len(lengths(spool))} records"
+        yield from wrong_status(record(field, "--required", "--spool", name, user=KEEPER + 1), 0)
+        folder = os.path.join(spool, str(VICTIM))
+        for it in os.listdir(folder):
+            os.remove(os.path.join(folder, it))
+        time.sleep(10.5)
+        yield from wrong_status(record(field, "--required", "--spool", name), 0)
