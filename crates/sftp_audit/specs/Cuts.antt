@@ -1,5 +1,5 @@
--- Which files an audit of a cut session accepts: those of a starting tree and of a recorded session in which requests may
--- still wait for their replies.
+-- Which files an audit of a cut session accepts: those of a starting tree and of a recorded session in which requests
+-- may still wait for their replies.
 use Rattle.std.specs.Prelude.{◌≡◌, ⊤, ℕ, Bool, List, length, filter, not}
 use Rattle.sftp_transcript.specs.declared.events.Event.{Event}
 use Rattle.sftp_audit.specs.declared.errors.Refusal.TheVariants as refusals

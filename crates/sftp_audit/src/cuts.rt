@@ -27,9 +27,9 @@ pub struct AcceptedCut {
     pub unanswered: usize,
 }
 
-/// Audits a session that was cut, as `audit_stream` does one that is complete: the requests before the oldest unanswered
-/// one are judged, and of those from that one on only the turns of their ids and the window. A complete session is
-/// accepted exactly if `audit_stream` accepts it, with the same tree.
+/// Audits a session that was cut, as `audit_stream` does one that is complete: the requests before the oldest
+/// unanswered one are judged, and of those from that one on only the turns of their ids and the window. A complete
+/// session is accepted exactly if `audit_stream` accepts it, with the same tree.
 ///
 /// # Errors
 ///
