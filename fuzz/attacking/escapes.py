@@ -12,6 +12,7 @@ from attacking import procs
 from attacking.client import Client
 from attacking.ground import SECONDS, attack
 from attacking.recorders import daemon
+from programs import program
 
 SERVER = "/usr/lib/openssh/sftp-server"
 PORT = 2271
@@ -47,9 +48,11 @@ class Account:
                               capture_output=True, timeout=SECONDS)
 
     def recorded(self):
-        """All that the spool has of this user."""
+        """What `sftpv3 show` says of all records of this user."""
         folder = os.path.join(self.spool, self.name)
-        return b"".join(open(os.path.join(folder, it), "rb").read() for it in sorted(os.listdir(folder)))
+        shown = [subprocess.run([program(), "show", os.path.join(folder, it)], capture_output=True)
+                 for it in sorted(os.listdir(folder))]
+        return b"".join(it.stdout for it in shown)
 
 
 @contextmanager
@@ -98,7 +101,7 @@ def the_recorder_is_opened_through_proc(field):
             client.process.kill()
             client.process.wait()
             time.sleep(0.5)
-            if not os.path.exists(mark) and b"\0\0\0\x4d" + len(mark).to_bytes(4, "big") not in user.recorded():
+            if not os.path.exists(mark) and b" REMOVE " not in user.recorded():
                 yield f"{act.__name__}: the file is gone, and the record does not say so"
 
 
