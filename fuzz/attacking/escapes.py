@@ -48,11 +48,10 @@ class Account:
                               capture_output=True, timeout=SECONDS)
 
     def recorded(self):
-        """What `sftpv3 show` says of all records of this user."""
+        """What `sftpv3 show` says of the last record of this user."""
         folder = os.path.join(self.spool, self.name)
-        shown = [subprocess.run([program(), "show", os.path.join(folder, it)], capture_output=True)
-                 for it in sorted(os.listdir(folder))]
-        return b"".join(it.stdout for it in shown)
+        last = max((os.path.join(folder, it) for it in os.listdir(folder)), key=os.path.getmtime)
+        return subprocess.run([program(), "show", last], capture_output=True).stdout
 
 
 @contextmanager
@@ -96,12 +95,12 @@ def the_recorder_is_opened_through_proc(field):
                     # its files cannot even be listed
                     process = max(int(it) for it in os.listdir("/proc") if it.isdigit() and is_recorder(it))
                 act(client, process, mark.encode())
-            except (EOFError, OSError, TypeError):
+            except (EOFError, OSError, StopIteration, TypeError):
                 pass
             client.process.kill()
             client.process.wait()
             time.sleep(0.5)
-            if not os.path.exists(mark) and b" REMOVE " not in user.recorded():
+            if not os.path.exists(mark) and b" C REMOVE " not in user.recorded():
                 yield f"{act.__name__}: the file is gone, and the record does not say so"
 
 
