@@ -9,7 +9,7 @@ import stat
 import time
 from contextlib import suppress
 
-RECORD = re.compile(r".*\.transcript(\.[0-9]+)?$")
+RECORD = re.compile(r".*\.transcript(\.[0-9a-f]+)?$")
 START = re.compile(r"\d{8}T\d{6}Z")
 # A record this young, in seconds, may be one whose recorder has only just made it.
 YOUNG = 1

@@ -1,6 +1,7 @@
 """sftpv3-recordd: records that the login user cannot touch."""
 import os
 import pwd
+import shutil
 import signal
 import socket
 import stat
@@ -196,6 +197,29 @@ def activated(steps, room):
                 len(list(folder.glob("*/*.transcript"))) == 1)
 
 
+def units(steps, room):
+    """The units of systemd are as it wants them."""
+    words = shutil.which("systemd-analyze")
+    if not words:
+        steps.skip("the units of systemd", "systemd-analyze is not installed")
+        return
+    for name in ("sftpv3-recordd", "sftpv3-nightly"):
+        (room.folder / name).write_text("#!/bin/sh\n")
+        (room.folder / name).chmod(0o755)
+    made = []
+    for unit in sorted((TOP / "packaging").glob("*.*")):
+        if unit.suffix in (".service", ".socket", ".timer"):
+            # an instance for a unit that is made for each user
+            made.append(room.folder / unit.name.replace("@", "@u"))
+            (room.folder / unit.name).write_text(unit.read_text().replace("@BIN@", str(room.folder)))
+            if made[-1].name != unit.name:
+                made[-1].symlink_to(unit.name)
+    ran = subprocess.run([words, "verify", "--man=no", *made], stdout=subprocess.PIPE, stderr=subprocess.STDOUT,
+                         text=True, check=False)
+    ours = [it for it in ran.stdout.splitlines() if "sftpv3" in it]
+    steps.check("systemd-analyze verifies the units", ran.returncode == 0 and not ours and len(made) == 4, ran.stdout)
+
+
 def other_user(steps, room):
     """A login user can use the spool, and neither read, change, rename nor remove what is in it."""
     if os.geteuid() != 0:
@@ -232,4 +256,4 @@ def other_user(steps, room):
         remove_user(OTHER)
 
 
-TRIALS = (kept, lost_spools, hanging_daemon, limits, hostile, unfit, activated, other_user)
+TRIALS = (kept, lost_spools, hanging_daemon, limits, hostile, unfit, activated, units, other_user)

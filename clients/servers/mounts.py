@@ -1,6 +1,11 @@
-"""Mounts in a namespace of this process's own, by the calls of Linux. Without the right to them nothing is changed."""
+"""Mounts in a namespace of this process's own, and rights that are given up, by the calls of Linux.
+
+Without the right to mount, nothing is changed.
+"""
+import contextlib
 import ctypes
 import os
+import struct
 
 CLONE_NEWNS = 0x20000
 MS_NOSUID, MS_NODEV, MS_REMOUNT, MS_BIND, MS_REC, MS_PRIVATE = 0x2, 0x4, 0x20, 0x1000, 0x4000, 0x40000
@@ -33,6 +38,25 @@ def without_set_id(folder):
     """Lets set-id bits and devices below the folder have no effect."""
     mount(folder, folder, MS_BIND)
     mount("none", folder, MS_REMOUNT | MS_BIND | MS_NOSUID | MS_NODEV)
+
+
+# The calls of prctl, and what a server needs of root's rights: to give files owners and to reach and change them all.
+DROP_FROM_BOUNDS, SET_NO_NEW_PRIVILEGES = 24, 38
+CHOWN, DAC_OVERRIDE, FOWNER, FSETID, SETGID, SETUID = 0, 1, 3, 4, 6, 7
+KEPT = (CHOWN, DAC_OVERRIDE, FOWNER, FSETID, SETGID, SETUID)
+
+
+def give_up_rights():
+    """Leaves the program that this process runs next none of root's rights that lead out of a changed root: to change
+    it again, to mount, to make devices, to trace other processes, to signal those of other users."""
+    for right in range(64):
+        if right not in KEPT:
+            with contextlib.suppress(OSError):
+                call("prctl", DROP_FROM_BOUNDS, *map(ctypes.c_ulong, (right, 0, 0, 0)))
+    # version 3 of the call: 32 rights in each of two parts, those in effect, those permitted, those inherited
+    kept = sum(1 << right for right in KEPT)
+    call("capset", struct.pack("=Ii", 0x20080522, 0), struct.pack("=6I", kept, kept, 0, 0, 0, 0))
+    call("prctl", SET_NO_NEW_PRIVILEGES, *map(ctypes.c_ulong, (1, 0, 0, 0)))
 
 
 def bind(source, target):

@@ -22,6 +22,8 @@ sys.path.insert(0, os.path.dirname(HERE))
 import folders  # noqa: E402 (the folder above is not searched before)
 import mounts  # noqa: E402
 
+LDD = "/usr/bin/ldd"
+
 # Where the program stands for a moment.
 ASIDE = ".sftpv3-start"
 
@@ -62,7 +64,7 @@ def put_file(source, directory, name):
 
 
 def libraries_of(program):
-    needs = subprocess.run(["ldd", program], capture_output=True, text=True, check=False)
+    needs = subprocess.run([LDD, program], capture_output=True, text=True, check=False)
     return re.findall(r"(/\S+) \(0x", needs.stdout) if needs.returncode == 0 else []
 
 
@@ -162,11 +164,13 @@ def pass_on(source, target):
 
 
 def enter(folder):
-    """Makes the folder this process's root. Files get the permissions that are asked for without those of 022."""
+    """Makes the folder this process's root, and gives up the rights that lead out of it. Files get the permissions that
+    are asked for without those of 022."""
     os.chroot(folder.name)
     os.chdir("/")
     os.umask(0o022)
     resource.setrlimit(resource.RLIMIT_CORE, (0, 0))
+    mounts.give_up_rights()
 
 
 def version_of(folder, server):

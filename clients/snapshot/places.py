@@ -20,17 +20,24 @@ class View:
         above = names(os.fsencode(os.path.realpath(folders[0]))) if is_root else ()
         self.mounts = frozenset() if with_mounts else frozenset(
             it[len(above):] for it in mount_points() if it[:len(above)] == above)
-        self.root = self.open(folders[0] if is_root else "/", stack)
+        self.root = self.open(above, stack)
         self.above: Dict[Place, Entry] = {}
         self.tops: List[Place] = []
         for folder in folders if not is_root else []:
             self.lead_to(names(os.fsencode(os.path.abspath(folder))))
         self.tops = [place for place in sorted(set(self.tops)) if not self.is_below_another(place)]
-        self.folders = {place: self.open(b"/" + b"/".join(place), stack) for place in self.tops}
+        self.folders = {place: self.open(place, stack) for place in self.tops}
 
     @staticmethod
-    def open(path, stack: ExitStack) -> int:
-        held = os.open(path, os.O_RDONLY | os.O_DIRECTORY)
+    def open(place: Place, stack: ExitStack) -> int:
+        """Opens a directory, and no link on the way to it, which somebody may have put there meanwhile."""
+        held = os.open("/", DIRECTORY)
+        for name in place:
+            above, held = held, -1
+            try:
+                held = os.open(name, DIRECTORY, dir_fd=above)
+            finally:
+                os.close(above)
         stack.callback(os.close, held)
         return held
 

@@ -33,7 +33,8 @@ class Needs:
     """What a view needs of a tree's limits: how many entries, and the largest file; and what is left out."""
 
     def __init__(self, view: View, tell: Callable[[str], None]):
-        self.entries = self.largest = self.left_out = 0
+        self.entries = self.largest = self.left_out = self.bytes = 0
+        counted = set()
         for entry in view.entries():
             tell_of(entry, tell)
             if special(entry):
@@ -43,11 +44,23 @@ class Needs:
             self.entries += 1
             if stat.S_ISREG(entry.state.st_mode):
                 self.largest = max(self.largest, entry.state.st_size)
+                if (entry.state.st_dev, entry.state.st_ino) not in counted:
+                    counted.add((entry.state.st_dev, entry.state.st_ino))
+                    self.bytes += entry.state.st_size
                 if entry.state.st_size > RAISED[1]:
                     raise Trouble(f"{shown(entry.place)}: {entry.state.st_size} bytes; a file of a tree has at most "
                                   f"{RAISED[1]}")
         if self.entries > RAISED[0]:
             raise Trouble(f"{self.entries} entries; a tree has at most {RAISED[0]}")
+
+    def check_room(self, file: BinaryIO, most: int) -> None:
+        """Refuses what a sparse file may pretend to have, before anything is written."""
+        found = os.fstatvfs(file.fileno())
+        free = found.f_bavail * found.f_frsize
+        if self.bytes > most:
+            raise Trouble(f"the files have {self.bytes} bytes, and --most allows {most}")
+        if self.bytes > free:
+            raise Trouble(f"the files have {self.bytes} bytes, and where the tree file is to be, {free} are free")
 
     def limits(self, wanted: str) -> Tuple[int, ...]:
         """The limits by name: usual, raised, or fit, the lowest that are enough."""
@@ -129,9 +142,10 @@ def changed(entry: Entry) -> Trouble:
     return Trouble(f"{shown(entry.place)}: changed while it was read")
 
 
-def write(view: View, owner: Owner, wanted: str, file: BinaryIO, tell: Callable[[str], None]) -> Writer:
+def write(view: View, owner: Owner, wanted: str, most: int, file: BinaryIO, tell: Callable[[str], None]) -> Writer:
     """Writes the tree file, and gives what was counted. What changes meanwhile is Trouble."""
     needs = Needs(view, tell)
+    needs.check_room(file, most)
     limits, writer = needs.limits(wanted), Writer(file)
     writer.head(view, owner, limits, needs.entries)
     for entry in view.entries():

@@ -8,7 +8,7 @@ import time
 
 from attacking.ground import attack, wrong_status
 from packets import CLIENT, INIT, SERVER, VERSION, number, packet, string, transcript, tree
-from programs import program
+from programs import TOP, program
 
 HELLO = packet(INIT, number(3))
 OPENED = transcript([(CLIENT, HELLO), (SERVER, packet(VERSION, number(3)))])
@@ -69,6 +69,27 @@ def a_group_that_cannot_be_kept_reads_on(field):
     found = os.stat(saved)
     if found.st_gid != field.user.pw_gid or found.st_mode & 0o7777 != 0o604:
         yield f"group {found.st_gid}, mode {found.st_mode & 0o7777:o}"
+
+
+@attack("user", "tar")
+def an_archive_makes_a_program_of_root(field):
+    """What a client uploaded with set-id bits has none, where root unpacks it as the documents have it."""
+    with open("/usr/bin/id", "rb") as file:
+        content = file.read()
+    field.put("end.tree", tree([([b"id"], b"F" + number(0) * 2 + number(0o4755) + string(content))]))
+    archive = field.run("export", "end.tree").stdout
+    for document in ("README.md", "docs/USING.md"):
+        with open(os.path.join(TOP, document), encoding="utf-8") as file:
+            said = re.findall(r"export \S+ \| tar -C result (-x.*)", file.read())
+        for place, options in enumerate(said):
+            made = field.path(f"{document.replace('/', '-')}{place}")
+            os.mkdir(made)
+            subprocess.run(["tar", "-C", made, *options.split()], input=archive, check=True)
+            ran = subprocess.run([f"{made}/id"], user=field.user.pw_uid, group=field.user.pw_gid, capture_output=True)
+            if os.stat(f"{made}/id").st_mode & 0o6000 or b"euid=" in ran.stdout or not ran.stdout:
+                yield f"{document}, {options}: {ran.stdout!r}"
+        if not said:
+            yield f"{document} does not say how to unpack"
 
 
 @attack(is_small=True)
