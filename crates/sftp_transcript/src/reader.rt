@@ -66,7 +66,7 @@ fn stage_after(stage: Stage) -> Stage
 /// the client, a VERSION 3 from the server, with any extensions, and then requests and replies. Before each packet is a
 /// byte `C` or `S` that names its side.
 ///
-/// It holds at most 128 KiB of the file.
+/// It holds at most 512 KiB of the file.
 #[derive(Debug, Drop)]
 pub struct Reader<R: Source> {
     alloc: Global,
