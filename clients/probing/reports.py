@@ -50,8 +50,9 @@ def print_group(number, group):
     for line in group.text():
         program.say(f"   {line}")
     seeds = f"{group.count} in {len(group.seeds)} sessions, first in seed {group.seeds[0]}"
-    program.say(f"   {seeds}; {group.story()}; kept in {group.kept[0]}")
-    for line in group.kept[1]:
+    place, lines = group.kept or (None, [])
+    program.say(f"   {seeds}; {group.story()}; " + (f"kept in {place}" if place else "not kept, since that failed"))
+    for line in lines:
         program.say("      " + line)
 
 

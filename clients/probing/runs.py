@@ -200,14 +200,31 @@ class Run:
         self.progress.clear()
         causes.arrange(self.groups.all())
 
-    def report(self):
-        found = self.groups.all()
+    def keep(self, group):
+        """Keeps the session of a group."""
+        shown = group.shortest or shrinking.Shown(group.steps, self.tree, group.first)
+        group.kept = reports.keep(self.program, self.given.keep, group.number, group, shown)
+
+    def write(self, found):
+        """Keeps what was found, and writes the report. Gives what could not be written, as errors."""
+        wrong = []
         for number, group in enumerate(found, 1):
             group.number = number
-            shown = group.shortest or shrinking.Shown(group.steps, self.tree, group.first)
-            group.kept = reports.keep(self.program, self.given.keep, number, group, shown)
-        if self.given.report:
-            reports.write(self.given.report, self.given, self.tally, found)
+            try:
+                self.keep(group)
+            except OSError as error:
+                wrong.append(error)
+        try:
+            if self.given.report:
+                reports.write(self.given.report, self.given, self.tally, found)
+        except OSError as error:
+            wrong.append(error)
+        return wrong
+
+    def report(self):
+        """Writes and prints what was found. It is printed also if it cannot be written, which is then an error."""
+        found = self.groups.all()
+        wrong = self.write(found)
         for group in found:
             reports.print_group(group.number, group)
         vain = len(self.tally.played) - self.tally.sessions
@@ -215,6 +232,8 @@ class Run:
             print(f"probe: in {vain} session{'s' if vain != 1 else ''} no request was played", file=sys.stderr)
         if found or self.tally.left or not self.vain():
             program.say(("\n" if found else "") + reports.summary(self.tally, found))
+        if wrong:
+            raise wrong[0]
 
     def run(self):
         """Gives the exit status."""
