@@ -146,6 +146,6 @@ def try_unknown(steps, name, act, where, nightly, words):
     if status == 0:
         steps.check(f"{name}: accepted", "1 session accepted; the folder is as they left it" in said, said)
     elif any(it in said for it in words):
-        steps.skip(f"{name}: accepted", f"no profile knows it: {said.strip()}")
+        steps.skip(f"{name}: accepted", f"it is refused today: {said.strip()}")
     else:
         steps.check(f"{name}: accepted, or refused by {' or '.join(words)}", False, said)

@@ -12,7 +12,7 @@ SPACES = ["unshare", "--mount", "--net", "--pid", "--fork", "--kill-child", "--p
 
 
 # Where the program is in the copy that SFTPV3 names outside.
-PROGRAM = "/tmp/program"
+PROGRAM = "/root/program"
 
 
 class NotMade(Exception):
@@ -54,7 +54,6 @@ def enter():
     run("mount", "-t", "proc", "proc", f"{root}/proc")
     run("mount", "--rbind", "/dev", f"{root}/dev")
     run("mount", "-t", "tmpfs", "-o", "mode=755", "none", f"{root}/run")
-    run("mount", "-t", "tmpfs", "-o", "mode=1777", "none", f"{root}/tmp")
     run("ip", "link", "set", "lo", "up")
     keep(os.environ["SFTPV3"], root + PROGRAM)
     os.chroot(root)
