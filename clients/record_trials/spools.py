@@ -205,7 +205,6 @@ def few_files(steps, room):
     links = [socket.socket(socket.AF_UNIX) for _ in range(40)]
     for link in links:
         link.connect(str(spool.socket))
-        link.sendall(b"SFTPSP01\0")
     time.sleep(0.3)
     before = Path(f"/proc/{number}/stat").read_text().split()[13:15]
     time.sleep(2)
