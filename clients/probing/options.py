@@ -96,7 +96,7 @@ def parser(about):
     causes = ", ".join(sorted(refusals.CAUSES))
     names = f"names of requests, as in docs/FORMATS.md, of causes ({causes}), and of features:"
     known = [f"  {name:<15} {text}" for name, text in features.FEATURES.items()]
-    found = argparse.ArgumentParser(
+    found = program.Parser(
         prog=program.called("probe"), usage=f"{program.called('probe')} [OPTIONS] -- COMMAND [ARGUMENT ...]",
         formatter_class=argparse.RawDescriptionHelpFormatter, description=about,
         epilog="\n".join(textwrap.wrap("--skip takes " + names, 120) + known))

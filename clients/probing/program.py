@@ -1,4 +1,5 @@
 """Finds the program `sftpv3`: in the repository, where ./sftpv3 builds it, or installed, beside these modules."""
+import argparse
 import os
 import subprocess
 import sys
@@ -46,6 +47,13 @@ def called(name):
 def say(text, stream=None):
     """Prints a text that may have words of a server or of a file: no sign of it does anything to a terminal."""
     print(packets.clean(str(text)), file=stream or sys.stdout, flush=True)
+
+
+class Parser(argparse.ArgumentParser):
+    """A parser whose complaints show names of files as one line."""
+
+    def error(self, message):
+        super().error(packets.line(message))
 
 
 def complain(name, why, status):

@@ -42,6 +42,26 @@ def vanishing_client(steps, room):
         all_ended(steps, name, room, process, {0, 128 + signal.SIGPIPE, 128 + signal.SIGTERM, 128 + signal.SIGKILL})
 
 
+def streams(steps, room):
+    """The server's streams are sockets, which nobody can open by a name in /proc, and half of one can be closed."""
+    process = room.stub("t")
+    open_session(process)
+    server = stubs(room.folder)[0]
+    for file in (0, 1):
+        path = f"/proc/{server}/fd/{file}"
+        try:
+            os.close(os.open(path, os.O_RDWR | os.O_NONBLOCK))
+            opened = True
+        except OSError:
+            opened = False
+        steps.check(f"the server's stream {file} is a socket, which cannot be opened", not opened and
+                    os.readlink(path).startswith("socket:"), os.readlink(path))
+    steps.check("the recorder's files are shut to its user", os.geteuid() == 0 or
+                not os.access(f"/proc/{process.pid}/fd", os.R_OK))
+    close(process.stdin)
+    steps.check("the session ends well", ended(process, SOON) == 0)
+
+
 def pipes_alone(steps, room):
     for words in ((), ("stays",), ("ignores",)):
         for pipe in ("stdin", "stdout"):
@@ -159,4 +179,5 @@ def sockets(steps, room):
     all_ended(steps, "over a socket, which the client closes", room, process, {128 + signal.SIGTERM})
 
 
-TRIALS = (vanishing_client, pipes_alone, ending_servers, signals, ignored_signals, whole_sessions, slow_client, sockets)
+TRIALS = (vanishing_client, streams, pipes_alone, ending_servers, signals, ignored_signals, whole_sessions,
+          slow_client, sockets)

@@ -10,6 +10,7 @@ import sftp3
 from record_trials.ends import SOON, whole
 from record_trials.failing import run
 from record_trials.steps import INIT, PROGRAM, close, ended, errors, open_session, receive, request
+from recording.options import audit_words, plainly_read
 
 LINE = "audit: refused record 8: UnknownReply"
 
@@ -164,4 +165,12 @@ def logs(steps, room):
     steps.check("--log: no link is followed", ended(process, 3) == 0 and room.read("victim") == b"dear")
 
 
-TRIALS = (wrong_replies, stopped, accepted, bad_auditors, behind, system_log, logs)
+def memory(steps, _):
+    """The memory of an audit is bounded, unless told otherwise."""
+    for words, wanted in (([], "1073741824"), (["--memory", "5000"], "5000")):
+        given = audit_words(plainly_read(["--audit", "--tree", "t", *words, "transcript", "server"]))
+        found = [given[at + 1] for at, it in enumerate(given) if it == "--memory"]
+        steps.check(f"an audit has --memory {wanted}", found == [wanted], str(given))
+
+
+TRIALS = (memory, wrong_replies, stopped, accepted, bad_auditors, behind, system_log, logs)

@@ -58,6 +58,16 @@ def taken_names(steps, room):
     steps.check("what a dangling link leads to is not made", not (room.folder / "absent").exists())
 
 
+def many_taken_names(steps, room):
+    """Whoever takes the names that can be foreseen ends no session."""
+    for end in ["", *(f".{it}" for it in range(2, 100))]:
+        (room.folder / f"t{end}").write_bytes(b"")
+    ran = run(room, "--required", "t", STUB, data=INIT)
+    made = [it for it in room.folder.glob("t.*") if it.stat().st_size]
+    steps.check("names that are taken end no session", ran.returncode == 0 and len(made) == 1 and
+                re.fullmatch(r"t\.[0-9a-f]{16}", made[0].name), str(ran.stderr))
+
+
 def locks(steps, room):
     """While a session runs, its transcript is locked."""
     def is_locked():
@@ -115,9 +125,21 @@ def folders(steps, room):
         ran = run(room, f"{name}/t", STUB, data=INIT)
         steps.check(f"a folder with mode {mode:o}: {'a' if is_warned else 'no'} warning",
                     (b"folder" in ran.stderr) == is_warned and (folder / "t").exists(), str(ran.stderr))
+    below = room.folder / "open" / "below"
+    below.mkdir(mode=0o700)
+    ran = run(room, "open/below/t", STUB, data=INIT)
+    steps.check("a folder below one that others can write to: a warning", b"/open is writable" in ran.stderr,
+                str(ran.stderr))
     if os.geteuid() != 0:
         steps.skip("a folder of another user", "root alone can make one")
         return
+    for group, is_warned in ((0, False), (12345, True)):
+        os.chown(room.folder / "sticky", 0, group)
+        (room.folder / "sticky").chmod(0o770)
+        ran = run(room, "sticky/u", STUB, data=INIT)
+        steps.check(f"a folder that the group {group} can write to: {'a' if is_warned else 'no'} warning",
+                    (b"folder" in ran.stderr) == is_warned, str(ran.stderr))
+        (room.folder / "sticky/u").unlink()
     os.chown(room.folder / "own", 12345, 12345)
     ran = run(room, "own/u", STUB, data=INIT)
     steps.check("a folder of another user: a warning", b"folder" in ran.stderr, str(ran.stderr))
@@ -148,4 +170,4 @@ def times(steps, room):
             steps.check("a times file that is cut or has another opening is refused", True)
 
 
-TRIALS = (names, taken_names, locks, quick_starts, pipes, folders, times)
+TRIALS = (names, taken_names, many_taken_names, locks, quick_starts, pipes, folders, times)

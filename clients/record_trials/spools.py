@@ -197,6 +197,29 @@ def activated(steps, room):
                 len(list(folder.glob("*/*.transcript"))) == 1)
 
 
+def few_files(steps, room):
+    """A daemon that has no descriptors left waits, and goes on."""
+    spool = Spool(room)
+    number = spool.daemon.pid
+    subprocess.run(["prlimit", "--pid", str(number), "--nofile=20:20"], check=True)
+    links = [socket.socket(socket.AF_UNIX) for _ in range(40)]
+    for link in links:
+        link.connect(str(spool.socket))
+    time.sleep(0.3)
+    before = Path(f"/proc/{number}/stat").read_text().split()[13:15]
+    time.sleep(2)
+    after = Path(f"/proc/{number}/stat").read_text().split()[13:15]
+    took = (sum(map(int, after)) - sum(map(int, before))) / os.sysconf("SC_CLK_TCK")
+    steps.check("a daemon without descriptors does not spin", took < 0.5, f"{took} s of 2")
+    for link in links:
+        link.close()
+    time.sleep(1)
+    process = spool.session(options=["--required"])
+    steps.check("and records again once it has some", len(open_session(process)) == 9)
+    close(process.stdin)
+    ended(process, SOON)
+
+
 def units(steps, room):
     """The units of systemd are as it wants them."""
     words = shutil.which("systemd-analyze")
@@ -256,4 +279,4 @@ def other_user(steps, room):
         remove_user(OTHER)
 
 
-TRIALS = (kept, lost_spools, hanging_daemon, limits, hostile, unfit, activated, units, other_user)
+TRIALS = (kept, lost_spools, hanging_daemon, limits, hostile, unfit, activated, few_files, units, other_user)

@@ -14,7 +14,7 @@ def hide():
         try:
             import ctypes
             return ctypes.CDLL(None).prctl(SET_DUMPABLE, 0, 0, 0, 0) == 0
-        except (ImportError, OSError, AttributeError):
+        except (ImportError, OSError, AttributeError, MemoryError):
             return False
     except OSError:
         return False

@@ -289,7 +289,14 @@ class Daemon:
         if self.made:
             os.unlink(self.made)
         for it in list(self.connections.values()):
-            self.act(it, select.POLLIN)
-        for it in list(self.connections.values()):
-            self.end(it)
+            self.finish(it)
         return 0
+
+    def finish(self, connection):
+        """Keeps what a connection has sent, and ends it."""
+        file = connection.fileno()
+        self.act(connection, select.POLLIN)
+        while file in self.connections and self.is_at_work(connection):
+            self.act(connection, select.POLLIN)
+        if file in self.connections:
+            self.end(connection)

@@ -25,6 +25,8 @@ AUDIT_FLAGS = ("--cut", "--keep-going", "--json")
 FLAGS = ("--plain", "--overwrite", "--required", "--syslog", "--audit", "--stop", *AUDIT_FLAGS)
 VALUES = ("--times", "--spool", "--log", "--program", *AUDIT_VALUES)
 GRACE = 30.0
+# How many files the daemon may have open.
+FILES = 4096
 # The most memory of an audit, unless --memory says otherwise.
 AUDIT_MEMORY = str(1 << 30)
 
@@ -262,8 +264,18 @@ def record(words=None):
     return run(lambda: record_session(read_options(sys.argv[1:] if words is None else words)), NAME)
 
 
+def raise_limit_of_files():
+    """Each session of the daemon needs two descriptors, and the usual limit is 1,024."""
+    import resource
+    soft, hard = resource.getrlimit(resource.RLIMIT_NOFILE)
+    wanted = FILES if hard == resource.RLIM_INFINITY else min(FILES, hard)
+    if soft < wanted:
+        resource.setrlimit(resource.RLIMIT_NOFILE, (wanted, hard))
+
+
 def keep_records(options):
     from recording import keeping
+    raise_limit_of_files()
     notices = Notices("sftpv3-recordd")
     if options.syslog:
         notices.open_syslog()

@@ -4,6 +4,7 @@ They go through a real sshd, whose user has the shell and the server that docs/U
 """
 import os
 import shutil
+import socket as sockets
 import subprocess
 import time
 from contextlib import contextmanager
@@ -15,7 +16,6 @@ from attacking.recorders import daemon
 from programs import program
 
 SERVER = "/usr/lib/openssh/sftp-server"
-PORT = 2271
 CONFIG = """Port {port}
 ListenAddress 127.0.0.1
 HostKey {folder}/host
@@ -33,10 +33,10 @@ ForceCommand {record} --required --log {folder}/said --spool {socket} {server}
 class Account:
     """A user with SFTP alone: a home, and the words of ssh that start a session."""
 
-    def __init__(self, name, folder, spool):
+    def __init__(self, name, folder, spool, port):
         self.name, self.folder, self.spool = name, folder, spool
         self.home = f"/home/{name}"
-        options = ["StrictHostKeyChecking=no", "UserKnownHostsFile=/dev/null", "LogLevel=ERROR", f"Port={PORT}",
+        options = ["StrictHostKeyChecking=no", "UserKnownHostsFile=/dev/null", "LogLevel=ERROR", f"Port={port}",
                    f"IdentityFile={folder}/key", "IdentitiesOnly=yes"]
         self.options = [word for it in options for word in ("-o", it)]
 
@@ -58,6 +58,9 @@ class Account:
 def account(field, shell):
     """A user with this login shell, an sshd and a daemon."""
     name = f"sftpv3-{os.getpid()}u"
+    with sockets.socket() as probe:
+        probe.bind(("127.0.0.1", 0))
+        port = probe.getsockname()[1]
     for key in ("host", "key"):
         subprocess.run(["ssh-keygen", "-q", "-t", "ed25519", "-N", "", "-f", field.path(key)], check=True)
     os.makedirs("/run/sshd", exist_ok=True)
@@ -65,13 +68,13 @@ def account(field, shell):
     try:
         with daemon(field) as (socket, spool):
             field.put("said", b"", 0o666)
-            text = CONFIG.format(port=PORT, folder=field.folder, server=SERVER, socket=socket,
+            text = CONFIG.format(port=port, folder=field.folder, server=SERVER, socket=socket,
                                  record=field.script("record"))
             sshd = subprocess.Popen(["/usr/sbin/sshd", "-D", "-f", field.put("config", text.encode()), "-E",
                                      field.path("log")])
             time.sleep(1)
             try:
-                yield Account(name, field.folder, spool)
+                yield Account(name, field.folder, spool, port)
             finally:
                 sshd.terminate()
                 sshd.wait()

@@ -14,8 +14,9 @@ ONCE = ["--jobs", "1", "--seeds", "1", "--requests", "10", "--skip", "transfers"
 def run(field, name, *words, user=VICTIM, folder=None):
     """Runs a script as somebody, by default in the folder of the attack."""
     environment = {**os.environ, "SFTPV3": field.program if user else program(), "HOME": field.folder}
-    return subprocess.run([field.script(name), *words], capture_output=True, cwd=folder or field.folder, user=user,
-                          group=user, extra_groups=[], timeout=SECONDS, env=environment)
+    ids = {"user": user, "group": user, "extra_groups": []} if user else {}
+    return subprocess.run([field.script(name), *words], capture_output=True, cwd=folder or field.folder,
+                          timeout=SECONDS, env=environment, **ids)
 
 
 def hostile_server(field):
