@@ -5,11 +5,13 @@
 ghost use Rattle.std.specs.Prelude.{◌≤◌};
 
 mod archives;
+mod arguments;
 mod command_line;
 mod cuts;
 mod diffing;
 mod explaining;
 mod gathering;
+mod help;
 mod memory;
 mod messages;
 mod names;

@@ -8,7 +8,7 @@ ghost use Rattle.sftp_tool.specs.Failures.{IsUsage};
 ghost use Rattle.sftp_tool.specs.Profiles as spec;
 ghost use Rattle.sftp_tool.specs.Options.{IsPermissions};
 
-use crate::command_line::{Argument, Form};
+use crate::arguments::{Argument, Form};
 use crate::messages::{Failure, MORE};
 use crate::names::Named;
 use clap::ArgMatches;

@@ -1,0 +1,154 @@
+//! The arguments of the subcommands: a table for each, from which the parser and the help follow.
+
+use crate::profiles;
+
+/// An argument of a subcommand: its name, its form, and what the help says of it.
+pub(crate) type Argument<'a> = (&'a str, Form<'a>, &'a str);
+
+/// How an argument is given. The first text of a form is what help calls the value.
+#[derive(Clone, Copy)]
+pub(crate) enum Form<'a> {
+    /// `--NAME`.
+    Flag,
+    /// `VALUE`, which has to be given.
+    Place(&'a str),
+    /// `--NAME VALUE`, which has to be given.
+    Required(&'a str),
+    /// `--NAME VALUE`.
+    Optional(&'a str),
+    /// `--NAME VALUE`, only beside the flag of this name.
+    Beside(&'a str, &'a str),
+    /// `--NAME VALUE`, which is a number below 2^64.
+    Number(&'a str),
+    /// `--NAME VALUE`, which is one of these.
+    OneOf(&'a str, &'a [&'a str]),
+    /// `--NAME VALUE,...`, which are some of these.
+    SomeOf(&'a str, &'a [&'a str]),
+}
+
+const FILE: Form = Form::Place("FILE");
+
+const TREE: Argument = (
+    "tree",
+    Form::Required("FILE"),
+    "The tree file: the tree at the start of the session",
+);
+
+const MODE: Argument = (
+    "mode",
+    Form::OneOf("OCTAL", &["0600", "0640", "0644", "0660", "0664"]),
+    "The permissions of a file that is made new, 0600 by default",
+);
+
+const NO_SYNC: Argument = (
+    "no-sync",
+    Form::Flag,
+    "Do not wait until what is written is on the disk",
+);
+
+const MEMORY: Argument = (
+    "memory",
+    Form::Number("BYTES"),
+    "End as if memory ran out once more than these bytes are taken",
+);
+
+pub(crate) const SERVE: &[Argument] = &[
+    TREE,
+    (
+        "save",
+        Form::Optional("FILE"),
+        "The file to write the final tree to",
+    ),
+    (
+        "record",
+        Form::Optional("FILE"),
+        "The file to record the session in, for audit",
+    ),
+    (
+        "shuffle",
+        Form::Number("N"),
+        "Work and reply in a pseudorandom order that N fixes, not in the order asked",
+    ),
+    (
+        "verbose",
+        Form::Flag,
+        "Print on standard error when the session opens and how it ends",
+    ),
+    MEMORY,
+    MODE,
+    NO_SYNC,
+];
+
+pub(crate) const AUDIT: &[Argument] = &[
+    TREE,
+    (
+        "transcript",
+        Form::Required("FILE"),
+        "The transcript: the recorded packets of the session",
+    ),
+    (
+        "out",
+        Form::Optional("FILE"),
+        "The file to write the final tree to, if the session is accepted",
+    ),
+    (
+        "explain",
+        Form::Flag,
+        "Print on standard error why the session is refused, or where a file is malformed",
+    ),
+    profiles::PROFILE,
+    profiles::ALLOW,
+    profiles::EXCEPT,
+    profiles::UMASK,
+    profiles::NEW_OWNER,
+    profiles::SYMLINK,
+    MEMORY,
+    MODE,
+    NO_SYNC,
+];
+
+pub(crate) const SHOW: &[Argument] = &[
+    (
+        "full",
+        Form::Flag,
+        "Print each field that the file holds, as text that 'make' reads",
+    ),
+    (
+        "data",
+        Form::Beside("N|all", "full"),
+        "With --full: cut each text after N bytes, 256 by default, or print all of it",
+    ),
+    (
+        "explain",
+        Form::Flag,
+        "Print on standard error where a malformed file is so",
+    ),
+    MEMORY,
+    ("file", FILE, "The transcript or the tree file"),
+];
+
+pub(crate) const DIFF: &[Argument] = &[
+    MEMORY,
+    ("old", Form::Place("A"), "The tree file of before"),
+    ("new", Form::Place("B"), "The tree file of after"),
+];
+
+pub(crate) const MAKE: &[Argument] = &[MODE, NO_SYNC, ("file", FILE, "The file to write")];
+
+pub(crate) const IMPORT: &[Argument] = &[
+    MEMORY,
+    MODE,
+    NO_SYNC,
+    ("file", FILE, "The tree file to write"),
+];
+
+pub(crate) const EXPORT: &[Argument] = &[("file", FILE, "The tree file")];
+
+pub(crate) const BLANK: &[Argument] = &[MODE, NO_SYNC, ("file", FILE, "The file to write")];
+
+pub(crate) const RAISE: &[Argument] = &[
+    MODE,
+    NO_SYNC,
+    ("tree", Form::Place("TREE"), "The tree file to read"),
+    ("file", FILE, "The file to write"),
+];
