@@ -19,7 +19,8 @@ import threading
 HERE = os.path.dirname(os.path.realpath(__file__))
 sys.path.insert(0, os.path.dirname(HERE))
 
-import folders  # noqa: E402 (the folder above is not searched before)
+import apart  # noqa: E402 (the folder above is not searched before)
+import folders  # noqa: E402
 import mounts  # noqa: E402
 
 LDD = "/usr/bin/ldd"
@@ -164,8 +165,9 @@ def pass_on(source, target):
 
 
 def enter(folder):
-    """Makes the folder this process's root, and gives up the rights that lead out of it. Files get the permissions that
-    are asked for without those of 022."""
+    """Makes the folder this process's root, and gives up the rights that lead out of it, and the sight of all other
+    processes. Files get the permissions that are asked for without those of 022."""
+    apart.step_aside()
     os.chroot(folder.name)
     os.chdir("/")
     os.umask(0o022)
