@@ -27,6 +27,20 @@ int main(int count, char **words) {
 }
 """
 
+# A library that ld.so loads and runs for a program that names it, also if it only says which libraries that needs.
+AUDITOR = """
+#include <fcntl.h>
+#include <stdio.h>
+#include <unistd.h>
+
+unsigned la_version(unsigned version) {
+    int file = open(TOLD, O_WRONLY | O_APPEND);
+    dprintf(file, "%d\\n", (int) getuid());
+    close(file);
+    return version;
+}
+"""
+
 
 def built(field, name, text, *options):
     """Compiles a text of C. Returns the path of what comes of it."""
@@ -80,3 +94,26 @@ def words_of(process):
             return file.read().split(b"\0")
     except OSError:
         return []
+
+
+@attack("user", "cc", "ldd")
+def a_program_runs_where_its_libraries_are_looked_for(field):
+    """A program that names a library for ld.so to run has no rights of root there."""
+    told = field.put("told", b"", 0o666)
+    os.chmod(told, 0o666)
+    auditor = built(field, "auditor.so", AUDITOR, "-shared", "-fPIC", f'-DTOLD="{told}"')
+    os.chmod(auditor, 0o755)
+    server = built(field, "server", SERVER, f"-Wl,--audit={auditor}")
+    for mode in (0o755, 0o711):
+        os.chmod(server, mode)
+        session(field, server)
+        if b"0\n" in field.read("told").splitlines(keepends=True):
+            yield f"mode {mode:o}: it ran as root"
+            return
+    os.chmod(server, 0o755)
+    hidden = field.path("hidden")
+    os.mkdir(hidden, 0o700)
+    os.rename(built(field, "plain", SERVER), f"{hidden}/plain")
+    done = session(field, f"{hidden}/plain")
+    if done.returncode != 7:
+        yield f"a program in a folder of root: status {done.returncode} {done.stderr[-300:]!r}"
