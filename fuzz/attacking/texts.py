@@ -3,7 +3,7 @@ import os
 import re
 import subprocess
 
-from attacking.ground import SECONDS, attack
+from attacking.ground import attack
 from attacking.saving import OPENED, TOP
 from packets import INIT, number, packet
 
@@ -43,19 +43,21 @@ def a_name_passes_for_a_verdict(field):
 
 @attack("make", is_small=True)
 def a_name_runs_in_a_makefile(field):
-    """What the documents give to make runs no part of a transcript's name, and says that one was left out."""
+    """What the documents give to make runs no part of a transcript's name, says that one was left out, and waits for no
+    pipe."""
     with open(os.path.join(TOP, "docs/USING.md"), encoding="utf-8") as file:
         field.put("Makefile", re.search(r"(?s)```make[^\n]*\n(.*?)```", file.read())[1].encode())
     field.blank()
     os.mkdir(field.path("records"))
     field.put("records/good.transcript", OPENED)
+    os.mkfifo(field.path("records/pipe.transcript"))
     make = ["make", "-k", "-j", "2"]
     search = {**os.environ, "PATH": f"{os.path.dirname(field.program)}:{os.environ['PATH']}"}
     for name in (None, *HOSTILE_NAMES):
         if name:
             field.put(f"records/{name}.transcript", OPENED)
             field.put("records/a", b"")
-        done = subprocess.run(make, cwd=field.folder, env=search, capture_output=True, timeout=SECONDS)
+        done = subprocess.run(make, cwd=field.folder, env=search, capture_output=True, timeout=20)
         if os.path.lexists(field.path("ran")):
             yield f"{name!r}: a command of the name ran"
             os.remove(field.path("ran"))
