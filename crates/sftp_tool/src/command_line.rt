@@ -300,7 +300,7 @@ fn audit_options<'a>(given: &ArgMatches<'a>) -> Option<AuditOptions<'a>>
 }
 
 /// The value that the command line gives for the option of this name.
-fn value<'a>(given: &ArgMatches<'a>, name: &str) -> Option<&'a str>
+pub(crate) fn value<'a>(given: &ArgMatches<'a>, name: &str) -> Option<&'a str>
     ensures { option_map (λ text. text.now) result ≡ value_in (rows_of (found_of given.now)) name.now }
 {
     given.get_str(name)

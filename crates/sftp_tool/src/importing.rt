@@ -1,11 +1,12 @@
 //! What the command line of `import` asks for.
-ghost use Rattle.std.specs.Prelude.{◌≡◌, ℕ, List, None, Some, codes};
+ghost use Rattle.std.specs.Prelude.{◌≡◌, IfSome};
 ghost use Rattle.std.specs.Option.{option_map};
-ghost use Rattle.sftp_tar.specs.declared.choices.LimitChoice.TheVariants as limits;
-ghost use Rattle.sftp_tar.specs.declared.choices.SpecialChoice.TheVariants as specials;
+ghost use Rattle.clap.specs.Matches.{found_of};
+ghost use Rattle.clap.specs.Walk.{rows_of};
+ghost use Rattle.sftp_tool.specs.Imports as spec;
 
 use crate::arguments::{Argument, Form};
-use crate::command_line::keeping_of;
+use crate::command_line::{keeping_of, value};
 use crate::saving::Keeping;
 use clap::ArgMatches;
 use sftp_tar::{LimitChoice, SpecialChoice, Taking};
@@ -37,43 +38,51 @@ pub(crate) struct ImportOptions<'a> {
     pub(crate) taking: Taking,
 }
 
-/// The options that the command line gives.
-pub(crate) fn options_of<'a>(given: &ArgMatches<'a>) -> Option<ImportOptions<'a>> {
+/// The options that the command line gives, if it names a file.
+pub(crate) fn options_of<'a>(given: &ArgMatches<'a>) -> Option<ImportOptions<'a>>
+    ensures { IfSome result (λ options. options.taking ≡ spec.taking_in (rows_of (found_of given.now))) }
+{
+    let taking = taking_of(value(given, "limits"), value(given, "special"));
     Some(ImportOptions {
         file: given.get_str("file")?,
         keeping: keeping_of(given),
         memory: given.get_one("memory"),
-        taking: Taking {
-            limits: limits_of(given.get_str("limits")),
-            special: special_of(given.get_str("special")),
-        },
+        taking,
     })
 }
 
-/// The limits that this text asks for, or the usual ones.
-fn limits_of(text: Option<&str>) -> LimitChoice
-    ensures usual { option_map (λ t. t.now) text.entry ≡ None → result ≡ limits.Usual }
-    ensures named_usual { option_map (λ t. t.now) text.entry ≡ Some (codes "usual") → result ≡ limits.Usual }
-    ensures raised { option_map (λ t. t.now) text.entry ≡ Some (codes "raised") → result ≡ limits.Raised }
-    ensures fit { option_map (λ t. t.now) text.entry ≡ Some (codes "fit") → result ≡ limits.Fit }
+/// How an archive is taken by the values of the options.
+fn taking_of(which: Option<&str>, what: Option<&str>) -> Taking
+    ensures { result ≡ spec.taking_by (option_map (λ t. t.now) which.entry) (option_map (λ t. t.now) what.entry) }
 {
-    match text {
-        Some("raised") => LimitChoice::Raised,
-        Some("fit") => LimitChoice::Fit,
-        _ => LimitChoice::Usual,
+    Taking {
+        limits: limits_by(which.unwrap_or("usual")),
+        special: special_by(what.unwrap_or("refuse")),
     }
 }
 
-/// What this text says of devices and FIFOs; without one they are refused.
-fn special_of(text: Option<&str>) -> SpecialChoice
-    ensures refuse { option_map (λ t. t.now) text.entry ≡ None → result ≡ specials.Refuse }
-    ensures named_refuse { option_map (λ t. t.now) text.entry ≡ Some (codes "refuse") → result ≡ specials.Refuse }
-    ensures skip { option_map (λ t. t.now) text.entry ≡ Some (codes "skip") → result ≡ specials.Skip }
-    ensures file { option_map (λ t. t.now) text.entry ≡ Some (codes "file") → result ≡ specials.File }
+/// The limits of this name.
+fn limits_by(which: &str) -> LimitChoice
+    ensures { result ≡ spec.limits_by which.now }
 {
-    match text {
-        Some("skip") => SpecialChoice::Skip,
-        Some("file") => SpecialChoice::File,
-        _ => SpecialChoice::Refuse,
+    if which == "raised" {
+        return LimitChoice::Raised;
     }
+    if which == "fit" {
+        return LimitChoice::Fit;
+    }
+    LimitChoice::Usual
+}
+
+/// What becomes of devices and FIFOs by this name.
+fn special_by(what: &str) -> SpecialChoice
+    ensures { result ≡ spec.special_by what.now }
+{
+    if what == "skip" {
+        return SpecialChoice::Skip;
+    }
+    if what == "file" {
+        return SpecialChoice::File;
+    }
+    SpecialChoice::Refuse
 }
