@@ -10,7 +10,8 @@ use Rattle.sftp_tool.specs.Options.{value_in}
 
 -- the limits of this name
 abbrev pub limits_by : List ℕ → LimitChoice
-limits_by which = if bytes_eq which (codes "raised") then Raised else if bytes_eq which (codes "fit") then Fit else Usual
+limits_by which =
+    if bytes_eq which (codes "raised") then Raised else if bytes_eq which (codes "fit") then Fit else Usual
 
 -- what becomes of devices and FIFOs by this name
 abbrev pub special_by : List ℕ → SpecialChoice
