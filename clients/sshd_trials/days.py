@@ -12,6 +12,7 @@ from typing import Callable
 import sftp3
 from sshd_trials.clients import OPTIONS, run
 from sshd_trials.editors import EDITORS
+from sshd_trials.page import is_accepted
 
 # How many requests a clone of the repository below takes at least: that of the day had 35,197.
 LEAST_OF_CLONE = 30_000
@@ -168,8 +169,8 @@ def try_ordinary(steps, where, nightly):
         count += 1
         time.sleep(1)
     status, said = nightly()
-    steps.check(f"{where.user}: the night accepts them", status == 0 and
-                f"{count} sessions accepted; the folder is as they left it" in said, f"status {status}: {said}")
+    steps.check(f"{where.user}: the night accepts them", status == 0 and is_accepted(said, count),
+                f"status {status}: {said}")
     if shutil.which("git"):
         most = max(map(int, re.findall(r"accepted (\d+) requests", said)), default=0)
         steps.check(f"{where.user}: the clone took {LEAST_OF_CLONE:,} requests or more", most >= LEAST_OF_CLONE, said)
@@ -187,8 +188,8 @@ def played(steps, session, where, nightly):
 
 def judge(steps, session, name, help_text, status, said):
     """A session that is to be accepted as soon as the program knows the word."""
-    is_accepted = status == 0 and "1 session accepted; the folder is as they left it" in said
-    if not is_accepted and session.by not in help_text and any(it in said for it in session.words):
+    is_good = status == 0 and is_accepted(said, 1)
+    if not is_good and session.by not in help_text and any(it in said for it in session.words):
         steps.skip(name, f"the program has no {session.by}: {said.strip()}")
     else:
-        steps.check(name, is_accepted, f"status {status}: {said}")
+        steps.check(name, is_good, f"status {status}: {said}")
