@@ -157,6 +157,9 @@ def wrong_removal(program, room):
             yield f"install: {' '.join(map(str, words))} ended with status {status}: {printed}"
     if files_below(prefix) or (prefix / "lib/sftpv3").exists():
         yield f"install: --uninstall leaves {files_below(prefix)}"
+    folders = {str(it.relative_to(prefix)) for it in prefix.rglob("*")} - {"bin", "lib", "share", "share/man"}
+    if folders:
+        yield f"install: --uninstall leaves the folders {sorted(folders)}"
     plain.write_text("")
     status, printed = called(["./install", "--prefix", plain], program)
     if (status, printed) != (3, f"install: cannot write {plain}/bin/sftpv3\n"):

@@ -110,7 +110,7 @@ def read_options(words):
     if options.spool and options.overwrite:
         complain("--overwrite and --spool exclude each other")
     try:
-        for name in ("transcript", "times", "log"):
+        for name in ("transcript", "times", "log", "tree", "out"):
             if getattr(options, name):
                 setattr(options, name, naming.expand(getattr(options, name)))
     except naming.BadName as error:
