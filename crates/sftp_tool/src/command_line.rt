@@ -49,6 +49,8 @@ pub(crate) enum Request<'a> {
         old: &'a str,
         new: &'a str,
         memory: Option<u64>,
+        /// Whether the lines are JSON objects.
+        is_json: bool,
     },
     /// Make a tree file from an archive.
     Import {
@@ -98,6 +100,8 @@ pub(crate) struct AuditOptions<'a> {
     pub(crate) memory: Option<u64>,
     /// Whether standard error explains a refusal, or where a file is malformed.
     pub(crate) explains: bool,
+    /// Whether the verdict is a JSON object.
+    pub(crate) is_json: bool,
     /// Which departures from the strict reading are accepted; none where the session is judged strictly.
     pub(crate) profile: Option<Profile>,
     /// The permissions that are taken from whatever is made, as octal digits.
@@ -241,7 +245,13 @@ fn diff_request<'a>(given: &ArgMatches<'a>) -> Option<Request<'a>> {
     let old = given.get_str("old")?;
     let new = given.get_str("new")?;
     let memory = given.get_one("memory");
-    Some(Request::Diff { old, new, memory })
+    let is_json = given.get_flag("json");
+    Some(Request::Diff {
+        old,
+        new,
+        memory,
+        is_json,
+    })
 }
 
 fn import_request<'a>(given: &ArgMatches<'a>) -> Option<Request<'a>> {
@@ -308,6 +318,7 @@ fn audit_options<'a>(given: &ArgMatches<'a>) -> Option<AuditOptions<'a>>
         memory: given.get_one("memory"),
         keeping: keeping_of(given),
         explains: given.get_flag("explain"),
+        is_json: given.get_flag("json"),
         profile: profiles::profile_of(given),
         umask: value(given, "umask"),
     })

@@ -105,7 +105,9 @@ pub(crate) const AFTER_DIFF: &str = "A line has the path, and then one or more o
 
 If the home differs, the owner of new entries, or the limits, the first line begins with head and has home, owner and
 limits. The bytes of a file are compared at its first name. The exit status is 0 if the trees are the same, and 1 if
-they differ. With --memory, files of more than a thirty-second of BYTES are not compared.";
+they differ. With --memory, files of more than a thirty-second of BYTES are not compared.
+
+With --json, each line is a JSON object with the members change, path and kind, and one for each thing that differs.";
 
 pub(crate) const ABOUT_IMPORT: &str =
     "Writes the tree file of the archive on standard input, which is in a format of tar";
@@ -170,6 +172,9 @@ NotAllowed, the causes that refuse the request with the status codes that they a
 how the reply found differs; for NotModelled, the name of the extension or what the tree lacks, too. For this the
 transcript is read again, so it cannot be a pipe. If the tree file or the transcript is malformed, a line has the field
 of the fault, and the place of its first byte in the file, from 0.
+
+With --json, standard output has one JSON object in every case: the verdict with the parts of the explanation, or the
+failure. The statuses are the same.
 
 With --memory, the transcript is judged only as long as the process has at most BYTES. One request may take as much as a
 file or a listing has before that, and the tree at the end is encoded once more.";

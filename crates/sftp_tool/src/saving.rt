@@ -322,15 +322,15 @@ fn owned(file: &Metadata) -> Owned {
 }
 
 /// The permissions of a new file that replaces an old one: those of the old one if both are of one user, but for the
-/// group's if they are not of one group; and `mode` if the old one is another user's, who said who reads that one, and
-/// has no say in who reads the new one.
-fn kept_mode(old: Owned, new: Owned, mode: u32) -> u32
+/// group's if they are not of one group; and `made`, those of a file that is made, if the old one is another user's.
+/// That user said who reads the old one, and has no say in who reads the new one.
+fn kept_mode(old: Owned, new: Owned, made: u32) -> u32
     ensures kept { old.uid ≡ new.uid → old.gid ≡ new.gid → result ≡ bit_and old.permissions 0o777 }
     ensures regrouped { old.uid ≡ new.uid → old.gid ≢ new.gid → result ≡ bit_and old.permissions 0o707 }
-    ensures another { old.uid ≢ new.uid → result ≡ mode }
+    ensures another { old.uid ≢ new.uid → result ≡ made }
 {
     if old.uid != new.uid {
-        mode
+        made
     } else if old.gid != new.gid {
         old.permissions & WITHOUT_GROUP
     } else {
