@@ -82,10 +82,12 @@ fn parts_of(refusal: Refusal, follows: bool) -> (u64, &'static str) {
     }
 }
 
-/// Writes the lines of an explanation as a list: an object for each.
+/// Writes the whole lines of an explanation as a list: an object for each. If memory ran out, the last may be cut off.
 fn put_explanation<O: Write>(lines: &[u8], json: &mut JsonLines<'_, O>) {
+    let text = str::from_utf8(lines).unwrap_or("");
+    let (whole, _) = text.rsplit_once('\n').unwrap_or(("", ""));
     json.open_list("explanation");
-    for line in str::from_utf8(lines).unwrap_or("").lines() {
+    for line in whole.lines() {
         put_line(line, json);
     }
     json.close_list();
