@@ -14,6 +14,7 @@ ghost use Rattle.sftp_audit.specs.declared.errors.Refusal.TheVariants.{NoMemory}
 ghost use Rattle.sftp_audit.specs.Auditor.{Refuses};
 ghost use Rattle.sftp_audit.specs.Audit.{Accounts, AccountsBy, IsFirstFault, IsFirstFaultBy};
 ghost use Rattle.sftp_audit.specs.Audit.{IsTreeError, IsPlain};
+ghost use Rattle.sftp_audit.specs.Cuts.{AccountsCutBy, unanswered_count, unjudged_count};
 ghost use Rattle.sftp_audit.specs.Exchanges.{recorded_exchanges, ledger_of};
 
 use sftp_judges::Judges;
@@ -69,6 +70,24 @@ pub fn explained_when_none_waits()
     ensures explained { (start : State) (events : List Event) (end : State) →
         Sound Allowed start events end → ((id : ℕ) → IsWaiting events id → ⊥) →
         Explained Allowed start events end }
+{}
+
+/// An audit of cut sessions and one of complete sessions account for the same runs where each request has its reply: the
+/// one by any judge exactly if the other, with the same events and the same end. Then nothing is unanswered, and nothing
+/// is not judged.
+pub fn complete_if_none_is_unanswered<J: Judges>()
+    ensures cut { (by : J.By) (tree transcript : List ℕ) (start : Tree) (events : List Event) (end : Tree) →
+        AccountsBy J.allowed (J.begun by) J.closed tree transcript start events end →
+        AccountsCutBy J.allowed (J.begun by) J.closed tree transcript start events end }
+    ensures answered { (by : J.By) (tree transcript : List ℕ) (start : Tree) (events : List Event) (end : Tree) →
+        AccountsBy J.allowed (J.begun by) J.closed tree transcript start events end →
+        unanswered_count (recorded_exchanges events) ≡ 0 }
+    ensures complete { (by : J.By) (tree transcript : List ℕ) (start : Tree) (events : List Event) (end : Tree) →
+        AccountsCutBy J.allowed (J.begun by) J.closed tree transcript start events end →
+        unanswered_count (recorded_exchanges events) ≡ 0 →
+        AccountsBy J.allowed (J.begun by) J.closed tree transcript start events end }
+    ensures judged { (events : List Event) → unanswered_count (recorded_exchanges events) ≡ 0 →
+        unjudged_count events ≡ 0 }
 {}
 
 /// By any judge, an event is refused for one reason at most after given events, unless memory runs out.

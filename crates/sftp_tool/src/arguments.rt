@@ -101,6 +101,11 @@ pub(crate) const AUDIT: &[Argument] = &[
         Form::Flag,
         "Print the verdict, the explanation or the failure as one JSON object",
     ),
+    (
+        "cut",
+        Form::Flag,
+        "Accept a session that was cut: what comes before its oldest unanswered request is judged",
+    ),
     profiles::PROFILE,
     profiles::ALLOW,
     profiles::EXCEPT,
