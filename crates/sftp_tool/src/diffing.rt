@@ -18,11 +18,12 @@ const SHARE: u64 = 32;
 /// Shows how two tree files differ. Both are read and judged before any line is written.
 pub(crate) fn diff<'a, R: Files + AllocGlobal, O: Write>(
     rt: &R,
-    (old, new): (&'a str, &'a str),
+    names: (&'a str, &'a str),
     memory: Option<u64>,
     is_json: bool,
     output: &mut O,
 ) -> Result<Ending, Failure<'a>> {
+    let (old, new) = names;
     let most = memory.map(|bytes| bytes / SHARE);
     let bytes = read_at_most(rt, old, most)?;
     let ending = diff_from(rt, (old, bytes.as_slice()), new, most, is_json, output);

@@ -19,19 +19,19 @@ const MARK: &[u8] = b"ustar";
 
 /// What a subcommand takes a file for.
 #[derive(Clone, Copy)]
-enum Use {
+enum Role {
     Tree,
     Transcript,
     Either,
 }
 
-impl Use {
+impl Role {
     /// What a file of another kind is not.
     fn lack(self) -> &'static str {
         match self {
-            Use::Tree => ", not a tree file",
-            Use::Transcript => ", not a transcript",
-            Use::Either => ", neither a transcript nor a tree file",
+            Role::Tree => ", not a tree file",
+            Role::Transcript => ", not a transcript",
+            Role::Either => ", neither a transcript nor a tree file",
         }
     }
 }
@@ -85,7 +85,7 @@ pub(crate) struct Faulty<'a> {
     pub(crate) name: &'a str,
     /// What it is, if it is of another kind than what it is taken for.
     pub(crate) kind: Option<Kind>,
-    taken_for: Use,
+    taken_for: Role,
     /// Whether the line of the failure has its name.
     is_named: bool,
 }
@@ -130,10 +130,10 @@ impl fmt::Display for Faulty<'_> {
 }
 
 /// What a message adds about a file that is of another kind.
-fn advice(kind: Kind, taken_for: Use) -> &'static str {
+fn advice(kind: Kind, taken_for: Role) -> &'static str {
     match (kind, taken_for) {
         (Kind::Empty, _) => "",
-        (Kind::Archive, Use::Tree) => ", not a tree file; 'sftpv3 import' makes one of it",
+        (Kind::Archive, Role::Tree) => ", not a tree file; 'sftpv3 import' makes one of it",
         _ => taken_for.lack(),
     }
 }
@@ -141,18 +141,18 @@ fn advice(kind: Kind, taken_for: Use) -> &'static str {
 /// The file of a request that failed because it is malformed, without a look at it.
 fn faulty_of<'a>(request: &Request<'a>, failure: &Failure<'a>) -> Option<Faulty<'a>> {
     match failure {
-        Failure::Tree(_) => Some(faulty(tree_of(request)?, Use::Tree)),
-        Failure::Transcript(_) => Some(faulty(transcript_of(request)?, Use::Transcript)),
-        Failure::UnknownFile => Some(faulty(shown_by(request)?, Use::Either)),
+        Failure::Tree(_) => Some(faulty(tree_of(request)?, Role::Tree)),
+        Failure::Transcript(_) => Some(faulty(transcript_of(request)?, Role::Transcript)),
+        Failure::UnknownFile => Some(faulty(shown_by(request)?, Role::Either)),
         Failure::TreeOf(name, _) => Some(Faulty {
             is_named: true,
-            ..faulty(name, Use::Tree)
+            ..faulty(*name, Role::Tree)
         }),
         _ => None,
     }
 }
 
-fn faulty<'a>(name: &'a str, taken_for: Use) -> Faulty<'a> {
+fn faulty<'a>(name: &'a str, taken_for: Role) -> Faulty<'a> {
     Faulty {
         name,
         kind: None,

@@ -119,10 +119,10 @@ fn shown_record(part: &str, text: &str) -> Option<u64> {
 
 /// Prints the object of a run that failed, with what is known of the malformed file, and where its fault is. If it
 /// cannot be written, there is nothing left to do.
-pub(crate) fn print_failed<O: Write>(
+pub(crate) fn print_failed<'a, O: Write>(
     alloc: Global,
-    failure: &Failure<'_>,
-    file: Option<Faulty<'_>>,
+    failure: &Failure<'a>,
+    file: Option<Faulty<'a>>,
     spot: Option<Spot>,
     output: &mut O,
 ) {
@@ -155,9 +155,9 @@ fn kind_of(failure: &Failure<'_>) -> &'static str {
 }
 
 /// Writes the file that a failure is about, what it is if it is of another kind, and the entry or the record.
-fn put_file<O: Write>(
-    failure: &Failure<'_>,
-    file: Option<Faulty<'_>>,
+fn put_file<'a, O: Write>(
+    failure: &Failure<'a>,
+    file: Option<Faulty<'a>>,
     json: &mut JsonLines<'_, O>,
 ) {
     if let Some(name) = name_of(failure, file) {
@@ -217,7 +217,7 @@ fn record_of(error: TranscriptError) -> u64 {
 fn put_message<O: Write>(alloc: Global, failure: &Failure<'_>, json: &mut JsonLines<'_, O>) {
     match format!(in alloc; "{failure}") {
         Ok(line) => {
-            put_line_of(failure, line.trim_end(), json);
+            put_line_of(failure, line.as_str().trim_end(), json);
             drop(line);
         }
         Err(_no_memory) => {}

@@ -35,8 +35,8 @@ enum Part {
 impl Part {
     fn has(self, byte: u8) -> bool {
         match self {
-            Part::Letter => byte.is_ascii_uppercase(),
-            Part::Digit => byte.is_ascii_digit(),
+            Part::Letter => (b'A'..=b'Z').contains(&byte),
+            Part::Digit => (b'0'..=b'9').contains(&byte),
             Part::Any => byte != b' ',
         }
     }
@@ -69,7 +69,7 @@ fn back_over(line: &[u8], place: usize, part: Part) -> usize {
 /// The place behind a space, if there is one at this place.
 fn behind_space(line: &[u8], place: usize) -> usize {
     match line.get(place) {
-        Some(b' ') => place.saturating_add(1),
+        Some(byte) if *byte == b' ' => place.saturating_add(1),
         _ => place,
     }
 }
