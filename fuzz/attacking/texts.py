@@ -77,7 +77,8 @@ def a_name_breaks_a_json_object(field):
     audit = field.run("audit", "--json", "--explain", "--tree", start, "--transcript", record)
     said = objects(audit)
     if audit.returncode != 1 or audit.stderr or [it["verdict"] for it in said] != ["refused"] or \
-            said[0]["record"] != 4 or [it["part"] for it in said[0]["explanation"]][:3] != ["request", "reply", "causes"]:
+            said[0]["record"] != 4 or \
+            [it["part"] for it in said[0]["explanation"]][:3] != ["request", "reply", "causes"]:
         yield f"audit: {audit.returncode}, {audit.stdout!r}"
     absent = NAME + "absent"
     for status, words, file in ((3, ["audit", "--tree", absent, "--transcript", record], absent),
