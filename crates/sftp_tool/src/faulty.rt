@@ -141,18 +141,18 @@ fn advice(kind: Kind, taken_for: Role) -> &'static str {
 /// The file of a request that failed because it is malformed, without a look at it.
 fn faulty_of<'a>(request: &Request<'a>, failure: &Failure<'a>) -> Option<Faulty<'a>> {
     match failure {
-        Failure::Tree(_) => Some(faulty(tree_of(request)?, Role::Tree)),
-        Failure::Transcript(_) => Some(faulty(transcript_of(request)?, Role::Transcript)),
-        Failure::UnknownFile => Some(faulty(shown_by(request)?, Role::Either)),
+        Failure::Tree(_) => Some(unseen(tree_of(request)?, Role::Tree)),
+        Failure::Transcript(_) => Some(unseen(transcript_of(request)?, Role::Transcript)),
+        Failure::UnknownFile => Some(unseen(shown_by(request)?, Role::Either)),
         Failure::TreeOf(name, _) => Some(Faulty {
             is_named: true,
-            ..faulty(*name, Role::Tree)
+            ..unseen(*name, Role::Tree)
         }),
         _ => None,
     }
 }
 
-fn faulty<'a>(name: &'a str, taken_for: Role) -> Faulty<'a> {
+fn unseen<'a>(name: &'a str, taken_for: Role) -> Faulty<'a> {
     Faulty {
         name,
         kind: None,

@@ -292,7 +292,7 @@ fn take_owner(old: &Metadata, file: &File, mode: u32) -> u32 {
     }
     let _ = fchown(file.as_fd(), None, Some(old.gid()));
     match file.metadata() {
-        Ok(new) => kept_mode(owned(old), owned(&new), mode),
+        Ok(new) => kept_mode(owner_of(old), owner_of(&new), mode),
         Err(_) => mode,
     }
 }
@@ -313,7 +313,7 @@ struct Owned {
     permissions: u32,
 }
 
-fn owned(file: &Metadata) -> Owned {
+fn owner_of(file: &Metadata) -> Owned {
     Owned {
         uid: file.uid(),
         gid: file.gid(),
