@@ -72,9 +72,9 @@ pub fn explained_when_none_waits()
         Explained Allowed start events end }
 {}
 
-/// An audit of cut sessions and one of complete sessions account for the same runs where each request has its reply: the
-/// one by any judge exactly if the other, with the same events and the same end. Then nothing is unanswered, and nothing
-/// is not judged.
+/// By any judge, an audit of complete sessions accounts for a run exactly if one of cut sessions does and each request
+/// has its reply. So `audit_cut_stream` accepts a session in which nothing is unanswered exactly if `audit_stream`
+/// does, with the same end. Where nothing is unanswered, nothing is left unjudged.
 pub fn complete_if_none_is_unanswered<J: Judges>()
     ensures cut { (by : J.By) (tree transcript : List ℕ) (start : Tree) (events : List Event) (end : Tree) →
         AccountsBy J.allowed (J.begun by) J.closed tree transcript start events end →

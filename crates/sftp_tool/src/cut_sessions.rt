@@ -16,17 +16,35 @@ use sftp_audit::{AcceptedCut, AuditError};
 use sftp_profile::{Judge, Profile};
 use sftp_transcript::{Reader, Tally};
 use std::alloc::Global;
+use std::fmt;
 use std::io::{Read, Write};
 
 /// How many requests of an accepted session there are of each kind. Each request is of one kind.
 #[derive(Clone, Copy)]
-struct Counts {
+pub(crate) struct Counts {
     /// Those before the oldest unanswered one: they and their replies were judged.
-    judged: u64,
+    pub(crate) judged: u64,
     /// Those without a reply.
-    unanswered: usize,
+    pub(crate) unanswered: usize,
     /// The others: they come after the oldest unanswered one and have replies, which were not judged.
-    unjudged: usize,
+    pub(crate) unjudged: usize,
+}
+
+impl fmt::Display for Counts {
+    fn fmt<W: fmt::Write>(&self, f: &mut fmt::Formatter<W>) -> fmt::Result {
+        let judged = self.judged;
+        write!(f, "accepted {judged} requests")?;
+        put_count(f, self.unanswered, "unanswered")?;
+        put_count(f, self.unjudged, "not judged")
+    }
+}
+
+/// Writes how many requests there are of a kind, if there are any.
+fn put_count<W: fmt::Write>(f: &mut fmt::Formatter<W>, count: usize, kind: &str) -> fmt::Result {
+    if count == 0 {
+        return Ok(());
+    }
+    write!(f, ", {count} {kind}")
 }
 
 impl Counts {
@@ -149,7 +167,7 @@ fn accept_cut<'a, R: System, O: Write>(
     if files.is_json {
         return print_accepted(counts.judged, Some(counts.others()), output);
     }
-    print_counts(counts, output)
+    print(output, format_args!("{counts}\n"), Ending::Done)
 }
 
 /// How many requests of an accepted session there are of each kind.
@@ -163,37 +181,4 @@ fn counts_of(accepted: &AcceptedCut) -> Counts
         unanswered: accepted.unanswered,
         unjudged: accepted.unjudged.saturating_sub(accepted.unanswered),
     }
-}
-
-/// Says that a session is accepted: the requests that were judged, and those that were not, if there are any.
-fn print_counts<'a, O: Write>(counts: Counts, output: &mut O) -> Result<Ending, Failure<'a>>
-    ensures ok { IfOk result (λ ending. ending ≡ endings.Done) }
-    ensures err { IfErr result IsUnwritten }
-{
-    let Counts {
-        judged,
-        unanswered,
-        unjudged,
-    } = counts;
-    if unanswered == 0 {
-        return print(
-            output,
-            format_args!("accepted {judged} requests\n"),
-            Ending::Done,
-        );
-    }
-    if unjudged == 0 {
-        return print(
-            output,
-            format_args!("accepted {judged} requests, {unanswered} unanswered\n"),
-            Ending::Done,
-        );
-    }
-    print(
-        output,
-        format_args!(
-            "accepted {judged} requests, {unanswered} unanswered, {unjudged} not judged\n"
-        ),
-        Ending::Done,
-    )
 }
