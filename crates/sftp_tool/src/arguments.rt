@@ -96,6 +96,16 @@ pub(crate) const AUDIT: &[Argument] = &[
         Form::Flag,
         "Print on standard error why the session is refused, or where a file is malformed",
     ),
+    (
+        "json",
+        Form::Flag,
+        "Print the verdict, the explanation or the failure as one JSON object",
+    ),
+    (
+        "cut",
+        Form::Flag,
+        "Accept a session that was cut: what comes before its oldest unanswered request is judged",
+    ),
     profiles::PROFILE,
     profiles::ALLOW,
     profiles::EXCEPT,
@@ -128,6 +138,11 @@ pub(crate) const SHOW: &[Argument] = &[
 ];
 
 pub(crate) const DIFF: &[Argument] = &[
+    (
+        "json",
+        Form::Flag,
+        "Print a JSON object for each line, and for a failure",
+    ),
     MEMORY,
     ("old", Form::Place("A"), "The tree file of before"),
     ("new", Form::Place("B"), "The tree file of after"),

@@ -5,7 +5,7 @@ ghost use Rattle.std.specs.Str.Parse.{digits_value};
 ghost use Rattle.clap.specs.Matches.{found_of};
 ghost use Rattle.clap.specs.Simple.{subcommand_rows_of};
 ghost use Rattle.clap.specs.Walk.{Row, rows_of};
-ghost use Rattle.sftp_tool.specs.Options.{IsPermissions, value_in};
+ghost use Rattle.sftp_tool.specs.Options.{IsPermissions, value_in, is_given};
 ghost use Rattle.sftp_tool.specs.Requests.{IsAuditAsked, IsAuditRequest, LacksFile};
 
 use crate::arguments::{
@@ -50,6 +50,8 @@ pub(crate) enum Request<'a> {
         old: &'a str,
         new: &'a str,
         memory: Option<u64>,
+        /// Whether the lines are JSON objects.
+        is_json: bool,
     },
     /// Make a tree file from an archive.
     Import(ImportOptions<'a>),
@@ -95,6 +97,10 @@ pub(crate) struct AuditOptions<'a> {
     pub(crate) memory: Option<u64>,
     /// Whether standard error explains a refusal, or where a file is malformed.
     pub(crate) explains: bool,
+    /// Whether the verdict is a JSON object.
+    pub(crate) is_json: bool,
+    /// Whether a session that was cut is accepted if what comes before its oldest unanswered request is right.
+    pub(crate) cuts: bool,
     /// Which departures from the strict reading are accepted; none where the session is judged strictly.
     pub(crate) profile: Option<Profile>,
     /// The permissions that are taken from whatever is made, as octal digits.
@@ -238,7 +244,13 @@ fn diff_request<'a>(given: &ArgMatches<'a>) -> Option<Request<'a>> {
     let old = given.get_str("old")?;
     let new = given.get_str("new")?;
     let memory = given.get_one("memory");
-    Some(Request::Diff { old, new, memory })
+    let is_json = given.get_flag("json");
+    Some(Request::Diff {
+        old,
+        new,
+        memory,
+        is_json,
+    })
 }
 
 fn raise_request<'a>(given: &ArgMatches<'a>) -> Option<Request<'a>> {
@@ -294,6 +306,8 @@ fn audit_options<'a>(given: &ArgMatches<'a>) -> Option<AuditOptions<'a>>
         memory: given.get_one("memory"),
         keeping: keeping_of(given),
         explains: given.get_flag("explain"),
+        is_json: given.get_flag("json"),
+        cuts: flag(given, "cut"),
         profile: profiles::profile_of(given),
         umask: value(given, "umask"),
     })
@@ -304,6 +318,13 @@ pub(crate) fn value<'a>(given: &ArgMatches<'a>, name: &str) -> Option<&'a str>
     ensures { option_map (λ text. text.now) result ≡ value_in (rows_of (found_of given.now)) name.now }
 {
     given.get_str(name)
+}
+
+/// Whether the command line gives the flag of this name.
+fn flag(given: &ArgMatches<'_>, name: &str) -> bool
+    ensures { result ≡ is_given (value_in (rows_of (found_of given.now)) name.now) }
+{
+    value(given, name).unwrap_or("") == "true"
 }
 
 fn command<'a>(alloc: Global, version: &'a str) -> Result<Command<'a>, AllocError> {
