@@ -74,6 +74,14 @@ impl<'a, O: Write> JsonLines<'a, O> {
         self.put_number(value);
     }
 
+    /// Writes a member that is a text: a `0`, and the octal digits of a number.
+    pub fn octal(&mut self, name: &str, value: u32) {
+        self.put_name(name, "");
+        if self.error.is_none() {
+            self.error = write!(self.output, "\"0{value:o}\"").err();
+        }
+    }
+
     /// Writes a member that is `true` or `false`.
     pub fn flag(&mut self, name: &str, value: bool) {
         self.put_name(name, "");
