@@ -119,10 +119,9 @@ impl<'a, O: Write> JsonLines<'a, O> {
     /// # Errors
     ///
     /// The first failure of the output.
-    pub fn finish(self) -> io::Result<()> {
-        let JsonLines { output, error, .. } = self;
-        match error {
-            None => output.flush(),
+    pub fn finish(&mut self) -> io::Result<()> {
+        match self.error.take() {
+            None => self.output.flush(),
             Some(error) => Err(error),
         }
     }
