@@ -16,8 +16,6 @@ pub(crate) enum Form<'a> {
     Required(&'a str),
     /// `--NAME VALUE`.
     Optional(&'a str),
-    /// `--NAME VALUE`, only beside the flag of this name.
-    Beside(&'a str, &'a str),
     /// `--NAME VALUE`, which is a number below 2^64.
     Number(&'a str),
     /// `--NAME VALUE`, which is one of these.
@@ -125,8 +123,48 @@ pub(crate) const SHOW: &[Argument] = &[
     ),
     (
         "data",
-        Form::Beside("N|all", "full"),
-        "With --full: cut each text after N bytes, 256 by default, or print all of it",
+        Form::Optional("N|all"),
+        "With --full or --json: cut each text after N bytes, 256 by default, or print all of it",
+    ),
+    (
+        "json",
+        Form::Flag,
+        "Print a JSON object for each record or entry, with each field that it holds",
+    ),
+    (
+        "times",
+        Form::Optional("FILE"),
+        "The file of times beside the transcript: print when each record was there",
+    ),
+    (
+        "id",
+        Form::Number("N"),
+        "Only requests and replies with this id",
+    ),
+    (
+        "path",
+        Form::Optional("PATH"),
+        "Only requests with this path, and their replies",
+    ),
+    (
+        "handle",
+        Form::Optional("HANDLE"),
+        "Only requests with this handle, their replies, and the replies that give it",
+    ),
+    (
+        "records",
+        Form::Optional("A-B"),
+        "Only the records with these numbers",
+    ),
+    (
+        "pairs",
+        Form::Flag,
+        "Only requests, each with its reply behind it, in the order of the replies",
+    ),
+    (
+        "overtaken",
+        Form::Flag,
+        "Mark each reply that came before the reply to an earlier request",
     ),
     (
         "explain",

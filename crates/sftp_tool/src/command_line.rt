@@ -120,6 +120,22 @@ pub(crate) struct ShowOptions<'a> {
     pub(crate) explains: bool,
     /// The most bytes of memory that the whole text may take.
     pub(crate) memory: Option<u64>,
+    /// The name of the file of times beside the transcript.
+    pub(crate) times: Option<&'a str>,
+    /// The id of the packets that are shown.
+    pub(crate) id: Option<u64>,
+    /// The path of the requests that are shown, in which bytes may be escaped.
+    pub(crate) path: Option<&'a str>,
+    /// The handle of what is shown, in which bytes may be escaped.
+    pub(crate) handle: Option<&'a str>,
+    /// The range of the records that are shown: numbers with `-` between them.
+    pub(crate) records: Option<&'a str>,
+    /// Whether requests alone are shown, each together with its reply.
+    pub(crate) in_pairs: bool,
+    /// Whether replies that overtook another are marked, with no other option that marks them.
+    pub(crate) marks: bool,
+    /// Whether the file is shown as JSON.
+    pub(crate) is_json: bool,
 }
 
 /// Parses the command line of the program in this version. The first word is the program's name. To ask for help or the
@@ -237,6 +253,14 @@ fn show_options<'a>(given: &ArgMatches<'a>) -> Option<ShowOptions<'a>> {
         data: given.get_str("data"),
         memory: given.get_one("memory"),
         explains: given.get_flag("explain"),
+        times: given.get_str("times"),
+        id: given.get_one("id"),
+        path: given.get_str("path"),
+        handle: given.get_str("handle"),
+        records: given.get_str("records"),
+        in_pairs: given.get_flag("pairs"),
+        marks: given.get_flag("overtaken"),
+        is_json: given.get_flag("json"),
     })
 }
 
@@ -463,7 +487,6 @@ fn new_argument<'a>(
         Form::Place(label) => Ok(valued(arg, label).required(true)),
         Form::Required(label) => Ok(valued(arg.long(name), label).required(true)),
         Form::Optional(label) => Ok(valued(arg.long(name), label)),
-        Form::Beside(label, flag) => valued(arg.long(name), label).requires_arg(flag),
         Form::Number(label) => {
             Ok(valued(arg.long(name), label).value_parser(value_parser!(u64)))
         }

@@ -85,6 +85,16 @@ and its bytes in hexadecimal. Of a text in quotes, and of a raw record, the firs
 
 With --data all, nothing is cut off, and 'make' makes the same file of the lines.
 
+With --json, a line has the fields of --full as a JSON object. Bytes that are UTF-8 are a string, NAME; others are
+hexadecimal digits, NAME_hex; where they are cut as with --full, NAME_length says how many there are.
+
+With --times, lines begin with the seconds from the start on, or - where they are not known, and lines of replies say
+how long the request took. With this or any of --id, --path, --handle, --records, --pairs and --overtaken, the line of a
+reply that came before the reply to an earlier request ends in 'overtook' and the number of that request's record.
+
+PATH and HANDLE are texts as 'show' prints them, without the quotes. A-B may be A-, -B or A. Several selections select
+what meets them all. With --pairs, requests without a reply come last.
+
 With --explain, a line on standard error says where a malformed file is so: the field of the fault, and the place of its
 first byte in the file, from 0.
 

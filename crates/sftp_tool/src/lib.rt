@@ -22,6 +22,7 @@ mod objects;
 mod profiles;
 mod recording;
 mod saving;
+mod selecting;
 mod serving;
 mod showing;
 mod spotting;
@@ -29,6 +30,7 @@ mod subcommands;
 mod summaries;
 mod system;
 mod texts;
+mod viewing;
 mod watching;
 mod words;
 
@@ -188,13 +190,18 @@ fn explained_files<'a>(request: &Request<'a>) -> Option<(&'a str, &'a str)> {
     }
 }
 
-/// Shows every field of a file, or a line for each record or entry that sums it up.
+/// Shows every field of a file, a line for each record or entry that sums it up, or what was selected.
 fn show<'a, R: Files + AllocGlobal, O: Write>(
     rt: &R,
     options: &ShowOptions<'a>,
     output: &mut O,
 ) -> Result<Ending, Failure<'a>> {
-    if options.is_full {
+    if let Some(message) = viewing::misuse(options) {
+        return Err(viewing::misused(rt.alloc(), message));
+    }
+    if viewing::is_viewed(options) {
+        viewing::view(rt, options, output)
+    } else if options.is_full {
         texts::show_full(rt, options, output)
     } else {
         showing::show(rt, options.file, output)
