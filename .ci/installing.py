@@ -10,7 +10,8 @@ from pathlib import Path
 from texts import TOP
 
 # The scripts with texts of their own.
-SCRIPTS = ("sftpv3-nightly", "sftpv3-page", "sftpv3-probe", "sftpv3-record", "sftpv3-recordd", "sftpv3-tree")
+SCRIPTS = ("sftpv3-nightly", "sftpv3-page", "sftpv3-probe", "sftpv3-record", "sftpv3-recordd", "sftpv3-serve",
+           "sftpv3-tree")
 INIT = bytes.fromhex("000000050100000003")
 
 
