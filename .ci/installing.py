@@ -147,6 +147,15 @@ def wrong_recorder(prefix, room):
         yield f"install: sftpv3-record ended with status {ran.returncode} and recorded {recorded.hex()}"
 
 
+def wrong_serve(prefix, room):
+    """Serves a session that only opens: a VERSION is the reply, the tree is saved, and nothing else is left."""
+    (room / "served").mkdir()
+    words = [prefix / "bin/sftpv3-serve", "--tree", TOP / "examples/blank.tree", "--save", room / "served/end.tree"]
+    ran = subprocess.run([str(it) for it in words], input=INIT, stdout=subprocess.PIPE, stderr=subprocess.STDOUT)
+    if ran.returncode or len(ran.stdout) != 124 or files_below(room / "served") != ["end.tree"]:
+        yield f"install: sftpv3-serve ended with status {ran.returncode}: {ran.stdout!r} {files_below(room / 'served')}"
+
+
 def wrong_removal(program, room):
     """Installs and removes in a folder of its own, and installs where nothing can be written."""
     prefix, plain = room / "removed", room / "plain"
@@ -191,4 +200,4 @@ def wrong_installation(program, room):
     share = prefix / "share"
     return [*wrong_texts(program, share), *wrong_syntax(share), *wrong_completion(share),
             *wrong_script_texts(prefix, room), *wrong_scripts(prefix, room), *wrong_recorder(prefix, room),
-            *wrong_removal(program, room), *wrong_package(program, room)]
+            *wrong_serve(prefix, room), *wrong_removal(program, room), *wrong_package(program, room)]

@@ -6,7 +6,7 @@ import subprocess
 import time
 
 import sftp3
-from serve_trials.steps import KINDS, SIGNALS, children_of, wait_until
+from serve_trials.steps import IS_PLAIN, KINDS, SIGNALS, children_of, wait_until
 
 BLOCK = bytes(range(256)) * 128
 # 100 MB in 7 files, each below the 16 MiB that a file may have.
@@ -54,7 +54,8 @@ def again(steps, room):
 def before_opening(steps, room):
     for kind in KINDS:
         server = room.serve("--save", kind, kind=kind)
-        time.sleep(0.3)
+        # a signal before that ends what is no session yet
+        wait_until(lambda: children_of(server.process.pid), 0.5 if IS_PLAIN else 10)
         server.process.send_signal(signal.SIGTERM)
         status = server.status()
         steps.check(f"SIGTERM before an INIT, over {kind}: it ends by itself", status is not None and status >= 0,

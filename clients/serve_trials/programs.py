@@ -8,7 +8,8 @@ import sys
 import time
 from pathlib import Path
 
-from serve_trials.steps import SERVE, children_of, wait_until
+from serve_trials import steps as trials
+from serve_trials.steps import children_of, wait_until
 
 SSHD = "/usr/sbin/sshd"
 LARGE = bytes(range(256)) * 40_000
@@ -24,7 +25,7 @@ def has(steps, client):
 
 def command(room, *words):
     """The command of a server that saves, with whole names."""
-    return " ".join([*SERVE, "--tree", f"{room.folder}/t", "--save", f"{room.folder}/t", *words])
+    return " ".join(trials.command("--tree", f"{room.folder}/t", "--save", f"{room.folder}/t", *words))
 
 
 def run(words, **options):

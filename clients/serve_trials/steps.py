@@ -28,6 +28,15 @@ KINDS = ("sockets", "pipes")
 SIGNALS = (signal.SIGTERM, signal.SIGHUP, signal.SIGINT)
 
 
+def command(*words):
+    """The command of a server, from options. The program without the script does not have those of the script."""
+    words, own = list(words), ("--log", "--grace") if IS_PLAIN else ()
+    for it in own:
+        if it in words:
+            del words[words.index(it):words.index(it) + 2]
+    return [*SERVE, *words]
+
+
 class Server:
     """A server that was started, and the client's two ends of the session."""
 
@@ -146,7 +155,7 @@ class Room:
 
     def serve_words(self, *words, tree="t"):
         """The command of a server, from the tree t."""
-        return [*SERVE, "--tree", tree, *words]
+        return command("--tree", tree, *words)
 
     def serve(self, *words, kind="sockets", tree="t", **more):
         """Starts a server, from the tree t."""
