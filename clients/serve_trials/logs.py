@@ -72,6 +72,7 @@ def logs_of_others(steps, room):
         steps.check("a log of another user: status 3 before the session", not server.open() and server.status() == 3)
         steps.check("a log of another user: it is not written", (room.folder / "log").read_bytes() == b"")
     finally:
+        room.end_servers()
         remove_user(USER)
 
 

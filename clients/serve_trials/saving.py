@@ -7,7 +7,7 @@ import time
 from record_trials.steps import make_user, remove_user
 from serve_trials.steps import PROGRAM, SIGNALS
 
-USER = "sftpv3-trial"
+USER = "sftpv3-served"
 
 
 def finish(server, seconds=5):
@@ -204,6 +204,8 @@ def other_users(steps, room):
                     server.status() == 3 and room.left() == ["log", "t"], f"{room.left()}")
         steps.check("a tree that cannot be read: it is said", "Permission denied" in server.errors())
     finally:
+        # a user with processes cannot be removed
+        room.end_servers()
         remove_user(USER)
 
 

@@ -143,6 +143,11 @@ class Room:
         return self
 
     def __exit__(self, *_):
+        self.end_servers()
+        shutil.rmtree(self.folder)
+
+    def end_servers(self):
+        """Ends all that was started here."""
         for it in self.servers:
             children = [] if it.process.poll() is not None else children_of(it.process.pid)
             it.process.kill()
@@ -151,7 +156,7 @@ class Room:
             it.process.stderr.close()
             for number in children:
                 end(number)
-        shutil.rmtree(self.folder)
+        self.servers = []
 
     def serve_words(self, *words, tree="t"):
         """The command of a server, from the tree t."""
