@@ -131,7 +131,7 @@ fn explained<'a, R: Files + AllocGlobal, O: Write, E: Write>(
         Err(failure) => {
             let file = Faulty::of(rt, request, &failure);
             let spot = spot_of_request(rt, request, &failure);
-            if is_for_machines(request) {
+            if is_for_machines(request) && !objects::is_of_output(&failure) {
                 objects::print_failed(rt.alloc(), &failure, file, spot, output);
             }
             said(failure, file, spot, errors)

@@ -139,6 +139,14 @@ pub(crate) fn print_failed<'a, O: Write>(
     let _ = json.finish();
 }
 
+/// Whether standard output failed, to which no more is written then.
+pub(crate) fn is_of_output(failure: &Failure<'_>) -> bool {
+    match failure {
+        Failure::CannotWrite(name, _) => *name == STANDARD_OUTPUT,
+        _ => false,
+    }
+}
+
 /// What objects call a failure.
 fn kind_of(failure: &Failure<'_>) -> &'static str {
     match failure {
