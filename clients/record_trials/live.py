@@ -139,7 +139,10 @@ def system_log(steps, room):
                 process.stdin.write(request(number, "MKDIR", name, {}))
                 receive(process, 21)
             listener.settimeout(3)
-            said = listener.recv(4096).decode()
+            said = ""
+            while "sftpv3-record" not in said:
+                # other programs may write there, too
+                said = listener.recv(4096).decode()
             steps.check("--syslog: the line", f"sftpv3-record[{process.pid}]" in said and LINE in said, said)
         finally:
             os.unlink("/dev/log")

@@ -20,7 +20,7 @@ KILL = 0.3
 LOST = 1.0
 TICK = 0.05
 
-# How much a pipe to or from the client is to hold.
+# How much a pipe from the client is to hold. One to the client is as quick as it is.
 PIPE = 1 << 18
 
 OWN_FAILURE = 3
@@ -58,7 +58,7 @@ class Signals:
 
 
 def widen(file):
-    """Makes a pipe one that holds more, as far as the system allows it: sshd's hold two packets of small size."""
+    """Makes a pipe one that holds more, as far as the system allows it: sshd's have 64 KiB, and sshd waits for us."""
     try:
         fcntl.fcntl(file, fcntl.F_SETPIPE_SZ, PIPE)
     except OSError:
@@ -77,7 +77,7 @@ class Ends:
         self.were_blocking = {it: os.get_blocking(it) for it in (self.input, self.output)}
         for it in self.were_blocking:
             os.set_blocking(it, False)
-            widen(it)
+        widen(self.input)
 
     def close(self, file):
         if file in self.were_blocking:

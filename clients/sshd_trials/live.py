@@ -12,7 +12,7 @@ from sshd_trials.clients import run
 CONFIG = Path("/etc/ssh/sshd_config")
 LOG = Path("/var/lib/sftp-live/u/log")
 # Where the user can read the server that lies.
-LIES = Path("/usr/local/share/lies")
+LIES = Path("/opt/lies")
 
 
 def said(count):
