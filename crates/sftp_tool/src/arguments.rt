@@ -1,6 +1,6 @@
 //! The arguments of the subcommands: a table for each, from which the parser and the help follow.
 
-use crate::profiles;
+use crate::{importing, profiles};
 
 /// An argument of a subcommand: its name, its form, and what the help says of it.
 pub(crate) type Argument<'a> = (&'a str, Form<'a>, &'a str);
@@ -136,6 +136,8 @@ pub(crate) const DIFF: &[Argument] = &[
 pub(crate) const MAKE: &[Argument] = &[MODE, NO_SYNC, ("file", FILE, "The file to write")];
 
 pub(crate) const IMPORT: &[Argument] = &[
+    importing::LIMITS,
+    importing::SPECIAL,
     MEMORY,
     MODE,
     NO_SYNC,

@@ -11,9 +11,10 @@ ghost use Rattle.sftp_tool.specs.Requests.{IsAuditAsked, IsAuditRequest, LacksFi
 use crate::arguments::{
     AUDIT, Argument, BLANK, DIFF, EXPORT, Form, IMPORT, MAKE, RAISE, SERVE, SHOW,
 };
+use crate::importing::ImportOptions;
 use crate::messages::{Failure, MORE};
 use crate::saving::{Keeping, PRIVATE};
-use crate::{help, profiles};
+use crate::{help, importing, profiles};
 use clap::error::ErrorKind;
 use clap::{Arg, ArgAction, ArgMatches, Command, Error, value_parser};
 use sftp_profile::Profile;
@@ -51,11 +52,7 @@ pub(crate) enum Request<'a> {
         memory: Option<u64>,
     },
     /// Make a tree file from an archive.
-    Import {
-        file: &'a str,
-        keeping: Keeping,
-        memory: Option<u64>,
-    },
+    Import(ImportOptions<'a>),
     /// Make an archive from a tree file.
     Export {
         file: &'a str,
@@ -213,7 +210,7 @@ fn requested<'a>(matches: &ArgMatches<'a>) -> Option<Request<'a>>
         "show" => show_options(given).map(Request::Show),
         "raise" => raise_request(given),
         "diff" => diff_request(given),
-        "import" => import_request(given),
+        "import" => importing::options_of(given).map(Request::Import),
         _ => file_request(name, given.get_str("file")?, keeping_of(given)),
     }
 }
@@ -244,17 +241,6 @@ fn diff_request<'a>(given: &ArgMatches<'a>) -> Option<Request<'a>> {
     Some(Request::Diff { old, new, memory })
 }
 
-fn import_request<'a>(given: &ArgMatches<'a>) -> Option<Request<'a>> {
-    let file = given.get_str("file")?;
-    let keeping = keeping_of(given);
-    let memory = given.get_one("memory");
-    Some(Request::Import {
-        file,
-        keeping,
-        memory,
-    })
-}
-
 fn raise_request<'a>(given: &ArgMatches<'a>) -> Option<Request<'a>> {
     let tree = given.get_str("tree")?;
     let file = given.get_str("file")?;
@@ -267,7 +253,7 @@ fn raise_request<'a>(given: &ArgMatches<'a>) -> Option<Request<'a>> {
 }
 
 /// How the options say that files are written.
-fn keeping_of(given: &ArgMatches<'_>) -> Keeping {
+pub(crate) fn keeping_of(given: &ArgMatches<'_>) -> Keeping {
     Keeping {
         mode: mode_of(given.get_str("mode")),
         is_synced: !given.get_flag("no-sync"),
@@ -314,7 +300,7 @@ fn audit_options<'a>(given: &ArgMatches<'a>) -> Option<AuditOptions<'a>>
 }
 
 /// The value that the command line gives for the option of this name.
-fn value<'a>(given: &ArgMatches<'a>, name: &str) -> Option<&'a str>
+pub(crate) fn value<'a>(given: &ArgMatches<'a>, name: &str) -> Option<&'a str>
     ensures { option_map (λ text. text.now) result ≡ value_in (rows_of (found_of given.now)) name.now }
 {
     given.get_str(name)

@@ -124,8 +124,21 @@ and its path if it can be read:
 
 Refused are, among others, a wrong checksum, a path with '..', a device, a FIFO, a sparse file, a hard link to a name
 that does not come before it, a directory that is also a file or a link, a name of more than 255 bytes, a path of more
-than 64 names, a file of more than 16,777,216 bytes, and more than 65,536 entries. With --memory, an archive of more
-than a quarter of BYTES is not taken; zeros at its end do not count.";
+than 64 names, and what the limits have no room for; and a compressed archive, by the name of what compressed it. With
+--memory, an archive of more than a quarter of BYTES is not taken; zeros at its end do not count.
+
+--limits usual    65,536 entries, and files of 16,777,216 bytes, as without the option
+--limits raised   1,048,576 entries, and files of 67,108,864 bytes: the highest limits, which 'sftpv3 raise' sets
+--limits fit      the lowest limits that hold the archive: the usual ones, or as many entries, and as many bytes of a
+                  file, as it has above them. What 'export' wrote of any tree is taken.
+
+--special refuse  an archive with a device or a FIFO is refused, as without the option
+--special skip    they are left out
+--special file    each is an empty file with its owner and permissions
+
+With skip and file, standard error names each of them:
+
+  sftpv3: archive: entry 5, \"dev/null\": a device or a FIFO: left out";
 
 pub(crate) const ABOUT_EXPORT: &str =
     "Writes the archive of a tree file to standard output, in a format of tar";

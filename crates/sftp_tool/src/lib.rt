@@ -12,6 +12,7 @@ mod diffing;
 mod explaining;
 mod gathering;
 mod help;
+mod importing;
 mod memory;
 mod messages;
 mod names;
@@ -184,11 +185,7 @@ fn perform_request<'a, R: System, I: Read, O: Write, E: Write>(
         Request::Show(options) => show(rt, options, output),
         Request::Make { file, keeping } => texts::make(rt, file, *keeping, input),
         Request::Diff { old, new, memory } => diffing::diff(rt, old, new, *memory, output),
-        Request::Import {
-            file,
-            keeping,
-            memory,
-        } => archives::import(rt, file, *keeping, *memory, input),
+        Request::Import(options) => archives::import(rt, options, input, errors),
         Request::Export { file } => archives::export(rt, file, output),
         Request::Help(text) => subcommands::help(text.as_str(), output),
     }
