@@ -13,7 +13,7 @@ from record_trials.ends import SOON, whole
 from record_trials.failing import limited, run
 from record_trials.steps import INIT, PROGRAM, close, ended, errors, open_session, receive, request
 from recording import naming
-from recording.options import audit_words, plainly_read
+from recording.options import AUDIT_FLAGS, AUDIT_VALUES, audit_words, plainly_read
 
 LINE = "audit: refused record 8: UnknownReply"
 
@@ -239,5 +239,12 @@ def memory(steps, _):
         steps.check(f"an audit has --memory {wanted}", found == [wanted], str(given))
 
 
-TRIALS = (memory, wrong_replies, stopped, accepted, bad_auditors, behind, system_log, logs, lost_records, long_packets,
-          full_logs, chained)
+def known_options(steps, _):
+    """What the recorder passes on to the audit is what the program has."""
+    text = subprocess.run([PROGRAM, "help", "audit"], stdout=subprocess.PIPE, text=True, check=True).stdout
+    unknown = [it for it in (*AUDIT_VALUES, *AUDIT_FLAGS) if f" {it} " not in text]
+    steps.check("the audit has each option that the recorder passes on to it", not unknown, " ".join(unknown))
+
+
+TRIALS = (memory, known_options, wrong_replies, stopped, accepted, bad_auditors, behind, system_log, logs, lost_records,
+          long_packets, full_logs, chained)

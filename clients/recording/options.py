@@ -18,8 +18,8 @@ NAME = "sftpv3-record"
 
 # The options of the audit that are passed on to it: with a value, and without.
 AUDIT_VALUES = {"--tree": "FILE", "--out": "FILE", "--profile": "NAME", "--allow": "NAME,...", "--except": "NAME,...",
-                "--umask": "OCTAL", "--new-owner": "RULE", "--symlink": "ORDER", "--memory": "BYTES"}
-AUDIT_FLAGS = ("--cut", "--keep-going", "--json")
+                "--umask": "OCTAL", "--new-owner": "RULE", "--symlink": "ORDER", "--memory": "BYTES", "--mode": "OCTAL"}
+AUDIT_FLAGS = ("--cut", "--json", "--no-sync")
 
 # All options of the recorder: without a value, and with one.
 FLAGS = ("--plain", "--overwrite", "--required", "--syslog", "--audit", "--stop", *AUDIT_FLAGS)

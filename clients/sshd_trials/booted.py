@@ -5,6 +5,7 @@ import subprocess
 import sys
 import tempfile
 
+from record_trials.steps import TOP
 from sshd_trials.ground import INSIDE, PROGRAM, NotMade, keep, run
 
 SYSTEMD = "/lib/systemd/systemd"
@@ -14,6 +15,8 @@ DEVICES = ("null", "zero", "full", "random", "urandom", "tty")
 LINKS = {"fd": "/proc/self/fd", "stdin": "fd/0", "stdout": "fd/1", "stderr": "fd/2"}
 SECONDS = 120
 SAID = "/said"
+# Where the repository is in the copy, whose /tmp is emptied.
+SOURCES = "/mnt/sources"
 
 UNIT = """[Unit]
 After=multi-user.target
@@ -89,6 +92,9 @@ def make_system(room):
     run("ip", "link", "set", "lo", "up")
     open(whole + SAID, "w", encoding="utf-8").close()
     run("mount", "--bind", f"{room}/said", whole + SAID)
+    os.makedirs(whole + SOURCES)
+    run("mount", "--bind", TOP, whole + SOURCES)
+    run("mount", "-o", "remount,bind,ro", whole + SOURCES)
     return whole
 
 
@@ -101,7 +107,8 @@ def enter(script):
         if folder.endswith((".wants", ".requires")):
             run("rm", "-r", f"{units}/{folder}")
     with open(f"{units}/trial.service", "w", encoding="utf-8") as file:
-        file.write(UNIT.format(inside=INSIDE, program=PROGRAM, script=script, said=SAID))
+        file.write(UNIT.format(inside=INSIDE, program=PROGRAM, said=SAID,
+                               script=f"{SOURCES}/{os.path.relpath(script, TOP)}"))
     with open(f"{root}/etc/machine-id", "w", encoding="utf-8") as file:
         file.write(f"{'5' * 32}\n")
     os.chroot(root)
