@@ -1,19 +1,27 @@
 -- From what an audit of a stream says to what the program says.
-use Rattle.std.proofs.Common.{◌≡◌, ℕ, Bool, true, false, List, [], Option, Some, None, Result, Ok, Err, refl, sym, subst}
+use Rattle.std.proofs.Common.{◌≡◌, ℕ, Bool, true, false, List, [], Option, Some, None, Result, Ok, Err}
+use Rattle.std.proofs.Common.{refl, sym, subst}
 use Rattle.std.specs.Result.{IfOk, IfErr}
 use Rattle.sftp_tree.specs.Tree.{Tree}
 use Rattle.sftp_profile.specs.declared.profiles.Profile.{Profile}
 use Rattle.sftp_transcript.specs.declared.events.Event.{Event}
 use Rattle.sftp_transcript.specs.declared.stage.Stage.TheVariants as stages
 use Rattle.sftp_transcript.specs.Recorded.{Reading}
+use Rattle.sftp_tree.specs.Picture.{picture}
+use Rattle.sftp_audit.specs.declared.audits.Accepted.{Accepted}
+use Rattle.sftp_audit.specs.declared.cuts.AcceptedCut.{AcceptedCut}
 use Rattle.sftp_audit.specs.declared.errors.AuditError.{AuditError}
 use Rattle.sftp_audit.specs.declared.errors.AuditError.TheVariants as audit_errors
-use Rattle.sftp_audit.specs.Audit.{IsNoJudgement, IsNew}
+use Rattle.sftp_audit.specs.Audit.{IsNoJudgement, IsNew, request_count}
+use Rattle.sftp_audit.specs.Cuts.{unanswered_count, unjudged_count}
+use Rattle.sftp_audit.specs.Exchanges.{recorded_exchanges}
 use Rattle.sftp_tool.specs.declared.messages.Ending.{Ending}
 use Rattle.sftp_tool.specs.declared.messages.Ending.TheVariants as endings
 use Rattle.sftp_tool.specs.declared.messages.Failure.{Failure}
-use Rattle.sftp_tool.specs.Verdicts.{AccountOf, FaultOf, ResultOf, HasNoRun, IsAudit, IsVerdict, IsReportOf}
-use Rattle.sftp_tool.specs.Verdicts.{IsStrictVerdict, IsVerdictUnder, IsStrictCutVerdict, IsCutVerdictUnder, IsVerdictAsked}
+use Rattle.sftp_tool.specs.Verdicts.{AccountOf, FaultOf, ResultOf, HasNoRun, HasEnd, HasCutEnd, IsAudit, IsVerdict}
+use Rattle.sftp_tool.specs.Verdicts.{IsReportOf}
+use Rattle.sftp_tool.specs.Verdicts.{IsStrictVerdict, IsVerdictUnder, IsStrictCutVerdict, IsCutVerdictUnder}
+use Rattle.sftp_tool.specs.Verdicts.{IsVerdictAsked}
 
 -- ---- a reader of a stream whose bytes are known
 
@@ -39,22 +47,46 @@ is_new known left failures reads records same are bytes is =
 
 -- ---- an audit of it
 
+module _ (accounts : AccountOf) (faults : FaultOf) (tree : List ℕ) (known : Option (List ℕ)) where
+  -- of a session that has to be complete
+  pub audited : (records : Reading) → ((bytes : List ℕ) → known ≡ Some bytes → IsNew bytes records)
+      → (result : Result Accepted AuditError)
+      → IfOk result (λ accepted. (bytes : List ℕ) → IsNew bytes records
+      → (start : Tree) × (events : List Event) × (end : Tree)
+      × accounts tree bytes start events end × (accepted.tree.items ≡ picture end)
+      × (accepted.requests ≡ request_count events))
+      → IfErr result (λ e. (IsNoJudgement e → ⊥) → (bytes : List ℕ) → IsNew bytes records
+      → HasNoRun accounts tree bytes)
+      → IfErr result (λ e. (IsNoJudgement e → ⊥) → (bytes : List ℕ) → IsNew bytes records → faults tree bytes e)
+      → IsAudit accounts faults HasEnd tree known result
+  audited records new (Ok accepted) accepts refuses first = λ bytes is.
+      let told = accepts bytes (new bytes is) in (told.0, told.1, told.2, told.3, (told.4, told.5))
+  audited records new (Err e) accepts refuses first = λ judged bytes is.
+      (refuses judged bytes (new bytes is), first judged bytes (new bytes is))
+
+  -- of one that may have been cut
+  pub audited_cut : (records : Reading) → ((bytes : List ℕ) → known ≡ Some bytes → IsNew bytes records)
+      → (result : Result AcceptedCut AuditError)
+      → IfOk result (λ accepted. (bytes : List ℕ) → IsNew bytes records
+      → (start : Tree) × (events : List Event) × (end : Tree)
+      × accounts tree bytes start events end × (accepted.tree.items ≡ picture end)
+      × (accepted.requests ≡ request_count events) × (accepted.unjudged ≡ unjudged_count events)
+      × (accepted.unanswered ≡ unanswered_count (recorded_exchanges events)))
+      → IfErr result (λ e. (IsNoJudgement e → ⊥) → (bytes : List ℕ) → IsNew bytes records
+      → HasNoRun accounts tree bytes)
+      → IfErr result (λ e. (IsNoJudgement e → ⊥) → (bytes : List ℕ) → IsNew bytes records → faults tree bytes e)
+      → IsAudit accounts faults HasCutEnd tree known result
+  audited_cut records new (Ok accepted) accepts refuses first = λ bytes is.
+      let told = accepts bytes (new bytes is) in
+      (told.0, told.1, told.2, told.3, (told.4, told.5, told.6, told.7))
+  audited_cut records new (Err e) accepts refuses first = λ judged bytes is.
+      (refuses judged bytes (new bytes is), first judged bytes (new bytes is))
+
+-- ---- whatever an accepted one says
+
 module _ {A : Type 0} (accounts : AccountOf) (faults : FaultOf) (has : ResultOf A) (tree : List ℕ)
     (known : Option (List ℕ))
   where
-    pub audited : (records : Reading) → ((bytes : List ℕ) → known ≡ Some bytes → IsNew bytes records)
-        → (result : Result A AuditError)
-        → IfOk result (λ accepted. (bytes : List ℕ) → IsNew bytes records
-        → (start : Tree) × (events : List Event) × (end : Tree)
-        × accounts tree bytes start events end × has accepted events end)
-        → IfErr result (λ e. (IsNoJudgement e → ⊥) → (bytes : List ℕ) → IsNew bytes records
-        → HasNoRun accounts tree bytes)
-        → IfErr result (λ e. (IsNoJudgement e → ⊥) → (bytes : List ℕ) → IsNew bytes records → faults tree bytes e)
-        → IsAudit accounts faults has tree known result
-    audited records new (Ok accepted) accepts refuses first = λ bytes is. accepts bytes (new bytes is)
-    audited records new (Err e) accepts refuses first = λ judged bytes is.
-        (refuses judged bytes (new bytes is), first judged bytes (new bytes is))
-
     -- where memory ran out nothing is said
     pub unjudged : (error : AuditError) → error ≡ audit_errors.NoMemory
         → IsAudit accounts faults has tree known (Err error)

@@ -126,9 +126,10 @@ fn judge_as_asked<'a, F: Read + Drop, R: System, O: Write, E: Write>(
     ensures status { IsAuditStatus result }
 {
     if files.cuts {
-        return judge_cut_and_report(rt, files, tree, transcript, output, errors);
+        judge_cut_and_report(rt, files, tree, transcript, output, errors)
+    } else {
+        judge_and_report(rt, files, tree, transcript, output, errors)
     }
-    judge_and_report(rt, files, tree, transcript, output, errors)
 }
 
 /// Audits the session of this transcript, which has to be complete, and says what came of it.

@@ -2,14 +2,13 @@
 use Rattle.std.proofs.Common.{ap}
 use Rattle.sftp_audit.specs.Audit.{IsFirstFault}
 use Rattle.sftp_audit.specs.Cuts.{AccountsCut}
-use Rattle.sftp_tool.specs.Verdicts.{HasCutEnd}
-use Rattle.sftp_tool.proofs.VerdictLaws.{is_new, audited}
+use Rattle.sftp_tool.proofs.VerdictLaws.{is_new, audited_cut}
 use Rattle.sftp_tool.proofs.cut_sessions.judge_cut_strictly.Goals as goal
 
 pub returns : goal.returns
 returns g c =
     let known = g.F.Read.remaining c.args.transcript in
-    audited AccountsCut IsFirstFault HasCutEnd c.args.tree.now known c.in_ok-records.records
+    audited_cut AccountsCut IsFirstFault c.args.tree.now known c.in_ok-records.records
     (is_new known _ _ _ c.in_ok-records.records (ap g.F.Read.remaining c.new.ensures.inner)
     c.in_ok-records.ensures.ok)
     c.audit_cut_stream-audited.result c.audit_cut_stream-audited.ensures.accepted
