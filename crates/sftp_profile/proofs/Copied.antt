@@ -129,3 +129,11 @@ front-counts at end piece front before some is_front =
     let taken : length front ≡ min (end - at) (length piece) =
     ap length is_front ∙ length-take (end - at) piece in
     (omega (arith, taken, before, some), omega (arith, taken, before))
+
+pub some-count : (n : ℕ) → (n == 0) ≡ false → 0 < n
+some-count zero is = absurd cc
+some-count (suc n) is = omega arith
+
+pub joined : (xs ys zs : List ℕ) → (xs ++ ys) ++ zs ≡ xs ++ (ys ++ zs)
+joined [] ys zs = refl
+joined (x ∷ xs) ys zs = ap (λ l. x ∷ l) (joined xs ys zs)
