@@ -1,9 +1,9 @@
 -- Bytes of a file that are copied piece by piece.
 use Rattle.std.proofs.Common.{◌≡◌, ◌≤◌, ◌<◌, ◌+◌, ◌-◌, ◌∙◌, ◌++◌, ℕ, zero, suc, Bool, true, false, List, [], ◌∷◌}
-use Rattle.std.proofs.Common.{Some, None, length, take, drop, refl, sym, ap, subst, IsTrue, arith}
-use Rattle.std.proofs.Common.{leb-true}
+use Rattle.std.proofs.Common.{Some, None, length, take, drop, refl, sym, ap, IsTrue, arith}
 use Rattle.std.specs.Prelude.{◌==◌, ◌&&◌, min, nat_le, if◌then◌else◌}
 use Rattle.std.proofs.lemmas.List.{length-take}
+use Rattle.std.proofs.Math.Nat.{sub-zero}
 use Rattle.std.proofs.lemmas.Bool.{le-leb}
 use Rattle.sftp_packets.specs.declared.requests.Ask.TheVariants.{Read}
 use Rattle.sftp_treefile.specs.declared.limits.TreeLimits.{TreeLimits}
@@ -86,9 +86,12 @@ none-within (listing left) offset = refl
 split-front : (n m : ℕ) (xs : List ℕ)
     → take n (take m xs) ++ take (n - length (take n (take m xs))) (drop (length (take n (take m xs))) xs) ≡ take n xs
 split-front zero m xs = refl
-split-front (suc n) zero xs = refl
-split-front (suc n) (suc m) [] = refl
-split-front (suc n) (suc m) (x ∷ xs) = ap (λ l. x ∷ l) (split-front n m xs)
+split-front (suc n) zero xs = ap (λ k. take k xs) (sub-zero (suc n))
+split-front (suc n) (suc m) [] = ap (λ k. take k []) (sub-zero (suc n))
+split-front (suc n) (suc m) (x ∷ xs) =
+    let front = take n (take m xs) in
+    let left : suc n - suc (length front) ≡ n - length front = omega arith in
+    ap (λ k. x ∷ (front ++ take k (drop (length front) xs))) left ∙ ap (λ l. x ∷ l) (split-front n m xs)
 
 module _ (most at end : ℕ) (bytes piece front : List ℕ) (before : at < end)
     (is_piece : piece ≡ take most (drop at bytes)) (is_front : front ≡ take (end - at) piece) where
@@ -130,9 +133,9 @@ front-counts at end piece front before some is_front =
     ap length is_front ∙ length-take (end - at) piece in
     (omega (arith, taken, before, some), omega (arith, taken, before))
 
-pub some-count : (n : ℕ) → (n == 0) ≡ false → 0 < n
-some-count zero is = absurd cc
-some-count (suc n) is = omega arith
+pub some-count : (n : ℕ) → (n ≡ 0 → ⊥) → 0 < n
+some-count zero some = absurd (some refl)
+some-count (suc n) some = omega arith
 
 pub joined : (xs ys zs : List ℕ) → (xs ++ ys) ++ zs ≡ xs ++ (ys ++ zs)
 joined [] ys zs = refl

@@ -10,7 +10,6 @@ use Rattle.sftp_packets.specs.declared.names.NameItem.{NameItem}
 use Rattle.std.specs.Prelude.{List, if◌then◌else◌, ◌&&◌, not, unwrap_or}
 use Rattle.sftp_packets.specs.declared.packets.Request.{Request}
 use Rattle.sftp_packets.specs.declared.packets.Reply.{Reply}
-use Rattle.sftp_tree.specs.Tree.{Tree}
 use Rattle.sftp_tree.specs.OpenFlags.{excludes}
 use Rattle.sftp_handles.specs.Handles.{Left}
 use Rattle.sftp_handles.specs.State as sessions

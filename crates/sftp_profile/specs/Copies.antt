@@ -1,7 +1,7 @@
 -- copy-data: bytes of an open file are copied to another one (OpenSSH's PROTOCOL, section 4; the draft
 -- filexfer-extensions-00, section 7; OpenSSH's sftp sends it for `cp`).
-use Rattle.std.specs.Prelude.{◌==◌, ◌&&◌, ◌||◌, not, nat_lt, ℕ, ◌+◌, ◌-◌, Bool, false, if◌then◌else◌}
-use Rattle.std.specs.Prelude.{List, [], length, take, drop, codes, Option, Some, None, Ok, Err}
+use Rattle.std.specs.Prelude.{◌==◌, ◌&&◌, ◌||◌, nat_lt, ℕ, ◌+◌, ◌-◌, Bool, false, if◌then◌else◌}
+use Rattle.std.specs.Prelude.{List, [], length, take, drop, codes, Option, Some, None, Ok}
 use Rattle.sftp_packets.specs.declared.requests.Ask.{Ask}
 use Rattle.sftp_packets.specs.declared.requests.Ask.TheVariants as asks
 use Rattle.sftp_packets.specs.declared.replies.Answer.{Answer}

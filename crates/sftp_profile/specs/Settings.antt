@@ -1,6 +1,6 @@
 -- lsetstat@openssh.com: a SETSTAT that does not follow a last link (OpenSSH's PROTOCOL, section 4; its sftp sends it
 -- for `chown -h` and `chmod -h`).
-use Rattle.std.specs.Prelude.{◌&&◌, ◌||◌, not, ℕ, Bool, false, if◌then◌else◌, List, codes, Option, Some, None, is_some}
+use Rattle.std.specs.Prelude.{◌&&◌, ◌||◌, ℕ, Bool, false, if◌then◌else◌, List, codes, Option, Some, None, is_some}
 use Rattle.sftp_packets.specs.declared.requests.Ask.{Ask}
 use Rattle.sftp_packets.specs.declared.requests.Ask.TheVariants as asks
 use Rattle.sftp_packets.specs.declared.replies.Answer.{Answer}

@@ -1,5 +1,4 @@
-use Rattle.std.proofs.Common.{◌≡◌, ◌+◌, ◌-◌, ◌<◌, ◌++◌, ◌∙◌, length, refl, ap}
-use Rattle.std.proofs.lemmas.Bool.{ltb-true}
+use Rattle.std.proofs.Common.{◌+◌, ◌-◌, ◌<◌, ◌++◌, ◌∙◌, length, refl, ap}
 use Rattle.sftp_tree.specs.Tree.{limits}
 use Rattle.sftp_handles.specs.Seen.{a_file, seen}
 use Rattle.sftp_profile.specs.Copies.{bytes_within}
@@ -12,8 +11,7 @@ pieces-preserved c =
     let at = c.pieces.at in
     let end = c.args.offset + c.args.count in
     let front = c.front_of-piece.result.now in
-    let before : c.pieces.at < c.args.offset + c.args.count =
-    ltb-true c.pieces.at (c.args.offset + c.args.count) c.pieces-test.true in
+    let before : c.pieces.at < c.args.offset + c.args.count = c.pieces-test.true in
     record {
       before = (front-counts at end c.piece_at.result.now front before c.piece_at.ensures.some c.front_of-piece.ensures).1;
       end_is = refl;
