@@ -56,6 +56,11 @@ def give_up_rights():
     # version 3 of the call: 32 rights in each of two parts, those in effect, those permitted, those inherited
     kept = sum(1 << right for right in KEPT)
     call("capset", struct.pack("=Ii", 0x20080522, 0), struct.pack("=6I", kept, kept, 0, 0, 0, 0))
+    no_new_privileges()
+
+
+def no_new_privileges():
+    """Lets no program that runs from now on get rights by its owner or its file."""
     call("prctl", SET_NO_NEW_PRIVILEGES, *map(ctypes.c_ulong, (1, 0, 0, 0)))
 
 

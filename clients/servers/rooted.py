@@ -19,10 +19,13 @@ import threading
 HERE = os.path.dirname(os.path.realpath(__file__))
 sys.path.insert(0, os.path.dirname(HERE))
 
-import folders  # noqa: E402 (the folder above is not searched before)
+import apart  # noqa: E402 (the folder above is not searched before)
+import folders  # noqa: E402
 import mounts  # noqa: E402
 
 LDD = "/usr/bin/ldd"
+# How many seconds it may take, and as whom it runs.
+LOOKING, NOBODY = 10, 65534
 
 # Where the program stands for a moment.
 ASIDE = ".sftpv3-start"
@@ -63,9 +66,36 @@ def put_file(source, directory, name):
         shutil.copyfileobj(file, copy)
 
 
+def as_nobody():
+    """Gives up root in a process that only looks at the program under test: what the program names may run there."""
+    apart.step_aside()
+    os.setgroups([])
+    os.setresgid(NOBODY, NOBODY, NOBODY)
+    os.setresuid(NOBODY, NOBODY, NOBODY)
+    mounts.no_new_privileges()
+
+
+def looked_for(file, name):
+    """What ldd says of a program that is open, by this name."""
+    try:
+        return subprocess.run([LDD, name], stdin=subprocess.DEVNULL, capture_output=True, check=False, errors="replace",
+                              timeout=LOOKING, env={**os.environ, "LC_ALL": "C"}, pass_fds=[file.fileno()],
+                              preexec_fn=as_nobody)
+    except subprocess.TimeoutExpired:
+        return fail(f"{LDD} did not end within {LOOKING} seconds")
+
+
 def libraries_of(program):
-    needs = subprocess.run([LDD, program], capture_output=True, text=True, check=False)
-    return re.findall(r"(/\S+) \(0x", needs.stdout) if needs.returncode == 0 else []
+    """The libraries that a program needs, by ldd, which runs code of the program's choice (DT_AUDIT). A program in a
+    folder that only root enters is given by a descriptor. One that is not dynamic has none."""
+    said = ""
+    with open(program, "rb") as file:
+        for name in (program, f"/proc/self/fd/{file.fileno()}"):
+            found = looked_for(file, name)
+            if found.returncode == 0:
+                return re.findall(r"(/\S+) \(0x", found.stdout)
+            said += found.stdout + found.stderr
+    return [] if "not a dynamic executable" in said else fail(f"every user has to be able to read {program}")
 
 
 def put_program(folder, program):
@@ -164,8 +194,9 @@ def pass_on(source, target):
 
 
 def enter(folder):
-    """Makes the folder this process's root, and gives up the rights that lead out of it. Files get the permissions that
-    are asked for without those of 022."""
+    """Makes the folder this process's root, and gives up the rights that lead out of it, and the sight of all other
+    processes. Files get the permissions that are asked for without those of 022."""
+    apart.step_aside()
     os.chroot(folder.name)
     os.chdir("/")
     os.umask(0o022)

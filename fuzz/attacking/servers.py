@@ -1,0 +1,119 @@
+"""Attacks on clients/servers/any, which runs as root, by the program of the server that it starts."""
+import os
+import subprocess
+import time
+
+from attacking.ground import SECONDS, attack
+from packets import INIT, number, packet
+from programs import program
+
+HELLO = packet(INIT, number(3))
+
+# A server that answers INIT, does something, and waits for the end of its input.
+SERVER = """
+#include <signal.h>
+#include <stdlib.h>
+#include <string.h>
+#include <unistd.h>
+
+int main(int count, char **words) {
+    static char room[65536], version[] = {0, 0, 0, 5, 2, 0, 0, 0, 3};
+    if (read(0, room, sizeof room) < 1 || write(1, version, sizeof version) < 1) return 1;
+    if (count > 2 && !strcmp(words[1], "kill")) kill(atoi(words[2]), SIGKILL);
+    if (count > 1 && !strcmp(words[1], "stay") && !fork()) { setsid(); if (!fork()) sleep(20); _exit(0); }
+    if (count > 1 && !strcmp(words[1], "die")) abort();
+    while (read(0, room, sizeof room) > 0);
+    return 7;
+}
+"""
+
+# A library that ld.so loads and runs for a program that names it, also if it only says which libraries that needs.
+AUDITOR = """
+#include <fcntl.h>
+#include <stdio.h>
+#include <unistd.h>
+
+unsigned la_version(unsigned version) {
+    int file = open(TOLD, O_WRONLY | O_APPEND);
+    dprintf(file, "%d\\n", (int) getuid());
+    close(file);
+    return version;
+}
+"""
+
+
+def built(field, name, text, *options):
+    """Compiles a text of C. Returns the path of what comes of it."""
+    source, made = field.put(f"{name}.c", text.encode()), field.path(name)
+    subprocess.run(["cc", "-o", made, source, *options], check=True, timeout=SECONDS)
+    return made
+
+
+def session(field, *words):
+    """Plays a session with a server in a folder of its own. Returns how that ended."""
+    environment = {**os.environ, "SFTPV3": program(), "TMPDIR": field.folder}
+    return subprocess.run([field.script("servers/any"), field.blank(), *words], input=HELLO, capture_output=True,
+                          timeout=SECONDS, env=environment)
+
+
+@attack("user", "cc")
+def a_server_ends_other_processes(field):
+    """A server under test, whose user is root, sends no signal to other processes, and its status is its own."""
+    server = built(field, "server", SERVER)
+    with subprocess.Popen(["sleep", "60"]) as other:
+        done = session(field, server, "kill", str(other.pid))
+        time.sleep(0.2)
+        if other.poll() is not None:
+            yield "another process of root is gone"
+        other.kill()
+    if (done.returncode, done.stdout[:5]) != (7, b"\0\0\0\5\2"):
+        yield f"status {done.returncode}, {done.stdout!r} {done.stderr[-300:]!r}"
+    done = session(field, server, "die")
+    if done.returncode != -6:
+        yield f"a server that aborts: status {done.returncode} {done.stderr[-300:]!r}"
+
+
+@attack("user", "cc")
+def a_server_leaves_processes(field):
+    """What a server starts in a session of its own ends with it, and holds up nobody."""
+    server, start = built(field, "server-that-stays", SERVER), time.monotonic()
+    session(field, server, "stay")
+    if time.monotonic() - start > 10:
+        yield "the session ended only with what the server started"
+    time.sleep(0.2)
+    left = [it for it in os.listdir("/proc") if it.isdigit() and b"stay" in words_of(it)]
+    for it in left:
+        os.kill(int(it), 9)
+    if left:
+        yield f"{len(left)} processes are left"
+
+
+def words_of(process):
+    try:
+        with open(f"/proc/{process}/cmdline", "rb") as file:
+            return file.read().split(b"\0")
+    except OSError:
+        return []
+
+
+@attack("user", "cc", "ldd")
+def a_program_runs_where_its_libraries_are_looked_for(field):
+    """A program that names a library for ld.so to run has no rights of root there."""
+    told = field.put("told", b"", 0o666)
+    os.chmod(told, 0o666)
+    auditor = built(field, "auditor.so", AUDITOR, "-shared", "-fPIC", f'-DTOLD="{told}"')
+    os.chmod(auditor, 0o755)
+    server = built(field, "server", SERVER, f"-Wl,--audit={auditor}")
+    for mode in (0o755, 0o711):
+        os.chmod(server, mode)
+        session(field, server)
+        if b"0\n" in field.read("told").splitlines(keepends=True):
+            yield f"mode {mode:o}: it ran as root"
+            return
+    os.chmod(server, 0o755)
+    hidden = field.path("hidden")
+    os.mkdir(hidden, 0o700)
+    os.rename(built(field, "plain", SERVER), f"{hidden}/plain")
+    done = session(field, f"{hidden}/plain")
+    if done.returncode != 7:
+        yield f"a program in a folder of root: status {done.returncode} {done.stderr[-300:]!r}"
