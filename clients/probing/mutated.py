@@ -196,6 +196,13 @@ def done_told_failed(records):
     return with_code(records, lambda code: code == sftp3.OK, sftp3.FAILURE)
 
 
+def extension_told_failed(records, is_meant):
+    """FAILURE for extensions that were done, of those meant by their names and data."""
+    for one in exchanges(records):
+        if one.asked.name == "EXTENDED" and one.code() == sftp3.OK and is_meant(*one.asked.fields):
+            yield with_reply(records, one, one.reply[:9] + sftp3.FAILURE.to_bytes(4, "big") + one.reply[13:])
+
+
 def failed_told_done(records):
     """OK for what was refused."""
     return with_code(records, lambda code: code > sftp3.EOF, sftp3.OK)

@@ -3,3 +3,5 @@ pub mod Meetings
 pub mod NotesByAsk
 pub mod Permissions
 pub mod Pieces
+pub mod Fields
+pub mod Copied

@@ -10,7 +10,6 @@ use Rattle.sftp_packets.specs.declared.names.NameItem.{NameItem}
 use Rattle.std.specs.Prelude.{List, if◌then◌else◌, ◌&&◌, not, unwrap_or}
 use Rattle.sftp_packets.specs.declared.packets.Request.{Request}
 use Rattle.sftp_packets.specs.declared.packets.Reply.{Reply}
-use Rattle.sftp_tree.specs.Tree.{Tree}
 use Rattle.sftp_tree.specs.OpenFlags.{excludes}
 use Rattle.sftp_handles.specs.Handles.{Left}
 use Rattle.sftp_handles.specs.State as sessions
@@ -150,11 +149,12 @@ first-none : (o : Option sessions.State) → first_of o None ≡ o
 first-none (Some s) = refl
 first-none None = refl
 
-strict-asked : (t : Tree) (ask : Ask) → asked strict t ask ≡ None
-strict-asked t (asks.Lstat path) = refl
-strict-asked t (asks.Open path pflags attrs) = refl
-strict-asked t (asks.Hardlink oldpath newpath) = refl
-strict-asked t other = refl
+strict-asked : (s : sessions.State) (ask : Ask) → asked strict s ask ≡ None
+strict-asked s (asks.Lstat path) = refl
+strict-asked s (asks.Open path pflags attrs) = refl
+strict-asked s (asks.Hardlink oldpath newpath) = refl
+strict-asked s (asks.Unknown name rest) = refl
+strict-asked s other = refl
 
 strict-names : (readdir : Bool) (left : Option Left) (items : List NameItem)
     → (if readdir && false then Some (replies.Name (mended_items strict left items)) else None) ≡ None
@@ -175,7 +175,7 @@ strict-permitted s ask answer =
     first_of (strictly.step s ask answer)
     (first_of (retold s ask (told strict s ask answer))
     (strictly.and_then (taken strict s o answer) (with_followed (followed strict ask) answer))))
-    (strict-asked s.tree ask)
+    (strict-asked s ask)
     ∙ (ap (λ o. first_of (strictly.step s ask answer) (first_of (retold s ask o) None)) (strict-told s ask answer)
     ∙ first-none (strictly.step s ask answer))
 
@@ -297,8 +297,8 @@ pub follow-outcome : (s mid end : State) (ask : Ask) (answer : Answer) (ok : Boo
     → IsTaken s ask answer ok mid → IsFollowed mid ask answer end → IsTakenFor s ask answer true end
 follow-outcome s mid end ask answer true is_true found follows =
     let same : mid.profile ≡ s.profile =
-    under-profile s (taken s.profile s.session (asked s.profile s.session.tree ask) answer) mid found.is in
-    then-outcome s (taken s.profile s.session (asked s.profile s.session.tree ask) answer)
+    under-profile s (taken s.profile s.session (asked s.profile s.session ask) answer) mid found.is in
+    then-outcome s (taken s.profile s.session (asked s.profile s.session ask) answer)
     (with_followed (followed s.profile ask) answer) s mid end true refl found
     (subst
     (λ (p : Profile). under mid (with_followed (followed p ask) answer mid.session) ≡ Some end) same follows)

@@ -41,7 +41,7 @@ take-of_take (suc n) zero xs few = absurd (omega (arith, few))
 take-of_take (suc n) (suc m) [] few = refl
 take-of_take (suc n) (suc m) (x ∷ xs) few = ap (λ l. x ∷ l) (take-of_take n m xs (omega (arith, few)))
 
-drop-of_drop : (n m k : ℕ) (xs : List ℕ) → k ≡ m + n → drop n (drop m xs) ≡ drop k xs
+pub drop-of_drop : (n m k : ℕ) (xs : List ℕ) → k ≡ m + n → drop n (drop m xs) ≡ drop k xs
 drop-of_drop n zero k xs is = ap (λ j. drop j xs) (omega (arith, is))
 drop-of_drop n (suc m) k [] is = drop-nil n ∙ sym (drop-nil k)
 drop-of_drop n (suc m) zero (x ∷ xs) is = absurd (omega (arith, is))
@@ -176,12 +176,12 @@ pub pieces-free : (s : State) (handle : List ℕ) (at len end : ℕ) (c : Cause)
 unfolding causes
 pieces-free s handle at len end c is = never-refused (limits s.tree) handle at len end (seen s a_file handle) c is
 
-not-both : (a b : Bool) → (a && not b || false) ≡ false → a ≡ true → b ≡ true
+pub not-both : (a b : Bool) → (a && not b || false) ≡ false → a ≡ true → b ≡ true
 not-both true true is holds = refl
 not-both true false is holds = absurd cc
 not-both false b is holds = absurd cc
 
-some-is : (a b : ℕ) → Some a ≡ Some b → a ≡ b
+pub some-is : (a b : ℕ) → Some a ≡ Some b → a ≡ b
 some-is a b is = cc
 
 counted-of : (bounds : TreeLimits) (size offset len count : ℕ) → IsTrue (is_count bounds size offset len count)

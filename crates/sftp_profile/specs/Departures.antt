@@ -21,6 +21,8 @@ use Rattle.sftp_profile.specs.Tellings.{is_dots, is_readdir}
 use Rattle.sftp_profile.specs.Refusals.{is_refusal}
 use Rattle.sftp_profile.specs.Reads.{passes_read}
 use Rattle.sftp_profile.specs.Realpaths.{passes_realpath}
+use Rattle.sftp_profile.specs.Settings.{setstat_of, passes_lsetstat}
+use Rattle.sftp_profile.specs.Copies.{copying_of, passes_copy_data}
 
 -- ---- by the state
 
@@ -99,12 +101,18 @@ abbrev pub passes_looking : Profile → State → Ask → Answer → Bool
 passes_looking profile s ask answer =
     profile.read && passes_read s ask answer || profile.realpath && passes_realpath s.tree profile.codes ask answer
 
+-- an extension whose fields are known may be answered so
+abbrev pub passes_fields : Profile → State → Ask → Answer → Bool
+passes_fields profile s ask answer =
+    profile.lsetstat && passes_lsetstat s.tree ask answer || profile.copy_data && passes_copy_data s ask answer
+
 -- ---- all of them
 
 abbrev pub passes_in : Profile → State → Ask → Answer → Bool
 passes_in profile s ask answer =
     profile.codes && passes_codes s ask answer
-    || (profile.dots && passes_dots s ask answer || passes_looking profile s ask answer)
+    || (profile.dots && passes_dots s ask answer
+    || (passes_looking profile s ask answer || passes_fields profile s ask answer))
 
 abbrev pub passes_alone : Profile → Ask → Answer → Bool
 passes_alone profile ask answer =
@@ -123,6 +131,12 @@ is_forgiven profile s ask answer = passes_alone profile ask answer || passes_in 
 abbrev pub is_unmodelled : Ask → Answer → Bool
 is_unmodelled ask answer = is_unknown ask && not (only_looks ask || (is_refusal answer || has_code 1 answer))
 
+-- the fields of an extension are known by the profile
+abbrev pub has_fields : Profile → Ask → Bool
+has_fields profile ask =
+    profile.lsetstat && is_some (setstat_of ask) || profile.copy_data && is_some (copying_of ask)
+
 -- whether the profile follows a request with this answer
 abbrev pub is_modelled : Profile → Ask → Answer → Bool
-is_modelled profile ask answer = not (profile.extensions && is_unmodelled ask answer)
+is_modelled profile ask answer =
+    not (profile.extensions && (is_unmodelled ask answer && not (has_fields profile ask)))

@@ -1,6 +1,9 @@
 -- What the worked examples name: profiles of one departure, trees with little room, and a listing with `.` and `..`.
-use Rattle.std.specs.Prelude.{ℕ, true, List, [], ◌∷◌, map, codes, Some}
+use Rattle.std.specs.Prelude.{ℕ, true, List, [], ◌∷◌, ◌++◌, map, codes, Some}
 use Rattle.sftp_packets.specs.declared.attributes.Attrs.{Attrs}
+use Rattle.sftp_packets.specs.declared.requests.Ask.{Ask}
+use Rattle.sftp_packets.specs.declared.requests.Ask.TheVariants.{Unknown}
+use Rattle.sftp_packets.specs.Spelling.{uint64, string, attributes}
 use Rattle.sftp_packets.specs.declared.replies.Answer.{Answer}
 use Rattle.sftp_packets.specs.declared.replies.Answer.TheVariants.{Name}
 use Rattle.sftp_wire.specs.Examples.{no_attributes}
@@ -75,6 +78,24 @@ denied_requests = record strict { denied = true }
 abbrev pub full_disks : Profile
 full_disks = record strict { full = true }
 
+abbrev pub set_links : Profile
+set_links = record strict { lsetstat = true }
+
+abbrev pub copied_files : Profile
+copied_files = record strict { copy_data = true }
+
+abbrev pub known_fields : Profile
+known_fields = record strict { extensions = true; lsetstat = true; copy_data = true }
+
+-- ---- extensions
+
+abbrev pub lsetstat : List ℕ → Attrs → Ask
+lsetstat path attrs = Unknown (codes "lsetstat@openssh.com") (string path ++ attributes attrs)
+
+abbrev pub copy_data : List ℕ → ℕ → ℕ → List ℕ → ℕ → Ask
+copy_data from offset len to at =
+    Unknown (codes "copy-data") (string from ++ (uint64 offset ++ (uint64 len ++ (string to ++ uint64 at))))
+
 -- ---- trees
 
 -- of user 1 and group 2, with the directory `/d` of user 5 and group 9, and the link `/l` to `d/f`, where nothing is
@@ -133,6 +154,13 @@ abbrev pub open_to_read : List ℕ → State
 open_to_read bytes = record {
   tree = record (with_text bytes) { pins = (0, 1) ∷ [] };
   handles = (codes "h", File 0 (kept_flags 1)) ∷ [];
+}
+
+-- the same, open to be read and to be written
+abbrev pub open_for_both : List ℕ → State
+open_for_both bytes = record {
+  tree = record (with_text bytes) { pins = (0, 1) ∷ [] };
+  handles = (codes "h", File 0 (kept_flags 3)) ∷ [];
 }
 
 -- the file `/f` with `abc`, of user 5 and group 9, open under the handle `h` to be written

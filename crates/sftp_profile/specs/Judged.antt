@@ -34,7 +34,7 @@ IsRead s ask answer = Outcome (under s (read_as s.profile s.session ask answer))
 
 -- of the request that the profile takes this one for
 abbrev pub IsTaken : State → Ask → Answer → Bool → State → Type 0
-IsTaken s ask answer = Outcome (under s (taken s.profile s.session (asked s.profile s.session.tree ask) answer)) s
+IsTaken s ask answer = Outcome (under s (taken s.profile s.session (asked s.profile s.session ask) answer)) s
 
 -- the state after a SETSTAT that comes with an OPEN of this answer
 abbrev pub IsSet : State → Ask → Answer → State → Type 0

@@ -10,12 +10,15 @@ pub mod Refusals
 pub mod Reads
 pub mod Realpaths
 pub mod Shown
+pub mod Notes
+pub mod Replaced
+pub mod Data
+pub mod Settings
+pub mod Copies
 pub mod Departures
 pub mod Readings
 pub mod Room
 pub mod Tellings
-pub mod Replaced
-pub mod Notes
 pub mod Through
 pub mod Listed
 pub mod Permitted

@@ -23,6 +23,8 @@ name_of departures.Listing = codes "listing"
 name_of departures.Made = codes "made"
 name_of departures.KeepOwner = codes "keep-owner"
 name_of departures.Extensions = codes "extensions"
+name_of departures.Lsetstat = codes "lsetstat"
+name_of departures.CopyData = codes "copy-data"
 name_of departures.Denied = codes "denied"
 name_of departures.Full = codes "full"
 
@@ -45,6 +47,8 @@ switched profile departures.Listing is_on = record profile { listing = is_on }
 switched profile departures.Made is_on = record profile { made = is_on }
 switched profile departures.KeepOwner is_on = record profile { keep_owner = is_on }
 switched profile departures.Extensions is_on = record profile { extensions = is_on }
+switched profile departures.Lsetstat is_on = record profile { lsetstat = is_on }
+switched profile departures.CopyData is_on = record profile { copy_data = is_on }
 switched profile departures.Denied is_on = record profile { denied = is_on }
 switched profile departures.Full is_on = record profile { full = is_on }
 
@@ -53,7 +57,8 @@ every_departure =
     departures.Codes ∷ departures.Slash ∷ departures.Limits ∷ departures.Flags ∷ departures.HardlinkLink
     ∷ departures.Realpath ∷ departures.Read ∷ departures.EmptySetstat ∷ departures.Dots ∷ departures.DirSize
     ∷ departures.SetId ∷ departures.LinkAttrs ∷ departures.OpenDir ∷ departures.Listing ∷ departures.Made
-    ∷ departures.KeepOwner ∷ departures.Extensions ∷ departures.Denied ∷ departures.Full ∷ []
+    ∷ departures.KeepOwner ∷ departures.Extensions ∷ departures.Lsetstat ∷ departures.CopyData ∷ departures.Denied
+    ∷ departures.Full ∷ []
 
 -- the departure of a name
 unfoldable pub departure_of : List ℕ → Option Departure

@@ -65,7 +65,7 @@ taken profile s None answer = None
 -- the same with the SETSTAT
 abbrev pub taken_for : Profile → sessions.State → Ask → Answer → Option sessions.State
 taken_for profile s ask answer =
-    strictly.and_then (taken profile s (asked profile s.tree ask) answer) (with_followed (followed profile ask) answer)
+    strictly.and_then (taken profile s (asked profile s ask) answer) (with_followed (followed profile ask) answer)
 
 -- the session after an answer that the profile forgives: it passes, or it is allowed but for what is free, or it is so
 -- for the request that this one is taken for

@@ -59,4 +59,4 @@ outgrows_as s None answer = false
 
 -- the same of the request as it stands, or of the one that the profile takes it for
 unfoldable pub is_outgrown : Profile → State → Ask → Answer → Bool
-is_outgrown profile s ask answer = outgrows s ask answer || outgrows_as s (asked profile s.tree ask) answer
+is_outgrown profile s ask answer = outgrows s ask answer || outgrows_as s (asked profile s ask) answer

@@ -1,15 +1,19 @@
 //! What a profile lets pass by the request and its answer alone.
-ghost use Rattle.std.specs.Prelude.{◌≡◌};
+ghost use Rattle.std.specs.Prelude.{◌≡◌, IfOk};
 ghost use Rattle.sftp_profile.specs.Departures as spec;
 
+use crate::copies::copying_of;
 use crate::extensions::{is_looked_at, is_unknown, only_looks};
 use crate::flags::{CREAT, has};
 use crate::limits::is_beyond;
 use crate::paths::walks_loosely;
 use crate::profiles::Profile;
 use crate::refusals::{has_code, has_code_or, is_refusal};
+use crate::settings::setstat_of;
+use sftp_tree::NoMemory;
 use sftp_wire::status::{EOF, FAILURE, NO_SUCH_FILE, OK, PERMISSION_DENIED};
 use sftp_wire::{Answer, Ask, Attrs};
+use std::alloc::Global;
 
 /// Whether the profile lets the answer pass, whatever the session.
 pub(crate) fn passes_alone(profile: Profile, ask: &Ask, answer: &Answer) -> bool
@@ -86,12 +90,38 @@ fn is_some_size(size: Option<u64>) -> bool
     }
 }
 
-/// Whether the profile follows a request with this answer: it does not follow an extension that it does not know and
-/// that was neither refused nor at an end.
-pub(crate) fn is_modelled(profile: Profile, ask: &Ask, answer: &Answer) -> bool
-    ensures { result ≡ spec.is_modelled profile ask.now answer.now }
+/// Whether the profile follows a request with this answer: it does not follow an extension whose fields it does not
+/// know and that was neither refused nor at an end.
+///
+/// # Errors
+///
+/// `NoMemory` if memory runs out.
+pub(crate) fn is_modelled(
+    alloc: Global,
+    profile: Profile,
+    ask: &Ask,
+    answer: &Answer,
+) -> Result<bool, NoMemory>
+    ensures { IfOk result (λ ok. ok ≡ spec.is_modelled profile ask.now answer.now) }
 {
-    !(profile.extensions && is_unmodelled(ask, answer))
+    if !profile.extensions || !is_unmodelled(ask, answer) {
+        return Ok(true);
+    }
+    has_fields(alloc, profile, ask)
+}
+
+/// Whether the profile knows the fields of an extension.
+///
+/// # Errors
+///
+/// `NoMemory` if memory runs out.
+fn has_fields(alloc: Global, profile: Profile, ask: &Ask) -> Result<bool, NoMemory>
+    ensures { IfOk result (λ ok. ok ≡ spec.has_fields profile ask.now) }
+{
+    if profile.lsetstat && setstat_of(alloc, ask)?.is_some() {
+        return Ok(true);
+    }
+    Ok(profile.copy_data && copying_of(alloc, ask)?.is_some())
 }
 
 /// Whether an extension that is not known is neither refused nor at an end.

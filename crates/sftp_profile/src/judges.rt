@@ -12,7 +12,7 @@ ghost use Rattle.sftp_profile.specs.Judged.{IsForgiven, IsPermitted, IsStep};
 
 use crate::departures::{is_modelled, passes_alone};
 use crate::directories::Directory;
-use crate::passing::passes_looking;
+use crate::passing::{passes_fields, passes_looking};
 use crate::profiles::Profile;
 use crate::readings::{asked, followed};
 use crate::refusals::{are_dots, done, is_handle, is_refusal};
@@ -161,7 +161,7 @@ impl Judge {
     pub fn is_modelled(&self, request: &Request, reply: &Reply) -> Result<bool, NoMemory>
         ensures { IfOk result (λ ok. ok ≡ follows_in self.now request.now.ask reply.now.answer) }
     {
-        if !is_modelled(self.profile, &request.ask, &reply.answer) {
+        if !is_modelled(self.alloc, self.profile, &request.ask, &reply.answer)? {
             return Ok(false);
         }
         if !self.profile.limits {
@@ -306,7 +306,7 @@ impl Judge {
         ensures ok { IfOk result (λ ok. IsTaken self.old ask.now reply.now.answer ok self.new) }
         ensures err { OnErr result (self.new ≡ self.old) }
     {
-        let Some(ask) = asked(self.profile, self.session.tree(), ask)? else {
+        let Some(ask) = asked(self.profile, &self.session, ask)? else {
             return Ok(false);
         };
         let request = Request { id: reply.id, ask };
@@ -382,7 +382,10 @@ impl Judge {
         if self.profile.dots && self.passes_dots(ask, answer)? {
             return Ok(true);
         }
-        passes_looking(&self.session, self.profile, ask, answer)
+        if passes_looking(&self.session, self.profile, ask, answer)? {
+            return Ok(true);
+        }
+        passes_fields(&self.session, self.profile, ask, answer)
     }
 
     /// Whether READDIR is not refused, and gives `.` and `..` alone.

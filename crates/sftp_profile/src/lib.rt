@@ -2,10 +2,13 @@
 //! it. A judge is a session under a profile.
 #![tactic(auto)]
 
+mod copies;
+mod data;
 mod departures;
 mod directories;
 pub mod examples;
 mod extensions;
+pub mod field_examples;
 mod flags;
 mod judges;
 mod judging;
@@ -24,6 +27,7 @@ mod realpaths;
 mod refusals;
 mod replaced;
 mod room;
+mod settings;
 mod shown;
 mod tellings;
 mod through;

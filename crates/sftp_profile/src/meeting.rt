@@ -15,6 +15,7 @@ ghost use Rattle.sftp_profile.specs.Judged.{IsGiven};
 use crate::judges::Judge;
 use crate::listed::due_items;
 use crate::notes::{Note, note_of, put_note};
+use crate::replaced::put;
 use crate::tellings::told;
 use crate::through::{directory_of, is_barred, passes_directory, refuses_kind, stands_for};
 use sftp_tree::NoMemory;
@@ -215,13 +216,7 @@ impl Judge {
     fn put(&self, ask: Ask) -> Result<Ask, NoMemory>
         ensures { IfOk result (λ other. other ≡ put self.now.profile self.now.session ask) }
     {
-        match self.replaced(&ask)? {
-            Some(other) => {
-                drop(ask);
-                Ok(other)
-            }
-            None => Ok(ask),
-        }
+        put(self.profile, &self.session, ask)
     }
 
     /// The request that stands for one on a directory.

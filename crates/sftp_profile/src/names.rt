@@ -24,6 +24,8 @@ pub const NAMES: &[&str] = &[
     "made",
     "keep-owner",
     "extensions",
+    "lsetstat",
+    "copy-data",
     "denied",
     "full",
 ];
@@ -52,6 +54,8 @@ impl Profile {
             listing: true,
             made: true,
             keep_owner: true,
+            lsetstat: true,
+            copy_data: true,
             denied: false,
             full: false,
             new_owner: NewOwner::User,
@@ -101,12 +105,14 @@ pub(crate) enum Departure {
     Made,
     KeepOwner,
     Extensions,
+    Lsetstat,
+    CopyData,
     Denied,
     Full,
 }
 
 /// Every departure.
-fn every_departure() -> [Departure; 19]
+fn every_departure() -> [Departure; 21]
     ensures { result ≡ names.every_departure }
 {
     [
@@ -127,6 +133,8 @@ fn every_departure() -> [Departure; 19]
         Departure::Made,
         Departure::KeepOwner,
         Departure::Extensions,
+        Departure::Lsetstat,
+        Departure::CopyData,
         Departure::Denied,
         Departure::Full,
     ]
@@ -184,6 +192,8 @@ fn switched(profile: Profile, departure: Departure, is_on: bool) -> Profile
         Departure::Made => profile.made = is_on,
         Departure::KeepOwner => profile.keep_owner = is_on,
         Departure::Extensions => profile.extensions = is_on,
+        Departure::Lsetstat => profile.lsetstat = is_on,
+        Departure::CopyData => profile.copy_data = is_on,
         Departure::Denied => profile.denied = is_on,
         Departure::Full => profile.full = is_on,
     }

@@ -63,6 +63,11 @@ pub struct Profile {
     pub made: bool,
     /// A half of an owner that a SETSTAT or FSETSTAT gives as 4294967295 leaves the user or the group as it is.
     pub keep_owner: bool,
+    /// lsetstat@openssh.com sets what a SETSTAT does, but nothing of a link. A size may be refused with the codes 4 and
+    /// 5, and what is set of a link with the code 4.
+    pub lsetstat: bool,
+    /// copy-data copies bytes from one open file to another. A copy within one file may be refused with the code 4.
+    pub copy_data: bool,
     /// Any request may be refused with the code 3.
     pub denied: bool,
     /// A request that may need room on a disk may be refused with the code 4.
@@ -98,6 +103,8 @@ impl Profile {
             listing: false,
             made: false,
             keep_owner: false,
+            lsetstat: false,
+            copy_data: false,
             denied: false,
             full: false,
             new_owner: NewOwner::User,

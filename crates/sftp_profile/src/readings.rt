@@ -4,9 +4,12 @@ ghost use Rattle.std.specs.Option.{option_map};
 ghost use Rattle.sftp_packets.specs.declared.requests.Ask.TheVariants as asks;
 ghost use Rattle.sftp_profile.specs.Readings as spec;
 
+use crate::copies::copied_as;
 use crate::flags::{empties, mended_flags};
 use crate::paths::is_loose;
 use crate::profiles::Profile;
+use crate::settings::set_as;
+use sftp_handles::{GivenTable, Session};
 use sftp_tree::{NoMemory, Refused, Tree};
 use sftp_wire::{Ask, Attrs, ByteString};
 
@@ -15,19 +18,47 @@ use sftp_wire::{Ask, Attrs, ByteString};
 /// # Errors
 ///
 /// `NoMemory` if memory runs out.
-pub(crate) fn asked(profile: Profile, tree: &Tree, ask: &Ask) -> Result<Option<Ask>, NoMemory>
-    ensures { IfOk result (λ other. other ≡ spec.asked profile tree.now ask.now) }
+pub(crate) fn asked(
+    profile: Profile,
+    session: &Session<GivenTable>,
+    ask: &Ask,
+) -> Result<Option<Ask>, NoMemory>
+    ensures { IfOk result (λ other. other ≡ spec.asked profile session.now ask.now) }
 {
     match ask {
-        Ask::Lstat { path } => asked_lstat(profile, tree, path),
+        Ask::Lstat { path } => asked_lstat(profile, session, path),
         Ask::Open {
             path,
             pflags,
             attrs,
-        } => asked_open(profile, tree, path, *pflags, attrs),
-        Ask::Hardlink { oldpath, newpath } => asked_hardlink(profile, tree, oldpath, newpath),
+        } => asked_open(profile, session, path, *pflags, attrs),
+        Ask::Hardlink { oldpath, newpath } => asked_hardlink(profile, session, oldpath, newpath),
+        Ask::Unknown { .. } => asked_extension(profile, session, ask),
         _ => Ok(None),
     }
+}
+
+/// What an extension is taken for.
+///
+/// # Errors
+///
+/// `NoMemory` if memory runs out.
+fn asked_extension(
+    profile: Profile,
+    session: &Session<GivenTable>,
+    ask: &Ask,
+) -> Result<Option<Ask>, NoMemory>
+    ensures { IfOk result (λ other. other ≡ spec.asked_extension profile session.now ask.now) }
+{
+    if profile.lsetstat
+        && let Some(setstat) = set_as(profile, session, ask)?
+    {
+        return Ok(Some(setstat));
+    }
+    if !profile.copy_data {
+        return Ok(None);
+    }
+    copied_as(session, ask)
 }
 
 /// An LSTAT of a path that ends loosely is a STAT.
@@ -35,8 +66,12 @@ pub(crate) fn asked(profile: Profile, tree: &Tree, ask: &Ask) -> Result<Option<A
 /// # Errors
 ///
 /// `NoMemory` if memory runs out.
-fn asked_lstat(profile: Profile, tree: &Tree, path: &ByteString) -> Result<Option<Ask>, NoMemory>
-    ensures { IfOk result (λ other. other ≡ spec.asked profile tree.now (asks.Lstat path.now)) }
+fn asked_lstat(
+    profile: Profile,
+    session: &Session<GivenTable>,
+    path: &ByteString,
+) -> Result<Option<Ask>, NoMemory>
+    ensures { IfOk result (λ other. other ≡ spec.asked profile session.now (asks.Lstat path.now)) }
 {
     if !profile.slash || !is_loose(path.as_slice()) {
         return Ok(None);
@@ -52,12 +87,12 @@ fn asked_lstat(profile: Profile, tree: &Tree, path: &ByteString) -> Result<Optio
 /// `NoMemory` if memory runs out.
 fn asked_open(
     profile: Profile,
-    tree: &Tree,
+    session: &Session<GivenTable>,
     path: &ByteString,
     pflags: u32,
     attrs: &Attrs,
 ) -> Result<Option<Ask>, NoMemory>
-    ensures { IfOk result (λ other. other ≡ spec.asked profile tree.now (asks.Open path.now pflags attrs.now)) }
+    ensures { IfOk result (λ other. other ≡ spec.asked profile session.now (asks.Open path.now pflags attrs.now)) }
 {
     if !profile.flags {
         return Ok(None);
@@ -78,17 +113,17 @@ fn asked_open(
 /// `NoMemory` if memory runs out.
 fn asked_hardlink(
     profile: Profile,
-    tree: &Tree,
+    session: &Session<GivenTable>,
     oldpath: &ByteString,
     newpath: &ByteString,
 ) -> Result<Option<Ask>, NoMemory>
     ensures { IfOk result
-        (λ other. other ≡ spec.asked profile tree.now (asks.Hardlink oldpath.now newpath.now)) }
+        (λ other. other ≡ spec.asked profile session.now (asks.Hardlink oldpath.now newpath.now)) }
 {
     if !profile.hardlink_link {
         return Ok(None);
     }
-    let Some(target) = link_at(tree, oldpath.as_slice())? else {
+    let Some(target) = link_at(session.tree(), oldpath.as_slice())? else {
         return Ok(None);
     };
     let linkpath = newpath.clone()?;

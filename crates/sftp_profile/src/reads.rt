@@ -84,7 +84,7 @@ fn are_read(
 }
 
 /// How many bytes a file has that is open to be read.
-fn size_of(session: &Session<GivenTable>, handle: &[u8]) -> Option<u64>
+pub(crate) fn size_of(session: &Session<GivenTable>, handle: &[u8]) -> Option<u64>
     ensures { result ≡ spec.size_of (seen session.now a_file handle.now) }
 {
     match session.stat_open(handle) {
@@ -161,7 +161,7 @@ fn same_front(rest: &[u8], piece: &[u8], count: usize) -> bool
 }
 
 /// The bytes of a file that one READ gives from here on.
-fn piece_at<'a>(session: &'a Session<GivenTable>, handle: &[u8], at: u64) -> &'a [u8]
+pub(crate) fn piece_at<'a>(session: &'a Session<GivenTable>, handle: &[u8], at: u64) -> &'a [u8]
     requires { IsTrue (spec.is_readable (seen session.now a_file handle.now) (at + 1)) }
     ensures piece { result.now ≡ spec.piece_of (limits session.now.tree) at (seen session.now a_file handle.now) }
     ensures some { 0 < length result.now }

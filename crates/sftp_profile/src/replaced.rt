@@ -57,6 +57,27 @@ pub(crate) fn replaced(
     }
 }
 
+/// The request that is judged: the one that stands for this one, or this one.
+///
+/// # Errors
+///
+/// `NoMemory` if memory runs out.
+pub(crate) fn put(
+    profile: Profile,
+    session: &Session<GivenTable>,
+    ask: Ask,
+) -> Result<Ask, NoMemory>
+    ensures { IfOk result (λ other. other ≡ spec.put profile session.now ask) }
+{
+    match replaced(profile, session, &ask)? {
+        Some(other) => {
+            drop(ask);
+            Ok(other)
+        }
+        None => Ok(ask),
+    }
+}
+
 /// MKDIR with the owner and the permissions that the directory gets.
 ///
 /// # Errors

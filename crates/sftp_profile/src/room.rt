@@ -31,7 +31,7 @@ pub(crate) fn is_outgrown(
     if outgrows(session, ask, answer)? {
         return Ok(true);
     }
-    let Some(ask) = asked(profile, session.tree(), ask)? else {
+    let Some(ask) = asked(profile, session, ask)? else {
         return Ok(false);
     };
     let is_outgrown = outgrows(session, &ask, answer);

@@ -1,0 +1,26 @@
+use Rattle.std.proofs.Common.{◌+◌, ◌-◌, ◌<◌, ◌++◌, ◌∙◌, length, refl, ap}
+use Rattle.sftp_tree.specs.Tree.{limits}
+use Rattle.sftp_handles.specs.Seen.{a_file, seen}
+use Rattle.sftp_profile.specs.Copies.{bytes_within}
+use Rattle.sftp_profile.proofs.Copied.{next-bytes, front-counts, joined}
+use Rattle.sftp_profile.proofs.copies.bytes_of.Goals as goal
+
+pub pieces-preserved : goal.pieces-preserved
+pieces-preserved c =
+    let found = seen c.args.session.now a_file c.args.handle.now in
+    let at = c.pieces.at in
+    let end = c.args.offset + c.args.count in
+    let front = c.front_of-piece.result.now in
+    let before : c.pieces.at < c.args.offset + c.args.count = c.pieces-test.true in
+    record {
+      before = (front-counts at end c.piece_at.result.now front before c.piece_at.ensures.some c.front_of-piece.ensures).1;
+      end_is = refl;
+      copied =
+          ap (λ l. l ++ bytes_within found (at + length front) (end - (at + length front)))
+          c.in_ok-extend_from_slice.ensures.items
+          ∙ (joined c.pieces.bytes.items front (bytes_within found (at + length front) (end - (at + length front)))
+          ∙ (ap (λ l. c.pieces.bytes.items ++ l)
+          (next-bytes (limits c.args.session.now.tree) at end found c.piece_at.result.now front before
+          c.requires.there c.piece_at.ensures.piece c.front_of-piece.ensures)
+          ∙ c.pieces.invariant.copied));
+    }
