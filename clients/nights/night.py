@@ -27,7 +27,7 @@ class Night:
         self.folder = os.path.join(given.state, given.user)
         os.makedirs(self.folder, mode=0o700, exist_ok=True)
         self.tree = os.path.join(self.folder, "tree")
-        self.status = self.accepted = 0
+        self.status = self.accepted = self.cut = 0
         self.held = os.open(self.folder, os.O_RDONLY | os.O_DIRECTORY)
         try:
             fcntl.flock(self.held, fcntl.LOCK_EX | fcntl.LOCK_NB)
@@ -64,6 +64,7 @@ class Night:
             self.keep(record, "accepted")
             os.replace(after, self.tree)
             self.accepted += 1
+            self.cut += " unanswered" in first
             self.say(f"{record.name}: {first}{note}")
             return True
         if ran.returncode != 1 and not first.startswith("sftpv3: transcript: "):
@@ -127,7 +128,8 @@ class Night:
         os.replace(now, self.tree)
 
     def counted(self):
-        return f"{self.accepted} session{'' if self.accepted == 1 else 's'} accepted"
+        cut = f", {self.cut} of them cut" if self.cut else ""
+        return f"{self.accepted} session{'' if self.accepted == 1 else 's'} accepted{cut}"
 
     def tell_difference(self, now):
         ran = subprocess.run([self.program, "diff", self.tree, now], stdout=subprocess.PIPE, stderr=subprocess.STDOUT,
@@ -138,7 +140,8 @@ class Night:
         if ran.returncode == 0:
             self.say(f"{self.counted()}; the folder is as they left it")
             return
-        self.say(f"{self.counted()}; something else changed the folder:", 1)
+        unjudged = ", or requests of theirs that were not judged" if self.cut else ""
+        self.say(f"{self.counted()}; something else changed the folder{unjudged}:", 1)
         for line in lines[:MOST_LINES]:
             self.say(f"  {line}")
         if len(lines) > MOST_LINES:

@@ -5,3 +5,4 @@ pub mod Settled
 pub mod Standing
 pub mod Lost
 pub mod Refusals
+pub mod Complete

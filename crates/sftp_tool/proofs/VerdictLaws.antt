@@ -1,20 +1,19 @@
 -- From what an audit of a stream says to what the program says.
-use Rattle.std.proofs.Common.{◌≡◌, ℕ, List, [], Option, Some, None, Result, Ok, Err, refl, sym, subst}
+use Rattle.std.proofs.Common.{◌≡◌, ℕ, Bool, true, false, List, [], Option, Some, None, Result, Ok, Err, refl, sym, subst}
 use Rattle.std.specs.Result.{IfOk, IfErr}
 use Rattle.sftp_tree.specs.Tree.{Tree}
-use Rattle.sftp_tree.specs.Picture.{picture}
+use Rattle.sftp_profile.specs.declared.profiles.Profile.{Profile}
 use Rattle.sftp_transcript.specs.declared.events.Event.{Event}
 use Rattle.sftp_transcript.specs.declared.stage.Stage.TheVariants as stages
-use Rattle.sftp_transcript.specs.Explained.{StepOf}
 use Rattle.sftp_transcript.specs.Recorded.{Reading}
-use Rattle.sftp_audit.specs.declared.audits.Accepted.{Accepted}
 use Rattle.sftp_audit.specs.declared.errors.AuditError.{AuditError}
 use Rattle.sftp_audit.specs.declared.errors.AuditError.TheVariants as audit_errors
-use Rattle.sftp_audit.specs.Audit.{AccountsBy, IsFirstFaultBy, IsNoJudgement, IsNew, request_count}
+use Rattle.sftp_audit.specs.Audit.{IsNoJudgement, IsNew}
 use Rattle.sftp_tool.specs.declared.messages.Ending.{Ending}
 use Rattle.sftp_tool.specs.declared.messages.Ending.TheVariants as endings
 use Rattle.sftp_tool.specs.declared.messages.Failure.{Failure}
-use Rattle.sftp_tool.specs.Verdicts.{HasNoRun, IsAudit, IsVerdict, IsReportOf}
+use Rattle.sftp_tool.specs.Verdicts.{AccountOf, FaultOf, ResultOf, HasNoRun, IsAudit, IsVerdict, IsReportOf}
+use Rattle.sftp_tool.specs.Verdicts.{IsStrictVerdict, IsVerdictUnder, IsStrictCutVerdict, IsCutVerdictUnder, IsVerdictAsked}
 
 -- ---- a reader of a stream whose bytes are known
 
@@ -40,35 +39,33 @@ is_new known left failures reads records same are bytes is =
 
 -- ---- an audit of it
 
-module _ {S : Type 0} (step : StepOf S) (begin : Tree → S) (close : S → Tree) (tree : List ℕ)
+module _ {A : Type 0} (accounts : AccountOf) (faults : FaultOf) (has : ResultOf A) (tree : List ℕ)
     (known : Option (List ℕ))
   where
     pub audited : (records : Reading) → ((bytes : List ℕ) → known ≡ Some bytes → IsNew bytes records)
-        → (result : Result Accepted AuditError)
+        → (result : Result A AuditError)
         → IfOk result (λ accepted. (bytes : List ℕ) → IsNew bytes records
         → (start : Tree) × (events : List Event) × (end : Tree)
-        × AccountsBy step begin close tree bytes start events end × (accepted.tree.items ≡ picture end)
-        × (accepted.requests ≡ request_count events))
+        × accounts tree bytes start events end × has accepted events end)
         → IfErr result (λ e. (IsNoJudgement e → ⊥) → (bytes : List ℕ) → IsNew bytes records
-        → HasNoRun step begin close tree bytes)
-        → IfErr result (λ e. (IsNoJudgement e → ⊥) → (bytes : List ℕ) → IsNew bytes records
-        → IsFirstFaultBy step begin tree bytes e)
-        → IsAudit step begin close tree known result
+        → HasNoRun accounts tree bytes)
+        → IfErr result (λ e. (IsNoJudgement e → ⊥) → (bytes : List ℕ) → IsNew bytes records → faults tree bytes e)
+        → IsAudit accounts faults has tree known result
     audited records new (Ok accepted) accepts refuses first = λ bytes is. accepts bytes (new bytes is)
     audited records new (Err e) accepts refuses first = λ judged bytes is.
         (refuses judged bytes (new bytes is), first judged bytes (new bytes is))
 
     -- where memory ran out nothing is said
     pub unjudged : (error : AuditError) → error ≡ audit_errors.NoMemory
-        → IsAudit step begin close tree known (Err error)
+        → IsAudit accounts faults has tree known (Err error)
     unjudged audit_errors.NoMemory is = λ judged. absurd (judged tt)
     unjudged other is = absurd cc
 
     -- ---- the outcome of the program
 
-    pub accepted-verdict : (accepted : Accepted) (result : Result Ending Failure)
-        → IfOk result (λ ending. ending ≡ endings.Done) → IsAudit step begin close tree known (Ok accepted)
-        → IfOk result (IsVerdict step begin close tree known)
+    pub accepted-verdict : (accepted : A) (result : Result Ending Failure)
+        → IfOk result (λ ending. ending ≡ endings.Done) → IsAudit accounts faults has tree known (Ok accepted)
+        → IfOk result (IsVerdict accounts tree known)
     accepted-verdict accepted (Ok endings.Done) is audit = λ bytes read.
         let told = audit bytes read in (told.0, told.1, told.2, told.3)
     accepted-verdict accepted (Ok other) is audit = absurd cc
@@ -76,13 +73,45 @@ module _ {S : Type 0} (step : StepOf S) (begin : Tree → S) (close : S → Tree
 
     pub refused-verdict : (error : AuditError) (result : Result Ending Failure)
         → IfOk result (λ ending. ending ≡ endings.Refused) → (IsNoJudgement error → ⊥)
-        → IsAudit step begin close tree known (Err error) → IfOk result (IsVerdict step begin close tree known)
+        → IsAudit accounts faults has tree known (Err error) → IfOk result (IsVerdict accounts tree known)
     refused-verdict error (Ok endings.Refused) is judged audit = λ bytes read. (audit judged bytes read).0
     refused-verdict error (Ok other) is judged audit = absurd cc
     refused-verdict error (Err failure) is judged audit = tt
 
-    pub reported : (judged : Result Accepted AuditError) (result : Result Ending Failure) → IsReportOf judged result
-        → IsAudit step begin close tree known judged → IfOk result (IsVerdict step begin close tree known)
+    pub reported : (judged : Result A AuditError) (result : Result Ending Failure) → IsReportOf judged result
+        → IsAudit accounts faults has tree known judged → IfOk result (IsVerdict accounts tree known)
     reported (Ok accepted) result says audit = accepted-verdict accepted result says audit
     reported (Err error) (Ok ending) says audit = refused-verdict error (Ok ending) says.0 says.1 audit
     reported (Err error) (Err failure) says audit = tt
+
+-- ---- the verdict that the options ask for
+
+module _ (tree : List ℕ) (known : Option (List ℕ)) (result : Result Ending Failure) where
+  asked-complete : (profile : Option Profile) → (profile ≡ None → IfOk result (IsStrictVerdict tree known))
+      → ((by : Profile) → profile ≡ Some by → IfOk result (IsVerdictUnder by tree known))
+      → IfOk result (IsVerdictAsked profile false tree known)
+  asked-complete None strictly under = strictly refl
+  asked-complete (Some by) strictly under = under by refl
+
+  asked-cut : (profile : Option Profile) → (profile ≡ None → IfOk result (IsStrictCutVerdict tree known))
+      → ((by : Profile) → profile ≡ Some by → IfOk result (IsCutVerdictUnder by tree known))
+      → IfOk result (IsVerdictAsked profile true tree known)
+  asked-cut None strictly under = strictly refl
+  asked-cut (Some by) strictly under = under by refl
+
+  -- by whether it may have been cut
+  pub asked_of_complete : (profile : Option Profile) (cuts : Bool) → cuts ≡ false
+      → (profile ≡ None → IfOk result (IsStrictVerdict tree known))
+      → ((by : Profile) → profile ≡ Some by → IfOk result (IsVerdictUnder by tree known))
+      → IfOk result (IsVerdictAsked profile cuts tree known)
+  asked_of_complete profile cuts is strictly under =
+      subst (λ (b : Bool). IfOk result (IsVerdictAsked profile b tree known)) (sym is)
+      (asked-complete profile strictly under)
+
+  pub asked_of_cut : (profile : Option Profile) (cuts : Bool) → cuts ≡ true
+      → (profile ≡ None → IfOk result (IsStrictCutVerdict tree known))
+      → ((by : Profile) → profile ≡ Some by → IfOk result (IsCutVerdictUnder by tree known))
+      → IfOk result (IsVerdictAsked profile cuts tree known)
+  asked_of_cut profile cuts is strictly under =
+      subst (λ (b : Bool). IfOk result (IsVerdictAsked profile b tree known)) (sym is)
+      (asked-cut profile strictly under)

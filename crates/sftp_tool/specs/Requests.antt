@@ -5,7 +5,7 @@ use Rattle.clap.specs.Walk.{Row}
 use Rattle.sftp_tool.specs.declared.command_line.AuditOptions.{AuditOptions}
 use Rattle.sftp_tool.specs.declared.command_line.Request.{Request}
 use Rattle.sftp_tool.specs.declared.command_line.Request.TheVariants as requests
-use Rattle.sftp_tool.specs.Options.{value_in}
+use Rattle.sftp_tool.specs.Options.{value_in, is_given}
 use Rattle.sftp_tool.specs.Profiles.{profile_asked, options_in}
 
 -- the options that a verdict depends on, and the file for the final tree, each by what the command line gives for it
@@ -13,6 +13,7 @@ pub record IsAuditAsked (rows : List Row) (asked : AuditOptions) : Type 0 where
   pub tree : value_in rows (codes "tree") ≡ Some asked.tree.now
   pub transcript : value_in rows (codes "transcript") ≡ Some asked.transcript.now
   pub out : value_in rows (codes "out") ≡ option_map (λ name. name.now) asked.out
+  pub cuts : asked.cuts ≡ is_given (value_in rows (codes "cut"))
   pub profile : asked.profile ≡ profile_asked (options_in rows)
   pub umask : value_in rows (codes "umask") ≡ option_map (λ digits. digits.now) asked.umask
 

@@ -1,5 +1,5 @@
 -- What an audit of a tree file and of a transcript says, where the bytes of the transcript are known.
-use Rattle.std.specs.Prelude.{◌≡◌, ℕ, List, Option, Some, Result, Ok, Err, IfOk}
+use Rattle.std.specs.Prelude.{◌≡◌, ℕ, Bool, true, false, List, Option, Some, None, Result, Ok, Err, IfOk}
 use Rattle.sftp_tree.specs.Tree.{Tree}
 use Rattle.sftp_tree.specs.Picture.{picture}
 use Rattle.sftp_handles.specs.State.{started, closed_tree}
@@ -8,44 +8,57 @@ use Rattle.sftp_profile.specs.declared.profiles.Profile.{Profile}
 use Rattle.sftp_profile.specs.State.{begun}
 use Rattle.sftp_profile.specs.Permitted.{Permitted}
 use Rattle.sftp_transcript.specs.declared.events.Event.{Event}
-use Rattle.sftp_transcript.specs.Explained.{StepOf}
 use Rattle.sftp_audit.specs.declared.audits.Accepted.{Accepted}
+use Rattle.sftp_audit.specs.declared.cuts.AcceptedCut.{AcceptedCut}
 use Rattle.sftp_audit.specs.declared.errors.AuditError.{AuditError}
-use Rattle.sftp_audit.specs.Audit.{AccountsBy, IsFirstFaultBy, IsNoJudgement, request_count}
+use Rattle.sftp_audit.specs.Exchanges.{recorded_exchanges}
+use Rattle.sftp_audit.specs.Audit.{Accounts, AccountsBy, IsFirstFault, IsFirstFaultBy, IsNoJudgement, request_count}
+use Rattle.sftp_audit.specs.Cuts.{AccountsCut, AccountsCutBy, unanswered_count, unjudged_count}
 use Rattle.sftp_tool.specs.declared.messages.Ending.{Ending}
 use Rattle.sftp_tool.specs.declared.messages.Ending.TheVariants as endings
 use Rattle.sftp_tool.specs.declared.messages.Failure.{Failure}
 
+-- which start, events and end a tree file and a transcript account for
+abbrev pub AccountOf : Type 1
+AccountOf = List ℕ → List ℕ → Tree → List Event → Tree → Type 0
+
+-- which error of an audit is the first fault of a tree file and a transcript
+abbrev pub FaultOf : Type 1
+FaultOf = List ℕ → List ℕ → AuditError → Type 0
+
+-- what the result of an accepted session has, of its events and its end
+abbrev pub ResultOf : Type 0 → Type 1
+ResultOf A = A → List Event → Tree → Type 0
+
 -- the tree file and the transcript account for a run
-abbrev pub HasRun : {S : Type 0} → StepOf S → (Tree → S) → (S → Tree) → List ℕ → List ℕ → Type 0
-HasRun step begin close tree transcript =
-    (start : Tree) × (events : List Event) × (end : Tree) × AccountsBy step begin close tree transcript start events end
+abbrev pub HasRun : AccountOf → List ℕ → List ℕ → Type 0
+HasRun accounts tree transcript =
+    (start : Tree) × (events : List Event) × (end : Tree) × accounts tree transcript start events end
 
 -- they account for none
-abbrev pub HasNoRun : {S : Type 0} → StepOf S → (Tree → S) → (S → Tree) → List ℕ → List ℕ → Type 0
-HasNoRun step begin close tree transcript =
-    (start : Tree) (events : List Event) (end : Tree) → AccountsBy step begin close tree transcript start events end → ⊥
+abbrev pub HasNoRun : AccountOf → List ℕ → List ℕ → Type 0
+HasNoRun accounts tree transcript =
+    (start : Tree) (events : List Event) (end : Tree) → accounts tree transcript start events end → ⊥
 
--- A session is accepted where they account for a run, with the tree where it ends and the number of its requests; it is
--- refused where they account for none, with the first fault. An error that is no judgement says nothing.
-abbrev pub IsAudit : {S : Type 0} → StepOf S → (Tree → S) → (S → Tree) → List ℕ → Option (List ℕ)
-    → Result Accepted AuditError → Type 0
-IsAudit step begin close tree known (Ok accepted) =
+-- A session is accepted where they account for a run, with its result; it is refused where they account for none, with
+-- the first fault. An error that is no judgement says nothing.
+abbrev pub IsAudit : {A : Type 0} → AccountOf → FaultOf → ResultOf A → List ℕ → Option (List ℕ) → Result A AuditError
+    → Type 0
+IsAudit accounts faults has tree known (Ok accepted) =
     (transcript : List ℕ) → known ≡ Some transcript
     → (start : Tree) × (events : List Event) × (end : Tree)
-    × AccountsBy step begin close tree transcript start events end × (accepted.tree.items ≡ picture end)
-    × (accepted.requests ≡ request_count events)
-IsAudit step begin close tree known (Err error) =
+    × accounts tree transcript start events end × has accepted events end
+IsAudit accounts faults has tree known (Err error) =
     (IsNoJudgement error → ⊥) → (transcript : List ℕ) → known ≡ Some transcript
-    → HasNoRun step begin close tree transcript × IsFirstFaultBy step begin tree transcript error
+    → HasNoRun accounts tree transcript × faults tree transcript error
 
 -- the session is accepted where they account for a run, and refused where they account for none
-abbrev pub IsVerdict : {S : Type 0} → StepOf S → (Tree → S) → (S → Tree) → List ℕ → Option (List ℕ) → Ending → Type 0
-IsVerdict step begin close tree known endings.Done =
-    (transcript : List ℕ) → known ≡ Some transcript → HasRun step begin close tree transcript
-IsVerdict step begin close tree known endings.Refused =
-    (transcript : List ℕ) → known ≡ Some transcript → HasNoRun step begin close tree transcript
-IsVerdict step begin close tree known other = ⊥
+abbrev pub IsVerdict : AccountOf → List ℕ → Option (List ℕ) → Ending → Type 0
+IsVerdict accounts tree known endings.Done =
+    (transcript : List ℕ) → known ≡ Some transcript → HasRun accounts tree transcript
+IsVerdict accounts tree known endings.Refused =
+    (transcript : List ℕ) → known ≡ Some transcript → HasNoRun accounts tree transcript
+IsVerdict accounts tree known other = ⊥
 
 -- ---- what the program says of an audit
 
@@ -54,20 +67,67 @@ abbrev pub IsReportOfError : AuditError → Ending → Type 0
 IsReportOfError error ending = (ending ≡ endings.Refused) × (IsNoJudgement error → ⊥)
 
 -- The session is accepted or refused as by the audit. Where the run fails this says nothing.
-abbrev pub IsReportOf : Result Accepted AuditError → Result Ending Failure → Type 0
+abbrev pub IsReportOf : {A : Type 0} → Result A AuditError → Result Ending Failure → Type 0
 IsReportOf (Ok accepted) result = IfOk result (λ ending. ending ≡ endings.Done)
 IsReportOf (Err error) result = IfOk result (IsReportOfError error)
 
 -- ---- strictly, or under a profile
 
+abbrev pub AccountsUnder : Profile → AccountOf
+AccountsUnder profile = AccountsBy Permitted (begun profile) (λ s. closed_tree s.session)
+
+abbrev pub IsFirstFaultUnder : Profile → FaultOf
+IsFirstFaultUnder profile = IsFirstFaultBy Permitted (begun profile)
+
+-- the tree where the session ends, and the number of its requests
+abbrev pub HasEnd : ResultOf Accepted
+HasEnd accepted events end = (accepted.tree.items ≡ picture end) × (accepted.requests ≡ request_count events)
+
 abbrev pub IsStrictAudit : List ℕ → Option (List ℕ) → Result Accepted AuditError → Type 0
-IsStrictAudit = IsAudit Allowed started closed_tree
+IsStrictAudit = IsAudit Accounts IsFirstFault HasEnd
 
 abbrev pub IsAuditUnder : Profile → List ℕ → Option (List ℕ) → Result Accepted AuditError → Type 0
-IsAuditUnder profile = IsAudit Permitted (begun profile) (λ s. closed_tree s.session)
+IsAuditUnder profile = IsAudit (AccountsUnder profile) (IsFirstFaultUnder profile) HasEnd
 
 abbrev pub IsStrictVerdict : List ℕ → Option (List ℕ) → Ending → Type 0
-IsStrictVerdict = IsVerdict Allowed started closed_tree
+IsStrictVerdict = IsVerdict Accounts
 
 abbrev pub IsVerdictUnder : Profile → List ℕ → Option (List ℕ) → Ending → Type 0
-IsVerdictUnder profile = IsVerdict Permitted (begun profile) (λ s. closed_tree s.session)
+IsVerdictUnder profile = IsVerdict (AccountsUnder profile)
+
+-- ---- the same of sessions that may have been cut
+
+abbrev pub AccountsCutUnder : Profile → AccountOf
+AccountsCutUnder profile = AccountsCutBy Permitted (begun profile) (λ s. closed_tree s.session)
+
+-- The tree after the requests before the oldest unanswered one, the number of all requests, of those from that one on,
+-- which are not judged, and of those that are unanswered.
+abbrev pub HasCutEnd : ResultOf AcceptedCut
+HasCutEnd accepted events end =
+    (accepted.tree.items ≡ picture end) × (accepted.requests ≡ request_count events)
+    × (accepted.unjudged ≡ unjudged_count events)
+    × (accepted.unanswered ≡ unanswered_count (recorded_exchanges events))
+
+abbrev pub IsStrictCutAudit : List ℕ → Option (List ℕ) → Result AcceptedCut AuditError → Type 0
+IsStrictCutAudit = IsAudit AccountsCut IsFirstFault HasCutEnd
+
+abbrev pub IsCutAuditUnder : Profile → List ℕ → Option (List ℕ) → Result AcceptedCut AuditError → Type 0
+IsCutAuditUnder profile = IsAudit (AccountsCutUnder profile) (IsFirstFaultUnder profile) HasCutEnd
+
+abbrev pub IsStrictCutVerdict : List ℕ → Option (List ℕ) → Ending → Type 0
+IsStrictCutVerdict = IsVerdict AccountsCut
+
+abbrev pub IsCutVerdictUnder : Profile → List ℕ → Option (List ℕ) → Ending → Type 0
+IsCutVerdictUnder profile = IsVerdict (AccountsCutUnder profile)
+
+-- ---- what the options ask for
+
+-- without a profile strictly; with `--cut` also sessions that were cut
+abbrev pub accounts_asked : Option Profile → Bool → AccountOf
+accounts_asked None false = Accounts
+accounts_asked (Some profile) false = AccountsUnder profile
+accounts_asked None true = AccountsCut
+accounts_asked (Some profile) true = AccountsCutUnder profile
+
+abbrev pub IsVerdictAsked : Option Profile → Bool → List ℕ → Option (List ℕ) → Ending → Type 0
+IsVerdictAsked profile cuts = IsVerdict (accounts_asked profile cuts)

@@ -96,6 +96,11 @@ pub(crate) const AUDIT: &[Argument] = &[
         Form::Flag,
         "Print on standard error why the session is refused, or where a file is malformed",
     ),
+    (
+        "cut",
+        Form::Flag,
+        "Accept a session that was cut: what comes before its oldest unanswered request is judged",
+    ),
     profiles::PROFILE,
     profiles::ALLOW,
     profiles::EXCEPT,

@@ -5,7 +5,7 @@ ghost use Rattle.std.specs.Str.Parse.{digits_value};
 ghost use Rattle.clap.specs.Matches.{found_of};
 ghost use Rattle.clap.specs.Simple.{subcommand_rows_of};
 ghost use Rattle.clap.specs.Walk.{Row, rows_of};
-ghost use Rattle.sftp_tool.specs.Options.{IsPermissions, value_in};
+ghost use Rattle.sftp_tool.specs.Options.{IsPermissions, value_in, is_given};
 ghost use Rattle.sftp_tool.specs.Requests.{IsAuditAsked, IsAuditRequest, LacksFile};
 
 use crate::arguments::{
@@ -98,6 +98,8 @@ pub(crate) struct AuditOptions<'a> {
     pub(crate) memory: Option<u64>,
     /// Whether standard error explains a refusal, or where a file is malformed.
     pub(crate) explains: bool,
+    /// Whether a session that was cut is accepted if what comes before its oldest unanswered request is right.
+    pub(crate) cuts: bool,
     /// Which departures from the strict reading are accepted; none where the session is judged strictly.
     pub(crate) profile: Option<Profile>,
     /// The permissions that are taken from whatever is made, as octal digits.
@@ -308,6 +310,7 @@ fn audit_options<'a>(given: &ArgMatches<'a>) -> Option<AuditOptions<'a>>
         memory: given.get_one("memory"),
         keeping: keeping_of(given),
         explains: given.get_flag("explain"),
+        cuts: flag(given, "cut"),
         profile: profiles::profile_of(given),
         umask: value(given, "umask"),
     })
@@ -318,6 +321,13 @@ fn value<'a>(given: &ArgMatches<'a>, name: &str) -> Option<&'a str>
     ensures { option_map (λ text. text.now) result ≡ value_in (rows_of (found_of given.now)) name.now }
 {
     given.get_str(name)
+}
+
+/// Whether the command line gives the flag of this name.
+fn flag(given: &ArgMatches<'_>, name: &str) -> bool
+    ensures { result ≡ is_given (value_in (rows_of (found_of given.now)) name.now) }
+{
+    value(given, name).unwrap_or("") == "true"
 }
 
 fn command<'a>(alloc: Global, version: &'a str) -> Result<Command<'a>, AllocError> {

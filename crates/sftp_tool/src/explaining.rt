@@ -134,9 +134,8 @@ impl<R: Files + AllocGlobal, E: Write> Explanation<'_, '_, R, E> {
             Refusal::IdInUse { .. } => self.put_used_id(&found.record),
             Refusal::Window { .. } => self.put_late_request(found),
             Refusal::NotAllowed { .. } => self.put_unallowed(&found.record),
-            Refusal::Unanswered { .. } | Refusal::NoMemory => {
-                self.put_line("request", &found.record)
-            }
+            Refusal::Unanswered { .. } => self.put_unanswered(found),
+            Refusal::NoMemory => self.put_line("request", &found.record),
         }
     }
 
@@ -195,6 +194,16 @@ impl<R: Files + AllocGlobal, E: Write> Explanation<'_, '_, R, E> {
             Some(number) => self.put_numbered("unanswered", number),
             None => self.stop(Unexplained::OtherTranscript),
         }
+    }
+
+    /// `Unanswered`: the request, and how many requests before it are accepted: it is the oldest unanswered one.
+    fn put_unanswered(&mut self, found: &Found) -> bool {
+        self.put_line("request", &found.record) && self.put_accepted(found.requests)
+    }
+
+    fn put_accepted(&mut self, requests: u64) -> bool {
+        let written = writeln!(self.errors, "accepted before it: {requests} requests");
+        self.is_written(written)
     }
 
     /// `NotAllowed`: why a reply is not allowed, and which departures would allow it.

@@ -167,9 +167,18 @@ KIND is one of:
 With --explain, standard error says more of a refusal: the lines of the request and of the reply, as 'show' prints them;
 for UnknownReply, the last request of the id, and its reply; for IdInUse and Window, the unanswered request; and for
 NotAllowed, the causes that refuse the request with the status codes that they allow, the reply that is expected, and
-how the reply found differs; for NotModelled, the name of the extension or what the tree lacks, too. For this the
-transcript is read again, so it cannot be a pipe. If the tree file or the transcript is malformed, a line has the field
-of the fault, and the place of its first byte in the file, from 0.
+how the reply found differs; for NotModelled, the name of the extension or what the tree lacks, too; for Unanswered, how
+many requests before it are accepted. For this the transcript is read again, so it cannot be a pipe. If the tree file or
+the transcript is malformed, a line has the field of the fault, and the place of its first byte in the file, from 0.
+
+With --cut, a session whose connection was cut is accepted if all that can be judged is right, with the line
+
+  accepted N requests, M unanswered, K not judged
+
+The N requests before the oldest unanswered one were judged, with their replies. M requests have no reply. The other K
+come after the oldest unanswered one and have replies, which nobody can judge; where there are none, the line ends with
+'unanswered'. --out writes the tree after the N requests. A session in which each request has its reply gets the line
+that it gets without --cut. Every refusal but Unanswered stays.
 
 With --memory, the transcript is judged only as long as the process has at most BYTES. One request may take as much as a
 file or a listing has before that, and the tree at the end is encoded once more.";

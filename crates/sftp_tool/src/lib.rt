@@ -7,6 +7,7 @@ ghost use Rattle.std.specs.Prelude.{◌≤◌};
 mod archives;
 mod arguments;
 mod command_line;
+mod cut_sessions;
 mod cuts;
 mod diffing;
 mod explaining;

@@ -8,9 +8,10 @@ ghost use Rattle.sftp_profile.specs.declared.profiles.Profile.{Profile as profil
 ghost use Rattle.sftp_tool.specs.Failures.{IsOutcome, IsUnread, IsUnwritten};
 ghost use Rattle.sftp_tool.specs.Status.{IsAuditStatus, failure_status};
 ghost use Rattle.sftp_tool.specs.Verdicts.{IsStrictAudit, IsAuditUnder, IsReportOf, IsReportOfError};
-ghost use Rattle.sftp_tool.specs.Verdicts.{IsStrictVerdict, IsVerdictUnder};
+ghost use Rattle.sftp_tool.specs.Verdicts.{IsStrictVerdict, IsVerdictUnder, IsVerdictAsked};
 
 use crate::command_line::AuditOptions;
+use crate::cut_sessions::judge_cut_and_report;
 use crate::explaining::explain;
 use crate::memory::{Bounded, Meter};
 use crate::messages::{Ending, Failure, print};
@@ -72,7 +73,7 @@ fn audit_from<'a, R: System, O: Write, E: Write>(
 }
 
 /// Audits the session of this transcript, within the limit on memory if there is one. Without an option of a profile
-/// the session is judged strictly.
+/// the session is judged strictly, and without `--cut` it has to be complete.
 fn audit_transcript<'a, F: Read + Drop, R: System, O: Write, E: Write>(
     rt: &R,
     files: &AuditOptions<'a>,
@@ -81,14 +82,12 @@ fn audit_transcript<'a, F: Read + Drop, R: System, O: Write, E: Write>(
     output: &mut O,
     errors: &mut E,
 ) -> Result<Ending, Failure<'a>>
-    ensures strictly { files.now.profile ≡ None → IfOk result (IsStrictVerdict tree.now (F.remaining transcript)) }
-    ensures under { (by : profile) → files.now.profile ≡ Some by →
-        IfOk result (IsVerdictUnder by tree.now (F.remaining transcript)) }
+    ensures verdict { IfOk result (IsVerdictAsked files.now.profile files.now.cuts tree.now (F.remaining transcript)) }
     ensures status { IsAuditStatus result }
 {
     match files.memory {
         Some(_) => audit_within(rt, files, tree, transcript, output, errors),
-        None => judge_and_report(rt, files, tree, transcript, output, errors),
+        None => judge_as_asked(rt, files, tree, transcript, output, errors),
     }
 }
 
@@ -101,20 +100,37 @@ fn audit_within<'a, F: Read + Drop, R: System, O: Write, E: Write>(
     output: &mut O,
     errors: &mut E,
 ) -> Result<Ending, Failure<'a>>
-    ensures strictly { files.now.profile ≡ None → IfOk result (IsStrictVerdict tree.now (F.remaining transcript)) }
-    ensures under { (by : profile) → files.now.profile ≡ Some by →
-        IfOk result (IsVerdictUnder by tree.now (F.remaining transcript)) }
+    ensures verdict { IfOk result (IsVerdictAsked files.now.profile files.now.cuts tree.now (F.remaining transcript)) }
     ensures status { IsAuditStatus result }
 {
     let mut meter = Meter::new(rt, files.memory)?;
     let bounded = Bounded::new(transcript, &mut meter);
-    match judge_and_report(rt, files, tree, bounded, output, errors) {
+    match judge_as_asked(rt, files, tree, bounded, output, errors) {
         Err(_) if meter.is_over() => Err(Failure::OverLimit(files.transcript)),
         ending => ending,
     }
 }
 
-/// Audits the session of this transcript, and says what came of it.
+/// Audits the session of this transcript, as one that may have been cut if the options say so, and says what came of
+/// it.
+fn judge_as_asked<'a, F: Read + Drop, R: System, O: Write, E: Write>(
+    rt: &R,
+    files: &AuditOptions<'a>,
+    tree: &[u8],
+    transcript: F,
+    output: &mut O,
+    errors: &mut E,
+) -> Result<Ending, Failure<'a>>
+    ensures verdict { IfOk result (IsVerdictAsked files.now.profile files.now.cuts tree.now (F.remaining transcript)) }
+    ensures status { IsAuditStatus result }
+{
+    if files.cuts {
+        return judge_cut_and_report(rt, files, tree, transcript, output, errors);
+    }
+    judge_and_report(rt, files, tree, transcript, output, errors)
+}
+
+/// Audits the session of this transcript, which has to be complete, and says what came of it.
 fn judge_and_report<'a, F: Read + Drop, R: System, O: Write, E: Write>(
     rt: &R,
     files: &AuditOptions<'a>,
@@ -155,7 +171,7 @@ fn report<'a, R: System, O: Write, E: Write>(
 }
 
 /// Says why a session of these files is not accepted.
-fn report_error<'a, R: Files + AllocGlobal, O: Write, E: Write>(
+pub(crate) fn report_error<'a, R: Files + AllocGlobal, O: Write, E: Write>(
     rt: &R,
     files: &AuditOptions<'a>,
     tree: &[u8],
@@ -310,15 +326,27 @@ fn accept<'a, R: System, O: Write>(
     ensures ok { IfOk result (λ ending. ending ≡ endings.Done) }
     ensures err { IfErr result IsUnwritten }
 {
-    if let Some(name) = files.out {
-        write(rt, name, files.keeping, accepted.tree.as_slice())?;
-    }
+    keep_end(rt, files, accepted.tree.as_slice())?;
     let requests = accepted.requests;
     print(
         output,
         format_args!("accepted {requests} requests\n"),
         Ending::Done,
     )
+}
+
+/// Writes the final tree of an accepted session, if a file is named for it.
+pub(crate) fn keep_end<'a, R: System>(
+    rt: &R,
+    files: &AuditOptions<'a>,
+    tree: &[u8],
+) -> Result<(), Failure<'a>>
+    ensures { IfErr result IsUnwritten }
+{
+    match files.out {
+        Some(name) => write(rt, name, files.keeping, tree),
+        None => Ok(()),
+    }
 }
 
 /// Says why the session is refused: `NotModelled` where the profile does not follow a request.

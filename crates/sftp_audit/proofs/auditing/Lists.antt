@@ -176,7 +176,7 @@ recorded-replied events reply = rw (← number_from-first events) (exchanges_fro
 
 -- ---- settled and unsettled
 
-unsettled-past : (x : Exchange) (xs : List Exchange) → is_answered x ≡ true → unsettled (x ∷ xs) ≡ unsettled xs
+pub unsettled-past : (x : Exchange) (xs : List Exchange) → is_answered x ≡ true → unsettled (x ∷ xs) ≡ unsettled xs
 unfolding unsettled
 unsettled-past x xs answered = rw answered refl
 
@@ -184,7 +184,7 @@ unsettled-here : (x : Exchange) (xs : List Exchange) → is_answered x ≡ false
 unfolding unsettled
 unsettled-here x xs waits = rw waits refl
 
-unsettled-none : unsettled [] ≡ []
+pub unsettled-none : unsettled [] ≡ []
 unfolding unsettled
 unsettled-none = refl
 
@@ -339,7 +339,7 @@ leading_pairs-asked xs x waits =
 
 -- ---- how many are unanswered
 
-unanswered-past : (x : Exchange) (xs : List Exchange) → is_answered x ≡ true
+pub unanswered-past : (x : Exchange) (xs : List Exchange) → is_answered x ≡ true
     → unanswered_count (x ∷ xs) ≡ unanswered_count xs
 unfolding is_unanswered
 unanswered-past x xs answered = rw answered refl

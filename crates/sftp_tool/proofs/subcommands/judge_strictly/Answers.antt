@@ -1,14 +1,14 @@
 -- The reader has read nothing yet, so the audit speaks of all bytes of the transcript.
 use Rattle.std.proofs.Common.{ap}
-use Rattle.sftp_handles.specs.Allowed.{Allowed}
-use Rattle.sftp_handles.specs.State.{started, closed_tree}
+use Rattle.sftp_audit.specs.Audit.{Accounts, IsFirstFault}
+use Rattle.sftp_tool.specs.Verdicts.{HasEnd}
 use Rattle.sftp_tool.proofs.VerdictLaws.{is_new, audited}
 use Rattle.sftp_tool.proofs.subcommands.judge_strictly.Goals as goal
 
 pub returns : goal.returns
 returns g c =
     let known = g.F.Read.remaining c.args.transcript in
-    audited Allowed started closed_tree c.args.tree.now known c.in_ok-records.records
+    audited Accounts IsFirstFault HasEnd c.args.tree.now known c.in_ok-records.records
     (is_new known _ _ _ c.in_ok-records.records (ap g.F.Read.remaining c.new.ensures.inner)
     c.in_ok-records.ensures.ok)
     c.audit_stream-audited.result c.audit_stream-audited.ensures.accepted c.audit_stream-audited.ensures.refused

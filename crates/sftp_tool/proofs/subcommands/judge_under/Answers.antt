@@ -1,15 +1,14 @@
 -- The reader has read nothing yet, so the audit speaks of all bytes of the transcript.
 use Rattle.std.proofs.Common.{ap}
-use Rattle.sftp_handles.specs.State.{closed_tree}
-use Rattle.sftp_profile.specs.State.{begun}
-use Rattle.sftp_profile.specs.Permitted.{Permitted}
+use Rattle.sftp_tool.specs.Verdicts.{AccountsUnder, IsFirstFaultUnder, HasEnd}
 use Rattle.sftp_tool.proofs.VerdictLaws.{is_new, audited}
 use Rattle.sftp_tool.proofs.subcommands.judge_under.Goals as goal
 
 pub returns : goal.returns
 returns g c =
     let known = g.F.Read.remaining c.args.transcript in
-    audited Permitted (begun c.args.profile) (λ s. closed_tree s.session) c.args.tree.now known c.in_ok-records.records
+    audited (AccountsUnder c.args.profile) (IsFirstFaultUnder c.args.profile) HasEnd c.args.tree.now known
+    c.in_ok-records.records
     (is_new known _ _ _ c.in_ok-records.records (ap g.F.Read.remaining c.new.ensures.inner)
     c.in_ok-records.ensures.ok)
     c.audit_stream_by-audited.result c.audit_stream_by-audited.ensures.accepted c.audit_stream_by-audited.ensures.refused

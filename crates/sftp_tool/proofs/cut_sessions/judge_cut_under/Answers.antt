@@ -1,0 +1,15 @@
+-- The reader has read nothing yet, so the audit speaks of all bytes of the transcript.
+use Rattle.std.proofs.Common.{ap}
+use Rattle.sftp_tool.specs.Verdicts.{AccountsCutUnder, IsFirstFaultUnder, HasCutEnd}
+use Rattle.sftp_tool.proofs.VerdictLaws.{is_new, audited}
+use Rattle.sftp_tool.proofs.cut_sessions.judge_cut_under.Goals as goal
+
+pub returns : goal.returns
+returns g c =
+    let known = g.F.Read.remaining c.args.transcript in
+    audited (AccountsCutUnder c.args.profile) (IsFirstFaultUnder c.args.profile) HasCutEnd c.args.tree.now known
+    c.in_ok-records.records
+    (is_new known _ _ _ c.in_ok-records.records (ap g.F.Read.remaining c.new.ensures.inner)
+    c.in_ok-records.ensures.ok)
+    c.audit_cut_stream_by-audited.result c.audit_cut_stream_by-audited.ensures.accepted
+    c.audit_cut_stream_by-audited.ensures.refused c.audit_cut_stream_by-audited.ensures.first
