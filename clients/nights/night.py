@@ -4,7 +4,7 @@ import os
 import subprocess
 import sys
 
-from nights.records import Failed, records_of
+from nights.records import Failed, Spool
 from probing import program
 
 TREE = os.path.join(program.CLIENTS, "tree")
@@ -24,6 +24,7 @@ class Night:
     def __init__(self, given):
         self.given, self.program = given, program.program()
         self.options = given.audit or usual(self.program)
+        self.spool = Spool(given.records, given.user, given.number)
         self.folder = os.path.join(given.state, given.user)
         os.makedirs(self.folder, mode=0o700, exist_ok=True)
         self.tree = os.path.join(self.folder, "tree")
@@ -37,9 +38,6 @@ class Night:
     def say(self, text, status=0):
         print(f"{self.given.user}: {text}", flush=True)
         self.status = max(self.status, status)
-
-    def pending(self):
-        return records_of(self.given.records, self.given.user, self.given.number)
 
     def keep(self, record, kind):
         """Moves a record into a folder of the state. Returns its new name."""
@@ -78,15 +76,18 @@ class Night:
 
     def audit_all(self):
         """Audits what has ended, as far as there is a tree to start from."""
-        records = self.pending()
+        records = self.spool.records()
         for record in records:
             record.open()
-            if record.is_running():
-                self.say(f"{record.name}: still running; it and what comes behind it are audited when it has ended")
-                return
-            beside = [it.name for it in records if it.is_beside(record)]
-            self.judge(record, f" (beside {', '.join(beside)})" if beside else "")
-            record.close()
+            try:
+                if record.is_running():
+                    self.say(f"{record.name}: still running; it and what comes behind it are audited when it has "
+                             "ended")
+                    return
+                beside = [it.name for it in records if it.is_beside(record)]
+                self.judge(record, f" (beside {', '.join(beside)})" if beside else "")
+            finally:
+                record.close()
 
     def judge(self, record, note):
         """Audits a session, if there is a tree to start from; behind one that is refused there is none."""
@@ -109,11 +110,11 @@ class Night:
         said = ran.stdout.decode(errors="replace").strip()
         if ran.returncode:
             raise Failed(said)
-        return None if self.pending() else (now, said)
+        return None if self.spool.records() else (now, said)
 
     def compare(self):
         """Compares the last tree with the folders, and starts anew from what they have."""
-        found = None if self.pending() else self.look()
+        found = None if self.spool.records() else self.look()
         if found is None:
             self.say(f"{self.counted()}; a session runs, so the folder is not compared")
             return
@@ -150,4 +151,6 @@ class Night:
     def run(self):
         self.audit_all()
         self.compare()
+        if self.spool.refused:
+            self.say(self.spool.refused, 1)
         return self.status
