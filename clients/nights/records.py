@@ -15,7 +15,9 @@ from contextlib import suppress
 from paging import packets
 
 RECORD = re.compile(r".*\.transcript(\.[0-9a-f]+)?")
-START = re.compile(r"\d{8}T\d{6}Z")
+DATE = re.compile(r"[0-9]{8}T[0-9]{6}Z")
+# sftpv3-recordd writes the date first; what comes behind it is the address that a client named.
+DATE_OF_DAEMON = re.compile(r"([0-9]{8}T[0-9]{6}Z)-")
 # A record this young, in seconds, may be one whose recorder has only just made it.
 YOUNG = 1
 FOLDER = os.O_RDONLY | os.O_DIRECTORY | os.O_CLOEXEC
@@ -25,14 +27,22 @@ class Failed(Exception):
     """Why nothing is judged."""
 
 
+def seconds_of(date):
+    """The seconds from 1970 on of a date, or None if there is no such day or time."""
+    try:
+        return calendar.timegm(time.strptime(date, "%Y%m%dT%H%M%SZ"))
+    except ValueError:
+        return None
+
+
 class Record:
     """A transcript in a folder that is open: its name, when it began, and when the last was written to it."""
 
-    def __init__(self, folder, name, state):
+    def __init__(self, folder, name, state, date):
         self.folder, self.name, self.state = folder, name, state
         self.end = state.st_mtime_ns / 1e9
-        found = START.findall(name)
-        self.start = calendar.timegm(time.strptime(found[-1], "%Y%m%dT%H%M%SZ")) if found else self.end
+        start = seconds_of(date) if date else None
+        self.start = self.end if start is None else min(start, self.end)
         self.file = None
 
     def shown(self):
@@ -129,6 +139,11 @@ class Spool:
     def records(self):
         """The records in the order of their starts."""
         self.look()
-        found = [Record(self.shared, *it) for it in found_in(self.shared, lambda it: it.st_uid == self.number)]
-        found += [Record(self.own, *it) for it in found_in(self.own, lambda _: True)] if self.own is not None else []
+        found = []
+        for name, state in found_in(self.shared, lambda it: it.st_uid == self.number):
+            date = DATE.search(name)
+            found.append(Record(self.shared, name, state, date and date[0]))
+        for name, state in found_in(self.own, lambda _: True) if self.own is not None else ():
+            date = DATE_OF_DAEMON.match(name)
+            found.append(Record(self.own, name, state, date and date[1]))
         return sorted(found, key=lambda it: (it.start, it.end, it.name))
