@@ -4,11 +4,14 @@ import os
 import subprocess
 import sys
 
+from nights.keeping import Copy
 from nights.records import Failed, Spool
 from probing import program
 
 TREE = os.path.join(program.CLIENTS, "tree")
 MOST_LINES = 20
+# What ended runs and audits may have left in the folder of a user.
+LEFT = ("tree.after", "tree.now", ".sftpv3-tree-", "record.new")
 
 
 def usual(program_file):
@@ -34,44 +37,46 @@ class Night:
             fcntl.flock(self.held, fcntl.LOCK_EX | fcntl.LOCK_NB)
         except BlockingIOError:
             raise Failed(f"another run for {given.user} has not ended") from None
+        self.tidy()
+
+    def tidy(self):
+        """Removes what an audit or a run left that was ended before its time."""
+        for name in os.listdir(self.held):
+            if name.startswith(LEFT):
+                os.remove(name, dir_fd=self.held)
 
     def say(self, text, status=0):
         print(f"{self.given.user}: {text}", flush=True)
         self.status = max(self.status, status)
 
-    def keep(self, record, kind):
-        """Moves a record into a folder of the state. Returns its new name."""
-        folder = os.path.join(self.folder, kind)
-        os.makedirs(folder, mode=0o700, exist_ok=True)
-        place, number = os.path.join(folder, record.name), 1
-        while os.path.lexists(place):
-            number += 1
-            place = os.path.join(folder, f"{record.name}.{number}")
-        record.move(place)
-        return place
-
-    def audit(self, record, note):
+    def audit(self, copy, name, note):
         """Audits a session, and makes its last tree the one of the next. Returns whether it is accepted."""
         after = f"{self.tree}.after"
         ran = subprocess.run([self.program, "audit", *self.options, "--explain", "--tree", self.tree,
-                              "--transcript", f"/proc/self/fd/{record.file}", "--out", after],
-                             stdout=subprocess.PIPE, stderr=subprocess.STDOUT, check=False, pass_fds=[record.file])
+                              "--transcript", f"/proc/self/fd/{copy.file}", "--out", after],
+                             stdout=subprocess.PIPE, stderr=subprocess.STDOUT, check=False, pass_fds=[copy.file])
         said = ran.stdout.decode(errors="replace")
         first, _, more = said.partition("\n")
         if ran.returncode == 0:
-            self.keep(record, "accepted")
+            copy.keep("accepted")
             os.replace(after, self.tree)
             self.accepted += 1
             self.cut += " unanswered" in first
-            self.say(f"{record.name}: {first}{note}")
+            self.say(f"{name}: {first}{note}")
             return True
         if ran.returncode != 1 and not first.startswith("sftpv3: transcript: "):
-            raise Failed(f"{record.name}: the audit ended with status {ran.returncode}: {said.strip()}")
-        with open(f"{self.keep(record, 'refused')}.verdict", "w", encoding="utf-8") as file:
+            raise Failed(f"{name}: the audit ended with status {ran.returncode}: {said.strip()}")
+        with open(f"{copy.keep('refused')}.verdict", "w", encoding="utf-8") as file:
             file.write(said)
-        self.say(f"{record.name}: {first}{note}", 1)
+        self.say(f"{name}: {first}{note}", 1)
         for line in more.splitlines():
             self.say(f"  {line}")
+        return False
+
+    def give_up(self, copy, name, why):
+        """Puts a record aside that cannot be judged. Returns that it is not accepted."""
+        copy.keep("unjudged")
+        self.say(f"{name}: not judged{why}", 1)
         return False
 
     def audit_all(self):
@@ -90,12 +95,19 @@ class Night:
                 record.close()
 
     def judge(self, record, note):
-        """Audits a session, if there is a tree to start from; behind one that is refused there is none."""
-        if not os.path.exists(self.tree):
-            self.keep(record, "unjudged")
-            self.say(f"{record.name}: not judged, since there is no tree that it started from", 1)
-        elif not self.audit(record, note):
-            os.remove(self.tree)
+        """Audits a copy of a record, if there is a tree to start from; behind one that is refused there is none."""
+        try:
+            copy = Copy(self.folder, record)
+        except OSError as error:
+            raise Failed(f"{record.name}: cannot be copied: {error.strerror}") from None
+        try:
+            if not os.path.exists(self.tree):
+                self.give_up(copy, record.name, ", since there is no tree that it started from")
+            elif not self.audit(copy, record.name, note):
+                os.remove(self.tree)
+        finally:
+            copy.close()
+            self.tidy()
 
     def look(self):
         """The tree of the folders as they are now, or None if a session ran meanwhile."""

@@ -3,11 +3,9 @@
 What users can write is in the spool: names, times and locks are believed no further than the one whose record it is.
 """
 import calendar
-import errno
 import fcntl
 import os
 import re
-import shutil
 import stat
 import time
 from contextlib import suppress
@@ -67,18 +65,12 @@ class Record:
             return True
         return time.time() - self.end < YOUNG
 
-    def move(self, place):
-        """Moves it, to another file system if need be."""
-        try:
-            os.rename(self.name, place, src_dir_fd=self.folder)
-        except OSError as error:
-            if error.errno != errno.EXDEV:
-                raise
-            with open(self.file, "rb", closefd=False) as source, open(place, "xb") as target:
-                source.seek(0)
-                shutil.copyfileobj(source, target)
-            os.utime(place, ns=(self.state.st_atime_ns, self.state.st_mtime_ns))
-            os.unlink(self.name, dir_fd=self.folder)
+    def remove(self):
+        """Removes it from its folder, unless something else has its name by now."""
+        with suppress(FileNotFoundError):
+            found = os.stat(self.name, dir_fd=self.folder, follow_symlinks=False)
+            if os.path.samestat(found, self.state):
+                os.unlink(self.name, dir_fd=self.folder)
 
     def close(self):
         if self.file is not None:

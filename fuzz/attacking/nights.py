@@ -181,3 +181,70 @@ def a_name_has_no_time(field):
         nights.put(record_name(field.user, date), session((REMOVE, string(b"/x")))[:8], field.user.pw_uid)
     yield from wrong(nights.run(), 1, "record 1: Start", "not judged")
     yield from wrong(nights.run(), 0, "the folder is as they left it")
+
+
+@attack("user")
+def a_kept_record_is_changed(field):
+    """What is kept is root's alone, and is what was audited, whatever links the user has to the record."""
+    nights = Nights(field, field.user)
+    data = session(mkdir(f"{nights.home}/d"), rmdir(f"{nights.home}/d"))
+    for kind, changed in (("accepted", data), ("refused", data[:-1])):
+        path = nights.put(record_name(field.user), changed, field.user.pw_uid)
+        link = field.path(f"link-{kind}")
+        os.link(path, link)
+        nights.run()
+        if os.path.exists(path):
+            yield "the record is still in the spool"
+        with open(link, "r+b") as file:
+            file.write(b"changed")
+        kept = nights.kept(kind)
+        if not kept:
+            yield f"nothing is {kind}"
+            continue
+        with open(kept[0], "rb") as file:
+            if file.read() != changed:
+                yield f"what was {kind} is changed"
+        found = os.stat(kept[0])
+        if (found.st_uid, found.st_mode & 0o777) != (0, 0o600):
+            yield f"what was {kind} is of {found.st_uid}, mode {found.st_mode & 0o777:o}"
+
+
+@attack("user")
+def a_record_unfolds_on_the_disk(field):
+    """Holes in a record take no room where it is kept."""
+    nights = Nights(field, field.user)
+    path = nights.put(record_name(field.user), session(), field.user.pw_uid)
+    os.truncate(path, 1 << 36)
+    os.utime(path, (1, 1))
+    start = time.monotonic()
+    yield from wrong(nights.run(), 1, "record 3: Direction")
+    if time.monotonic() - start > 20 or sum(os.stat(it).st_blocks for it in nights.kept("refused")) > 1000:
+        yield "they do"
+
+
+@contextmanager
+def small_disk(folder, size):
+    """A file system of so many bytes in a folder."""
+    os.mkdir(folder, 0o700)
+    subprocess.run(["mount", "-t", "tmpfs", "-o", f"size={size},mode=700", "none", folder], check=True)
+    try:
+        yield
+    finally:
+        subprocess.run(["umount", folder], check=True)
+
+
+@attack("user", "mount")
+def a_disk_is_full(field):
+    """A record that has no room where it is kept stays where it is, whole, and nothing cut is kept."""
+    with small_disk(field.path("state"), MEBI):
+        nights = Nights(field, field.user)
+        data = session(*(it for _ in range(9000) for it in (mkdir(f"{nights.home}/d"), rmdir(f"{nights.home}/d"))))
+        path = nights.put(record_name(field.user), data, field.user.pw_uid)
+        yield from wrong(nights.run(), 3, "cannot be copied: No space left")
+        if not os.path.exists(path) or os.path.getsize(path) != len(data):
+            yield "the record is gone"
+        left = [it for kind in ("accepted", "refused", "unjudged") for it in nights.kept(kind)]
+        if left:
+            yield f"{left} is kept"
+        subprocess.run(["mount", "-o", "remount,size=64m", nights.state], check=True)
+        yield from wrong(nights.run(), 0, "1 session accepted; the folder is as they left it")
