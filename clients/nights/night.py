@@ -3,6 +3,7 @@ import fcntl
 import os
 import subprocess
 import sys
+import time
 
 from nights.keeping import Copy
 from nights.records import Failed, Spool
@@ -12,6 +13,8 @@ TREE = os.path.join(program.CLIENTS, "tree")
 MOST_LINES = 20
 # What ended runs and audits may have left in the folder of a user.
 LEFT = ("tree.after", "tree.now", ".sftpv3-tree-", "record.new")
+# How many times it is looked again, if a session runs and ends meanwhile.
+LOOKS = 3
 
 
 def usual(program_file):
@@ -30,7 +33,7 @@ class Night:
         self.spool = Spool(given.records, given.user, given.number)
         self.folder = os.path.join(given.state, given.user)
         os.makedirs(self.folder, mode=0o700, exist_ok=True)
-        self.tree = os.path.join(self.folder, "tree")
+        self.tree, self.compared = (os.path.join(self.folder, it) for it in ("tree", "compared"))
         self.status = self.accepted = self.cut = 0
         self.held = os.open(self.folder, os.O_RDONLY | os.O_DIRECTORY)
         try:
@@ -80,7 +83,7 @@ class Night:
         return False
 
     def audit_all(self):
-        """Audits what has ended, as far as there is a tree to start from."""
+        """Audits what has ended, as far as there is a tree to start from. Returns whether a session still runs."""
         records = self.spool.records()
         for record in records:
             record.open()
@@ -88,11 +91,12 @@ class Night:
                 if record.is_running():
                     self.say(f"{record.name}: still running; it and what comes behind it are audited when it has "
                              "ended")
-                    return
+                    return True
                 beside = [it.name for it in records if it.is_beside(record)]
                 self.judge(record, f" (beside {', '.join(beside)})" if beside else "")
             finally:
                 record.close()
+        return False
 
     def judge(self, record, note):
         """Audits a copy of a record, if there is a tree to start from; behind one that is refused there is none."""
@@ -125,11 +129,11 @@ class Night:
         return None if self.spool.records() else (now, said)
 
     def compare(self):
-        """Compares the last tree with the folders, and starts anew from what they have."""
-        found = None if self.spool.records() else self.look()
+        """Compares the last tree with the folders, and starts anew from what they have. Returns whether that could be
+        done: no session ran meanwhile."""
+        found = self.look()
         if found is None:
-            self.say(f"{self.counted()}; a session runs, so the folder is not compared")
-            return
+            return False
         now, said = found
         if not os.path.exists(self.tree):
             *left_out, last = said.splitlines()
@@ -139,6 +143,19 @@ class Night:
         else:
             self.tell_difference(now)
         os.replace(now, self.tree)
+        with open(self.compared, "w", encoding="utf-8"):
+            os.utime(self.compared)
+        return True
+
+    def tell_not_compared(self):
+        """Says since when nothing was compared, and whether that is too long: users can have their sessions run on."""
+        try:
+            last = os.stat(self.compared).st_mtime
+        except FileNotFoundError:
+            last = 0
+        since = time.strftime(" since %Y-%m-%d %H:%M", time.localtime(last)) if last else ""
+        is_late = not 0 <= time.time() - last < 3600 * self.given.longest
+        self.say(f"{self.counted()}; a session runs, so the folder is not compared{since}", int(is_late))
 
     def counted(self):
         cut = f", {self.cut} of them cut" if self.cut else ""
@@ -160,9 +177,18 @@ class Night:
         if len(lines) > MOST_LINES:
             self.say(f"  and {len(lines) - MOST_LINES} more")
 
+    def reach_verdict(self):
+        """Audits and compares, again if a session came and went meanwhile. Returns whether all was compared."""
+        for _ in range(LOOKS):
+            if self.audit_all():
+                return False
+            if self.compare():
+                return True
+        return False
+
     def run(self):
-        self.audit_all()
-        self.compare()
+        if not self.reach_verdict():
+            self.tell_not_compared()
         if self.spool.refused:
             self.say(self.spool.refused, 1)
         return self.status

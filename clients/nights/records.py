@@ -38,7 +38,7 @@ class Record:
 
     def __init__(self, folder, name, state, date):
         self.folder, self.name, self.state = folder, name, state
-        self.end = state.st_mtime_ns / 1e9
+        self.end = min(state.st_mtime_ns / 1e9, time.time())
         start = seconds_of(date) if date else None
         self.start = self.end if start is None else min(start, self.end)
         self.file = None
@@ -57,13 +57,20 @@ class Record:
         if not os.path.samestat(os.fstat(self.file), self.state):
             raise Failed(f"{self.shown()}: it was replaced meanwhile")
 
+    def is_young(self):
+        return 0 <= time.time() - os.fstat(self.file).st_mtime < YOUNG
+
     def is_running(self):
-        """Whether a recorder still holds it."""
+        """Whether a recorder holds it, or may be about to. One that is young is looked at again."""
+        if self.is_young():
+            time.sleep(YOUNG)
+        if self.is_young():
+            return True
         try:
             fcntl.flock(self.file, fcntl.LOCK_EX | fcntl.LOCK_NB)
         except BlockingIOError:
             return True
-        return time.time() - self.end < YOUNG
+        return False
 
     def remove(self):
         """Removes it from its folder, unless something else has its name by now."""

@@ -184,6 +184,34 @@ def a_name_has_no_time(field):
 
 
 @attack("user")
+def a_verdict_is_put_off(field):
+    """A time that is yet to come, a lock, and a time that is always now: none has a run end as if all were well."""
+    nights = Nights(field, field.user)
+    nights.change()
+    name = record_name(field.user)
+    path = nights.put(name, session(mkdir(f"{nights.home}/d"), rmdir(f"{nights.home}/d")), field.user.pw_uid,
+                      ended=-10 ** 9)
+    yield from wrong(nights.run(), 1, "1 session accepted; something else changed the folder", "unrecorded")
+    path = nights.put(name, session(), field.user.pw_uid)
+    held = os.open(path, os.O_RDONLY)
+    fcntl.flock(held, fcntl.LOCK_EX)
+    yield from wrong(nights.run(), 1, "still running", "not compared since")
+    yield from wrong(nights.run("--longest", "1"), 0, "still running", "not compared since")
+    os.utime(os.path.join(nights.state, field.user.pw_name, "compared"), (time.time() - 4000,) * 2)
+    yield from wrong(nights.run("--longest", "1"), 1, "still running", "not compared since")
+    os.close(held)
+    with beside(field, always_now, path):
+        yield from wrong(nights.run(), 1, "still running", "not compared since")
+    yield from wrong(nights.run(), 0, "1 session accepted; the folder is as they left it")
+
+
+def always_now(path):
+    while True:
+        os.utime(path)
+        time.sleep(0.01)
+
+
+@attack("user")
 def a_kept_record_is_changed(field):
     """What is kept is root's alone, and is what was audited, whatever links the user has to the record."""
     nights = Nights(field, field.user)
