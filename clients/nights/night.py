@@ -1,6 +1,7 @@
 """One run for one user: audits what was recorded, and compares the folders with what that leaves."""
 import fcntl
 import os
+import resource
 import subprocess
 import sys
 import time
@@ -11,6 +12,10 @@ from probing import program
 
 TREE = os.path.join(program.CLIENTS, "tree")
 MOST_LINES = 20
+# An audit has the tree file, the tree, and at its end the file of the last tree.
+SHARE = 3
+# The least that an address space is bounded by: the program itself has to be loaded.
+LEAST_SPACE = 1 << 28
 # What ended runs and audits may have left in the folder of a user.
 LEFT = ("tree.after", "tree.now", ".sftpv3-tree-", "record.new")
 # How many times it is looked again, if a session runs and ends meanwhile.
@@ -30,6 +35,8 @@ class Night:
     def __init__(self, given):
         self.given, self.program = given, program.program()
         self.options = given.audit or usual(self.program)
+        if "--memory" not in self.options:
+            self.options += ["--memory", str(given.memory)]
         self.spool = Spool(given.records, given.user, given.number)
         self.folder = os.path.join(given.state, given.user)
         os.makedirs(self.folder, mode=0o700, exist_ok=True)
@@ -52,12 +59,18 @@ class Night:
         print(f"{self.given.user}: {text}", flush=True)
         self.status = max(self.status, status)
 
+    def run_program(self, *words, **options):
+        """Runs the program with no more memory than an audit may take. Returns how that ended."""
+        most = (max(4 * self.given.memory, LEAST_SPACE),) * 2
+        return subprocess.run([self.program, *words], stdin=subprocess.DEVNULL, stdout=subprocess.PIPE,
+                              stderr=subprocess.STDOUT, check=False,
+                              preexec_fn=lambda: resource.setrlimit(resource.RLIMIT_AS, most), **options)
+
     def audit(self, copy, name, note):
         """Audits a session, and makes its last tree the one of the next. Returns whether it is accepted."""
         after = f"{self.tree}.after"
-        ran = subprocess.run([self.program, "audit", *self.options, "--explain", "--tree", self.tree,
-                              "--transcript", f"/proc/self/fd/{copy.file}", "--out", after],
-                             stdout=subprocess.PIPE, stderr=subprocess.STDOUT, check=False, pass_fds=[copy.file])
+        ran = self.run_program("audit", *self.options, "--explain", "--tree", self.tree, "--transcript",
+                               f"/proc/self/fd/{copy.file}", "--out", after, pass_fds=[copy.file])
         said = ran.stdout.decode(errors="replace")
         first, _, more = said.partition("\n")
         if ran.returncode == 0:
@@ -67,6 +80,9 @@ class Night:
             self.cut += " unanswered" in first
             self.say(f"{name}: {first}{note}")
             return True
+        if ran.returncode == 3 and first.startswith("sftpv3: out of memory"):
+            return self.give_up(copy, name, f": the audit needs more than {self.given.memory} bytes of memory "
+                                f"(--memory){note}")
         if ran.returncode != 1 and not first.startswith("sftpv3: transcript: "):
             raise Failed(f"{name}: the audit ended with status {ran.returncode}: {said.strip()}")
         with open(f"{copy.keep('refused')}.verdict", "w", encoding="utf-8") as file:
@@ -116,7 +132,7 @@ class Night:
     def look(self):
         """The tree of the folders as they are now, or None if a session ran meanwhile."""
         now = f"{self.tree}.now"
-        words = [sys.executable, "-I", TREE, "--out", now,
+        words = [sys.executable, "-I", TREE, "--out", now, "--most", str(self.given.memory // SHARE),
                  "--limits", "raised", "--user", self.given.user]
         for name in ("home", "group"):
             words += [f"--{name}", getattr(self.given, name)] if getattr(self.given, name) else []
@@ -125,7 +141,8 @@ class Night:
                              check=False)
         said = ran.stdout.decode(errors="replace").strip()
         if ran.returncode:
-            raise Failed(said)
+            hint = f" (the files may have a third of --memory, {self.given.memory} bytes)" if "--most" in said else ""
+            raise Failed(f"{said}{hint}")
         return None if self.spool.records() else (now, said)
 
     def compare(self):
@@ -162,9 +179,11 @@ class Night:
         return f"{self.accepted} session{'' if self.accepted == 1 else 's'} accepted{cut}"
 
     def tell_difference(self, now):
-        ran = subprocess.run([self.program, "diff", self.tree, now], stdout=subprocess.PIPE, stderr=subprocess.STDOUT,
-                             check=False)
+        ran = self.run_program("diff", self.tree, now)
         lines = ran.stdout.decode(errors="replace").splitlines()
+        if ran.returncode == 3 and lines[:1] and lines[0].startswith("sftpv3: out of memory"):
+            self.say(f"{self.counted()}; what changed cannot be told with {self.given.memory} bytes (--memory)", 1)
+            return
         if ran.returncode not in (0, 1):
             raise Failed(f"sftpv3 diff ended with status {ran.returncode}: {' '.join(lines)}")
         if ran.returncode == 0:

@@ -212,6 +212,27 @@ def always_now(path):
 
 
 @attack("user")
+def a_record_takes_all_memory(field):
+    """A record of some kilobytes is not judged beyond the limit, which says so, and holds up nobody else."""
+    nights = Nights(field, field.user)
+    files = [f"{nights.home}/m{it}" for it in range(24)]
+    made = [it for file in files for it in (opened(file), sized(LARGEST), CLOSED)]
+    many = session(*made, *((REMOVE, string(file.encode())) for file in files))
+    nights.put(record_name(field.user), many, field.user.pw_uid)
+    found = nights.run()
+    yield from wrong(found, 1, "not judged: ", "--memory", without=["status 3"])
+    if found[2] > 1200 * MEBI:
+        yield f"{found[2] // MEBI} MiB"
+    nights.put(record_name(field.user), session(), field.user.pw_uid)
+    yield from wrong(nights.run(), 0, "1 session accepted; the folder is as they left it")
+    nights.put(record_name(field.user), many, field.user.pw_uid)
+    found = nights.run("--memory", str(256 * MEBI))
+    yield from wrong(found, 1, "not judged: ")
+    if found[2] > 400 * MEBI:
+        yield f"{found[2] // MEBI} MiB of 256"
+
+
+@attack("user")
 def a_kept_record_is_changed(field):
     """What is kept is root's alone, and is what was audited, whatever links the user has to the record."""
     nights = Nights(field, field.user)
