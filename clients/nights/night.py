@@ -20,6 +20,8 @@ LEAST_SPACE = 1 << 28
 LEFT = ("tree.after", "tree.now", ".sftpv3-tree-", "record.new")
 # How many times it is looked again, if a session runs and ends meanwhile.
 LOOKS = 3
+# How many sessions before and behind one are looked at, and how many named, that ran at the same time.
+NEAR, NAMED = 200, 5
 
 
 def usual(program_file):
@@ -27,6 +29,13 @@ def usual(program_file):
     text = subprocess.run([program_file, "help", "audit"], stdout=subprocess.PIPE, check=False).stdout.decode()
     profile = "posix-user" if "posix-user" in text else "posix"
     return ["--profile", profile] + ["--cut"] * ("--cut" in text)
+
+
+def said_beside(record, others):
+    """What is said of the sessions that ran at the same time."""
+    beside = [it.name for it in others if it.is_beside(record)]
+    more = f" and {len(beside) - NAMED} more" if len(beside) > NAMED else ""
+    return f" (beside {', '.join(beside[:NAMED])}{more})" if beside else ""
 
 
 class Night:
@@ -60,17 +69,21 @@ class Night:
         self.status = max(self.status, status)
 
     def run_program(self, *words, **options):
-        """Runs the program with no more memory than an audit may take. Returns how that ended."""
+        """Runs the program with no more memory and time than an audit may take. Returns how that ended."""
         most = (max(4 * self.given.memory, LEAST_SPACE),) * 2
         return subprocess.run([self.program, *words], stdin=subprocess.DEVNULL, stdout=subprocess.PIPE,
-                              stderr=subprocess.STDOUT, check=False,
+                              stderr=subprocess.STDOUT, check=False, timeout=self.given.audit_seconds,
                               preexec_fn=lambda: resource.setrlimit(resource.RLIMIT_AS, most), **options)
 
     def audit(self, copy, name, note):
         """Audits a session, and makes its last tree the one of the next. Returns whether it is accepted."""
         after = f"{self.tree}.after"
-        ran = self.run_program("audit", *self.options, "--explain", "--tree", self.tree, "--transcript",
-                               f"/proc/self/fd/{copy.file}", "--out", after, pass_fds=[copy.file])
+        try:
+            ran = self.run_program("audit", *self.options, "--explain", "--tree", self.tree, "--transcript",
+                                   f"/proc/self/fd/{copy.file}", "--out", after, pass_fds=[copy.file])
+        except subprocess.TimeoutExpired:
+            return self.give_up(copy, name, f": the audit did not end within {self.given.audit_seconds:g} seconds "
+                                f"(--audit-seconds){note}")
         said = ran.stdout.decode(errors="replace")
         first, _, more = said.partition("\n")
         if ran.returncode == 0:
@@ -101,15 +114,14 @@ class Night:
     def audit_all(self):
         """Audits what has ended, as far as there is a tree to start from. Returns whether a session still runs."""
         records = self.spool.records()
-        for record in records:
+        for place, record in enumerate(records):
             record.open()
             try:
                 if record.is_running():
                     self.say(f"{record.name}: still running; it and what comes behind it are audited when it has "
                              "ended")
                     return True
-                beside = [it.name for it in records if it.is_beside(record)]
-                self.judge(record, f" (beside {', '.join(beside)})" if beside else "")
+                self.judge(record, said_beside(record, records[max(0, place - NEAR):place + NEAR]))
             finally:
                 record.close()
         return False
@@ -179,7 +191,11 @@ class Night:
         return f"{self.accepted} session{'' if self.accepted == 1 else 's'} accepted{cut}"
 
     def tell_difference(self, now):
-        ran = self.run_program("diff", self.tree, now)
+        try:
+            ran = self.run_program("diff", self.tree, now)
+        except subprocess.TimeoutExpired:
+            self.say(f"{self.counted()}; what changed cannot be told within {self.given.audit_seconds:g} seconds", 1)
+            return
         lines = ran.stdout.decode(errors="replace").splitlines()
         if ran.returncode == 3 and lines[:1] and lines[0].startswith("sftpv3: out of memory"):
             self.say(f"{self.counted()}; what changed cannot be told with {self.given.memory} bytes (--memory)", 1)

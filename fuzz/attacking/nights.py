@@ -233,6 +233,23 @@ def a_record_takes_all_memory(field):
 
 
 @attack("user")
+def a_record_takes_all_time(field):
+    """An audit ends when its time is over, which is said, and holds up nobody else."""
+    nights = Nights(field, field.user)
+    changes = [it for _ in range(400) for it in (sized(LARGEST), sized(0))]
+    nights.put(record_name(field.user), session(opened(f"{nights.home}/m"), *changes), field.user.pw_uid)
+    start = time.monotonic()
+    yield from wrong(nights.run("--audit-seconds", "2"), 1, "not judged: the audit did not end within 2 seconds")
+    if time.monotonic() - start > 30:
+        yield f"{time.monotonic() - start:.0f} seconds"
+    left = sorted(os.listdir(os.path.join(nights.state, field.user.pw_name)))
+    if left != ["compared", "tree", "unjudged"]:
+        yield f"left: {left}"
+    nights.put(record_name(field.user), session(), field.user.pw_uid)
+    yield from wrong(nights.run(), 0, "1 session accepted; the folder is as they left it")
+
+
+@attack("user")
 def a_kept_record_is_changed(field):
     """What is kept is root's alone, and is what was audited, whatever links the user has to the record."""
     nights = Nights(field, field.user)
