@@ -8,6 +8,7 @@ import time
 
 from nights.keeping import Copy
 from nights.records import Failed, Spool
+from paging import packets
 from probing import program
 
 TREE = os.path.join(program.CLIENTS, "tree")
@@ -33,7 +34,7 @@ def usual(program_file):
 
 def said_beside(record, others):
     """What is said of the sessions that ran at the same time."""
-    beside = [it.name for it in others if it.is_beside(record)]
+    beside = [it.shown() for it in others if it.is_beside(record)]
     more = f" and {len(beside) - NAMED} more" if len(beside) > NAMED else ""
     return f" (beside {', '.join(beside[:NAMED])}{more})" if beside else ""
 
@@ -65,7 +66,8 @@ class Night:
                 os.remove(name, dir_fd=self.held)
 
     def say(self, text, status=0):
-        print(f"{self.given.user}: {text}", flush=True)
+        """Prints a line. Names in it may have been chosen by a user."""
+        print(packets.line(f"{self.given.user}: {text}"), flush=True)
         self.status = max(self.status, status)
 
     def run_program(self, *words, **options):
@@ -118,7 +120,7 @@ class Night:
             record.open()
             try:
                 if record.is_running():
-                    self.say(f"{record.name}: still running; it and what comes behind it are audited when it has "
+                    self.say(f"{record.shown()}: still running; it and what comes behind it are audited when it has "
                              "ended")
                     return True
                 self.judge(record, said_beside(record, records[max(0, place - NEAR):place + NEAR]))
@@ -131,11 +133,11 @@ class Night:
         try:
             copy = Copy(self.folder, record)
         except OSError as error:
-            raise Failed(f"{record.name}: cannot be copied: {error.strerror}") from None
+            raise Failed(f"{record.shown()}: cannot be copied: {error.strerror}") from None
         try:
             if not os.path.exists(self.tree):
-                self.give_up(copy, record.name, ", since there is no tree that it started from")
-            elif not self.audit(copy, record.name, note):
+                self.give_up(copy, record.shown(), ", since there is no tree that it started from")
+            elif not self.audit(copy, record.shown(), note):
                 os.remove(self.tree)
         finally:
             copy.close()

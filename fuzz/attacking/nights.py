@@ -288,6 +288,26 @@ def a_record_unfolds_on_the_disk(field):
         yield "they do"
 
 
+@attack("user")
+def a_name_reaches_the_terminal(field):
+    """Names of records, the longest too, are printed as one line without what a terminal acts on."""
+    hostile = "\x1b]0;title\x07\x1b[2J\u202e\u009b31m\udcff\rsop: 9 sessions accepted; the folder is as they left it"
+    nights = Nights(field, field.user)
+    for name in (hostile, "x" * 244, "\u202e" * 81):
+        nights.put(f"{name}.transcript", session(), field.user.pw_uid)
+    nights.put(f"{hostile}.2.transcript", session()[:-1], field.user.pw_uid)
+    held = os.open(nights.put(f"{hostile}.3.transcript", session(), field.user.pw_uid, ended=5), os.O_RDONLY)
+    fcntl.flock(held, fcntl.LOCK_EX)
+    for turn in range(3):
+        status, said, _ = nights.run("--longest", "1")
+        if status == 3 or any(not it.isprintable() for it in said.replace("\n", "")):
+            yield f"run {turn}: status {status}: {said!r}"
+        if turn == 0:
+            nights.put(f"{'x' * 244}.transcript", session()[:-1], field.user.pw_uid)
+    os.close(held)
+    yield from wrong(nights.run(), 1)
+
+
 @contextmanager
 def small_disk(folder, size):
     """A file system of so many bytes in a folder."""
