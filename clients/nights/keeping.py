@@ -57,7 +57,6 @@ class Copy:
         try:
             copy(record.file, self.file)
             os.fsync(self.file)
-            os.utime(self.file, ns=(record.state.st_atime_ns, record.state.st_mtime_ns))
         except BaseException:
             self.close()
             raise

@@ -45,7 +45,7 @@ class Night:
     def __init__(self, given):
         self.given, self.program = given, program.program()
         self.options = given.audit or usual(self.program)
-        if "--memory" not in self.options:
+        if not any(it.partition("=")[0] == "--memory" for it in self.options):
             self.options += ["--memory", str(given.memory)]
         self.spool = Spool(given.records, given.user, given.number)
         self.folder = os.path.join(given.state, given.user)

@@ -255,7 +255,7 @@ def a_kept_record_is_changed(field):
     nights = Nights(field, field.user)
     data = session(mkdir(f"{nights.home}/d"), rmdir(f"{nights.home}/d"))
     for kind, changed in (("accepted", data), ("refused", data[:-1])):
-        path = nights.put(record_name(field.user), changed, field.user.pw_uid)
+        path = nights.put(record_name(field.user), changed, field.user.pw_uid, ended=10 ** 9)
         link = field.path(f"link-{kind}")
         os.link(path, link)
         nights.run()
@@ -273,6 +273,8 @@ def a_kept_record_is_changed(field):
         found = os.stat(kept[0])
         if (found.st_uid, found.st_mode & 0o777) != (0, 0o600):
             yield f"what was {kind} is of {found.st_uid}, mode {found.st_mode & 0o777:o}"
+        if time.time() - found.st_mtime > SECONDS:
+            yield f"a timer goes by what the user chose: {found.st_mtime}"
 
 
 @attack("user")
