@@ -10,7 +10,8 @@ from pathlib import Path
 from texts import TOP
 
 # The scripts with texts of their own.
-SCRIPTS = ("sftpv3-nightly", "sftpv3-page", "sftpv3-probe", "sftpv3-record", "sftpv3-recordd", "sftpv3-tree")
+SCRIPTS = ("sftpv3-nightly", "sftpv3-page", "sftpv3-probe", "sftpv3-record", "sftpv3-recordd", "sftpv3-serve",
+           "sftpv3-tree")
 INIT = bytes.fromhex("000000050100000003")
 
 
@@ -146,6 +147,15 @@ def wrong_recorder(prefix, room):
         yield f"install: sftpv3-record ended with status {ran.returncode} and recorded {recorded.hex()}"
 
 
+def wrong_serve(prefix, room):
+    """Serves a session that only opens: a VERSION is the reply, the tree is saved, and nothing else is left."""
+    (room / "served").mkdir()
+    words = [prefix / "bin/sftpv3-serve", "--tree", TOP / "examples/blank.tree", "--save", room / "served/end.tree"]
+    ran = subprocess.run([str(it) for it in words], input=INIT, stdout=subprocess.PIPE, stderr=subprocess.STDOUT)
+    if ran.returncode or len(ran.stdout) != 124 or files_below(room / "served") != ["end.tree"]:
+        yield f"install: sftpv3-serve ended with status {ran.returncode}: {ran.stdout!r} {files_below(room / 'served')}"
+
+
 def wrong_removal(program, room):
     """Installs and removes in a folder of its own, and installs where nothing can be written."""
     prefix, plain = room / "removed", room / "plain"
@@ -157,6 +167,9 @@ def wrong_removal(program, room):
             yield f"install: {' '.join(map(str, words))} ended with status {status}: {printed}"
     if files_below(prefix) or (prefix / "lib/sftpv3").exists():
         yield f"install: --uninstall leaves {files_below(prefix)}"
+    folders = {str(it.relative_to(prefix)) for it in prefix.rglob("*")} - {"bin", "lib", "share", "share/man"}
+    if folders:
+        yield f"install: --uninstall leaves the folders {sorted(folders)}"
     plain.write_text("")
     status, printed = called(["./install", "--prefix", plain], program)
     if (status, printed) != (3, f"install: cannot write {plain}/bin/sftpv3\n"):
@@ -190,4 +203,4 @@ def wrong_installation(program, room):
     share = prefix / "share"
     return [*wrong_texts(program, share), *wrong_syntax(share), *wrong_completion(share),
             *wrong_script_texts(prefix, room), *wrong_scripts(prefix, room), *wrong_recorder(prefix, room),
-            *wrong_removal(program, room), *wrong_package(program, room)]
+            *wrong_serve(prefix, room), *wrong_removal(program, room), *wrong_package(program, room)]

@@ -86,7 +86,8 @@ class Night:
         except subprocess.TimeoutExpired:
             return self.give_up(copy, name, f": the audit did not end within {self.given.audit_seconds:g} seconds "
                                 f"(--audit-seconds){note}")
-        said = ran.stdout.decode(errors="replace")
+        # the record is named below, and not by its descriptor
+        said = ran.stdout.decode(errors="replace").replace(f"sftpv3: file: /proc/self/fd/{copy.file}\n", "")
         first, _, more = said.partition("\n")
         if ran.returncode == 0:
             copy.keep("accepted")

@@ -1,16 +1,19 @@
 """Audits that read along."""
 import os
+import resource
 import signal
 import socket
+import struct
 import subprocess
 import time
 from pathlib import Path
 
 import sftp3
 from record_trials.ends import SOON, whole
-from record_trials.failing import run
+from record_trials.failing import limited, run
 from record_trials.steps import INIT, PROGRAM, close, ended, errors, open_session, receive, request
-from recording.options import audit_words, plainly_read
+from recording import naming
+from recording.options import AUDIT_FLAGS, AUDIT_VALUES, audit_words, plainly_read
 
 LINE = "audit: refused record 8: UnknownReply"
 
@@ -22,10 +25,10 @@ def blank(room):
     return tree
 
 
-def audited(room, *words, options=(), program=PROGRAM):
+def audited(room, *words, options=(), program=PROGRAM, **more):
     """The recorder with an audit from the blank tree, in front of the stub."""
     return room.stub("t", *words, options=["--audit", "--overwrite", "--program", program, "--tree", blank(room),
-                                           "--log", "log", *options])
+                                           "--log", "log", *options], **more)
 
 
 def log(room):
@@ -37,7 +40,6 @@ def says_soon(room, text):
     while text not in log(room) and time.monotonic() < end:
         time.sleep(0.02)
     return text in log(room)
-
 
 
 def wrong_replies(steps, room):
@@ -83,7 +85,7 @@ def accepted(steps, room):
 
 def bad_auditors(steps, room):
     """An auditor that dies, never reads, or cannot run: the session goes on, and a line says so."""
-    for name, text, seen in (("dies", "exit 9", "status 9"), ("is killed", "kill -9 $$", "ended with status -9"),
+    for name, text, seen in (("dies", "exit 9", "status 9"), ("is killed", "kill -9 $$", "was ended by signal 9"),
                              ("never reads", "sleep 1000", "did not end"), ("has a bad tree", None, "ended with")):
         program = room.folder / "auditor"
         if text:
@@ -137,7 +139,10 @@ def system_log(steps, room):
                 process.stdin.write(request(number, "MKDIR", name, {}))
                 receive(process, 21)
             listener.settimeout(3)
-            said = listener.recv(4096).decode()
+            said = ""
+            while "sftpv3-record" not in said:
+                # other programs may write there, too
+                said = listener.recv(4096).decode()
             steps.check("--syslog: the line", f"sftpv3-record[{process.pid}]" in said and LINE in said, said)
         finally:
             os.unlink("/dev/log")
@@ -165,6 +170,67 @@ def logs(steps, room):
     steps.check("--log: no link is followed", ended(process, 3) == 0 and room.read("victim") == b"dear")
 
 
+def lost_records(steps, room):
+    """A transcript that cannot be written any more is no fault of the server: the audit reads on without it."""
+    process = audited(room, "wrong", options=["--stop"], preexec_fn=limited(resource.RLIMIT_FSIZE, 60))
+    open_session(process)
+    for number, name in ((1, b"/a"), (2, b"/b"), (3, b"/c")):
+        process.stdin.write(request(number, "MKDIR", name, {}))
+        receive(process, 21)
+    steps.check("a lost record: the audit goes on, and finds the wrong reply", ended(process, 3) == 1,
+                str(process.poll()))
+    said = errors(process)
+    steps.check("a lost record: lines for both", "not recorded any further" in said and LINE in said, said)
+
+
+def long_packets(steps, room):
+    """A packet that no transcript can hold ends the record and the audit, and is no refusal."""
+    process = audited(room, options=["--stop"])
+    open_session(process)
+    process.stdin.write(struct.pack(">IB", 300_000, 200) + bytes(299_999))
+    steps.check("a packet that is too long: the audited session goes on", len(receive(process, 17)) == 17)
+    close(process.stdin)
+    steps.check("a packet that is too long: status 0", ended(process, 3) == 0, str(process.poll()))
+    said = errors(process)
+    steps.check("a packet that is too long: neither recorded nor audited", "not recorded any further" in said and
+                "audit is given up" in said, said)
+    steps.check("a packet that is too long: nothing is refused", "refused" not in said + log(room) and
+                "transcript:" not in said, said)
+
+
+def full_logs(steps, room):
+    """A log that takes only a part of a line is told of."""
+    (room.folder / "log").write_bytes(bytes(1000))
+    process = audited(room, "wrong", preexec_fn=limited(resource.RLIMIT_FSIZE, 1010))
+    open_session(process)
+    for number, name in ((1, b"/a"), (2, b"/b"), (3, b"/c")):
+        process.stdin.write(request(number, "MKDIR", name, {}))
+        receive(process, 21)
+    time.sleep(0.5)
+    close(process.stdin)
+    steps.check("a full log: the session goes on", ended(process, SOON) == 0, str(process.poll()))
+    said = errors(process)
+    steps.check("a full log: a line says so", "cannot write the log: " in said and LINE in said, said)
+
+
+def chained(steps, room):
+    """The tree at the end of a session can be that of the next, by the user's name."""
+    name = naming.user_name(os.geteuid())
+    tree = room.folder / f"{name}.tree"
+    tree.write_bytes(blank(room).read_bytes())
+    for number in (1, 2):
+        process = room.stub("t", options=["--audit", "--overwrite", "--program", PROGRAM, "--tree", "%u.tree", "--out",
+                                          "%u.tree", "--log", "log"])
+        open_session(process)
+        process.stdin.write(request(1, "MKDIR", b"/a" if number == 1 else b"/b", {}))
+        receive(process, 21)
+        close(process.stdin)
+        steps.check(f"--out: session {number} ends", ended(process, 3) == 0, errors(process))
+    steps.check("--out: both are accepted", log(room).count("audit: accepted 1 requests") == 2, log(room))
+    shown = subprocess.run([PROGRAM, "show", tree], stdout=subprocess.PIPE, text=True, check=False).stdout
+    steps.check("--out: the tree has what both made", '"/a"' in shown and '"/b"' in shown, shown)
+
+
 def memory(steps, _):
     """The memory of an audit is bounded, unless told otherwise."""
     for words, wanted in (([], "1073741824"), (["--memory", "5000"], "5000")):
@@ -173,4 +239,12 @@ def memory(steps, _):
         steps.check(f"an audit has --memory {wanted}", found == [wanted], str(given))
 
 
-TRIALS = (memory, wrong_replies, stopped, accepted, bad_auditors, behind, system_log, logs)
+def known_options(steps, _):
+    """What the recorder passes on to the audit is what the program has."""
+    text = subprocess.run([PROGRAM, "help", "audit"], stdout=subprocess.PIPE, text=True, check=True).stdout
+    unknown = [it for it in (*AUDIT_VALUES, *AUDIT_FLAGS) if f" {it} " not in text]
+    steps.check("the audit has each option that the recorder passes on to it", not unknown, " ".join(unknown))
+
+
+TRIALS = (memory, known_options, wrong_replies, stopped, accepted, bad_auditors, behind, system_log, logs, lost_records,
+          long_packets, full_logs, chained)

@@ -151,5 +151,7 @@ def request(number, name, *fields):
 
 
 def errors(process):
-    """What the process printed to standard error, when it has ended."""
+    """What the process printed to standard error, when it has ended. One that has not by now is ended."""
+    if process.poll() is None:
+        process.kill()
     return process.stderr.read().decode(errors="replace")

@@ -27,7 +27,7 @@ class Audit:
         os.set_blocking(self.input, False)
         os.set_blocking(self.output, False)
         self.pending, self.behind = collections.deque(), 0
-        self.is_fed, self.is_heard, self.fell_behind, self.refused = True, True, False, False
+        self.is_fed, self.is_heard, self.is_given_up, self.refused = True, True, False, False
         self.said = b""
 
     def put(self, data):
@@ -37,8 +37,13 @@ class Audit:
         self.behind += len(data)
         self.feed()
         if self.behind > BEHIND:
-            self.fell_behind = True
-            self.notices.say("the audit fell behind and is given up; the record goes on")
+            self.give_up("it fell behind; the record goes on")
+
+    def give_up(self, why):
+        """Ends the audit. What it says of the packets that it had is not heard."""
+        if not self.is_given_up and self.is_heard:
+            self.is_given_up = True
+            self.notices.say(f"the audit is given up: {why}")
             self.stop_feeding()
             self.kill()
 
@@ -81,7 +86,7 @@ class Audit:
     def conclude(self):
         status = self.process.wait()
         lines = self.said.decode(errors="replace").splitlines()
-        if self.fell_behind:
+        if self.is_given_up:
             return
         if status == 0 and lines:
             self.notices.note(f"audit: {lines[-1]}")
@@ -90,7 +95,8 @@ class Audit:
             for line in lines:
                 self.notices.say(f"audit: {line}")
         else:
-            self.notices.say(f"the audit ended with status {status}; the record goes on: {' '.join(lines)}")
+            how = f"ended with status {status}" if status >= 0 else f"was ended by signal {-status}"
+            self.notices.say(f"the audit {how}; the record goes on{': ' if lines else ''}{' '.join(lines)}")
 
     def kill(self):
         """Ends the audit, and what it started."""

@@ -55,9 +55,18 @@ class Notices:
             syslog.syslog(level, line)
         if self.log is not None:
             date = time.strftime("%Y-%m-%dT%H:%M:%SZ", time.gmtime())
-            try:
-                os.write(self.log, f"{date} {self.name}[{os.getpid()}] {line}\n".encode())
-            except OSError as error:
-                os.close(self.log)
-                self.log = None
-                write_error(f"{self.name}: cannot write the log: {error.strerror}\n")
+            self.append(f"{date} {self.name}[{os.getpid()}] {line}\n".encode())
+
+    def append(self, data):
+        """Writes a line to the log. If a full disk takes only a part of it, the second call says so."""
+        try:
+            count = os.write(self.log, data)
+            if count < len(data):
+                os.write(self.log, data[count:])
+        except OSError as error:
+            self.lose_log(error.strerror)
+
+    def lose_log(self, why):
+        os.close(self.log)
+        self.log = None
+        self.say(f"cannot write the log: {why}")

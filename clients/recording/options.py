@@ -18,8 +18,8 @@ NAME = "sftpv3-record"
 
 # The options of the audit that are passed on to it: with a value, and without.
 AUDIT_VALUES = {"--tree": "FILE", "--out": "FILE", "--profile": "NAME", "--allow": "NAME,...", "--except": "NAME,...",
-                "--umask": "OCTAL", "--new-owner": "RULE", "--symlink": "ORDER", "--memory": "BYTES"}
-AUDIT_FLAGS = ("--cut", "--keep-going", "--json")
+                "--umask": "OCTAL", "--new-owner": "RULE", "--symlink": "ORDER", "--memory": "BYTES", "--mode": "OCTAL"}
+AUDIT_FLAGS = ("--cut", "--json", "--no-sync")
 
 # All options of the recorder: without a value, and with one.
 FLAGS = ("--plain", "--overwrite", "--required", "--syslog", "--audit", "--stop", *AUDIT_FLAGS)
@@ -110,7 +110,7 @@ def read_options(words):
     if options.spool and options.overwrite:
         complain("--overwrite and --spool exclude each other")
     try:
-        for name in ("transcript", "times", "log"):
+        for name in ("transcript", "times", "log", "tree", "out"):
             if getattr(options, name):
                 setattr(options, name, naming.expand(getattr(options, name)))
     except naming.BadName as error:

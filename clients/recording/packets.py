@@ -109,15 +109,15 @@ class Flow:
 
     def give(self):
         """Writes what may be passed on, as much as the target takes. Returns the number of bytes, -1 if it broke."""
-        before = self.start
-        while self.start < self.ready:
+        count = 0
+        if self.start < self.ready:
             try:
-                self.start += os.write(self.target, self.buffer[self.start:self.ready])
+                count = os.write(self.target, self.buffer[self.start:self.ready])
             except BlockingIOError:
-                break
+                pass
             except OSError:
                 return -1
-        count = self.start - before
+        self.start += count
         if self.start == self.filled:
             self.start = self.ready = self.whole = self.filled = 0
         return count

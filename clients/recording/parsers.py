@@ -4,10 +4,10 @@ import argparse
 from recording.options import AUDIT_FLAGS, AUDIT_MEMORY, AUDIT_VALUES, GRACE, NAME
 
 RECORD_NOTES = """\
-In TRANSCRIPT and in the names of --times and --log, %p is the recorder's process, %u the user, %t the time of the start
-(20261127T124233Z), %h the client's address from SSH_CONNECTION, and %% a percent sign. A transcript is made anew, with
-mode 0600, and never overwritten: if the name is taken, it is NAME.2, NAME.3, ... No link is followed. A pipe or a
-device that exists is written to.
+In TRANSCRIPT and in the names of --times, --log, --tree and --out, %p is the recorder's process, %u the user, %t the
+time of the start (20261127T124233Z), %h the client's address from SSH_CONNECTION, and %% a percent sign. A transcript
+is made anew, with mode 0600, and never overwritten: if the name is taken, it is NAME.2, NAME.3, ... No link is
+followed. A pipe or a device that exists is written to.
 
 A request is recorded before the server gets it, and a reply before the client gets it. If the transcript cannot be
 written, the session goes on without it, and a line on standard error says so, unless it is --required.

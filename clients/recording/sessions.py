@@ -5,6 +5,7 @@ Whatever ends first ends the session: the other pipes are closed, and a server t
 IDLE seconds and SIGKILL after KILL more. One that still works, or whose replies a client still awaits, has `grace`
 seconds from the last byte that moved.
 """
+import fcntl
 import os
 import select
 import time
@@ -18,6 +19,9 @@ KILL = 0.3
 # How long a server may outlive SIGKILL, as in a call that waits for a disk.
 LOST = 1.0
 TICK = 0.05
+
+# How much a pipe from the client is to hold. One to the client is as quick as it is.
+PIPE = 1 << 18
 
 OWN_FAILURE = 3
 AUDIT_REFUSED = 1
@@ -53,6 +57,14 @@ class Signals:
             pass
 
 
+def widen(file):
+    """Makes a pipe one that holds more, as far as the system allows it: sshd's have 64 KiB, and sshd waits for us."""
+    try:
+        fcntl.fcntl(file, fcntl.F_SETPIPE_SZ, PIPE)
+    except OSError:
+        pass
+
+
 class Ends:
     """The client's two ends, as descriptors of our own, so that they can be closed. 0 and 1 lead nowhere then."""
 
@@ -65,6 +77,7 @@ class Ends:
         self.were_blocking = {it: os.get_blocking(it) for it in (self.input, self.output)}
         for it in self.were_blocking:
             os.set_blocking(it, False)
+        widen(self.input)
 
     def close(self, file):
         if file in self.were_blocking:
@@ -129,19 +142,28 @@ class Session:
             self.cut(OWN_FAILURE)
         else:
             self.notices.say(f"{why}; the session is not recorded any further")
-            if self.audit:
-                self.audit.stop_feeding()
+
+    def is_read(self):
+        """Whether packets are looked for: an audit goes on if its record cannot be written any more."""
+        return self.record or self.audit and self.audit.is_fed
 
     def add(self, flow):
         """Records what has become whole, and passes it on unless a sink is busy."""
-        packets = flow.split() if self.record or self.audit and self.audit.is_fed else []
+        packets = flow.split() if self.is_read() else []
         if packets:
             self.put(flow.side, packets)
-        if flow.too_long is not None and self.record:
-            who = "client" if flow is self.asked else "server"
-            self.lose_record(f"the {who} sent a packet of length {flow.too_long}")
+        if flow.too_long is not None and self.is_read():
+            self.lose_packets(flow)
         self.waiting, self.waited = flow, time.monotonic()
         self.pass_on_if_recorded()
+
+    def lose_packets(self, flow):
+        """A packet is too long to be held, and those behind it cannot be told apart."""
+        why = f"the {'client' if flow is self.asked else 'server'} sent a packet of length {flow.too_long}"
+        if self.audit:
+            self.audit.give_up(why)
+        if self.record:
+            self.lose_record(why)
 
     def put(self, side, packets):
         """Gives packets to all that records."""
@@ -154,7 +176,7 @@ class Session:
 
     def pass_on(self, flow):
         """What is recorded is passed on; what is not whole waits, if it can still be recorded."""
-        if (self.record or self.audit and self.audit.is_fed) and flow.too_long is None and not flow.ended:
+        if self.is_read() and flow.too_long is None and not flow.ended:
             flow.release()
         else:
             flow.release_all()

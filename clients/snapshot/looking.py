@@ -70,8 +70,11 @@ def below_entry(entry: Entry, mounts: FrozenSet[Place] = frozenset()) -> Iterato
 SPECIAL = {stat.S_IFSOCK: "a socket", stat.S_IFIFO: "a FIFO", stat.S_IFCHR: "a device", stat.S_IFBLK: "a device"}
 
 
-def special(entry: Entry) -> str:
-    """What an entry is, if no tree can hold it, or if it is mounted and no directory."""
-    is_directory = stat.S_ISDIR(entry.state.st_mode)
-    found = "mounted" if entry.is_mount and not is_directory else ""
-    return SPECIAL.get(stat.S_IFMT(entry.state.st_mode), found)
+def kind(entry: Entry) -> str:
+    """What an entry is, if no tree can hold it: a socket, a FIFO or a device."""
+    return SPECIAL.get(stat.S_IFMT(entry.state.st_mode), "")
+
+
+def is_mounted_over(entry: Entry) -> bool:
+    """Whether an entry is mounted and no directory."""
+    return entry.is_mount and not stat.S_ISDIR(entry.state.st_mode)

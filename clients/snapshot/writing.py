@@ -4,7 +4,7 @@ import stat
 import struct
 from typing import BinaryIO, Callable, Dict, NamedTuple, Tuple
 
-from snapshot.looking import Entry, Trouble, shown, special
+from snapshot.looking import Entry, Trouble, is_mounted_over, kind, shown
 from snapshot.places import View
 
 # docs/TREE.md, Limits: entries, bytes of a file, bytes that one READ gives, open handles.
@@ -20,24 +20,37 @@ class Owner(NamedTuple):
     group: int
 
 
-def tell_of(entry: Entry, tell: Callable[[str], None]) -> None:
-    """Names what is left out of a tree."""
+class Wanted(NamedTuple):
+    """What is asked of a tree: its limits by name, the most bytes of its files together, and what becomes of sockets,
+    FIFOs and devices."""
+    limits: str
+    most: int
+    special: str = "skip"
+
+    def leaves_out(self, entry: Entry) -> bool:
+        return is_mounted_over(entry) or bool(kind(entry)) and self.special != "file"
+
+
+def tell_of(entry: Entry, wanted: Wanted, tell: Callable[[str], None]) -> None:
+    """Names what is left out of a tree, and what is not there as it is."""
     if entry.is_mount:
-        what = "it is" if special(entry) else "what it has is"
+        what = "it is" if wanted.leaves_out(entry) else "what it has is"
         tell(f"{shown(entry.place)}: mounted: {what} left out")
-    elif special(entry):
-        tell(f"{shown(entry.place)}: {special(entry)}, which no tree holds: left out")
+    elif kind(entry):
+        became = {"skip": "left out", "file": "an empty file in its place", "refuse": "refused"}[wanted.special]
+        tell(f"{shown(entry.place)}: {kind(entry)}, which no tree holds: {became}")
 
 
 class Needs:
     """What a view needs of a tree's limits: how many entries, and the largest file; and what is left out."""
 
-    def __init__(self, view: View, tell: Callable[[str], None]):
-        self.entries = self.largest = self.left_out = self.bytes = 0
+    def __init__(self, view: View, wanted: Wanted, tell: Callable[[str], None]):
+        self.entries = self.largest = self.left_out = self.bytes = refused = 0
         counted = set()
         for entry in view.entries():
-            tell_of(entry, tell)
-            if special(entry):
+            tell_of(entry, wanted, tell)
+            refused += wanted.special == "refuse" and bool(kind(entry)) and not entry.is_mount
+            if wanted.leaves_out(entry):
                 self.left_out += 1
                 continue
             self.left_out += entry.is_mount
@@ -50,6 +63,8 @@ class Needs:
                 if entry.state.st_size > RAISED[1]:
                     raise Trouble(f"{shown(entry.place)}: {entry.state.st_size} bytes; a file of a tree has at most "
                                   f"{RAISED[1]}")
+        if refused:
+            raise Trouble(f"{refused} sockets, FIFOs or devices, which no tree holds")
         if self.entries > RAISED[0]:
             raise Trouble(f"{self.entries} entries; a tree has at most {RAISED[0]}")
 
@@ -102,13 +117,25 @@ class Writer:
             self.file.write(b"D" + owner_of(entry.state))
         elif stat.S_ISLNK(entry.state.st_mode):
             self.file.write(b"L" + string(target_of(entry)))
+        elif kind(entry):
+            self.put_empty(entry)
         else:
             self.put_file(entry)
 
-    def put_file(self, entry: Entry) -> None:
+    def is_further_name(self, entry: Entry) -> bool:
+        """Whether the file has a name already; this one is then written as a further name."""
         number = self.first.setdefault((entry.state.st_dev, entry.state.st_ino), self.count)
         if number != self.count:
             self.file.write(b"H" + numbers(number))
+        return number != self.count
+
+    def put_empty(self, entry: Entry) -> None:
+        """An empty file in the place of a socket, a FIFO or a device, which is not opened."""
+        if not self.is_further_name(entry):
+            self.file.write(b"F" + owner_of(entry.state) + string(b""))
+
+    def put_file(self, entry: Entry) -> None:
+        if self.is_further_name(entry):
             return
         held = os.open(entry.name, os.O_RDONLY | os.O_NOFOLLOW | os.O_NONBLOCK, dir_fd=entry.directory)
         with open(held, "rb", buffering=0) as source:
@@ -142,14 +169,14 @@ def changed(entry: Entry) -> Trouble:
     return Trouble(f"{shown(entry.place)}: changed while it was read")
 
 
-def write(view: View, owner: Owner, wanted: str, most: int, file: BinaryIO, tell: Callable[[str], None]) -> Writer:
+def write(view: View, owner: Owner, wanted: Wanted, file: BinaryIO, tell: Callable[[str], None]) -> Writer:
     """Writes the tree file, and gives what was counted. What changes meanwhile is Trouble."""
-    needs = Needs(view, tell)
-    needs.check_room(file, most)
-    limits, writer = needs.limits(wanted), Writer(file)
+    needs = Needs(view, wanted, tell)
+    needs.check_room(file, wanted.most)
+    limits, writer = needs.limits(wanted.limits), Writer(file)
     writer.head(view, owner, limits, needs.entries)
     for entry in view.entries():
-        if not special(entry):
+        if not wanted.leaves_out(entry):
             if entry.state.st_size > limits[1] and stat.S_ISREG(entry.state.st_mode):
                 raise changed(entry)
             writer.put(entry)

@@ -1,16 +1,28 @@
-"""Sessions of a day, as users have them. Those of ORDINARY are to be accepted together; each of UNKNOWN is refused as
-long as no profile knows it, by a verdict with these words, or accepted once one does."""
+"""Sessions of a day, as users have them. Those of ORDINARY are audited together, one from the end of the other; those
+of ALONE each by itself, and the ones that a program without some word in its help cannot follow are passed by there.
+What docs/USING.md says that no audit follows is in BEYOND: it has to be refused, by a verdict with these words."""
 import os
+import re
 import shutil
 import subprocess
 import time
+from dataclasses import dataclass
+from typing import Callable
 
 import sftp3
 from sshd_trials.clients import OPTIONS, run
+from sshd_trials.editors import EDITORS
+from sshd_trials.page import is_accepted
+
+# How many requests a clone of the repository below takes at least: that of the day had 35,197.
+LEAST_OF_CLONE = 30_000
 
 REPOSITORY = """
 mkdir $ROOM/origin && cd $ROOM/origin && git init -q -b main
 git config user.name u && git config user.email u@localhost
+for folder in $(seq 60); do
+    mkdir -p data/$folder && for number in $(seq 68); do echo $folder $number >data/$folder/$number; done
+done
 mkdir src && for number in $(seq 60); do echo "file $number" >src/$number.txt; done
 printf 'FILES = $(wildcard src/*.txt)\\nall: out/all\\n\\n' >Makefile
 printf 'out/all: $(patsubst src/%%.txt,out/%%.o,$(FILES))\\n\\tcat $^ >$@\\n\\n' >>Makefile
@@ -28,10 +40,6 @@ def clone(where):
 
 def make(where):
     return where.shell("cd clone && make -s && make -s clean && make -s && test $(wc -l <out/all) = 61")
-
-
-def edit(where):
-    return where.shell("printf 'one\ntwo\n' >text && vim.tiny -u NONE -es -c '%s/one/1/' -c wq text; grep 1 text")
 
 
 def five_hundred(where):
@@ -105,47 +113,83 @@ def far_too_large(where):
     return where.shell("truncate -s 70000000 far")
 
 
-ORDINARY = (("chgrp by sftp", chgrp), ("a clone over sshfs", clone), ("make", make), ("500 files", five_hundred),
-            ("sizes up to 20 MB", sizes), ("cp -r and chmod -R", copies), ("cp -a", copy_as))
+@dataclass(frozen=True)
+class Session:
+    """What a client does: a name, the act, and the program that it needs besides the client.
 
-UNKNOWN = (("chgrp by sshfs", chgrp_by_sshfs, ("NotAllowed",)),
-           ("an editor's save by sshfs", edit, ("NotAllowed",)),
-           ("chown -h by sftp", link_owner, ("NotModelled",)), ("copy by sftp", copy_data, ("NotModelled",)),
-           ("a refused request", denied, ("NotAllowed",)), ("a cut", cut, ("Unanswered",)),
-           ("a look at / outside of the folder", outside, ("NotAllowed",)),
-           ("a file of 70 MB", far_too_large, ("NotModelled", "at most 67108864")))
+    If the help of `sftpv3 audit` does not have the word `by`, it is refused, by a verdict with one of `words`.
+    """
+
+    name: str
+    act: Callable
+    program: str = "sh"
+    by: str = ""
+    words: tuple = ()
+
+
+ORDINARY = (Session("chgrp by sftp", chgrp), Session("a clone over sshfs", clone, "git"),
+            Session("make", make, "git"), Session("500 files", five_hundred), Session("sizes up to 20 MB", sizes),
+            Session("cp -r and chmod -R", copies), Session("cp -a", copy_as),
+            *(Session(f"{name} over sshfs", act, program) for name, program, act in EDITORS))
+
+ALONE = (Session("chgrp by sshfs", chgrp_by_sshfs, by="keep-owner", words=("NotAllowed",)),
+         Session("chown -h by sftp", link_owner, by="lsetstat", words=("NotModelled",)),
+         Session("copy by sftp", copy_data, by="copy-data", words=("NotModelled",)),
+         Session("a refused request", denied, by="posix-user", words=("NotAllowed",)),
+         Session("a cut", cut, by="--cut", words=("Unanswered",)))
+
+BEYOND = (Session("a look at / outside of the folder", outside, words=("NotAllowed",)),
+          Session("a file of 70 MB", far_too_large, words=("NotModelled", "at most 67108864")))
 
 
 def try_all(steps, where, nightly):
-    count = 0
-    for name, act in ORDINARY:
-        if act in (clone, make) and not shutil.which("git"):
-            steps.skip(f"{where.user}: {name}", "git is not installed")
-            continue
-        holds, said = act(where)
-        steps.check(f"{where.user}: {name}", holds, said)
-        count += 1
-        time.sleep(1)
-    status, said = nightly()
-    steps.check(f"{where.user}: the night accepts them", status == 0 and
-                f"{count} sessions accepted; the folder is as they left it" in said, f"status {status}: {said}")
-    for name, act, words in UNKNOWN:
-        if act is edit and not shutil.which("vim.tiny"):
-            steps.skip(f"{where.user}: {name}", "vim.tiny is not installed")
-            continue
-        try_unknown(steps, f"{where.user}: {name}", act, where, nightly, words)
+    try_ordinary(steps, where, nightly)
+    help_text = run(["sftpv3", "help", "audit"]).stdout
+    for session in ALONE:
+        said = played(steps, session, where, nightly)
+        if said is not None:
+            judge(steps, session, f"{where.user}: {session.name}: accepted", help_text, *said)
+    for session in BEYOND:
+        said = played(steps, session, where, nightly)
+        if said is not None:
+            steps.check(f"{where.user}: {session.name}: refused, as the page says",
+                        said[0] != 0 and any(it in said[1] for it in session.words), said[1])
     (where.real / "far").unlink(missing_ok=True)
     nightly()
 
 
-def try_unknown(steps, name, act, where, nightly, words):
-    holds, said = act(where)
-    if not steps.check(name, holds, said):
-        return
+def try_ordinary(steps, where, nightly):
+    count = 0
+    for session in ORDINARY:
+        if not shutil.which(session.program):
+            steps.skip(f"{where.user}: {session.name}", f"{session.program} is not installed")
+            continue
+        holds, said = session.act(where)
+        steps.check(f"{where.user}: {session.name}", holds, said)
+        count += 1
+        time.sleep(1)
     status, said = nightly()
-    if status == 0:
-        steps.check(f"{name}: accepted", "1 session accepted; the folder is as they left it" in said, said)
-    elif any(it in said for it in words):
-        steps.skip(f"{name}: accepted", f"it is refused today: {said.strip()}")
+    steps.check(f"{where.user}: the night accepts them", status == 0 and is_accepted(said, count),
+                f"status {status}: {said}")
+    if shutil.which("git"):
+        most = max(map(int, re.findall(r"accepted (\d+) requests", said)), default=0)
+        steps.check(f"{where.user}: the clone took {LEAST_OF_CLONE:,} requests or more", most >= LEAST_OF_CLONE, said)
+
+
+def played(steps, session, where, nightly):
+    """The status of the night behind a session, and what it printed; None if the session did not do its work."""
+    name = f"{where.user}: {session.name}"
+    if not shutil.which(session.program):
+        steps.skip(name, f"{session.program} is not installed")
+        return None
+    holds, said = session.act(where)
+    return nightly() if steps.check(name, holds, said) else None
+
+
+def judge(steps, session, name, help_text, status, said):
+    """A session that is to be accepted as soon as the program knows the word."""
+    is_good = status == 0 and is_accepted(said, 1)
+    if not is_good and session.by not in help_text and any(it in said for it in session.words):
+        steps.skip(name, f"the program has no {session.by}: {said.strip()}")
     else:
-        steps.check(f"{name}: accepted, or refused by {' or '.join(words)}", False, said)
+        steps.check(name, is_good, f"status {status}: {said}")

@@ -35,3 +35,9 @@ def run_cron(path):
                           timeout=120, check=False, cwd="/root",
                           env={"HOME": "/root", "LOGNAME": words[5], "SHELL": "/bin/sh", "PATH": "/usr/bin:/bin"})
     return done.returncode, done.stdout
+
+
+def is_accepted(said, count):
+    """Whether the night accepted so many sessions, cut or not, and found the folder as they left it."""
+    sessions = f"{count} session{'' if count == 1 else 's'} accepted"
+    return re.search(rf": {sessions}(, \d+ of them cut)?; the folder is as they left it", said) is not None

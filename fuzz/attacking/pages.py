@@ -1,6 +1,8 @@
 """Attacks on sftpv3-probe and sftpv3-page, by another user of the machine and by the server under test."""
+import json
 import os
 import subprocess
+from xml.etree import ElementTree
 
 from attacking.ground import SECONDS, attack
 from attacking.recorders import VICTIM
@@ -74,3 +76,27 @@ def a_servers_words_reach_the_terminal(field):
             yield f"{command[0]}: a line passes for the probe's"
         if not said:
             yield f"{command[0]}: nothing is said"
+
+
+@attack(is_small=True)
+def a_servers_words_break_a_report(field):
+    """Reports for machines are well-formed, and for the right number of seeds, whatever the server writes."""
+    command = hostile_server(field)
+    for name in ("report.xml", "report.json"):
+        done = run(field, "probe", *ONCE, "--report", name, "--", *command, user=None)
+        if done.returncode != 1:
+            yield f"{name}: status {done.returncode}: {done.stderr[-200:]!r}"
+            continue
+        try:
+            if name.endswith(".xml"):
+                suite = ElementTree.fromstring(field.read(name).decode("utf-8"))
+                found = len(suite.findall("testcase")), len(suite.findall("testcase/failure"))
+                is_right = found[0] == found[1] == int(suite.get("failures")) > 0
+            else:
+                found = [json.loads(line) for line in field.read(name).decode("utf-8").splitlines()]
+                is_right = all(isinstance(it, dict) for it in found) and len(found) > 1
+        except (ElementTree.ParseError, ValueError) as error:
+            yield f"{name}: {error}"
+            continue
+        if not is_right:
+            yield f"{name}: {found}"

@@ -71,6 +71,58 @@ def a_group_that_cannot_be_kept_reads_on(field):
         yield f"group {found.st_gid}, mode {found.st_mode & 0o7777:o}"
 
 
+@attack("user")
+def a_file_of_another_user_says_who_reads_what_is_saved(field):
+    """A user saves over a file of root, which all may read and write: what is saved is the user's, and for nobody else
+    unless an option says so."""
+    os.chown(field.folder, field.user.pw_uid, field.user.pw_gid)
+    start = field.blank()
+    text = field.run("show", "--full", "--data", "all", start).stdout
+    archive = field.run("export", start).stdout
+    record = field.put("opened", OPENED)
+    runs = {"blank": (["blank", "SAVED"], b""), "raise": (["raise", start, "SAVED"], b""),
+            "make": (["make", "SAVED"], text), "import": (["import", "SAVED"], archive),
+            "--out": (["audit", "--tree", start, "--transcript", record, "--out", "SAVED"], b""),
+            "--save": (["serve", "--tree", start, "--save", "SAVED"], HELLO)}
+    for mode, words in ((0o600, []), (0o644, ["--mode", "0644"])):
+        for name, (given, asked) in runs.items():
+            for group in (0, field.user.pw_gid):
+                saved = field.put(f"{name}{mode:o}-{group}", b"old", 0o666)
+                os.chown(saved, 0, group)
+                done = field.run(*[saved if it == "SAVED" else it for it in given], *words, input=asked, as_user=True)
+                yield from wrong_status(done, 0)
+                found = os.stat(saved)
+                state = (found.st_uid, found.st_gid, found.st_mode & 0o7777)
+                if state != (field.user.pw_uid, field.user.pw_gid, mode):
+                    yield f"{name} {' '.join(words)}: uid {state[0]}, gid {state[1]}, mode {state[2]:o}"
+
+
+@attack("user")
+def a_file_of_another_user_takes_the_record(field):
+    """A user records into a file or a pipe of root, which all may read and write: nothing of the session is there, and
+    none is served. Into a file of the user's own it is."""
+    os.chown(field.folder, field.user.pw_uid, field.user.pw_gid)
+    start, theirs, own = field.blank(), field.put("theirs", b"old", 0o666), field.put("own", b"old", 0o640)
+    os.chown(own, field.user.pw_uid, field.user.pw_gid)
+    pipe = field.path("pipe")
+    os.mkfifo(pipe)
+    os.chmod(pipe, 0o666)
+    reader = os.open(pipe, os.O_RDONLY | os.O_NONBLOCK)
+    try:
+        for name in (theirs, pipe):
+            done = field.run("serve", "--tree", start, "--record", name, input=HELLO, as_user=True)
+            yield from wrong_status(done, 3)
+            if done.stdout:
+                yield f"a session is served that is recorded in {os.path.basename(name)}"
+        if os.read(reader, 1000) or field.read("theirs") != b"old":
+            yield f"the record is in root's file: {field.read('theirs')!r}"
+    finally:
+        os.close(reader)
+    yield from wrong_status(field.run("serve", "--tree", start, "--record", own, input=HELLO, as_user=True), 0)
+    if field.read("own")[:8] != b"SFTPTR01" or os.stat(own).st_mode & 0o7777 != 0o640:
+        yield f"the user's own file: {field.read('own')[:8]!r}, mode {os.stat(own).st_mode & 0o7777:o}"
+
+
 @attack("user", "tar")
 def an_archive_makes_a_program_of_root(field):
     """What a client uploaded with set-id bits has none, where root unpacks it as the documents have it."""

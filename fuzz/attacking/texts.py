@@ -1,11 +1,13 @@
 """Attacks by the names of files: what a message shows of them passes for no line of its own."""
+import json
 import os
 import re
+import shutil
 import subprocess
 
 from attacking.ground import attack
 from attacking.saving import OPENED, TOP
-from packets import INIT, number, packet
+from packets import CLIENT, INIT, SERVER, STAT, STATUS, VERSION, number, packet, string, transcript, tree
 
 # Names that a shell or make would act on, in several of their contexts.
 HOSTILE_NAMES = ("`touch ran`", "`touch${IFS}ran`", "a;touch${IFS}ran;", "$(touch${IFS}ran)", "'`touch${IFS}ran`'",
@@ -67,3 +69,57 @@ def a_name_runs_in_a_makefile(field):
             yield "the session is not audited"
         if name:
             os.remove(field.path(f"records/{name}.transcript"))
+
+
+SESSION = [(CLIENT, packet(INIT, number(3))), (SERVER, packet(VERSION, number(3))),
+           (CLIENT, packet(STAT, number(1) + string(b"/\x01\xff\"\\\n"))),
+           (SERVER, packet(STATUS, number(1) + number(0) + string(b"\x1b[2J\xff") + string(b"")))]
+NAMES = [b"\x01", b'"', b"\\", b"\n", b"\x7f", b"\xc3\xa9", b"\xed\xa0\x80", b"\xff", b"\xc0\xaf"]
+
+
+def member(name, value):
+    """How JSON has a member of bytes, by docs/FORMATS.md."""
+    try:
+        return {name: value.decode("utf-8")}
+    except UnicodeDecodeError:
+        return {f"{name}_hex": value.hex()}
+
+
+def objects(done):
+    """The objects of a run, as Python reads them, and jq, if it is installed."""
+    read = [json.loads(line) for line in done.stdout.decode("utf-8").splitlines()]
+    if shutil.which("jq"):
+        by_jq = subprocess.run(["jq", "-c", "."], input=done.stdout, capture_output=True, timeout=60)
+        again = [json.loads(line) for line in by_jq.stdout.decode("utf-8").splitlines()]
+        if by_jq.returncode or again != read:
+            raise ValueError(f"jq reads {again}, {by_jq.stderr}")
+    return read
+
+
+@attack(is_small=True)
+def a_name_breaks_a_json_object(field):
+    """Whatever names of files, paths and packets have, each line of --json is one object, with the very bytes."""
+    start, bad = field.blank(), field.put(NAME.replace("/", ""), b"SFTREE01")
+    record = field.put("refused", transcript(SESSION))
+    directory = b"D" + number(0) * 2 + number(0o755)
+    field.put("names.tree", tree([([it], directory) for it in sorted(NAMES)]))
+    diff = field.run("diff", "--json", start, "names.tree")
+    wanted = [{"change": "added", **member("path", b"/" + it), "kind": "D"} for it in sorted(NAMES)]
+    if diff.returncode != 1 or objects(diff) != wanted:
+        yield f"diff: {diff.returncode}, {diff.stdout!r}"
+    audit = field.run("audit", "--json", "--explain", "--tree", start, "--transcript", record)
+    said = objects(audit)
+    if audit.returncode != 1 or audit.stderr or [it["verdict"] for it in said] != ["refused"] or \
+            said[0]["record"] != 4 or \
+            [it["part"] for it in said[0]["explanation"]][:3] != ["request", "reply", "causes"]:
+        yield f"audit: {audit.returncode}, {audit.stdout!r}"
+    absent = NAME + "absent"
+    for status, words, file in ((3, ["audit", "--tree", absent, "--transcript", record], absent),
+                                (2, ["audit", "--tree", bad, "--transcript", bad], bad),
+                                (2, ["audit", "--tree", start, "--transcript", bad], bad),
+                                (2, ["diff", start, bad], bad), (3, ["diff", absent, start], absent)):
+        done = field.run(*words, "--json")
+        said = objects(done)
+        if done.returncode != status or len(said) != 1 or said[0]["error"]["status"] != status or \
+                said[0]["error"]["file"] != file or not done.stderr:
+            yield f"{' '.join(words)!r}: {done.returncode}, {done.stdout!r}"

@@ -138,26 +138,45 @@ fn status_of(verdict: &str) -> u8 {
 }
 
 /// Whether an audit said this and no more: a verdict on standard output, or what is wrong with a file on standard
-/// error.
+/// error, with a second line about that file.
 fn is_said(came: &Came, verdict: &str) -> bool {
     let status = status_of(verdict);
-    let (line, other) = if status == 2 {
-        (came.errors.as_slice(), came.output.as_slice())
+    let said = if status == 2 {
+        came.output.is_empty() && is_fault(came.errors.as_slice(), verdict)
     } else {
-        (came.output.as_slice(), came.errors.as_slice())
+        came.errors.is_empty() && is_line(came.output.as_slice(), verdict)
     };
-    came.status == status && other.is_empty() && is_line(line, verdict)
+    came.status == status && said
 }
 
-/// Whether bytes are this line, behind the name of the program or alone.
+/// Whether bytes are this line.
 fn is_line(bytes: &[u8], wanted: &str) -> bool {
     let printed = str::from_utf8(bytes).unwrap_or("");
-    let text = printed.strip_prefix("sftpv3: ").unwrap_or(printed);
-    match text.strip_suffix('\n') {
+    match printed.strip_suffix('\n') {
         Some(line) => line == wanted,
         None => false,
     }
 }
+
+/// Whether bytes are this line behind the name of the program, and a second one behind that name.
+fn is_fault(bytes: &[u8], wanted: &str) -> bool {
+    let printed = str::from_utf8(bytes).unwrap_or("");
+    match printed.split_once('\n') {
+        Some((line, rest)) => { line.strip_prefix(PROGRAM) == Some(wanted) && is_one_line(rest) }
+        None => false,
+    }
+}
+
+/// Whether a text is one line behind the name of the program.
+fn is_one_line(text: &str) -> bool {
+    match text.strip_suffix('\n') {
+        Some(line) => line.starts_with(PROGRAM) && !line.contains('\n'),
+        None => false,
+    }
+}
+
+/// What lines on standard error begin with.
+const PROGRAM: &str = "sftpv3: ";
 
 /// Whether the tree at the end is there only if the session was accepted, and is then this file.
 fn is_end<R: Files + AllocGlobal>(rt: &R, name: &str, case: &mut Case) -> bool {

@@ -5,7 +5,7 @@ use sftp_treefile::{Kind, Owner, Row};
 use std::fmt;
 
 /// The letter of a kind; both a first and a further name are of the kind of a file.
-fn letter(kind: &Kind) -> char {
+pub(crate) fn letter(kind: &Kind) -> char {
     match kind {
         Kind::Dir(_) => 'D',
         Kind::First(..) => 'F',
@@ -121,7 +121,7 @@ impl fmt::Display for BytesDifference<'_> {
 }
 
 /// The place of the first byte, from 0, in which these differ; or how many bytes the shorter ones have.
-fn first_difference(old: &[u8], new: &[u8]) -> usize {
+pub(crate) fn first_difference(old: &[u8], new: &[u8]) -> usize {
     let mut place: usize = 0;
     for (one, other) in old.iter().zip(new) {
         if one != other {
@@ -135,12 +135,12 @@ fn first_difference(old: &[u8], new: &[u8]) -> usize {
 /// How the entries at one place of two trees differ.
 #[derive(Clone, Copy)]
 pub(crate) struct Difference<'a> {
-    kinds: Option<(char, char)>,
-    owners: Option<OwnerDifference>,
-    bytes: Option<(&'a [u8], &'a [u8])>,
-    targets: Option<(&'a [u8], &'a [u8])>,
+    pub(crate) kinds: Option<(char, char)>,
+    pub(crate) owners: Option<OwnerDifference>,
+    pub(crate) bytes: Option<(&'a [u8], &'a [u8])>,
+    pub(crate) targets: Option<(&'a [u8], &'a [u8])>,
     /// The places of the first names of the files.
-    first_names: Option<(&'a [u8], &'a [u8])>,
+    pub(crate) first_names: Option<(&'a [u8], &'a [u8])>,
 }
 
 impl<'a> Difference<'a> {

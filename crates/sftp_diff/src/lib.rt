@@ -1,8 +1,11 @@
-//! How two tree files differ, as lines of text: a line for each place that differs.
+//! How two tree files differ, as lines of text or as JSON objects: a line for each place that differs.
 #![tactic(auto)]
 
 mod differences;
 mod lines;
+mod objects;
 mod order;
+mod steps;
 
 pub use lines::put_differences;
+pub use objects::put_objects;

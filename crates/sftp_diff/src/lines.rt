@@ -1,7 +1,7 @@
 //! The lines of what differs between two tree files.
 
 use crate::differences::{Difference, OwnerDifference, apart, put_owners, put_texts};
-use crate::order::{Step, next_step};
+use crate::steps::{Change, Steps};
 use sftp_show::Quoted;
 use sftp_treefile::{Row, TreeFile, TreeLimits};
 use std::io::Write;
@@ -84,61 +84,36 @@ fn put_head<O: Write>(old: &TreeFile, new: &TreeFile, output: &mut O) -> io::Res
 
 /// Writes how the entries of two trees differ, which are these rows.
 fn put_rows<O: Write>(old_rows: &[Row], new_rows: &[Row], output: &mut O) -> io::Result<()> {
-    let (mut old, mut new) = (old_rows, new_rows);
-    for _ in 0..old_rows.len().saturating_add(new_rows.len()) {
-        match next_step(old, new) {
-            Step::End => return Ok(()),
-            Step::Removed => {
-                put_alone(old, "removed", output)?;
-                old = tail(old);
-            }
-            Step::Added => {
-                put_alone(new, "added", output)?;
-                new = tail(new);
-            }
-            Step::Kept => {
-                put_kept(old_rows, old, new_rows, new, output)?;
-                old = tail(old);
-                new = tail(new);
-            }
+    let mut steps = Steps::new(old_rows, new_rows);
+    for _ in 0..steps.count() {
+        match steps.next() {
+            Some(change) => put_change(change, output)?,
+            None => return Ok(()),
         }
     }
     Ok(())
 }
 
-/// The rows but for the first.
-fn tail(rows: &[Row]) -> &[Row] {
-    rows.get(1..).unwrap_or(&[])
-}
-
-/// Writes what happened to the first of these rows, which one of the trees alone has.
-fn put_alone<O: Write>(rows: &[Row], what: &str, output: &mut O) -> io::Result<()> {
-    match rows.first() {
-        Some(row) => {
-            let path = Quoted(row.path.as_slice());
-            writeln!(output, "{path} {what}")
-        }
-        None => Ok(()),
+/// Writes what happened at a place, if anything did.
+fn put_change<O: Write>(change: Change<'_>, output: &mut O) -> io::Result<()> {
+    match change {
+        Change::Removed(row) => put_alone(row, "removed", output),
+        Change::Added(row) => put_alone(row, "added", output),
+        Change::Kept(row, difference) => put_kept(row, &difference, output),
     }
 }
 
-/// Writes how the first rows differ, which have one place, if they do.
-fn put_kept<O: Write>(
-    old_rows: &[Row],
-    old: &[Row],
-    new_rows: &[Row],
-    new: &[Row],
-    output: &mut O,
-) -> io::Result<()> {
-    match (old.first(), new.first()) {
-        (Some(old), Some(new)) => {
-            let difference = Difference::of(old_rows, old, new_rows, new);
-            if difference.is_none() {
-                return Ok(());
-            }
-            let path = Quoted(old.path.as_slice());
-            writeln!(output, "{path}{difference}")
-        }
-        _ => Ok(()),
+/// Writes what happened to an entry that one of the trees alone has.
+fn put_alone<O: Write>(row: &Row, what: &str, output: &mut O) -> io::Result<()> {
+    let path = Quoted(row.path.as_slice());
+    writeln!(output, "{path} {what}")
+}
+
+/// Writes how the entries of a place differ, if they do.
+fn put_kept<O: Write>(row: &Row, difference: &Difference<'_>, output: &mut O) -> io::Result<()> {
+    if difference.is_none() {
+        return Ok(());
     }
+    let path = Quoted(row.path.as_slice());
+    writeln!(output, "{path}{difference}")
 }

@@ -5,3 +5,4 @@ pub mod Profiles
 pub mod Verdicts
 pub mod Options
 pub mod Requests
+pub mod Imports

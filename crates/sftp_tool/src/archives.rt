@@ -7,13 +7,14 @@ ghost use Rattle.sftp_tool.specs.declared.messages.Ending.TheVariants as endings
 ghost use Rattle.sftp_tool.specs.declared.messages.Failure.TheVariants as failures;
 
 use crate::gathering::Gathered;
-use crate::messages::{Ending, Failure, STANDARD_INPUT, STANDARD_OUTPUT};
-use crate::saving::{Keeping, write_last};
+use crate::importing::ImportOptions;
+use crate::messages::{Ending, Failure, STANDARD_INPUT, STANDARD_OUTPUT, write_flushed};
+use crate::saving::write_last;
 use crate::subcommands::read;
 use crate::system::System;
 use sftp_show::Quoted;
-use sftp_tar::{ImportError, Refusal};
-use sftp_treefile::{read_rows, write_rows};
+use sftp_tar::{ImportError, Refusal, SpecialChoice, Taking, bounds, next_special};
+use sftp_treefile::{TreeFile, read_rows, write_rows};
 use std::alloc::{AllocError, Global};
 use std::fs::Files;
 use std::io;
@@ -22,20 +23,21 @@ use std::io::{Read, Write};
 /// How many times the bytes of an archive the memory has at most that its import takes.
 const SHARE: u64 = 4;
 
-/// Writes the tree file `name` of the archive on standard input. The archive is judged before the file is written.
-pub(crate) fn import<'a, R: System, I: Read>(
+/// Writes the tree file of the archive on standard input. The archive is judged before the file is written. Standard
+/// error names the devices and FIFOs that are passed over, or in whose place are empty files.
+pub(crate) fn import<'a, R: System, I: Read, E: Write>(
     rt: &R,
-    name: &'a str,
-    keeping: Keeping,
-    memory: Option<u64>,
+    options: &ImportOptions<'a>,
     input: &mut I,
+    errors: &mut E,
 ) -> Result<Ending, Failure<'a>>
     ensures { IfOk result (λ ending. ending ≡ endings.Done) }
 {
-    let most = memory.map_or(u64::MAX, |bytes| bytes / SHARE);
-    let mut archive = Gathered::new(rt.alloc(), most);
+    let most = options.memory.map_or(u64::MAX, |bytes| bytes / SHARE);
+    let longest = bounds(options.taking.limits).file_bytes;
+    let mut archive = Gathered::new(rt.alloc(), most, longest);
     match archive.gather(input) {
-        Ok(()) => import_from(rt, name, keeping, archive.into_bytes()),
+        Ok(()) => import_from(rt, options, archive.into_bytes(), errors),
         Err(error) => {
             let failure = unread(archive.is_over(), &error);
             drop(archive);
@@ -53,28 +55,49 @@ fn unread<'a>(is_over: bool, error: &io::Error) -> Failure<'a> {
     }
 }
 
-/// Writes the tree file `name` of an archive.
-fn import_from<'a, R: System>(
+/// Writes the tree file of an archive.
+fn import_from<'a, R: System, E: Write>(
     rt: &R,
-    name: &'a str,
-    keeping: Keeping,
+    options: &ImportOptions<'a>,
     archive: Vec<u8>,
+    errors: &mut E,
 ) -> Result<Ending, Failure<'a>>
     ensures { IfOk result (λ ending. ending ≡ endings.Done) }
 {
-    write_last(rt, name, keeping, tree_of(rt.alloc(), archive)?)
+    let tree = tree_of(rt.alloc(), options.taking, archive, errors)?;
+    write_last(rt, options.file, options.keeping, tree)
 }
 
 /// The tree file of an archive. The archive is dropped before the file is made, since each has the bytes of all files.
-fn tree_of<'a>(alloc: Global, archive: Vec<u8>) -> Result<Vec<u8>, Failure<'a>> {
-    let imported = sftp_tar::import(alloc, archive.as_slice());
+fn tree_of<'a, E: Write>(
+    alloc: Global,
+    taking: Taking,
+    archive: Vec<u8>,
+    errors: &mut E,
+) -> Result<Vec<u8>, Failure<'a>> {
+    let taken = taken(alloc, taking, archive.as_slice(), errors);
     drop(archive);
-    match imported {
-        Ok(file) => {
-            let tree = write_rows(alloc, &file);
-            drop(file);
-            Ok(tree?)
-        }
+    let file = taken?;
+    let tree = write_rows(alloc, &file);
+    drop(file);
+    Ok(tree?)
+}
+
+/// What the tree file of an archive says. Standard error names what no tree holds.
+fn taken<'a, E: Write>(
+    alloc: Global,
+    taking: Taking,
+    archive: &[u8],
+    errors: &mut E,
+) -> Result<TreeFile, Failure<'a>> {
+    match sftp_tar::import(alloc, taking, archive) {
+        Ok(file) => match name_specials(alloc, taking.special, archive, errors) {
+            Ok(()) => Ok(file),
+            Err(error) => {
+                drop(file);
+                Err(error.into())
+            }
+        },
         Err(error) => {
             let failure = archive_failure(alloc, &error);
             drop(error);
@@ -83,10 +106,54 @@ fn tree_of<'a>(alloc: Global, archive: Vec<u8>) -> Result<Vec<u8>, Failure<'a>> 
     }
 }
 
+/// Names the devices and FIFOs of an archive, and what became of them.
+fn name_specials<E: Write>(
+    alloc: Global,
+    choice: SpecialChoice,
+    archive: &[u8],
+    errors: &mut E,
+) -> Result<(), AllocError> {
+    match choice {
+        // an archive with one is refused
+        SpecialChoice::Refuse => Ok(()),
+        SpecialChoice::Skip => name_each(alloc, archive, "left out", errors),
+        SpecialChoice::File => name_each(alloc, archive, "an empty file in its place", errors),
+    }
+}
+
+/// Names each device and FIFO of an archive, with this behind it. If the stream cannot be written, there is nothing
+/// left to do.
+fn name_each<E: Write>(
+    alloc: Global,
+    archive: &[u8],
+    became: &str,
+    errors: &mut E,
+) -> Result<(), AllocError> {
+    let mut rest = archive;
+    let mut number: u32 = 0;
+    'specials: while let Some((special, behind)) = next_special(alloc, rest)? {
+        number = number.saturating_add(special.number);
+        let path = Quoted(special.path.as_slice());
+        let refusal = Refusal::Device;
+        let _ = write_flushed(
+            errors,
+            format_args!("sftpv3: archive: entry {number}, {path}: {refusal}: {became}\n"),
+        );
+        drop(special);
+        rest = behind;
+    }
+    Ok(())
+}
+
 /// The failure of a run whose import ended in this error.
 fn archive_failure<'a>(alloc: Global, error: &ImportError) -> Failure<'a> {
     match error {
         ImportError::NoMemory => Failure::OutOfMemory,
+        ImportError::Compressed(compression) => {
+            Failure::of_text(format!(in alloc;
+                "archive: compressed by {compression}: decompress it first"
+            ))
+        }
         ImportError::Refused {
             entry,
             path,

@@ -1,6 +1,6 @@
 //! The arguments of the subcommands: a table for each, from which the parser and the help follow.
 
-use crate::profiles;
+use crate::{importing, profiles};
 
 /// An argument of a subcommand: its name, its form, and what the help says of it.
 pub(crate) type Argument<'a> = (&'a str, Form<'a>, &'a str);
@@ -16,8 +16,6 @@ pub(crate) enum Form<'a> {
     Required(&'a str),
     /// `--NAME VALUE`.
     Optional(&'a str),
-    /// `--NAME VALUE`, only beside the flag of this name.
-    Beside(&'a str, &'a str),
     /// `--NAME VALUE`, which is a number below 2^64.
     Number(&'a str),
     /// `--NAME VALUE`, which is one of these.
@@ -97,6 +95,11 @@ pub(crate) const AUDIT: &[Argument] = &[
         "Print on standard error why the session is refused, or where a file is malformed",
     ),
     (
+        "json",
+        Form::Flag,
+        "Print the verdict, the explanation or the failure as one JSON object",
+    ),
+    (
         "cut",
         Form::Flag,
         "Accept a session that was cut: what comes before its oldest unanswered request is judged",
@@ -120,8 +123,48 @@ pub(crate) const SHOW: &[Argument] = &[
     ),
     (
         "data",
-        Form::Beside("N|all", "full"),
-        "With --full: cut each text after N bytes, 256 by default, or print all of it",
+        Form::Optional("N|all"),
+        "With --full or --json: cut each text after N bytes, 256 by default, or print all of it",
+    ),
+    (
+        "json",
+        Form::Flag,
+        "Print a JSON object for each record or entry, with each field that it holds",
+    ),
+    (
+        "times",
+        Form::Optional("FILE"),
+        "The file of times beside the transcript: print when each record was there",
+    ),
+    (
+        "id",
+        Form::Number("N"),
+        "Only requests and replies with this id",
+    ),
+    (
+        "path",
+        Form::Optional("PATH"),
+        "Only requests with this path, and their replies",
+    ),
+    (
+        "handle",
+        Form::Optional("HANDLE"),
+        "Only requests with this handle, their replies, and the replies that give it",
+    ),
+    (
+        "records",
+        Form::Optional("A-B"),
+        "Only the records with these numbers",
+    ),
+    (
+        "pairs",
+        Form::Flag,
+        "Only requests, each with its reply behind it, in the order of the replies",
+    ),
+    (
+        "overtaken",
+        Form::Flag,
+        "Mark each reply that came before the reply to an earlier request",
     ),
     (
         "explain",
@@ -133,6 +176,11 @@ pub(crate) const SHOW: &[Argument] = &[
 ];
 
 pub(crate) const DIFF: &[Argument] = &[
+    (
+        "json",
+        Form::Flag,
+        "Print a JSON object for each line, and for a failure",
+    ),
     MEMORY,
     ("old", Form::Place("A"), "The tree file of before"),
     ("new", Form::Place("B"), "The tree file of after"),
@@ -141,6 +189,8 @@ pub(crate) const DIFF: &[Argument] = &[
 pub(crate) const MAKE: &[Argument] = &[MODE, NO_SYNC, ("file", FILE, "The file to write")];
 
 pub(crate) const IMPORT: &[Argument] = &[
+    importing::LIMITS,
+    importing::SPECIAL,
     MEMORY,
     MODE,
     NO_SYNC,

@@ -11,9 +11,10 @@ ghost use Rattle.sftp_tool.specs.Requests.{IsAuditAsked, IsAuditRequest, LacksFi
 use crate::arguments::{
     AUDIT, Argument, BLANK, DIFF, EXPORT, Form, IMPORT, MAKE, RAISE, SERVE, SHOW,
 };
+use crate::importing::ImportOptions;
 use crate::messages::{Failure, MORE};
 use crate::saving::{Keeping, PRIVATE};
-use crate::{help, profiles};
+use crate::{help, importing, profiles};
 use clap::error::ErrorKind;
 use clap::{Arg, ArgAction, ArgMatches, Command, Error, value_parser};
 use sftp_profile::Profile;
@@ -49,13 +50,11 @@ pub(crate) enum Request<'a> {
         old: &'a str,
         new: &'a str,
         memory: Option<u64>,
+        /// Whether the lines are JSON objects.
+        is_json: bool,
     },
     /// Make a tree file from an archive.
-    Import {
-        file: &'a str,
-        keeping: Keeping,
-        memory: Option<u64>,
-    },
+    Import(ImportOptions<'a>),
     /// Make an archive from a tree file.
     Export {
         file: &'a str,
@@ -98,6 +97,8 @@ pub(crate) struct AuditOptions<'a> {
     pub(crate) memory: Option<u64>,
     /// Whether standard error explains a refusal, or where a file is malformed.
     pub(crate) explains: bool,
+    /// Whether the verdict is a JSON object.
+    pub(crate) is_json: bool,
     /// Whether a session that was cut is accepted if what comes before its oldest unanswered request is right.
     pub(crate) cuts: bool,
     /// Which departures from the strict reading are accepted; none where the session is judged strictly.
@@ -119,6 +120,22 @@ pub(crate) struct ShowOptions<'a> {
     pub(crate) explains: bool,
     /// The most bytes of memory that the whole text may take.
     pub(crate) memory: Option<u64>,
+    /// The name of the file of times beside the transcript.
+    pub(crate) times: Option<&'a str>,
+    /// The id of the packets that are shown.
+    pub(crate) id: Option<u64>,
+    /// The path of the requests that are shown, in which bytes may be escaped.
+    pub(crate) path: Option<&'a str>,
+    /// The handle of what is shown, in which bytes may be escaped.
+    pub(crate) handle: Option<&'a str>,
+    /// The range of the records that are shown: numbers with `-` between them.
+    pub(crate) records: Option<&'a str>,
+    /// Whether requests alone are shown, each together with its reply.
+    pub(crate) in_pairs: bool,
+    /// Whether replies that overtook another are marked, with no other option that marks them.
+    pub(crate) marks: bool,
+    /// Whether the file is shown as JSON.
+    pub(crate) is_json: bool,
 }
 
 /// Parses the command line of the program in this version. The first word is the program's name. To ask for help or the
@@ -215,7 +232,7 @@ fn requested<'a>(matches: &ArgMatches<'a>) -> Option<Request<'a>>
         "show" => show_options(given).map(Request::Show),
         "raise" => raise_request(given),
         "diff" => diff_request(given),
-        "import" => import_request(given),
+        "import" => importing::options_of(given).map(Request::Import),
         _ => file_request(name, given.get_str("file")?, keeping_of(given)),
     }
 }
@@ -236,6 +253,14 @@ fn show_options<'a>(given: &ArgMatches<'a>) -> Option<ShowOptions<'a>> {
         data: given.get_str("data"),
         memory: given.get_one("memory"),
         explains: given.get_flag("explain"),
+        times: given.get_str("times"),
+        id: given.get_one("id"),
+        path: given.get_str("path"),
+        handle: given.get_str("handle"),
+        records: given.get_str("records"),
+        in_pairs: given.get_flag("pairs"),
+        marks: given.get_flag("overtaken"),
+        is_json: given.get_flag("json"),
     })
 }
 
@@ -243,17 +268,12 @@ fn diff_request<'a>(given: &ArgMatches<'a>) -> Option<Request<'a>> {
     let old = given.get_str("old")?;
     let new = given.get_str("new")?;
     let memory = given.get_one("memory");
-    Some(Request::Diff { old, new, memory })
-}
-
-fn import_request<'a>(given: &ArgMatches<'a>) -> Option<Request<'a>> {
-    let file = given.get_str("file")?;
-    let keeping = keeping_of(given);
-    let memory = given.get_one("memory");
-    Some(Request::Import {
-        file,
-        keeping,
+    let is_json = given.get_flag("json");
+    Some(Request::Diff {
+        old,
+        new,
         memory,
+        is_json,
     })
 }
 
@@ -269,7 +289,7 @@ fn raise_request<'a>(given: &ArgMatches<'a>) -> Option<Request<'a>> {
 }
 
 /// How the options say that files are written.
-fn keeping_of(given: &ArgMatches<'_>) -> Keeping {
+pub(crate) fn keeping_of(given: &ArgMatches<'_>) -> Keeping {
     Keeping {
         mode: mode_of(given.get_str("mode")),
         is_synced: !given.get_flag("no-sync"),
@@ -310,6 +330,7 @@ fn audit_options<'a>(given: &ArgMatches<'a>) -> Option<AuditOptions<'a>>
         memory: given.get_one("memory"),
         keeping: keeping_of(given),
         explains: given.get_flag("explain"),
+        is_json: given.get_flag("json"),
         cuts: flag(given, "cut"),
         profile: profiles::profile_of(given),
         umask: value(given, "umask"),
@@ -317,7 +338,7 @@ fn audit_options<'a>(given: &ArgMatches<'a>) -> Option<AuditOptions<'a>>
 }
 
 /// The value that the command line gives for the option of this name.
-fn value<'a>(given: &ArgMatches<'a>, name: &str) -> Option<&'a str>
+pub(crate) fn value<'a>(given: &ArgMatches<'a>, name: &str) -> Option<&'a str>
     ensures { option_map (λ text. text.now) result ≡ value_in (rows_of (found_of given.now)) name.now }
 {
     given.get_str(name)
@@ -466,7 +487,6 @@ fn new_argument<'a>(
         Form::Place(label) => Ok(valued(arg, label).required(true)),
         Form::Required(label) => Ok(valued(arg.long(name), label).required(true)),
         Form::Optional(label) => Ok(valued(arg.long(name), label)),
-        Form::Beside(label, flag) => valued(arg.long(name), label).requires_arg(flag),
         Form::Number(label) => {
             Ok(valued(arg.long(name), label).value_parser(value_parser!(u64)))
         }

@@ -9,6 +9,7 @@ ghost use Rattle.sftp_tool.specs.Verdicts.{IsStrictCutVerdict, IsCutVerdictUnder
 
 use crate::command_line::AuditOptions;
 use crate::messages::{Ending, Failure, print};
+use crate::objects::print_accepted;
 use crate::subcommands::{keep_end, report_error};
 use crate::system::System;
 use sftp_audit::{AcceptedCut, AuditError};
@@ -44,6 +45,13 @@ fn put_count<W: fmt::Write>(f: &mut fmt::Formatter<W>, count: usize, kind: &str)
         return Ok(());
     }
     write!(f, ", {count} {kind}")
+}
+
+impl Counts {
+    /// How many requests have no reply, and how many others were not judged.
+    fn others(self) -> (u64, u64) {
+        (self.unanswered as u64, self.unjudged as u64)
+    }
 }
 
 /// Audits the session of this transcript, which may have been cut, and says what came of it.
@@ -156,6 +164,9 @@ fn accept_cut<'a, R: System, O: Write>(
 {
     keep_end(rt, files, accepted.tree.as_slice())?;
     let counts = counts_of(accepted);
+    if files.is_json {
+        return print_accepted(counts.judged, Some(counts.others()), output);
+    }
     print(output, format_args!("{counts}\n"), Ending::Done)
 }
 

@@ -1,11 +1,11 @@
-//! The subcommand `diff`: how two tree files differ, as lines of text.
+//! The subcommand `diff`: how two tree files differ, as lines of text or as JSON objects.
 ghost use Rattle.std.specs.Prelude.{◌≡◌, ◌≢◌};
 ghost use Rattle.sftp_tool.specs.declared.messages.Ending.TheVariants as endings;
 
 use crate::messages::{Ending, Failure, STANDARD_OUTPUT};
 use crate::subcommands::read_at_most;
 use sftp_audit::TreeError;
-use sftp_diff::put_differences;
+use sftp_diff::{put_differences, put_objects};
 use sftp_treefile::{TreeFile, read_rows};
 use std::alloc::Global;
 use std::fs::Files;
@@ -18,14 +18,15 @@ const SHARE: u64 = 32;
 /// Shows how two tree files differ. Both are read and judged before any line is written.
 pub(crate) fn diff<'a, R: Files + AllocGlobal, O: Write>(
     rt: &R,
-    old: &'a str,
-    new: &'a str,
+    names: (&'a str, &'a str),
     memory: Option<u64>,
+    is_json: bool,
     output: &mut O,
 ) -> Result<Ending, Failure<'a>> {
+    let (old, new) = names;
     let most = memory.map(|bytes| bytes / SHARE);
     let bytes = read_at_most(rt, old, most)?;
-    let ending = diff_from(rt, (old, bytes.as_slice()), new, most, output);
+    let ending = diff_from(rt, (old, bytes.as_slice()), new, most, is_json, output);
     drop(bytes);
     ending
 }
@@ -36,10 +37,12 @@ fn diff_from<'a, R: Files + AllocGlobal, O: Write>(
     old: (&'a str, &[u8]),
     new: &'a str,
     most: Option<u64>,
+    is_json: bool,
     output: &mut O,
 ) -> Result<Ending, Failure<'a>> {
     let bytes = read_at_most(rt, new, most)?;
-    let ending = diff_bytes(rt.alloc(), old, (new, bytes.as_slice()), output);
+    let new = (new, bytes.as_slice());
+    let ending = diff_bytes(rt.alloc(), old, new, is_json, output);
     drop(bytes);
     ending
 }
@@ -49,10 +52,11 @@ fn diff_bytes<'a, O: Write>(
     alloc: Global,
     old: (&'a str, &[u8]),
     new: (&'a str, &[u8]),
+    is_json: bool,
     output: &mut O,
 ) -> Result<Ending, Failure<'a>> {
     let file = tree_of(alloc, old.0, old.1)?;
-    let shown = show_new(alloc, &file, new, output);
+    let shown = show_new(alloc, &file, new, is_json, output);
     drop(file);
     match shown {
         Ok(()) => Ok(compared(old.1, new.1)),
@@ -65,10 +69,11 @@ fn show_new<'a, O: Write>(
     alloc: Global,
     old: &TreeFile,
     new: (&'a str, &[u8]),
+    is_json: bool,
     output: &mut O,
 ) -> Result<(), Failure<'a>> {
     let file = tree_of(alloc, new.0, new.1)?;
-    let shown = show(old, &file, output);
+    let shown = show(old, &file, is_json, output);
     drop(file);
     shown
 }
@@ -94,9 +99,19 @@ fn compared(old: &[u8], new: &[u8]) -> Ending
     }
 }
 
-/// Prints how a new tree file differs from an old one.
-fn show<'a, O: Write>(old: &TreeFile, new: &TreeFile, output: &mut O) -> Result<(), Failure<'a>> {
-    match put_flushed(old, new, output) {
+/// Prints how a new tree file differs from an old one, as lines of text or as JSON objects.
+fn show<'a, O: Write>(
+    old: &TreeFile,
+    new: &TreeFile,
+    is_json: bool,
+    output: &mut O,
+) -> Result<(), Failure<'a>> {
+    let put = if is_json {
+        put_objects(old, new, output)
+    } else {
+        put_flushed(old, new, output)
+    };
+    match put {
         Ok(()) => Ok(()),
         Err(error) => Err(Failure::writing(STANDARD_OUTPUT, &error)),
     }

@@ -85,6 +85,16 @@ and its bytes in hexadecimal. Of a text in quotes, and of a raw record, the firs
 
 With --data all, nothing is cut off, and 'make' makes the same file of the lines.
 
+With --json, a line has the fields of --full as a JSON object. Bytes that are UTF-8 are a string, NAME; others are
+hexadecimal digits, NAME_hex; where they are cut as with --full, NAME_length says how many there are.
+
+With --times, lines begin with the seconds from the start on, or - where they are not known, and lines of replies say
+how long the request took. With this or any of --id, --path, --handle, --records, --pairs and --overtaken, the line of a
+reply that came before the reply to an earlier request ends in 'overtook' and the number of that request's record.
+
+PATH and HANDLE are texts as 'show' prints them, without the quotes. A-B may be A-, -B or A. Several selections select
+what meets them all. With --pairs, requests without a reply come last.
+
 With --explain, a line on standard error says where a malformed file is so: the field of the fault, and the place of its
 first byte in the file, from 0.
 
@@ -105,7 +115,9 @@ pub(crate) const AFTER_DIFF: &str = "A line has the path, and then one or more o
 
 If the home differs, the owner of new entries, or the limits, the first line begins with head and has home, owner and
 limits. The bytes of a file are compared at its first name. The exit status is 0 if the trees are the same, and 1 if
-they differ. With --memory, files of more than a thirty-second of BYTES are not compared.";
+they differ. With --memory, files of more than a thirty-second of BYTES are not compared.
+
+With --json, each line is a JSON object with the members change, path and kind, and one for each thing that differs.";
 
 pub(crate) const ABOUT_IMPORT: &str =
     "Writes the tree file of the archive on standard input, which is in a format of tar";
@@ -124,8 +136,21 @@ and its path if it can be read:
 
 Refused are, among others, a wrong checksum, a path with '..', a device, a FIFO, a sparse file, a hard link to a name
 that does not come before it, a directory that is also a file or a link, a name of more than 255 bytes, a path of more
-than 64 names, a file of more than 16,777,216 bytes, and more than 65,536 entries. With --memory, an archive of more
-than a quarter of BYTES is not taken; zeros at its end do not count.";
+than 64 names, and what the limits have no room for; and a compressed archive, by the name of what compressed it. With
+--memory, an archive of more than a quarter of BYTES is not taken; zeros at its end do not count.
+
+--limits usual    65,536 entries, and files of 16,777,216 bytes, as without the option
+--limits raised   1,048,576 entries, and files of 67,108,864 bytes: the highest limits, which 'sftpv3 raise' sets
+--limits fit      the lowest limits that hold the archive: the usual ones, or as many entries, and as many bytes of a
+                  file, as it has above them. What 'export' wrote of any tree is taken.
+
+--special refuse  an archive with a device or a FIFO is refused, as without the option
+--special skip    they are left out
+--special file    each is an empty file with its owner and permissions
+
+With skip and file, standard error names each of them:
+
+  sftpv3: archive: entry 5, \"dev/null\": a device or a FIFO: left out";
 
 pub(crate) const ABOUT_EXPORT: &str =
     "Writes the archive of a tree file to standard output, in a format of tar";
@@ -179,6 +204,9 @@ The N requests before the oldest unanswered one were judged, with their replies.
 come after the oldest unanswered one and have replies, which nobody can judge; where there are none, the line ends with
 'unanswered'. --out writes the tree after the N requests. A session in which each request has its reply gets the line
 that it gets without --cut. Every refusal but Unanswered stays.
+
+With --json, standard output has one JSON object in every case: the verdict with the parts of the explanation, or the
+failure. The statuses are the same.
 
 With --memory, the transcript is judged only as long as the process has at most BYTES. One request may take as much as a
 file or a listing has before that, and the tree at the end is encoded once more.";

@@ -11,14 +11,18 @@ mod cut_sessions;
 mod cuts;
 mod diffing;
 mod explaining;
+mod faulty;
 mod gathering;
 mod help;
+mod importing;
 mod memory;
 mod messages;
 mod names;
+mod objects;
 mod profiles;
 mod recording;
 mod saving;
+mod selecting;
 mod serving;
 mod showing;
 mod spotting;
@@ -26,9 +30,12 @@ mod subcommands;
 mod summaries;
 mod system;
 mod texts;
+mod viewing;
 mod watching;
+mod words;
 
 use command_line::{Request, ShowOptions};
+use faulty::Faulty;
 use messages::{Ending, Failure};
 use sftp_faults::Spot;
 use spotting::spot_of;
@@ -105,29 +112,60 @@ fn perform<'a, R: System, I: Read, O: Write, E: Write>(
 ) -> Result<Ending, Failure<'a>> {
     let request = command_line::parse(rt.alloc(), version, words)?;
     let ending = perform_request(rt, &request, input, output, errors);
-    let explained = explained(rt, &request, ending, errors);
+    let explained = explained(rt, &request, ending, output, errors);
     drop(request);
     explained
 }
 
-/// The outcome of a request. If a file is malformed and the request wants that explained, `errors` now says where.
-fn explained<'a, R: Files + AllocGlobal, E: Write>(
+/// The outcome of a request. If a file is malformed, `errors` now says so, with its name and what else is known of it.
+/// If the request failed and wants JSON, `output` has the object.
+fn explained<'a, R: Files + AllocGlobal, O: Write, E: Write>(
     rt: &R,
     request: &Request<'a>,
     ending: Result<Ending, Failure<'a>>,
+    output: &mut O,
     errors: &mut E,
 ) -> Result<Ending, Failure<'a>> {
     match ending {
         Ok(ending) => Ok(ending),
-        Err(failure) => match spot_of_request(rt, request, &failure) {
-            Some(spot) => {
-                messages::report(errors, &failure);
-                let _ = messages::write_flushed(errors, format_args!("fault: {spot}\n"));
-                drop(failure);
-                Ok(Ending::Explained)
+        Err(failure) => {
+            let file = Faulty::of(rt, request, &failure);
+            let spot = spot_of_request(rt, request, &failure);
+            if is_for_machines(request) && !objects::is_of_output(&failure) {
+                objects::print_failed(rt.alloc(), &failure, file, spot, output);
             }
-            None => Err(failure),
-        },
+            said(failure, file, spot, errors)
+        }
+    }
+}
+
+/// The outcome of a run that failed. If that is for a malformed file, `errors` now says all of it.
+fn said<'a, E: Write>(
+    failure: Failure<'a>,
+    file: Option<Faulty<'a>>,
+    spot: Option<Spot>,
+    errors: &mut E,
+) -> Result<Ending, Failure<'a>> {
+    match file {
+        Some(file) => {
+            messages::report(errors, &failure);
+            drop(failure);
+            file.put(errors);
+            if let Some(spot) = spot {
+                let _ = messages::write_flushed(errors, format_args!("fault: {spot}\n"));
+            }
+            Ok(Ending::Explained)
+        }
+        None => Err(failure),
+    }
+}
+
+/// Whether a request wants JSON.
+fn is_for_machines(request: &Request<'_>) -> bool {
+    match request {
+        Request::Audit(files) => files.is_json,
+        Request::Diff { is_json, .. } => *is_json,
+        _ => false,
     }
 }
 
@@ -152,13 +190,18 @@ fn explained_files<'a>(request: &Request<'a>) -> Option<(&'a str, &'a str)> {
     }
 }
 
-/// Shows every field of a file, or a line for each record or entry that sums it up.
+/// Shows every field of a file, a line for each record or entry that sums it up, or what was selected.
 fn show<'a, R: Files + AllocGlobal, O: Write>(
     rt: &R,
     options: &ShowOptions<'a>,
     output: &mut O,
 ) -> Result<Ending, Failure<'a>> {
-    if options.is_full {
+    if let Some(message) = viewing::misuse(options) {
+        return Err(viewing::misused(rt.alloc(), message));
+    }
+    if viewing::is_viewed(options) {
+        viewing::view(rt, options, output)
+    } else if options.is_full {
         texts::show_full(rt, options, output)
     } else {
         showing::show(rt, options.file, output)
@@ -184,12 +227,13 @@ fn perform_request<'a, R: System, I: Read, O: Write, E: Write>(
         } => subcommands::raise(rt, tree, file, *keeping),
         Request::Show(options) => show(rt, options, output),
         Request::Make { file, keeping } => texts::make(rt, file, *keeping, input),
-        Request::Diff { old, new, memory } => diffing::diff(rt, old, new, *memory, output),
-        Request::Import {
-            file,
-            keeping,
+        Request::Diff {
+            old,
+            new,
             memory,
-        } => archives::import(rt, file, *keeping, *memory, input),
+            is_json,
+        } => diffing::diff(rt, (old, new), *memory, *is_json, output),
+        Request::Import(options) => archives::import(rt, options, input, errors),
         Request::Export { file } => archives::export(rt, file, output),
         Request::Help(text) => subcommands::help(text.as_str(), output),
     }

@@ -1,12 +1,13 @@
 //! Where the record of a session goes.
 use crate::command_line::ServeOptions;
 use crate::messages::{Failure, MORE};
-use crate::saving::{Keeping, is_file_of, new_file, sync_folder};
+use crate::saving::{Keeping, is_file_of, is_own, new_file, sync_folder};
 use crate::system::System;
 use crate::watching::{Flow, Watched};
 use std::alloc::{AllocError, Global};
 use std::fs::{File, Files, Metadata, OpenOptions, TryLockError};
 use std::io::{BufWriter, ErrorKind, Write};
+use std::os::unix::fs::FileTypeExt;
 use std::{fs, io};
 
 /// What precedes a packet of the client in a transcript. The record of a session is written in pieces, and this is one
@@ -15,6 +16,9 @@ const CLIENT: &[u8] = b"C";
 
 /// Why a session cannot be recorded in a file.
 const TAKEN: &str = "another session records into it";
+
+/// Why a session is not recorded in a file.
+const ANOTHERS: &str = "it belongs to another user";
 
 /// The file that a session is recorded in.
 #[derive(Drop)]
@@ -109,10 +113,19 @@ fn claim<'a, R: System>(
             if is_named_twice(rt, &found, options) {
                 return Err(Failure::of_usage(named_twice(rt.alloc())));
             }
+            if is_of_another(&found, file) {
+                return Err(Failure::Unfit(name, ANOTHERS));
+            }
             lock(name, file)
         }
         Err(error) => Err(Failure::writing(name, &error)),
     }
+}
+
+/// Whether an open file or pipe is another user's, who says who reads it. A device is nobody's.
+fn is_of_another(found: &Metadata, file: &File) -> bool {
+    let keeps = found.is_file() || found.file_type().is_fifo();
+    keeps && !is_own(file)
 }
 
 /// Whether the file is also that of the tree, or the one to save it to.

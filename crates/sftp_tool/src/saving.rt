@@ -1,6 +1,7 @@
 //! Files that are replaced whole: the bytes go into a new file beside the old one, which then takes its name. Until
 //! then the old file is unchanged.
-ghost use Rattle.std.specs.Prelude.{◌≡◌, IfOk, IfErr};
+ghost use Rattle.std.specs.Prelude.{◌≡◌, ◌≢◌, IfOk, IfErr};
+ghost use Rattle.std.specs.Int.RustNames.{bit_and};
 ghost use Rattle.sftp_tool.specs.declared.messages.Ending.TheVariants as endings;
 ghost use Rattle.sftp_tool.specs.Failures.{IsUnwritten};
 
@@ -21,6 +22,9 @@ const WITHOUT_GROUP: u32 = 0o707;
 
 /// The permissions of a file that can be kept: those to read, write and run it.
 const PERMISSIONS: u32 = 0o777;
+
+/// All permissions of a file, with the set-id bits.
+const ALL_PERMISSIONS: u32 = 0o7777;
 
 /// Why nothing is written to a file.
 const UNFIT: &str = "neither a regular file nor standard output";
@@ -270,7 +274,7 @@ fn mode_of<R: Files>(rt: &R, path: &str, file: &File, mode: u32) -> u32 {
     match fs::symlink_metadata(rt, path) {
         Ok(old) => {
             if old.is_file() {
-                take_owner(&old, file)
+                take_owner(&old, file, mode)
             } else {
                 mode
             }
@@ -279,16 +283,73 @@ fn mode_of<R: Files>(rt: &R, path: &str, file: &File, mode: u32) -> u32 {
     }
 }
 
-/// Gives the new file the owner of the old one, as far as the system allows that, and returns the permissions that it
-/// may have then: those of the old one, but for its group's if the group is another one.
-fn take_owner(old: &Metadata, file: &File) -> u32 {
-    let mode = old.mode() & PERMISSIONS;
-    let kept = fchown(file.as_fd(), None, Some(old.gid()));
+/// Gives the new file the owner and the group of the old one, as far as the system allows that, and returns the
+/// permissions that it may have then. It keeps the group only with the owner.
+fn take_owner(old: &Metadata, file: &File, mode: u32) -> u32 {
     let _ = fchown(file.as_fd(), Some(old.uid()), None);
-    if kept.is_ok() {
-        mode
+    if !is_owned_as(old, file) {
+        return mode;
+    }
+    let _ = fchown(file.as_fd(), None, Some(old.gid()));
+    match file.metadata() {
+        Ok(new) => kept_mode(owner_of(old), owner_of(&new), mode),
+        Err(_) => mode,
+    }
+}
+
+/// Whether the new file has the owner of the old one.
+fn is_owned_as(old: &Metadata, file: &File) -> bool {
+    match file.metadata() {
+        Ok(new) => new.uid() == old.uid(),
+        Err(_) => false,
+    }
+}
+
+/// Whose a file is, and its permissions.
+#[derive(Clone, Copy)]
+struct Owned {
+    uid: u32,
+    gid: u32,
+    permissions: u32,
+}
+
+fn owner_of(file: &Metadata) -> Owned {
+    Owned {
+        uid: file.uid(),
+        gid: file.gid(),
+        permissions: file.mode(),
+    }
+}
+
+/// The permissions of a new file that replaces an old one: those of the old one if both are of one user, but for the
+/// group's if they are not of one group; and `made`, those of a file that is made, if the old one is another user's.
+/// That user said who reads the old one, and has no say in who reads the new one.
+fn kept_mode(old: Owned, new: Owned, made: u32) -> u32
+    ensures kept { old.uid ≡ new.uid → old.gid ≡ new.gid → result ≡ bit_and old.permissions 0o777 }
+    ensures regrouped { old.uid ≡ new.uid → old.gid ≢ new.gid → result ≡ bit_and old.permissions 0o707 }
+    ensures another { old.uid ≢ new.uid → result ≡ made }
+{
+    if old.uid != new.uid {
+        made
+    } else if old.gid != new.gid {
+        old.permissions & WITHOUT_GROUP
     } else {
-        mode & WITHOUT_GROUP
+        old.permissions & PERMISSIONS
+    }
+}
+
+/// Whether the user of this run says who reads an open file: it is their own, or they are root. Its permissions are set
+/// to what they are.
+pub(crate) fn is_own(file: &File) -> bool {
+    match file.metadata() {
+        Ok(found) => {
+            let mode = found.mode() & ALL_PERMISSIONS;
+            match file.set_permissions(Permissions::from_mode(mode)) {
+                Ok(()) => true,
+                Err(error) => error.kind() != ErrorKind::PermissionDenied,
+            }
+        }
+        Err(_) => false,
     }
 }
 

@@ -84,7 +84,7 @@ fn show_by_opening<'a, F: Read, O: Write>(
 }
 
 /// Appends the rest of the file `name` to the bytes.
-fn append<'a, F: Read>(
+pub(crate) fn append<'a, F: Read>(
     name: &'a str,
     file: &mut F,
     bytes: &mut Vec<u8>,

@@ -15,6 +15,7 @@ use crate::cut_sessions::judge_cut_and_report;
 use crate::explaining::explain;
 use crate::memory::{Bounded, Meter};
 use crate::messages::{Ending, Failure, print};
+use crate::objects::{print_accepted, print_refused};
 use crate::profiles::{umask_of, with_umask};
 use crate::saving::{Keeping, write, write_last};
 use crate::system::System;
@@ -202,11 +203,36 @@ fn report_refusal<'a, R: Files + AllocGlobal, O: Write, E: Write>(
     ensures ok { IfOk result (λ ending. ending ≡ endings.Refused) }
     ensures err { IfErr result IsUnwritten }
 {
+    if files.is_json {
+        return refuse_as_object(rt, files, tree, refusal, follows, output);
+    }
     let ending = refuse(refusal, follows, output)?;
     if files.explains {
         explain(rt, files, tree, refusal, errors);
     }
     Ok(ending)
+}
+
+/// Says why a session of these files is refused as a JSON object, with the explanation in it if that is asked for.
+fn refuse_as_object<'a, R: Files + AllocGlobal, O: Write>(
+    rt: &R,
+    files: &AuditOptions<'a>,
+    tree: &[u8],
+    refusal: Refusal,
+    follows: bool,
+    output: &mut O,
+) -> Result<Ending, Failure<'a>>
+    ensures ok { IfOk result (λ ending. ending ≡ endings.Refused) }
+    ensures err { IfErr result IsUnwritten }
+{
+    if !files.explains {
+        return print_refused(refusal, follows, None, output);
+    }
+    let mut lines = Vec::new(rt.alloc());
+    explain(rt, files, tree, refusal, &mut lines);
+    let ending = print_refused(refusal, follows, Some(lines.as_slice()), output);
+    drop(lines);
+    ending
 }
 
 /// Audits the session of a transcript that is read as a stream: strictly, or under a profile. `follows` is set to
@@ -328,6 +354,9 @@ fn accept<'a, R: System, O: Write>(
 {
     keep_end(rt, files, accepted.tree.as_slice())?;
     let requests = accepted.requests;
+    if files.is_json {
+        return print_accepted(requests, None, output);
+    }
     print(
         output,
         format_args!("accepted {requests} requests\n"),

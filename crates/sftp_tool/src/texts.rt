@@ -9,6 +9,7 @@ use crate::saving::{Keeping, write_last};
 use crate::showing::outcome;
 use crate::subcommands::read_at_most;
 use crate::system::System;
+use crate::words::word_at;
 use sftp_audit::{TranscriptError, TreeError};
 use sftp_show::Quoted;
 use sftp_text::{
@@ -186,7 +187,9 @@ fn text_failure<'a>(alloc: Global, fault: TextFault, text: &[u8]) -> Failure<'a>
             column,
             expected,
         } => {
-            let word = word_at(text, line, column);
+            let place = column.saturating_sub(1) as usize;
+            let (place, word) = word_at(line_at(text, line), place, expected);
+            let column = (place as u64).saturating_add(1);
             Failure::of_text(message_at(alloc, line, column, word, expected))
         }
     }
@@ -207,17 +210,6 @@ fn message_at(
     } else {
         let word = Quoted(word);
         format!(in alloc; "line {line}, column {column}: {word} is not {expected}")
-    }
-}
-
-/// The word at a column of a line, up to the next space; lines and columns count from 1.
-fn word_at(text: &[u8], line: u64, column: u64) -> &[u8] {
-    let line = line_at(text, line);
-    let start = (column.saturating_sub(1) as usize).min(line.len());
-    let word = line.get(start..).unwrap_or(line);
-    match word.iter().position(|byte| *byte == b' ') {
-        Some(end) => word.get(..end).unwrap_or(word),
-        None => word,
     }
 }
 

@@ -1,0 +1,217 @@
+"""Starts servers over sockets and pipes, speaks to them, and says what a saved tree has."""
+import io
+import os
+import shutil
+import signal
+import socket
+import subprocess
+import sys
+import tarfile
+import tempfile
+import time
+from pathlib import Path
+
+TOP = Path(__file__).resolve().parents[2]
+sys.path.insert(0, str(TOP / "clients"))
+import sftp3
+from probing.program import program
+
+PROGRAM = program()
+# what is tried, as words: `SERVE="FILE serve"` tries the program without the script
+SERVE = os.environ["SERVE"].split() if "SERVE" in os.environ else [str(TOP / "clients/serve"), "--program", PROGRAM]
+IS_PLAIN = "SERVE" in os.environ
+# Within two seconds, on a machine that does other things.
+SOON = 2.0
+VERSION_BYTES = 124
+WRITTEN = sftp3.WRITE | sftp3.CREAT
+KINDS = ("sockets", "pipes")
+SIGNALS = (signal.SIGTERM, signal.SIGHUP, signal.SIGINT)
+
+
+def command(*words):
+    """The command of a server, from options. The program without the script does not have those of the script."""
+    words, own = list(words), ("--log", "--grace") if IS_PLAIN else ()
+    for it in own:
+        if it in words:
+            del words[words.index(it):words.index(it) + 2]
+    return [*SERVE, *words]
+
+
+class Server:
+    """A server that was started, and the client's two ends of the session."""
+
+    def __init__(self, words, kind, folder, **more):
+        if kind == "sockets":
+            ours, theirs = socket.socketpair()
+            self.input = self.output = ours.detach()
+            reader, writer = theirs.detach(), None
+        else:
+            reader, self.input = os.pipe()
+            self.output, writer = os.pipe()
+        # the signals of a terminal do not come to the trial itself
+        options = {"cwd": folder, "stderr": subprocess.PIPE, "start_new_session": True, **more}
+        self.process = subprocess.Popen(list(map(str, words)), stdin=reader,
+                                        stdout=reader if writer is None else writer, **options)
+        for it in {reader, writer} - {None}:
+            os.close(it)
+        self.number = 0
+
+    def send(self, data):
+        while data:
+            data = data[os.write(self.input, data):]
+
+    def receive(self, count):
+        """So many bytes, or fewer at the end."""
+        data = b""
+        while len(data) < count:
+            try:
+                piece = os.read(self.output, count - len(data))
+            except ConnectionResetError:
+                break
+            if not piece:
+                break
+            data += piece
+        return data
+
+    def reply(self):
+        """The next packet without its length, or nothing at the end."""
+        head = self.receive(4)
+        return self.receive(int.from_bytes(head, "big")) if len(head) == 4 else b""
+
+    def open(self):
+        """Opens the session. Returns whether the server replied."""
+        try:
+            self.send(sftp3.init())
+        except BrokenPipeError:
+            return False
+        return len(self.receive(VERSION_BYTES)) == VERSION_BYTES
+
+    def ask(self, name, *fields):
+        """A request and its reply."""
+        self.number += 1
+        self.send(sftp3.encode(sftp3.Request(self.number, name, list(fields))))
+        return self.reply()
+
+    def make(self, name):
+        """Makes a directory. Returns whether the reply says OK."""
+        return self.ask("MKDIR", name.encode(), {})[5:9] == bytes(4)
+
+    def create(self, name):
+        """Opens a new file. Returns its handle."""
+        said = self.ask("OPEN", name.encode(), WRITTEN, {})
+        return said[9:]
+
+    def close(self):
+        """The client goes away."""
+        for it in {self.input, self.output} - {None}:
+            os.close(it)
+        self.input = self.output = None
+
+    def close_input(self):
+        """The client has no more to ask."""
+        if self.input == self.output:
+            with socket.socket(fileno=os.dup(self.input)) as end:
+                end.shutdown(socket.SHUT_WR)
+        else:
+            os.close(self.input)
+            self.input = None
+
+    def status(self, seconds=SOON):
+        """Its status, or None if it has not ended after so many seconds."""
+        try:
+            return self.process.wait(seconds)
+        except subprocess.TimeoutExpired:
+            return None
+
+    def errors(self):
+        """What it printed to standard error. One that should have ended by now is killed."""
+        if self.process.poll() is None:
+            self.process.kill()
+        return self.process.stderr.read().decode(errors="replace")
+
+
+class Room:
+    """A folder for a trial, with a blank tree, and the servers that it started."""
+
+    def __init__(self):
+        self.folder = Path(tempfile.mkdtemp(prefix="sftpv3-serve-"))
+        self.servers = []
+
+    def __enter__(self):
+        os.chmod(self.folder, 0o755)
+        subprocess.run([PROGRAM, "blank", "--mode", "0644", self.folder / "t"], check=True)
+        return self
+
+    def __exit__(self, *_):
+        self.end_servers()
+        shutil.rmtree(self.folder)
+
+    def end_servers(self):
+        """Ends all that was started here."""
+        for it in self.servers:
+            children = [] if it.process.poll() is not None else children_of(it.process.pid)
+            it.process.kill()
+            it.process.wait()
+            it.close()
+            it.process.stderr.close()
+            for number in children:
+                end(number)
+        self.servers = []
+
+    def serve_words(self, *words, tree="t"):
+        """The command of a server, from the tree t."""
+        return command("--tree", tree, *words)
+
+    def serve(self, *words, kind="sockets", tree="t", **more):
+        """Starts a server, from the tree t."""
+        server = Server(self.serve_words(*words, tree=tree), kind, self.folder, **more)
+        self.servers.append(server)
+        return server
+
+    def saving(self, *words, kind="sockets", save="t", **more):
+        """Starts a server that saves, and opens the session."""
+        server = self.serve("--save", save, *words, kind=kind, **more)
+        if not server.open():
+            raise AssertionError(f"no session: {server.status()}")
+        return server
+
+    def names(self, name="t"):
+        """The names in a saved tree, or what the program says of it."""
+        ran = subprocess.run([PROGRAM, "show", self.folder / name], capture_output=True, text=True)
+        if ran.returncode:
+            return [ran.stderr]
+        return [it.split('"')[1] for it in ran.stdout.splitlines()[2:]]
+
+    def contents(self, name="t"):
+        """The files of a saved tree, by name."""
+        data = subprocess.run([PROGRAM, "export", self.folder / name], stdout=subprocess.PIPE, check=True).stdout
+        with tarfile.open(fileobj=io.BytesIO(data)) as archive:
+            return {it.name.lstrip("./"): archive.extractfile(it).read() for it in archive if it.isfile()}
+
+    def left(self):
+        """The names in the folder."""
+        return sorted(it.name for it in self.folder.iterdir())
+
+
+def children_of(number):
+    try:
+        return [int(it) for it in Path(f"/proc/{number}/task/{number}/children").read_text().split()]
+    except OSError:
+        return []
+
+
+def end(number):
+    try:
+        os.kill(number, signal.SIGKILL)
+    except ProcessLookupError:
+        pass
+
+
+def wait_until(holds, seconds=SOON):
+    """Whether it holds within so many seconds."""
+    until = time.monotonic() + seconds
+    while not holds():
+        if time.monotonic() > until:
+            return False
+        time.sleep(0.01)
+    return True

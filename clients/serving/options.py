@@ -1,0 +1,93 @@
+"""The command line: what is for the script, and what goes on to `sftpv3 serve`."""
+import os
+
+NAME = "sftpv3-serve"
+
+# The options of the script, each with a value.
+OWN = ("--log", "--grace", "--program")
+# The options of `sftpv3 serve` whose values the script looks at.
+SEEN = ("--tree", "--save", "--record", "--mode")
+# How long a client may take for the replies that it is still owed after a signal.
+GRACE = 30.0
+
+
+class Misused(Exception):
+    """What is wrong with a command line."""
+
+
+class Options:
+    """The options of a session.
+
+    `passed` are the words for `sftpv3 serve`, and `save_place` is the place of the value of --save among them.
+    """
+
+    def __init__(self):
+        self.log = self.program = self.tree = self.save = self.record = self.mode = None
+        self.grace: float = GRACE
+        self.passed: list[str] = []
+        self.save_place = None
+        self.is_synced = True
+
+    def server_words(self, side: str | None) -> list[str]:
+        """The command of the server, which saves into the file `side`."""
+        passed = list(self.passed)
+        if side is not None:
+            passed[self.save_place] = side
+        return [self.program or program_beside(), "serve", *passed]
+
+
+def seconds(text: str) -> float:
+    try:
+        found = float(text)
+    except ValueError:
+        found = -1
+    if not 0 <= found < 1e6:
+        raise Misused(f"{text!r} is no number of seconds")
+    return found
+
+
+def program_beside() -> str:
+    """The program that was installed with this script, lib/sftpv3/serving/options.py; else one of PATH."""
+    name = os.path.realpath(os.path.join(os.path.dirname(__file__), "../../../bin/sftpv3"))
+    return name if os.path.exists(name) else "sftpv3"
+
+
+def set_own(options: Options, name: str, value: str):
+    if not value:
+        raise Misused(f"argument {name}: a value is needed")
+    setattr(options, name[2:], seconds(value) if name == "--grace" else value)
+
+
+def note(options: Options, name: str, value: str):
+    """Notes the value of an option of `sftpv3 serve`, which stands at the end of the words so far."""
+    if name == "--save":
+        if options.save is not None:
+            raise Misused("argument --save: it cannot be given twice")
+        if not value:
+            raise Misused("argument --save: a value is needed")
+        options.save_place = len(options.passed) - 1
+    setattr(options, name[2:], value)
+
+
+def read(words: list[str]) -> Options:
+    """Reads a command line. What is neither for the script nor of a kind that it looks at is passed on as it is."""
+    options, rest = Options(), iter(words)
+    for word in rest:
+        name, mark, value = word.partition("=")
+        if name in OWN or name in SEEN:
+            value = value if mark else next(rest, None)
+            if value is None:
+                raise Misused(f"argument {name}: a value is needed")
+        if name in OWN:
+            set_own(options, name, value)
+        elif name in SEEN:
+            options.passed += [name, value]
+            note(options, name, value)
+        else:
+            options.passed.append(word)
+    options.is_synced = "--no-sync" not in options.passed
+    if options.tree is None:
+        raise Misused("the following arguments are required: --tree")
+    if options.save and options.record and os.path.realpath(options.save) == os.path.realpath(options.record):
+        raise Misused("--save and --record name one file")
+    return options

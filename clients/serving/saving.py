@@ -1,0 +1,208 @@
+"""The file of --save: what is tried at the start, and where the tree goes at the end.
+
+The server saves into an empty file of ours beside FILE, which has a random name. At the end this becomes FILE, if FILE
+is still the one that was there at the start; otherwise it becomes the first of FILE.2, FILE.3, .. that is free. Only
+who holds the lock of the file that was there at the start may replace it, and nothing else is ever overwritten. So of
+sessions that end at once one replaces FILE.
+"""
+import errno
+import os
+import stat
+import time
+
+# How long another session may hold the lock, and how many names are tried in turn.
+PATIENCE = 5.0
+NAMES = 10_000
+
+ANEW = os.O_RDWR | os.O_CREAT | os.O_EXCL | os.O_NOFOLLOW | os.O_CLOEXEC
+
+
+class Unfit(Exception):
+    """Why a tree cannot be saved, in words."""
+
+
+def reason(error: OSError) -> str:
+    return error.strerror or str(error)
+
+
+class Original:
+    """The file that was there at the start. It is held open, so that no other file gets its number."""
+
+    def __init__(self, name: str):
+        self.name, self.file = name, open_to_lock(name)
+        found = os.fstat(self.file)
+        if not stat.S_ISREG(found.st_mode):
+            raise OSError(errno.EINVAL, "it is not a regular file")
+        self.identity = identity(found)
+
+    def is_there(self) -> bool:
+        """Whether the name still leads to this very file, with the bytes that it had."""
+        try:
+            return identity(os.lstat(self.name)) == self.identity
+        except OSError:
+            return False
+
+    def lock(self) -> bool:
+        """Whether it is locked now. It stays so until the process ends."""
+        import fcntl
+        until = time.monotonic() + PATIENCE
+        while True:
+            try:
+                fcntl.flock(self.file, fcntl.LOCK_EX | fcntl.LOCK_NB)
+                return True
+            except BlockingIOError:
+                if time.monotonic() > until:
+                    return False
+            except OSError:
+                # a file system without locks
+                return False
+            time.sleep(0.01)
+
+
+def open_to_lock(name: str) -> int:
+    """Opens a file to lock it, which some file systems allow only for writing."""
+    flags = os.O_NOFOLLOW | os.O_NONBLOCK | os.O_NOCTTY | os.O_CLOEXEC
+    try:
+        return os.open(name, os.O_RDWR | flags)
+    except OSError:
+        return os.open(name, os.O_RDONLY | flags)
+
+
+def identity(found: os.stat_result) -> tuple[int, ...]:
+    return found.st_dev, found.st_ino, found.st_size, found.st_mtime_ns
+
+
+class Saving:
+    """The file of --save, and the file beside it that the server saves into."""
+
+    def __init__(self, name: str, tree: str, mode: str | None, is_synced: bool):
+        """Tries whether the tree can be saved. Raises Unfit if not; then nothing is left."""
+        self.given, self.mode, self.is_synced = name, permissions(mode), is_synced
+        try:
+            self.name = real_name(name)
+            self.original = Original(self.name) if os.path.lexists(self.name) else None
+            look_at_folder(self.name, self.original)
+            self.side = f"{self.name}.serve-{os.urandom(8).hex()}"
+            self.file = os.open(self.side, ANEW, 0o600)
+        except OSError as error:
+            raise Unfit(f"cannot write {name}: {reason(error)}") from None
+        try:
+            take_room(self.file, tree)
+        except OSError as error:
+            self.discard()
+            raise Unfit(f"cannot write {name}: {reason(error)}") from None
+
+    def discard(self):
+        """Removes the file beside."""
+        try:
+            os.unlink(self.side)
+        except OSError:
+            pass
+
+    def is_saved(self) -> bool:
+        """Whether the server saved, which puts another file in the place of the empty one."""
+        try:
+            found = os.lstat(self.side)
+        except OSError:
+            return False
+        return (found.st_dev, found.st_ino) != identity(os.fstat(self.file))[:2]
+
+    def place(self) -> str | None:
+        """Gives the tree its name. Returns what is to be said, if anything. Raises Unfit if it stays where it is."""
+        try:
+            if self.original and self.original.lock() and self.original.is_there():
+                self.replace()
+                return None
+            name = self.link()
+        except OSError as error:
+            raise Unfit(f"cannot write {self.given}: {reason(error)}; the tree is in {self.side}") from None
+        if name == self.name:
+            return None
+        why = "cannot be locked" if self.original and self.original.is_there() else "is no longer that of the start"
+        return f"{self.given} {why}; the tree of this session is in {name}"
+
+    def replace(self):
+        """Puts the tree in the place of the original, with its permissions and its owner."""
+        keep_rights(self.side, os.fstat(self.original.file))
+        os.rename(self.side, self.name)
+        self.sync()
+
+    def link(self) -> str:
+        """Gives the tree the first name that is free. Returns it."""
+        give_mode(self.side, self.mode)
+        for name in [self.name, *(f"{self.name}.{number}" for number in range(2, NAMES))]:
+            try:
+                os.link(self.side, name, follow_symlinks=False)
+            except FileExistsError:
+                continue
+            os.unlink(self.side)
+            self.sync()
+            return name
+        raise OSError(errno.EEXIST, "all names are taken")
+
+    def sync(self):
+        """Waits until the new name is on the disk, as far as the system can say."""
+        if self.is_synced:
+            try:
+                folder = os.open(os.path.dirname(self.name), os.O_RDONLY | os.O_DIRECTORY | os.O_CLOEXEC)
+                os.fsync(folder)
+                os.close(folder)
+            except OSError:
+                pass
+
+
+def permissions(mode: str | None) -> int:
+    """The permissions that --mode asks for. What it may be is for the program to say."""
+    try:
+        return int(mode or "600", 8) & 0o777
+    except ValueError:
+        return 0o600
+
+
+def real_name(name: str) -> str:
+    """Where the tree goes: the file that a link leads to, which has to be there."""
+    real = os.path.realpath(name)
+    if os.path.islink(name) and not os.path.exists(real):
+        raise OSError(errno.ENOENT, "it is a symbolic link to no file")
+    return real
+
+
+def look_at_folder(name: str, original: Original | None):
+    """Raises OSError if a file of this name could not be replaced: in a sticky folder, another user's cannot."""
+    folder, user = os.stat(os.path.dirname(name)), os.geteuid()
+    if original and folder.st_mode & stat.S_ISVTX:
+        if user not in (0, folder.st_uid, os.fstat(original.file).st_uid):
+            raise OSError(errno.EPERM, "it belongs to another user, and its folder has the sticky bit")
+
+
+def take_room(file: int, tree: str):
+    """Takes as much of the disk as the tree of the start has, and gives it back. Raises OSError if there is less."""
+    try:
+        size = os.stat(tree).st_size
+    except OSError:
+        # that it cannot be read is for the program to say
+        size = 0
+    os.posix_fallocate(file, 0, max(size, 1))
+    os.ftruncate(file, 0)
+
+
+def keep_rights(name: str, found: os.stat_result):
+    """Gives a file the owner, the group and the permissions of another, as far as the system lets it."""
+    file = os.open(name, os.O_RDONLY | os.O_NOFOLLOW | os.O_CLOEXEC)
+    mode = stat.S_IMODE(found.st_mode) & 0o777
+    for user in (found.st_uid, -1):
+        try:
+            os.fchown(file, user, found.st_gid)
+            break
+        except OSError:
+            pass
+    if os.fstat(file).st_gid != found.st_gid:
+        mode &= ~0o070
+    os.fchmod(file, mode)
+    os.close(file)
+
+
+def give_mode(name: str, mode: int):
+    file = os.open(name, os.O_RDONLY | os.O_NOFOLLOW | os.O_CLOEXEC)
+    os.fchmod(file, mode)
+    os.close(file)

@@ -1,0 +1,2 @@
+-- What is read of entries.
+pub mod Reading

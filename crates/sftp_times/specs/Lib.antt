@@ -1,0 +1,2 @@
+-- Files of times.
+pub mod Times
