@@ -1,14 +1,28 @@
 """One run for one user: audits what was recorded, and compares the folders with what that leaves."""
 import fcntl
 import os
+import resource
 import subprocess
 import sys
+import time
 
-from nights.records import Failed, records_of
+from nights.keeping import Copy
+from nights.records import Failed, Spool
+from paging import packets
 from probing import program
 
 TREE = os.path.join(program.CLIENTS, "tree")
 MOST_LINES = 20
+# An audit has the tree file, the tree, and at its end the file of the last tree.
+SHARE = 3
+# The least that an address space is bounded by: the program itself has to be loaded.
+LEAST_SPACE = 1 << 28
+# What ended runs and audits may have left in the folder of a user.
+LEFT = ("tree.after", "tree.now", ".sftpv3-tree-", "record.new")
+# How many times it is looked again, if a session runs and ends meanwhile.
+LOOKS = 3
+# How many sessions before and behind one are looked at, and how many named, that ran at the same time.
+NEAR, NAMED = 200, 5
 
 
 def usual(program_file):
@@ -18,89 +32,122 @@ def usual(program_file):
     return ["--profile", profile] + ["--cut"] * ("--cut" in text)
 
 
+def said_beside(record, others):
+    """What is said of the sessions that ran at the same time."""
+    beside = [it.shown() for it in others if it.is_beside(record)]
+    more = f" and {len(beside) - NAMED} more" if len(beside) > NAMED else ""
+    return f" (beside {', '.join(beside[:NAMED])}{more})" if beside else ""
+
+
 class Night:
     """One run for one user."""
 
     def __init__(self, given):
         self.given, self.program = given, program.program()
         self.options = given.audit or usual(self.program)
+        if not any(it.partition("=")[0] == "--memory" for it in self.options):
+            self.options += ["--memory", str(given.memory)]
+        self.spool = Spool(given.records, given.user, given.number)
         self.folder = os.path.join(given.state, given.user)
         os.makedirs(self.folder, mode=0o700, exist_ok=True)
-        self.tree = os.path.join(self.folder, "tree")
+        self.tree, self.compared = (os.path.join(self.folder, it) for it in ("tree", "compared"))
         self.status = self.accepted = self.cut = 0
         self.held = os.open(self.folder, os.O_RDONLY | os.O_DIRECTORY)
         try:
             fcntl.flock(self.held, fcntl.LOCK_EX | fcntl.LOCK_NB)
         except BlockingIOError:
             raise Failed(f"another run for {given.user} has not ended") from None
+        self.tidy()
+
+    def tidy(self):
+        """Removes what an audit or a run left that was ended before its time."""
+        for name in os.listdir(self.held):
+            if name.startswith(LEFT):
+                os.remove(name, dir_fd=self.held)
 
     def say(self, text, status=0):
-        print(f"{self.given.user}: {text}", flush=True)
+        """Prints a line. Names in it may have been chosen by a user."""
+        print(packets.line(f"{self.given.user}: {text}"), flush=True)
         self.status = max(self.status, status)
 
-    def pending(self):
-        return records_of(self.given.records, self.given.user, self.given.number)
+    def run_program(self, *words, **options):
+        """Runs the program with no more memory and time than an audit may take. Returns how that ended."""
+        most = (max(4 * self.given.memory, LEAST_SPACE),) * 2
+        return subprocess.run([self.program, *words], stdin=subprocess.DEVNULL, stdout=subprocess.PIPE,
+                              stderr=subprocess.STDOUT, check=False, timeout=self.given.audit_seconds,
+                              preexec_fn=lambda: resource.setrlimit(resource.RLIMIT_AS, most), **options)
 
-    def keep(self, record, kind):
-        """Moves a record into a folder of the state. Returns its new name."""
-        folder = os.path.join(self.folder, kind)
-        os.makedirs(folder, mode=0o700, exist_ok=True)
-        place, number = os.path.join(folder, record.name), 1
-        while os.path.lexists(place):
-            number += 1
-            place = os.path.join(folder, f"{record.name}.{number}")
-        record.move(place)
-        return place
-
-    def audit(self, record, note):
+    def audit(self, copy, name, note):
         """Audits a session, and makes its last tree the one of the next. Returns whether it is accepted."""
         after = f"{self.tree}.after"
-        ran = subprocess.run([self.program, "audit", *self.options, "--explain", "--tree", self.tree,
-                              "--transcript", f"/proc/self/fd/{record.file}", "--out", after],
-                             stdout=subprocess.PIPE, stderr=subprocess.STDOUT, check=False, pass_fds=[record.file])
+        try:
+            ran = self.run_program("audit", *self.options, "--explain", "--tree", self.tree, "--transcript",
+                                   f"/proc/self/fd/{copy.file}", "--out", after, pass_fds=[copy.file])
+        except subprocess.TimeoutExpired:
+            return self.give_up(copy, name, f": the audit did not end within {self.given.audit_seconds:g} seconds "
+                                f"(--audit-seconds){note}")
         # the record is named below, and not by its descriptor
-        said = ran.stdout.decode(errors="replace").replace(f"sftpv3: file: /proc/self/fd/{record.file}\n", "")
+        said = ran.stdout.decode(errors="replace").replace(f"sftpv3: file: /proc/self/fd/{copy.file}\n", "")
         first, _, more = said.partition("\n")
         if ran.returncode == 0:
-            self.keep(record, "accepted")
+            copy.keep("accepted")
             os.replace(after, self.tree)
             self.accepted += 1
             self.cut += " unanswered" in first
-            self.say(f"{record.name}: {first}{note}")
+            self.say(f"{name}: {first}{note}")
             return True
+        if ran.returncode == 3 and first.startswith("sftpv3: out of memory"):
+            return self.give_up(copy, name, f": the audit needs more than {self.given.memory} bytes of memory "
+                                f"(--memory){note}")
         if ran.returncode != 1 and not first.startswith("sftpv3: transcript: "):
-            raise Failed(f"{record.name}: the audit ended with status {ran.returncode}: {said.strip()}")
-        with open(f"{self.keep(record, 'refused')}.verdict", "w", encoding="utf-8") as file:
+            raise Failed(f"{name}: the audit ended with status {ran.returncode}: {said.strip()}")
+        with open(f"{copy.keep('refused')}.verdict", "w", encoding="utf-8") as file:
             file.write(said)
-        self.say(f"{record.name}: {first}{note}", 1)
+        self.say(f"{name}: {first}{note}", 1)
         for line in more.splitlines():
             self.say(f"  {line}")
         return False
 
+    def give_up(self, copy, name, why):
+        """Puts a record aside that cannot be judged. Returns that it is not accepted."""
+        copy.keep("unjudged")
+        self.say(f"{name}: not judged{why}", 1)
+        return False
+
     def audit_all(self):
-        """Audits what has ended, as far as there is a tree to start from."""
-        records = self.pending()
-        for record in records:
+        """Audits what has ended, as far as there is a tree to start from. Returns whether a session still runs."""
+        records = self.spool.records()
+        for place, record in enumerate(records):
             record.open()
-            if record.is_running():
-                self.say(f"{record.name}: still running; it and what comes behind it are audited when it has ended")
-                return
-            beside = [it.name for it in records if it.is_beside(record)]
-            self.judge(record, f" (beside {', '.join(beside)})" if beside else "")
-            record.close()
+            try:
+                if record.is_running():
+                    self.say(f"{record.shown()}: still running; it and what comes behind it are audited when it has "
+                             "ended")
+                    return True
+                self.judge(record, said_beside(record, records[max(0, place - NEAR):place + NEAR]))
+            finally:
+                record.close()
+        return False
 
     def judge(self, record, note):
-        """Audits a session, if there is a tree to start from; behind one that is refused there is none."""
-        if not os.path.exists(self.tree):
-            self.keep(record, "unjudged")
-            self.say(f"{record.name}: not judged, since there is no tree that it started from", 1)
-        elif not self.audit(record, note):
-            os.remove(self.tree)
+        """Audits a copy of a record, if there is a tree to start from; behind one that is refused there is none."""
+        try:
+            copy = Copy(self.folder, record)
+        except OSError as error:
+            raise Failed(f"{record.shown()}: cannot be copied: {error.strerror}") from None
+        try:
+            if not os.path.exists(self.tree):
+                self.give_up(copy, record.shown(), ", since there is no tree that it started from")
+            elif not self.audit(copy, record.shown(), note):
+                os.remove(self.tree)
+        finally:
+            copy.close()
+            self.tidy()
 
     def look(self):
         """The tree of the folders as they are now, or None if a session ran meanwhile."""
         now = f"{self.tree}.now"
-        words = [sys.executable, "-I", TREE, "--out", now,
+        words = [sys.executable, "-I", TREE, "--out", now, "--most", str(self.given.memory // SHARE),
                  "--limits", "raised", "--user", self.given.user]
         for name in ("home", "group"):
             words += [f"--{name}", getattr(self.given, name)] if getattr(self.given, name) else []
@@ -109,15 +156,16 @@ class Night:
                              check=False)
         said = ran.stdout.decode(errors="replace").strip()
         if ran.returncode:
-            raise Failed(said)
-        return None if self.pending() else (now, said)
+            hint = f" (the files may have a third of --memory, {self.given.memory} bytes)" if "--most" in said else ""
+            raise Failed(f"{said}{hint}")
+        return None if self.spool.records() else (now, said)
 
     def compare(self):
-        """Compares the last tree with the folders, and starts anew from what they have."""
-        found = None if self.pending() else self.look()
+        """Compares the last tree with the folders, and starts anew from what they have. Returns whether that could be
+        done: no session ran meanwhile."""
+        found = self.look()
         if found is None:
-            self.say(f"{self.counted()}; a session runs, so the folder is not compared")
-            return
+            return False
         now, said = found
         if not os.path.exists(self.tree):
             *left_out, last = said.splitlines()
@@ -127,15 +175,34 @@ class Night:
         else:
             self.tell_difference(now)
         os.replace(now, self.tree)
+        with open(self.compared, "w", encoding="utf-8"):
+            os.utime(self.compared)
+        return True
+
+    def tell_not_compared(self):
+        """Says since when nothing was compared, and whether that is too long: users can have their sessions run on."""
+        try:
+            last = os.stat(self.compared).st_mtime
+        except FileNotFoundError:
+            last = 0
+        since = time.strftime(" since %Y-%m-%d %H:%M", time.localtime(last)) if last else ""
+        is_late = not 0 <= time.time() - last < 3600 * self.given.longest
+        self.say(f"{self.counted()}; a session runs, so the folder is not compared{since}", int(is_late))
 
     def counted(self):
         cut = f", {self.cut} of them cut" if self.cut else ""
         return f"{self.accepted} session{'' if self.accepted == 1 else 's'} accepted{cut}"
 
     def tell_difference(self, now):
-        ran = subprocess.run([self.program, "diff", self.tree, now], stdout=subprocess.PIPE, stderr=subprocess.STDOUT,
-                             check=False)
+        try:
+            ran = self.run_program("diff", self.tree, now)
+        except subprocess.TimeoutExpired:
+            self.say(f"{self.counted()}; what changed cannot be told within {self.given.audit_seconds:g} seconds", 1)
+            return
         lines = ran.stdout.decode(errors="replace").splitlines()
+        if ran.returncode == 3 and lines[:1] and lines[0].startswith("sftpv3: out of memory"):
+            self.say(f"{self.counted()}; what changed cannot be told with {self.given.memory} bytes (--memory)", 1)
+            return
         if ran.returncode not in (0, 1):
             raise Failed(f"sftpv3 diff ended with status {ran.returncode}: {' '.join(lines)}")
         if ran.returncode == 0:
@@ -148,7 +215,18 @@ class Night:
         if len(lines) > MOST_LINES:
             self.say(f"  and {len(lines) - MOST_LINES} more")
 
+    def reach_verdict(self):
+        """Audits and compares, again if a session came and went meanwhile. Returns whether all was compared."""
+        for _ in range(LOOKS):
+            if self.audit_all():
+                return False
+            if self.compare():
+                return True
+        return False
+
     def run(self):
-        self.audit_all()
-        self.compare()
+        if not self.reach_verdict():
+            self.tell_not_compared()
+        if self.spool.refused:
+            self.say(self.spool.refused, 1)
         return self.status

@@ -1,15 +1,43 @@
 """Reads a transcript, and says where it is malformed."""
+import os
+import stat
+
 import sftp3
+
+# What is no file, and would be waited for, or read for ever.
+KINDS = ((stat.S_ISFIFO, "a FIFO"), (stat.S_ISDIR, "a folder"), (stat.S_ISSOCK, "a socket"), (stat.S_ISCHR, "a device"),
+         (stat.S_ISBLK, "a device"))
 
 
 class Bad(Exception):
-    """The file is no transcript."""
+    """The file is no transcript. `name` is that of another file, if it is that which is wrong."""
+
+    def __init__(self, why, name=None):
+        super().__init__(why)
+        self.name = name
 
 
-def read(name):
-    """The records of a transcript, and what is wrong with its end: its last record may be cut, or None."""
-    with open(name, "rb") as file:
-        data = file.read()
+def check(name):
+    """Refuses what is no regular file. Returns how many bytes it has."""
+    found = os.stat(name)
+    for is_kind, kind in KINDS:
+        if is_kind(found.st_mode):
+            raise Bad(f"it is {kind}, and no regular file", name)
+    return found.st_size
+
+
+def contents(name, most):
+    """The bytes of a file, if they are at most so many. No FIFO that comes in its place meanwhile is waited for."""
+    if check(name) > most:
+        raise MemoryError
+    with open(name, "rb", opener=lambda path, flags: os.open(path, flags | os.O_NONBLOCK)) as file:
+        return file.read(most + 1)
+
+
+def read(name, most):
+    """The records of a transcript of at most so many bytes, and what is wrong with its end: its last record may be cut,
+    or None."""
+    data = contents(name, most)
     if not data.startswith(sftp3.OPENING):
         raise Bad("it is no transcript: it does not begin with " + sftp3.OPENING.decode())
     records = sftp3.records(data)

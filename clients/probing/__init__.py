@@ -10,7 +10,7 @@ weights     how often each scene is drawn, and which seeds have which large scen
 scenes      small scenes that make sense; refusals: requests that some cause refuses; effects: what they do to the model
 transfers   large scenes with much data; crowds: those with many names or handles; endings: all is read back
 room        the steps of a plan within what the server says that it has room for
-servers     starts and ends the server
+servers     starts and ends the server; leftovers: ends what it leaves running
 sessions    plays a plan against a server, and records it
 verdicts    asks `sftpv3 audit`, and goes on after a difference
 groups      differences that are alike; causes: those that have one cause

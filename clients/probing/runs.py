@@ -105,7 +105,7 @@ def why_failed(error):
 class Run:
     """One run of the command."""
 
-    def __init__(self, given, folder, halt):
+    def __init__(self, given, folder, halt, left):
         self.given, self.halt = given, halt
         options.can_write("--keep", given.keep)
         if given.report:
@@ -115,7 +115,7 @@ class Run:
         self.program = program.program()
         auditor = verdicts.Auditor(self.program, folder)
         auditor.options = self.profile(auditor)
-        server = sessions.Server(given.command, given.reset)
+        server = sessions.Server(given.command, given.reset, left)
         self.pool = workers.Pool([workers.Worker(self.place(folder, number), server, auditor, given.timeout)
                                   for number in range(options.jobs(given))])
         self.until = limits.Until(halt, given.patience)

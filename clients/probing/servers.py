@@ -7,6 +7,8 @@ import subprocess
 import tempfile
 import time
 
+from probing import leftovers
+
 # Seconds for a server to end after its input did, and after it left a request unanswered.
 PARTING, SILENT_PARTING = 2, 0.5
 
@@ -31,10 +33,11 @@ class ResetFailed(NotStarted):
 
 
 class Server:
-    """How to start the server. `{tree}` in a word of its command or of `reset` stands for the name of the tree file."""
+    """How to start the server. `{tree}` in a word of its command or of `reset` stands for the name of the tree file.
+    With `leftovers`, what it leaves running is ended."""
 
-    def __init__(self, command, reset=None):
-        self.command, self.reset = command, reset
+    def __init__(self, command, reset=None, leftovers=None):
+        self.command, self.reset, self.leftovers = command, reset, leftovers
 
     def takes_tree(self):
         return any("{tree}" in word for word in self.command + [self.reset or ""])
@@ -45,10 +48,12 @@ class Server:
         if self.reset:
             run_reset(self.reset.replace("{tree}", shlex.quote(tree_file)), environment, seconds, stop)
         words = [word.replace("{tree}", tree_file) for word in self.command]
+        mark = self.leftovers.mark() if self.leftovers else ""
+        environment.update({leftovers.VARIABLE: mark} if mark else {})
         try:
             return Running(subprocess.Popen(words, stdin=subprocess.PIPE, stdout=subprocess.PIPE,
                                             stderr=subprocess.PIPE, bufsize=0, env=environment,
-                                            start_new_session=True))
+                                            start_new_session=True), self.leftovers, mark)
         except OSError as error:
             raise NotStarted(str(error)) from error
 
@@ -86,8 +91,9 @@ def stop_group(process):
 class Running:
     """A server that runs: its pipes, and the last of what it wrote to standard error."""
 
-    def __init__(self, process):
+    def __init__(self, process, left=None, mark=""):
         self.process, self.said = process, bytearray()
+        self.leftovers, self.mark = left, mark
         self.started = time.monotonic()
         for stream in (process.stdin, process.stdout, process.stderr):
             os.set_blocking(stream.fileno(), False)
@@ -130,6 +136,8 @@ class Running:
             self.stop()
         for stream in (self.process.stdout, self.process.stderr):
             stream.close()
+        if self.leftovers:
+            self.leftovers.end_session(self.mark, self.process.pid)
         return status
 
     def stop(self):

@@ -1,0 +1,338 @@
+"""Attacks on clients/nightly, which runs as root, by users who put records where it looks."""
+import fcntl
+import os
+import pwd
+import subprocess
+import time
+from contextlib import contextmanager, suppress
+
+from attacking.ground import SECONDS, attack
+from attacking.measured import MEBI
+from attacking.recorders import KEEPER, beside
+from attacking.sessions import HELLO
+from packets import (CLIENT, CLOSE, FSETSTAT, HANDLE, MKDIR, OPEN, REMOVE, RMDIR, SERVER, STATUS, VERSION, attrs,
+                     number, packet, string, transcript)
+from programs import program
+
+# A user who is there on every machine, and whom another one attacks.
+VICTIM = pwd.getpwnam("nobody")
+CREAT_WRITE = 0x2 | 0x8
+# What a file may have by the limits of a nightly tree, which are the highest.
+LARGEST = 64 * MEBI
+
+
+def session(*requests):
+    """A transcript in which each request, a type and the fields behind its id, is done."""
+    records = [(CLIENT, HELLO), (SERVER, packet(VERSION, number(3)))]
+    for serial, (kind, fields) in enumerate(requests):
+        answer = (HANDLE, string(b"h")) if kind == OPEN else (STATUS, number(0) + string(b"") + string(b""))
+        records += [(CLIENT, packet(kind, number(serial) + fields)),
+                    (SERVER, packet(answer[0], number(serial) + answer[1]))]
+    return transcript(records)
+
+
+def mkdir(path):
+    return MKDIR, string(path.encode()) + attrs()
+
+
+def rmdir(path):
+    return RMDIR, string(path.encode())
+
+
+def opened(path):
+    return OPEN, string(path.encode()) + number(CREAT_WRITE) + attrs()
+
+
+def sized(size):
+    return FSETSTAT, string(b"h") + attrs(size)
+
+
+CLOSED = (CLOSE, string(b"h"))
+
+
+class Nights:
+    """A folder of a user, the spool and the state of its nightly runs, of which the first is done."""
+
+    def __init__(self, field, user, *options):
+        self.field, self.user, self.options = field, user, options
+        self.home, self.spool, self.state = (field.path(it) for it in ("home", "spool", "state"))
+        for name, owner, mode in ((self.home, user.pw_uid, 0o755), (self.spool, 0, 0o1777)):
+            os.mkdir(name)
+            os.chown(name, owner, owner)
+            os.chmod(name, mode)
+        self.run()
+
+    def run(self, *options):
+        """Runs it. Returns its status, what it printed, and the greatest memory of what it started."""
+        words = [self.field.script("nightly"), "--records", self.spool, "--state", self.state, "--home", self.home,
+                 *self.options, *options, self.user.pw_name, self.home]
+        with open(self.field.path("said"), "wb+") as said:
+            started = subprocess.Popen(words, stdin=subprocess.DEVNULL, stdout=said, stderr=subprocess.STDOUT,
+                                       env={**os.environ, "SFTPV3": program()}, start_new_session=True)
+            end = time.monotonic() + SECONDS
+            while True:
+                ended, status, used = os.wait4(started.pid, os.WNOHANG)
+                if ended:
+                    break
+                if time.monotonic() > end:
+                    os.killpg(started.pid, 9)
+                time.sleep(0.02)
+            started.returncode = os.waitstatus_to_exitcode(status)
+            said.seek(0)
+            return started.returncode, said.read().decode(errors="surrogateescape"), used.ru_maxrss * 1024
+
+    def put(self, name, data, owner, mode=0o600, ended=10):
+        """Puts a record into the spool, whose session ended so many seconds ago. Returns its path."""
+        path = os.path.join(self.spool, name)
+        with suppress(FileNotFoundError):
+            os.remove(path)
+        with open(path, "wb") as file:
+            file.write(data)
+        os.chown(path, owner, owner)
+        os.chmod(path, mode)
+        os.utime(path, (time.time() - ended,) * 2)
+        return path
+
+    def own(self, owner, name=None):
+        """Makes a folder in the spool, by default as the daemon makes that of the user."""
+        path = os.path.join(self.spool, name or self.user.pw_name)
+        os.mkdir(path, 0o700)
+        os.chown(path, owner, owner)
+        return path
+
+    def kept(self, kind):
+        folder = os.path.join(self.state, self.user.pw_name, kind)
+        return sorted(os.path.join(folder, it) for it in os.listdir(folder)) if os.path.isdir(folder) else []
+
+    def change(self):
+        """Makes a directory that no record has."""
+        path = os.path.join(self.home, "unrecorded")
+        os.mkdir(path, 0o755)
+        os.chown(path, self.user.pw_uid, self.user.pw_gid)
+
+
+def record_name(user, date="20261127T101500Z"):
+    return f"{user.pw_name}-{date}-192.0.2.7-4711.transcript"
+
+
+def wrong(found, status, *parts, without=()):
+    """Says so if a run did not end with this status and print these words, or printed others."""
+    if found[0] != status or not all(it in found[1] for it in parts) or \
+            any(it in found[1] for it in ("Traceback", *without)):
+        yield f"status {found[0]}, not {status}: {found[1][-600:]!r}"
+
+
+@attack("user")
+def a_verdict_on_another_user_is_forged(field):
+    """Where all users may make files, a folder of the victim's name has no records of the victim."""
+    nights = Nights(field, VICTIM)
+    nights.change()
+    own = nights.own(field.user.pw_uid)
+    forged = session((MKDIR, string(os.fsencode(f"{nights.home}/unrecorded")) + attrs(permissions=0o755)))
+    nights.put(f"{VICTIM.pw_name}/{record_name(VICTIM)}", forged, field.user.pw_uid)
+    yield from wrong(nights.run(), 1, "something else changed the folder", own, without=["accepted 1 requests"])
+    if not os.listdir(own):
+        yield "the planted record is taken"
+    os.chmod(nights.spool, 0o777)
+    os.chown(own, 0, 0)
+    yield from wrong(nights.run(), 1, own, without=["accepted 1 requests"])
+
+
+@attack("user")
+def records_of_others_are_reached_through_a_link(field):
+    """A link of the victim's name in the spool leads nowhere, be it to the records that are kept of others."""
+    nights = Nights(field, VICTIM)
+    kept = os.path.join(nights.state, "other", "accepted")
+    os.makedirs(kept, 0o700)
+    dear = os.path.join(kept, "other-20261127T101500Z-local-1.transcript")
+    with open(dear, "wb") as file:
+        file.write(session(mkdir(f"{nights.home}/d")))
+    os.utime(dear, (1, 1))
+    for mode in (0o1777, 0o755):
+        os.symlink(kept, os.path.join(nights.spool, VICTIM.pw_name))
+        os.chmod(nights.spool, mode)
+        yield from wrong(nights.run(), 1, "not taken", without=["accepted 1 requests"])
+        if not os.path.exists(dear):
+            yield "a record of another user is taken"
+            return
+        os.remove(os.path.join(nights.spool, VICTIM.pw_name))
+
+
+@attack("user")
+def the_folder_of_the_daemon_is_taken(field):
+    """The spool of sftpv3-recordd is read as ever, in the order of the times that the daemon wrote."""
+    nights = Nights(field, VICTIM)
+    os.chown(nights.spool, KEEPER, KEEPER)
+    os.chmod(nights.spool, 0o700)
+    nights.own(KEEPER)
+    d = f"{nights.home}/d"
+    for name, made in (("20261127T101500Z-192.0.2.7-1", mkdir(d)), ("20261127T101600Z-20000101T000000Z-2", rmdir(d)),
+                       ("99999999T999999Z-192.0.2.7-3", mkdir(d)), ("x20000101T000000Z-3", rmdir(d))):
+        ended = {"1": 40, "2": 30}.get(name[-1], 20 if name[0] == "9" else 10)
+        nights.put(f"{VICTIM.pw_name}/{name}.transcript", session(made), KEEPER, ended=ended)
+    yield from wrong(nights.run(), 0, "4 sessions accepted", "the folder is as they left it")
+
+
+@attack("user")
+def a_name_has_no_time(field):
+    """A record whose name has a time that there is none of, or one in digits of other scripts, is one as others."""
+    nights = Nights(field, field.user)
+    for date in ("99999999T999999Z", "20261399T000000Z", "٢٠٢٦١١٢٧T١٠١٥٠٠Z", "00000101T000000Z"):
+        nights.put(record_name(field.user, date), session((REMOVE, string(b"/x")))[:8], field.user.pw_uid)
+    yield from wrong(nights.run(), 1, "record 1: Start", "not judged")
+    yield from wrong(nights.run(), 0, "the folder is as they left it")
+
+
+@attack("user")
+def a_verdict_is_put_off(field):
+    """A time that is yet to come, a lock, and a time that is always now: none has a run end as if all were well."""
+    nights = Nights(field, field.user)
+    nights.change()
+    name = record_name(field.user)
+    path = nights.put(name, session(mkdir(f"{nights.home}/d"), rmdir(f"{nights.home}/d")), field.user.pw_uid,
+                      ended=-10 ** 9)
+    yield from wrong(nights.run(), 1, "1 session accepted; something else changed the folder", "unrecorded")
+    path = nights.put(name, session(), field.user.pw_uid)
+    held = os.open(path, os.O_RDONLY)
+    fcntl.flock(held, fcntl.LOCK_EX)
+    yield from wrong(nights.run(), 1, "still running", "not compared since")
+    yield from wrong(nights.run("--longest", "1"), 0, "still running", "not compared since")
+    os.utime(os.path.join(nights.state, field.user.pw_name, "compared"), (time.time() - 4000,) * 2)
+    yield from wrong(nights.run("--longest", "1"), 1, "still running", "not compared since")
+    os.close(held)
+    with beside(field, always_now, path):
+        yield from wrong(nights.run(), 1, "still running", "not compared since")
+    yield from wrong(nights.run(), 0, "1 session accepted; the folder is as they left it")
+
+
+def always_now(path):
+    while True:
+        os.utime(path)
+        time.sleep(0.01)
+
+
+@attack("user")
+def a_record_takes_all_memory(field):
+    """A record of some kilobytes is not judged beyond the limit, which says so, and holds up nobody else."""
+    nights = Nights(field, field.user)
+    files = [f"{nights.home}/m{it}" for it in range(24)]
+    made = [it for file in files for it in (opened(file), sized(LARGEST), CLOSED)]
+    many = session(*made, *((REMOVE, string(file.encode())) for file in files))
+    nights.put(record_name(field.user), many, field.user.pw_uid)
+    found = nights.run()
+    yield from wrong(found, 1, "not judged: ", "--memory", without=["status 3"])
+    if found[2] > 1200 * MEBI:
+        yield f"{found[2] // MEBI} MiB"
+    nights.put(record_name(field.user), session(), field.user.pw_uid)
+    yield from wrong(nights.run(), 0, "1 session accepted; the folder is as they left it")
+    nights.put(record_name(field.user), many, field.user.pw_uid)
+    found = nights.run("--memory", str(256 * MEBI))
+    yield from wrong(found, 1, "not judged: ")
+    if found[2] > 400 * MEBI:
+        yield f"{found[2] // MEBI} MiB of 256"
+
+
+@attack("user")
+def a_record_takes_all_time(field):
+    """An audit ends when its time is over, which is said, and holds up nobody else."""
+    nights = Nights(field, field.user)
+    changes = [it for _ in range(400) for it in (sized(LARGEST), sized(0))]
+    nights.put(record_name(field.user), session(opened(f"{nights.home}/m"), *changes), field.user.pw_uid)
+    start = time.monotonic()
+    yield from wrong(nights.run("--audit-seconds", "2"), 1, "not judged: the audit did not end within 2 seconds")
+    if time.monotonic() - start > 30:
+        yield f"{time.monotonic() - start:.0f} seconds"
+    left = sorted(os.listdir(os.path.join(nights.state, field.user.pw_name)))
+    if left != ["compared", "tree", "unjudged"]:
+        yield f"left: {left}"
+    nights.put(record_name(field.user), session(), field.user.pw_uid)
+    yield from wrong(nights.run(), 0, "1 session accepted; the folder is as they left it")
+
+
+@attack("user")
+def a_kept_record_is_changed(field):
+    """What is kept is root's alone, and is what was audited, whatever links the user has to the record."""
+    nights = Nights(field, field.user)
+    data = session(mkdir(f"{nights.home}/d"), rmdir(f"{nights.home}/d"))
+    for kind, changed in (("accepted", data), ("refused", data[:-1])):
+        path = nights.put(record_name(field.user), changed, field.user.pw_uid, ended=10 ** 9)
+        link = field.path(f"link-{kind}")
+        os.link(path, link)
+        nights.run()
+        if os.path.exists(path):
+            yield "the record is still in the spool"
+        with open(link, "r+b") as file:
+            file.write(b"changed")
+        kept = nights.kept(kind)
+        if not kept:
+            yield f"nothing is {kind}"
+            continue
+        with open(kept[0], "rb") as file:
+            if file.read() != changed:
+                yield f"what was {kind} is changed"
+        found = os.stat(kept[0])
+        if (found.st_uid, found.st_mode & 0o777) != (0, 0o600):
+            yield f"what was {kind} is of {found.st_uid}, mode {found.st_mode & 0o777:o}"
+        if time.time() - found.st_mtime > SECONDS:
+            yield f"a timer goes by what the user chose: {found.st_mtime}"
+
+
+@attack("user")
+def a_record_unfolds_on_the_disk(field):
+    """Holes in a record take no room where it is kept."""
+    nights = Nights(field, field.user)
+    path = nights.put(record_name(field.user), session(), field.user.pw_uid)
+    os.truncate(path, 1 << 36)
+    os.utime(path, (1, 1))
+    start = time.monotonic()
+    yield from wrong(nights.run(), 1, "record 3: Direction")
+    if time.monotonic() - start > 20 or sum(os.stat(it).st_blocks for it in nights.kept("refused")) > 1000:
+        yield "they do"
+
+
+@attack("user")
+def a_name_reaches_the_terminal(field):
+    """Names of records, the longest too, are printed as one line without what a terminal acts on."""
+    hostile = "\x1b]0;title\x07\x1b[2J\u202e\u009b31m\udcff\rsop: 9 sessions accepted; the folder is as they left it"
+    nights = Nights(field, field.user)
+    for name in (hostile, "x" * 244, "\u202e" * 81):
+        nights.put(f"{name}.transcript", session(), field.user.pw_uid)
+    nights.put(f"{hostile}.2.transcript", session()[:-1], field.user.pw_uid)
+    held = os.open(nights.put(f"{hostile}.3.transcript", session(), field.user.pw_uid, ended=5), os.O_RDONLY)
+    fcntl.flock(held, fcntl.LOCK_EX)
+    for turn in range(3):
+        status, said, _ = nights.run("--longest", "1")
+        if status == 3 or any(not it.isprintable() for it in said.replace("\n", "")):
+            yield f"run {turn}: status {status}: {said!r}"
+        if turn == 0:
+            nights.put(f"{'x' * 244}.transcript", session()[:-1], field.user.pw_uid)
+    os.close(held)
+    yield from wrong(nights.run(), 1)
+
+
+@contextmanager
+def small_disk(folder, size):
+    """A file system of so many bytes in a folder."""
+    os.mkdir(folder, 0o700)
+    subprocess.run(["mount", "-t", "tmpfs", "-o", f"size={size},mode=700", "none", folder], check=True)
+    try:
+        yield
+    finally:
+        subprocess.run(["umount", folder], check=True)
+
+
+@attack("user", "mount")
+def a_disk_is_full(field):
+    """A record that has no room where it is kept stays where it is, whole, and nothing cut is kept."""
+    with small_disk(field.path("state"), MEBI):
+        nights = Nights(field, field.user)
+        data = session(*(it for _ in range(9000) for it in (mkdir(f"{nights.home}/d"), rmdir(f"{nights.home}/d"))))
+        path = nights.put(record_name(field.user), data, field.user.pw_uid)
+        yield from wrong(nights.run(), 3, "cannot be copied: No space left")
+        if not os.path.exists(path) or os.path.getsize(path) != len(data):
+            yield "the record is gone"
+        left = [it for kind in ("accepted", "refused", "unjudged") for it in nights.kept(kind)]
+        if left:
+            yield f"{left} is kept"
+        subprocess.run(["mount", "-o", "remount,size=64m", nights.state], check=True)
+        yield from wrong(nights.run(), 0, "1 session accepted; the folder is as they left it")
