@@ -1,7 +1,7 @@
 //! The subcommands `import` and `export`: an archive as a tree file, and a tree file as an archive.
 ghost use Rattle.std.specs.Prelude.{◌≡◌, IfOk, MatchResult};
 ghost use Rattle.sftp_treefile.specs.declared.files.TreeFile.{TreeFile as file};
-ghost use Rattle.sftp_treefile.specs.TreeFile.{IsSpelled};
+ghost use Rattle.sftp_treefile.specs.TreeFile.{IsSpelled, IsTreeFile};
 ghost use Rattle.sftp_tar.specs.Archive.{archive};
 ghost use Rattle.sftp_tool.specs.declared.messages.Ending.TheVariants as endings;
 ghost use Rattle.sftp_tool.specs.declared.messages.Failure.TheVariants as failures;
@@ -89,7 +89,9 @@ fn taken<'a, E: Write>(
     taking: Taking,
     archive: &[u8],
     errors: &mut E,
-) -> Result<TreeFile, Failure<'a>> {
+) -> Result<TreeFile, Failure<'a>>
+    ensures { IfOk result (λ file. IsTreeFile file) }
+{
     match sftp_tar::import(alloc, taking, archive) {
         Ok(file) => match name_specials(alloc, taking.special, archive, errors) {
             Ok(()) => Ok(file),
