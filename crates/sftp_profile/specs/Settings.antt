@@ -1,6 +1,7 @@
 -- lsetstat@openssh.com: a SETSTAT that does not follow a last link (OpenSSH's PROTOCOL, section 4; its sftp sends it
 -- for `chown -h` and `chmod -h`).
-use Rattle.std.specs.Prelude.{◌&&◌, ◌||◌, ℕ, Bool, false, if◌then◌else◌, List, codes, Option, Some, None, is_some}
+use Rattle.std.specs.Prelude.{◌&&◌, ◌||◌, not, ℕ, Bool, false, if◌then◌else◌, List, codes, Option, Some, None}
+use Rattle.std.specs.Prelude.{is_some}
 use Rattle.sftp_packets.specs.declared.requests.Ask.{Ask}
 use Rattle.sftp_packets.specs.declared.requests.Ask.TheVariants as asks
 use Rattle.sftp_packets.specs.declared.replies.Answer.{Answer}
@@ -13,6 +14,7 @@ use Rattle.sftp_handles.specs.State.{State}
 use Rattle.sftp_handles.specs.Replies.{has_code}
 use Rattle.sftp_profile.specs.declared.profiles.Profile.{Profile}
 use Rattle.sftp_profile.specs.Data.{whole}
+use Rattle.sftp_profile.specs.Paths.{is_loose}
 use Rattle.sftp_profile.specs.Replaced.{put}
 
 -- ---- the request
@@ -31,9 +33,10 @@ setstat_of other = None
 
 -- ---- what is there
 
--- the path itself leads to a link
+-- the path itself leads to a link, and does not go on behind it, as one with a slash or dots at its end does (POSIX.1,
+-- 4.13)
 abbrev pub is_link_at : Tree → List ℕ → Bool
-is_link_at t path = is_none (causes t (asks.Readlink path))
+is_link_at t path = not (is_loose path) && is_none (causes t (asks.Readlink path))
 
 -- a SETSTAT of anything but a link, as the profile judges it
 abbrev pub set_unlinked : Profile → State → Ask → Option Ask

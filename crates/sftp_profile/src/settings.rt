@@ -5,6 +5,7 @@ ghost use Rattle.sftp_handles.specs.Replies as words;
 ghost use Rattle.sftp_profile.specs.Settings as spec;
 
 use crate::data::setstat_in;
+use crate::paths::is_loose;
 use crate::profiles::Profile;
 use crate::refusals::has_code;
 use crate::replaced::put;
@@ -106,7 +107,7 @@ fn set_at(
     Ok(Some(set))
 }
 
-/// Whether a path itself leads to a link.
+/// Whether a path itself leads to a link, and has no slash or dots behind it, by which it leads on.
 ///
 /// # Errors
 ///
@@ -114,6 +115,9 @@ fn set_at(
 fn is_link_at(tree: &Tree, path: &[u8]) -> Result<bool, NoMemory>
     ensures { IfOk result (λ ok. ok ≡ spec.is_link_at tree.now path.now) }
 {
+    if is_loose(path) {
+        return Ok(false);
+    }
     match tree.read_link(path) {
         Ok(target) => {
             drop(target);
