@@ -1,10 +1,14 @@
 """What is checked of scripts and documents without the built program: that scripts can be read, that links and file
-names lead to files, that lines are within 120 columns, and that benches import definitions that are there. Each check
-yields a line for each mistake."""
+names lead to files, that lines are within 120 columns, that benches import definitions that are there, that edits
+apply, and that the tests of the scripts here pass. Each check yields a line for each mistake."""
 import re
 import shutil
 import subprocess
+import sys
 from pathlib import Path
+
+from crates import Crates
+from editing.checks import wrong_edits
 
 TOP = Path(__file__).resolve().parents[1]
 COLUMNS = 120
@@ -13,7 +17,7 @@ MANUAL = "packaging/sftpv3.1.in"
 DATED = ("docs/measurements/", "CHANGELOG.md")
 # Files that no person writes line by line, and `crates.txt`, in which a crate is a line.
 UNBROKEN = re.compile(
-    r"\.(cases|edit|tree|transcript)$|/proofs/|(^|/)(crates|list)\.txt$|^LICENSE$|/TRIED$")
+    r"\.(cases|edit|tree|transcript)$|/proofs/|(^|/)(crates|list|edits)\.txt$|^LICENSE$")
 # Sources with longer lines, and how many each may have: code that was proved before the check was there.
 LONGER = TOP / ".ci" / "longer"
 
@@ -108,7 +112,7 @@ def wrong_links(pages):
 
 def stands_for(word, names):
     """Returns whether the word names a file or a folder: from the top, or as the last part of a longer name."""
-    if re.search(r"[A-Z]{3}|[{}<>$]", re.sub(r"[A-Z]+\.md|TRIED|README|LICENSE|CHANGELOG|HANDLES", "", word)):
+    if re.search(r"[A-Z]{3}|[{}<>$]", re.sub(r"[A-Z]+\.md|README|LICENSE|CHANGELOG|HANDLES", "", word)):
         return True
     if any(TOP.glob(word.rstrip("/"))):
         return True
@@ -158,6 +162,15 @@ def wrong_imports(names):
                         yield f"{name}: {path} has no {word}"
 
 
+def wrong_tests():
+    """Runs the tests in .ci/tests, which need neither the program nor the prover."""
+    words = [sys.executable, "-B", "-m", "unittest", "discover", "-s", ".ci/tests"]
+    ran = subprocess.run(words, cwd=TOP, stdin=subprocess.DEVNULL, stdout=subprocess.PIPE, stderr=subprocess.STDOUT,
+                         text=True)
+    if ran.returncode:
+        yield f"{' '.join(words[1:])}\n{ran.stdout}"
+
+
 def skipped():
     """Yields a line for each program that is not there, and what is therefore not checked."""
     if not shutil.which("shellcheck"):
@@ -174,11 +187,11 @@ def wrong_manual():
 
 
 def mistakes():
-    """Returns a line for each mistake of a script or a document, and what was checked, in words."""
-    names = files()
+    """Returns a line for each mistake of a script, a document or an edit, and what was checked, in words."""
+    names, crates = files(), Crates()
     pages = [it for it in names if it.endswith(".md")]
     found = [*wrong_python(names), *wrong_shell(names), *wrong_columns(names), *wrong_links(pages),
              *wrong_names(pages, names), *wrong_quotes(pages), *unlisted(pages), *wrong_imports(names),
-             *wrong_manual()]
+             *wrong_manual(), *wrong_tests(), *(it for name in crates.lines for it in wrong_edits(crates, name))]
     count = sum(len(scripts(names, it)) for it in ("python", "sh", "bash"))
-    return found, f"{count} scripts, {len(pages)} documents and the columns of {len(names)} files"
+    return found, f"{count} scripts, {len(pages)} documents, the columns of {len(names)} files, and all edits"
