@@ -1,16 +1,14 @@
-"""What is checked of scripts and documents without the built program: that scripts can be read, that links and file
-names lead to files, that lines are within 120 columns, that benches import definitions that are there, that edits
-apply, and that the tests of the scripts here pass. Each check yields a line for each mistake."""
+"""What is checked of documents without the built program: that links and file names lead to files, that lines are
+within 120 columns, and that benches import definitions that are there; and with it of scripts and edits. Each check
+yields a line for each mistake."""
 import re
 import shutil
 import subprocess
-import sys
-from pathlib import Path
 
-from crates import Crates
+import scripts
+from crates import TOP, Crates
 from editing.checks import wrong_edits
 
-TOP = Path(__file__).resolve().parents[1]
 COLUMNS = 120
 MANUAL = "packaging/sftpv3.1.in"
 # Diaries name files as they were when they were written.
@@ -37,29 +35,6 @@ def files():
 
 def text(name):
     return (TOP / name).read_text(errors="replace")
-
-
-def scripts(names, kind):
-    """Returns the scripts whose first line names an interpreter of this kind, and for Python its modules."""
-    heads = {it: (TOP / it).open("rb").readline(80) for it in names}
-    is_script = re.compile(rb"#!.*\b" + kind.encode() + rb"[0-9.]*( -IS?)?\s*$")
-    return [it for it in names if is_script.match(heads[it]) or kind == "python" and it.endswith(".py")]
-
-
-def wrong_python(names):
-    for name in scripts(names, "python"):
-        try:
-            compile(text(name), name, "exec")
-        except SyntaxError as error:
-            yield f"{name}:{error.lineno}: {error.msg}"
-
-
-def wrong_shell(names):
-    for name in [*scripts(names, "sh"), *scripts(names, "bash")]:
-        words = ["shellcheck", "--format=gcc", name] if shutil.which("shellcheck") else ["sh", "-n", name]
-        ran = subprocess.run(words, cwd=TOP, stdout=subprocess.PIPE, stderr=subprocess.STDOUT, text=True)
-        if ran.returncode:
-            yield from ran.stdout.splitlines() or [f"{name}: {' '.join(words[:2])} refuses it"]
 
 
 def longer_lines(names):
@@ -162,19 +137,9 @@ def wrong_imports(names):
                         yield f"{name}: {path} has no {word}"
 
 
-def wrong_tests():
-    """Runs the tests in .ci/tests, which need neither the program nor the prover."""
-    words = [sys.executable, "-B", "-m", "unittest", "discover", "-s", ".ci/tests"]
-    ran = subprocess.run(words, cwd=TOP, stdin=subprocess.DEVNULL, stdout=subprocess.PIPE, stderr=subprocess.STDOUT,
-                         text=True)
-    if ran.returncode:
-        yield f"{' '.join(words[1:])}\n{ran.stdout}"
-
-
 def skipped():
     """Yields a line for each program that is not there, and what is therefore not checked."""
-    if not shutil.which("shellcheck"):
-        yield "shellcheck is not installed: of shell scripts only the syntax is checked"
+    yield from scripts.skipped()
     if not shutil.which("mandoc"):
         yield "mandoc is not installed: the manual page is not checked"
 
@@ -190,8 +155,8 @@ def mistakes():
     """Returns a line for each mistake of a script, a document or an edit, and what was checked, in words."""
     names, crates = files(), Crates()
     pages = [it for it in names if it.endswith(".md")]
-    found = [*wrong_python(names), *wrong_shell(names), *wrong_columns(names), *wrong_links(pages),
-             *wrong_names(pages, names), *wrong_quotes(pages), *unlisted(pages), *wrong_imports(names),
-             *wrong_manual(), *wrong_tests(), *(it for name in crates.lines for it in wrong_edits(crates, name))]
-    count = sum(len(scripts(names, it)) for it in ("python", "sh", "bash"))
+    found = [*scripts.wrong_python(names), *scripts.wrong_shell(names), *scripts.wrong_tests(), *wrong_columns(names),
+             *wrong_links(pages), *wrong_names(pages, names), *wrong_quotes(pages), *unlisted(pages),
+             *wrong_imports(names), *wrong_manual(), *(it for name in crates.lines for it in wrong_edits(crates, name))]
+    count = sum(len(scripts.scripts(names, it)) for it in ("python", "sh", "bash"))
     return found, f"{count} scripts, {len(pages)} documents, the columns of {len(names)} files, and all edits"
