@@ -137,6 +137,15 @@ def wrong_imports(names):
                         yield f"{name}: {path} has no {word}"
 
 
+def wrong_version():
+    """Finds a version of the program that does not head CHANGELOG.md."""
+    number = re.search(r'pub const VERSION: &str = "(.*)";', text("crates/sftp_tool/src/lib.rt"))
+    head = re.search(r"(?m)^## ([\d.]+)", text("CHANGELOG.md"))
+    if not number or not head or number[1] != head[1]:
+        yield (f"CHANGELOG.md: the newest heading, {head and head[1]}, is not the VERSION of the program, "
+               f"{number and number[1]}")
+
+
 def skipped():
     """Yields a line for each program that is not there, and what is therefore not checked."""
     yield from scripts.skipped()
@@ -157,6 +166,7 @@ def mistakes():
     pages = [it for it in names if it.endswith(".md")]
     found = [*scripts.wrong_python(names), *scripts.wrong_shell(names), *scripts.wrong_tests(), *wrong_columns(names),
              *wrong_links(pages), *wrong_names(pages, names), *wrong_quotes(pages), *unlisted(pages),
-             *wrong_imports(names), *wrong_manual(), *(it for name in crates.lines for it in wrong_edits(crates, name))]
+             *wrong_imports(names), *wrong_manual(), *wrong_version(),
+             *(it for name in crates.lines for it in wrong_edits(crates, name))]
     count = sum(len(scripts.scripts(names, it)) for it in ("python", "sh", "bash"))
     return found, f"{count} scripts, {len(pages)} documents, the columns of {len(names)} files, and all edits"
