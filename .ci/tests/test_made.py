@@ -89,7 +89,8 @@ class Index(unittest.TestCase):
             self.assertEqual(len(list(indexing.wrong_index())), 1)
 
     def test_names_that_no_source_has_are_found(self):
-        page = ("## `sftp_wire`\n\n| function | clause | meaning |\n|---|---|---|\n| `front` | `exact`, `exacter` | x |\n"
+        page = ("## `sftp_wire`\n\n| function | clause | meaning |\n|---|---|---|\n"
+                "| `front` | `exact`, `exacter` | x |\n"
                 "| | `only` | x |\n| `fronts` | | x |\n\n| ended | what |\n|---|---|\n| `Nothing` | x |\n")
         with tempfile.TemporaryDirectory() as room:
             file = Path(room, "PROMISES.md")
@@ -127,7 +128,8 @@ class Cases(unittest.TestCase):
 
     def test_program_that_fails_is_reported(self):
         made = making.Made("a.cases 2 6 00 lists 1")
-        self.assertEqual(making.run_cases("/bin/false", made, CASES), ["models/lists 1: /bin/false ended with status 1"])
+        wrong = making.run_cases("/bin/false", made, CASES)
+        self.assertEqual(wrong, ["models/lists 1: /bin/false ended with status 1"])
         self.assertEqual(len(making.run_cases("/bin/true", made, CASES)), 1)
 
 
