@@ -4,7 +4,7 @@ import os
 import textwrap
 
 import sftp3
-from probing import features, files, program, refusals, sessions, shrinking, trees, verdicts
+from probing import features, files, program, refusals, sessions, shrinking, verdicts
 from recording.complaints import Parser
 
 # The exit statuses: all sessions were accepted; there are differences; the command line is wrong, or plans nothing; the
@@ -141,7 +141,7 @@ def read(option, name, reader):
     try:
         with open(name, "rb") as file:
             return reader(file.read())
-    except (trees.Bad, sftp3.Malformed, OSError) as error:
+    except (sftp3.Malformed, OSError) as error:
         raise Wrong(f"{option}: {error}") from error
 
 

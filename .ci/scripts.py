@@ -1,0 +1,52 @@
+"""What is checked of scripts without the built program: that they can be read, and what the tools that are installed
+find in them. Each check yields a line for each mistake."""
+import re
+import shutil
+import subprocess
+import sys
+from collections.abc import Iterator
+
+from crates import TOP
+
+
+def scripts(names: list[str], kind: str) -> list[str]:
+    """Returns the scripts whose first line names an interpreter of this kind, and for Python its modules."""
+    heads = {it: (TOP / it).open("rb").readline(80) for it in names}
+    is_script = re.compile(rb"#!.*\b" + kind.encode() + rb"[0-9.]*( -IS?)?\s*$")
+    return [it for it in names if is_script.match(heads[it]) or kind == "python" and it.endswith(".py")]
+
+
+def said(words: list[str]) -> list[str]:
+    """Returns what a command says of what it refuses."""
+    ran = subprocess.run(words, cwd=TOP, stdin=subprocess.DEVNULL, stdout=subprocess.PIPE, stderr=subprocess.STDOUT,
+                         text=True)
+    lines = ran.stdout.splitlines() or [f"{' '.join(words[:2])} ended with status {ran.returncode}"]
+    return lines if ran.returncode else []
+
+
+def wrong_python(names: list[str]) -> Iterator[str]:
+    for name in scripts(names, "python"):
+        try:
+            compile((TOP / name).read_text(errors="replace"), name, "exec")
+        except SyntaxError as error:
+            yield f"{name}:{error.lineno}: {error.msg}"
+
+
+def wrong_shell(names: list[str]) -> Iterator[str]:
+    found = [*scripts(names, "sh"), *scripts(names, "bash")]
+    if found and shutil.which("shellcheck"):
+        yield from said(["shellcheck", "--format=gcc", *found])
+    else:
+        for name in found:
+            yield from said(["sh", "-n", name])
+
+
+def wrong_tests() -> list[str]:
+    """Runs the tests in .ci/tests, which need neither the program nor the prover."""
+    return said([sys.executable, "-B", "-m", "unittest", "discover", "-s", ".ci/tests"])
+
+
+def skipped() -> Iterator[str]:
+    """Yields a line for each program that is not there, and what is therefore not checked."""
+    if not shutil.which("shellcheck"):
+        yield "shellcheck is not installed: of shell scripts only the syntax is checked"
