@@ -4,7 +4,7 @@ import os
 import textwrap
 
 import sftp3
-from probing import features, files, program, refusals, sessions, shrinking, trees, verdicts
+from probing import features, files, program, refusals, sessions, shrinking, verdicts
 
 # The exit statuses: all sessions were accepted; there are differences; the command line is wrong, or plans nothing; the
 # server, the command of --reset or the program could not be started; no difference was found, and not all was played.
@@ -140,7 +140,7 @@ def read(option, name, reader):
     try:
         with open(name, "rb") as file:
             return reader(file.read())
-    except (trees.Bad, sftp3.Malformed, OSError) as error:
+    except (sftp3.Malformed, OSError) as error:
         raise Wrong(f"{option}: {error}") from error
 
 

@@ -9,7 +9,8 @@ import time
 
 import sftp3
 from paging import document, packets, runs
-from probing import files, junit, keeping, printed, program, shown, trees
+from probing import files, junit, keeping, printed, program, shown
+from sftp3 import trees
 
 
 def text_of(judge, name):

@@ -7,8 +7,9 @@ from typing import List, Optional
 
 from paging import single
 from probing import (causes, features, groups, limits, options, ownfiles, planner, program, progress, recorded, reports,
-                     sessions, shrinking, tally, trees, verdicts, workers)
+                     sessions, shrinking, starting, tally, verdicts, workers)
 from probing.sessions import NotStarted
+from sftp3 import trees
 
 # How often a plan is played at most, each time without one more of its requests; and how often, if the server ends
 # behind as many requests each time, whatever they are.
@@ -110,7 +111,7 @@ class Run:
         options.can_write("--keep", given.keep)
         if given.report:
             options.can_write("--report", given.report)
-        self.tree = options.read("--tree", given.tree, trees.get) if given.tree else trees.usual()
+        self.tree = options.read("--tree", given.tree, trees.get) if given.tree else starting.usual()
         self.recorded = options.read("--session", given.session, recorded.steps_of) if given.session else None
         self.program = program.program()
         auditor = verdicts.Auditor(self.program, folder)

@@ -4,7 +4,8 @@ import queue
 from collections import deque
 from concurrent import futures
 
-from probing import sessions, trees, verdicts
+from probing import sessions, verdicts
+from sftp3 import trees
 from probing.sessions import NotStarted, Session
 
 # For each worker, how many tasks are begun before the first of them is asked for its result.

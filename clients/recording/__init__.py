@@ -1,7 +1,8 @@
 """The parts of the recorder, clients/record, and of clients/recordd, each building on those before it:
 
 hiding    keeps other processes of the user out
-packets   a stream of bytes as packets, one direction of a session; VERSION without extensions
+packets   a stream of bytes as packets, one direction of a session
+plain     VERSION without extensions
 times     the file of times beside a transcript
 notices   lines to standard error, to a log, to syslog
 folders   whether others could replace a file

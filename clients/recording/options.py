@@ -7,9 +7,9 @@ import pwd
 import sys
 import time
 
-import sftp3
 from recording import naming
 from recording.notices import Notices, write_error
+from recording.packets import OPENING
 from recording.server import NotStarted, start
 from recording.sessions import OWN_FAILURE, Session, Signals
 from recording.sinks import Failed, FileSink, SpoolSink, TimesSink
@@ -225,12 +225,12 @@ def record_session(options):
         return error.status
     change = None
     if options.plain:
-        from recording.packets import plain as change
+        from recording.plain import plain as change
     session = Session(server, signals, notices, options, change)
     if options.audit:
         session.audit = open_audit(options, notices)
     if records.record:
-        session.begin_record(records.record, records.times, sftp3.OPENING)
+        session.begin_record(records.record, records.times, OPENING)
     status = play(session)
     if session.audit:
         session.audit.finish()
