@@ -2,7 +2,6 @@
 of docs/PROMISES.md: that each function and each clause that a table of it names is there."""
 import re
 import textwrap
-from pathlib import Path
 
 from contracts import functions_of, head_of
 from crates import Crates
