@@ -2,7 +2,7 @@
 
 A server that clients/servers start has root as its user, and may signal every process of root that it sees, whatever
 rights it gave up. So it runs in a namespace of processes of its own, below a keeper that is the first process there:
-when the keeper ends, the system ends all that is left. Without the right to make namespaces, nothing is changed.
+when the keeper ends, the system ends all that is left. Without the right to make namespaces, it is killed when the script ends, and no more.
 """
 import ctypes
 import os
@@ -24,6 +24,7 @@ def step_aside():
     try:
         mounts.call("unshare", CLONE_NEWPID)
     except (OSError, AttributeError):
+        die_with_starter()
         return
     told, telling = os.pipe()
     keeper = os.fork()
@@ -35,9 +36,14 @@ def step_aside():
         keep(server, telling)
 
 
+def die_with_starter():
+    """Has the system kill this process when the one that started it ends."""
+    mounts.call("prctl", SET_DEATH_SIGNAL, *map(ctypes.c_ulong, (signal.SIGKILL, 0, 0, 0)))
+
+
 def stand_by(descriptor):
     """Leaves this process nothing but a descriptor. It dies with the one that started it. Returns the descriptor."""
-    mounts.call("prctl", SET_DEATH_SIGNAL, *map(ctypes.c_ulong, (signal.SIGKILL, 0, 0, 0)))
+    die_with_starter()
     for number in PASSED_BY:
         signal.signal(number, signal.SIG_IGN)
     os.dup2(descriptor, 3)

@@ -86,7 +86,7 @@ def looked_for(file, name):
     try:
         return subprocess.run([LDD, name], stdin=subprocess.DEVNULL, capture_output=True, check=False, errors="replace",
                               timeout=LOOKING, env={**os.environ, "LC_ALL": "C"}, pass_fds=[file.fileno()],
-                              preexec_fn=as_nobody)
+                              start_new_session=True, preexec_fn=as_nobody)
     except subprocess.TimeoutExpired:
         return fail(f"{LDD} did not end within {LOOKING} seconds")
 
@@ -227,8 +227,9 @@ def run(folder, program, arguments):
     lent = Lent(folder)
     try:
         words = put_program(folder, program) + arguments
+        # in a session of its own it types nothing into this terminal
         server = subprocess.Popen(words, stdin=subprocess.PIPE, stdout=subprocess.PIPE, bufsize=0,
-                                  env={"LC_ALL": "C"}, preexec_fn=lambda: enter(folder))
+                                  env={"LC_ALL": "C"}, start_new_session=True, preexec_fn=lambda: enter(folder))
         version = version_of(folder, server)
     finally:
         lent.remove()

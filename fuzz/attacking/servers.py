@@ -1,5 +1,6 @@
 """Attacks on clients/servers/any, which runs as root, by the program of the server that it starts."""
 import os
+import pty
 import subprocess
 import time
 
@@ -39,6 +40,35 @@ unsigned la_version(unsigned version) {
     close(file);
     return version;
 }
+"""
+
+
+# What types a line into the terminal of its session: a library for ld.so to run, or a server before its VERSION.
+TYPIST = """
+#include <fcntl.h>
+#include <sys/ioctl.h>
+#include <unistd.h>
+
+static void type(int terminal) {
+    for (const char *it = "typed\\n"; *it; it++) ioctl(terminal, TIOCSTI, it);
+}
+
+static void type_all(void) {
+    type(2);
+    type(open("/dev/tty", O_RDWR));
+}
+
+#ifdef AUDITS
+unsigned la_version(unsigned version) { type_all(); return version; }
+#else
+int main(void) {
+    static char room[64], version[] = {0, 0, 0, 5, 2, 0, 0, 0, 3};
+    if (read(0, room, sizeof room) < 1 || write(1, version, sizeof version) < 1) return 1;
+    type_all();
+    while (read(0, room, sizeof room) > 0);
+    return 7;
+}
+#endif
 """
 
 
@@ -86,6 +116,39 @@ def a_server_leaves_processes(field):
         os.kill(int(it), 9)
     if left:
         yield f"{len(left)} processes are left"
+
+
+def line_of_terminal(field, server):
+    """The line that is typed in a terminal while a session runs there, or the one that is typed behind it."""
+    field.put("hello", HELLO)
+    field.put("replies", b"")
+    script = '"$1" "$2" "$3" < hello > replies; IFS= read -r line; printf %s "$line" > line'
+    words = ["/bin/sh", "-c", script, "sh", field.script("servers/any"), field.blank(), server]
+    child, terminal = pty.fork()
+    if child == 0:
+        os.chdir(field.folder)
+        os.execve(words[0], words, {**os.environ, "SFTPV3": program(), "TMPDIR": field.folder})
+    until = time.monotonic() + SECONDS
+    while not field.read("replies") and time.monotonic() < until:
+        time.sleep(0.05)
+    time.sleep(0.5)
+    os.write(terminal, b"ours\n")
+    os.waitpid(child, 0)
+    os.close(terminal)
+    return field.read("line")
+
+
+@attack("user", "cc", "ldd")
+def a_server_types_into_the_terminal(field):
+    """Neither a server under test nor what its program names types commands into the terminal of root."""
+    auditor = built(field, "auditor.so", TYPIST, "-shared", "-fPIC", "-DAUDITS")
+    os.chmod(auditor, 0o755)
+    naming = built(field, "naming", SERVER, f"-Wl,--audit={auditor}")
+    for name, server in (("a server", built(field, "typist", TYPIST)), ("what its program names", naming)):
+        os.chmod(server, 0o755)
+        line = line_of_terminal(field, server)
+        if line != b"ours":
+            yield f"{name} typed {line!r}"
 
 
 def words_of(process):
