@@ -5,7 +5,6 @@ import pwd
 import re
 import shutil
 import subprocess
-from pathlib import Path
 
 from texts import TOP
 
