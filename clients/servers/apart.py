@@ -2,8 +2,8 @@
 
 A server that clients/servers start has root as its user, and may signal every process of root that it sees, whatever
 rights it gave up. So it runs in a namespace of processes of its own, below a keeper that is the first process there:
-when the keeper ends, the system ends all that is left. Without the right to make namespaces, it is killed when the
-script ends, and no more.
+when the keeper ends, the system ends all that is left. Without the right to make namespaces, the system ends the server
+with the script, and no more.
 """
 import ctypes
 import os

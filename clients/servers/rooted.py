@@ -199,6 +199,14 @@ def pass_on(source, target):
         os.close(target)
 
 
+def show(source):
+    """Shows on a terminal what the server writes to standard error, without what a terminal acts on."""
+    with contextlib.suppress(OSError):
+        while data := os.read(source, 1 << 12):
+            lines = data.decode("utf-8", "surrogateescape").split("\n")
+            write_all(2, "\n".join(map(printable, lines)).encode())
+
+
 def enter(folder):
     """Makes the folder this process's root, and gives up the rights that lead out of it, and the sight of all other
     processes. Files get the permissions that are asked for without those of 022."""
@@ -229,7 +237,10 @@ def run(folder, program, arguments):
         words = put_program(folder, program) + arguments
         # in a session of its own it types nothing into this terminal
         server = subprocess.Popen(words, stdin=subprocess.PIPE, stdout=subprocess.PIPE, bufsize=0,
-                                  env={"LC_ALL": "C"}, start_new_session=True, preexec_fn=lambda: enter(folder))
+                                  stderr=subprocess.PIPE if os.isatty(2) else None, env={"LC_ALL": "C"},
+                                  start_new_session=True, preexec_fn=lambda: enter(folder))
+        if server.stderr:
+            threading.Thread(target=show, args=(server.stderr.fileno(),), daemon=True).start()
         version = version_of(folder, server)
     finally:
         lent.remove()

@@ -64,6 +64,7 @@ unsigned la_version(unsigned version) { type_all(); return version; }
 int main(void) {
     static char room[64], version[] = {0, 0, 0, 5, 2, 0, 0, 0, 3};
     if (read(0, room, sizeof room) < 1 || write(1, version, sizeof version) < 1) return 1;
+    if (write(2, "\\033]0;x\\007said\\n", 11) < 11) return 2;
     type_all();
     while (read(0, room, sizeof room) > 0);
     return 7;
@@ -119,7 +120,8 @@ def a_server_leaves_processes(field):
 
 
 def line_of_terminal(field, server):
-    """The line that is typed in a terminal while a session runs there, or the one that is typed behind it."""
+    """The line that is typed in a terminal while a session runs there, or the one that is typed behind it; and what the
+    terminal shows."""
     field.put("hello", HELLO)
     field.put("replies", b"")
     script = '"$1" "$2" "$3" < hello > replies; IFS= read -r line; printf %s "$line" > line'
@@ -134,21 +136,26 @@ def line_of_terminal(field, server):
     time.sleep(0.5)
     os.write(terminal, b"ours\n")
     os.waitpid(child, 0)
+    os.set_blocking(terminal, False)
+    shown = os.read(terminal, 1 << 16)
     os.close(terminal)
-    return field.read("line")
+    return field.read("line"), shown
 
 
 @attack("user", "cc", "ldd")
 def a_server_types_into_the_terminal(field):
-    """Neither a server under test nor what its program names types commands into the terminal of root."""
+    """Neither a server under test nor what its program names types commands into the terminal of root, or has it act by
+    what is shown there."""
     auditor = built(field, "auditor.so", TYPIST, "-shared", "-fPIC", "-DAUDITS")
     os.chmod(auditor, 0o755)
     naming = built(field, "naming", SERVER, f"-Wl,--audit={auditor}")
     for name, server in (("a server", built(field, "typist", TYPIST)), ("what its program names", naming)):
         os.chmod(server, 0o755)
-        line = line_of_terminal(field, server)
+        line, shown = line_of_terminal(field, server)
         if line != b"ours":
             yield f"{name} typed {line!r}"
+        if b"\x1b" in shown or (server != naming) != (b"said" in shown):
+            yield f"{name}: the terminal shows {shown!r}"
 
 
 def words_of(process):
