@@ -162,12 +162,13 @@ def times(steps, room):
                 date + found[-1] <= end + 1_000_000, str(found))
     steps.check("what is written is read back", form.read(data) == (date, found) and
                 form.opening(date) + form.entries(found) == data)
-    for wrong in (b"", data[:12], b"x" + data[1:], data[:-3]):
+    steps.check("times may be equal", form.read(data[:16] + form.entries([4, 4])) == (date, [4, 4]))
+    for wrong in (b"", data[:12], b"x" + data[1:], data[:-3], data[:16] + form.entries([5, 4])):
         try:
             form.read(wrong)
-            steps.check("a times file that is cut or has another opening is refused", False, str(wrong[:20]))
+            steps.check("a times file that is cut, has another opening or falls is refused", False, str(wrong[:20]))
         except form.Malformed:
-            steps.check("a times file that is cut or has another opening is refused", True)
+            steps.check("a times file that is cut, has another opening or falls is refused", True)
 
 
 TRIALS = (names, taken_names, many_taken_names, locks, quick_starts, pipes, folders, times)

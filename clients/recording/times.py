@@ -24,5 +24,7 @@ def read(data):
         raise Malformed("the file has no times")
     if len(data) % 8:
         raise Malformed("the file ends inside an entry")
-    numbers = struct.unpack(f">{len(data) // 8 - 1}Q", data[8:])
-    return numbers[0], list(numbers[1:])
+    date, *times = struct.unpack(f">{len(data) // 8 - 1}Q", data[8:])
+    if any(later < time for time, later in zip(times, times[1:])):
+        raise Malformed("the times fall")
+    return date, times

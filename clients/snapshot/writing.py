@@ -12,6 +12,13 @@ USUAL, RAISED = (65536, 16777216, 32768, 256), (1048576, 67108864, 65536, 1024)
 
 PIECE = 1 << 20
 
+# What becomes of sockets, FIFOs and devices, by the words of --special; `sftpv3 import` says the same.
+BECAME = {
+    "file": "an empty file in its place (for audit --allow special)",
+    "skip": "left out (--special file keeps its name)",
+    "refuse": "refused",
+}
+
 
 class Owner(NamedTuple):
     """Where relative paths start, and who owns what a session makes."""
@@ -25,7 +32,7 @@ class Wanted(NamedTuple):
     FIFOs and devices."""
     limits: str
     most: int
-    special: str = "skip"
+    special: str = "file"
 
     def leaves_out(self, entry: Entry) -> bool:
         return is_mounted_over(entry) or bool(kind(entry)) and self.special != "file"
@@ -37,8 +44,7 @@ def tell_of(entry: Entry, wanted: Wanted, tell: Callable[[str], None]) -> None:
         what = "it is" if wanted.leaves_out(entry) else "what it has is"
         tell(f"{shown(entry.place)}: mounted: {what} left out")
     elif kind(entry):
-        became = {"skip": "left out", "file": "an empty file in its place", "refuse": "refused"}[wanted.special]
-        tell(f"{shown(entry.place)}: {kind(entry)}, which no tree holds: {became}")
+        tell(f"{shown(entry.place)}: {kind(entry)}, which no tree holds: {BECAME[wanted.special]}")
 
 
 class Needs:

@@ -58,6 +58,12 @@ def copies(where):
                        "cp from/a b && cp b from/a && chmod -R go-rwx from")
 
 
+def special_files(where):
+    ran = where.batch("ls -la", "rename socket moved-socket", "chmod 600 moved-socket", "rm fifo", "ls -la")
+    shown = ran.stdout.split()
+    return ran.returncode == 0 and "srw-------" in shown and any(it.startswith("crw") for it in shown), ran.stdout
+
+
 def chgrp(where):
     ran = where.batch("mkdir grouped", f"chgrp {os.stat(where.real).st_gid} grouped", "ls -la")
     return ran.returncode == 0, ran.stdout
@@ -127,8 +133,9 @@ class Session:
     words: tuple = ()
 
 
-ORDINARY = (Session("chgrp by sftp", chgrp), Session("a clone over sshfs", clone, "git"),
-            Session("make", make, "git"), Session("500 files", five_hundred), Session("sizes up to 20 MB", sizes),
+ORDINARY = (Session("special files by sftp", special_files), Session("chgrp by sftp", chgrp),
+            Session("a clone over sshfs", clone, "git"), Session("make", make, "git"),
+            Session("500 files", five_hundred), Session("sizes up to 20 MB", sizes),
             Session("cp -r and chmod -R", copies), Session("cp -a", copy_as),
             *(Session(f"{name} over sshfs", act, program) for name, program, act in EDITORS))
 

@@ -43,8 +43,8 @@ abbrev pub unanswered_count : List Exchange → ℕ
 unanswered_count exchanges = length (filter is_unanswered exchanges)
 
 -- how many requests there are from the oldest unanswered one on
-abbrev pub unjudged_count : List Event → ℕ
-unjudged_count events = length (unsettled (recorded_exchanges events))
+abbrev pub unsettled_count : List Event → ℕ
+unsettled_count events = length (unsettled (recorded_exchanges events))
 
 -- the error says that a request has no reply
 abbrev pub IsUnanswered : AuditError → Type 0

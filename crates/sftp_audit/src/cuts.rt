@@ -5,7 +5,7 @@ ghost use Rattle.sftp_tree.specs.Picture.{picture};
 ghost use Rattle.sftp_audit.specs.Exchanges.{recorded_exchanges};
 ghost use Rattle.sftp_audit.specs.Audit.{IsFirstFault, IsFirstFaultBy, IsNoJudgement, CountsFailure, IsExcusedBy};
 ghost use Rattle.sftp_audit.specs.Audit.{IsNew, HasStart, JudgesTree, IsPlain, IsToldBy, request_count};
-ghost use Rattle.sftp_audit.specs.Cuts.{AccountsCut, AccountsCutBy, IsUnanswered, unanswered_count, unjudged_count};
+ghost use Rattle.sftp_audit.specs.Cuts.{AccountsCut, AccountsCutBy, IsUnanswered, unanswered_count, unsettled_count};
 
 use crate::errors::AuditError;
 use crate::feeding::{Fed, begin_and_feed};
@@ -22,7 +22,7 @@ pub struct AcceptedCut {
     /// How many requests there were, up to 2^64 - 1.
     pub requests: u64,
     /// How many of them are not judged: those from the oldest unanswered one on, at most 1,024.
-    pub unjudged: usize,
+    pub unsettled: usize,
     /// How many of them have no reply.
     pub unanswered: usize,
 }
@@ -45,7 +45,7 @@ pub fn audit_cut_stream<R: Source>(
         × AccountsCut tree.now transcript start events end
         × (accepted.tree.items ≡ picture end)
         × (accepted.requests ≡ request_count events)
-        × (accepted.unjudged ≡ unjudged_count events)
+        × (accepted.unsettled ≡ unsettled_count events)
         × (accepted.unanswered ≡ unanswered_count (recorded_exchanges events))) }
     ensures refused { IfErr result (λ e. (IsNoJudgement e → ⊥) → (transcript : List ℕ) → IsNew transcript records.old →
         (start : values.Tree) (events : List _) (end : values.Tree)
@@ -87,7 +87,7 @@ pub fn audit_cut_stream_by<J: Judges, R: Source>(
         × AccountsCutBy J.allowed (J.begun by) J.closed tree.now transcript start events end
         × (accepted.tree.items ≡ picture end)
         × (accepted.requests ≡ request_count events)
-        × (accepted.unjudged ≡ unjudged_count events)
+        × (accepted.unsettled ≡ unsettled_count events)
         × (accepted.unanswered ≡ unanswered_count (recorded_exchanges events))) }
     ensures refused { IfErr result (λ e. (IsNoJudgement e → ⊥) → (transcript : List ℕ) → IsNew transcript records.old →
         (start : values.Tree) (events : List _) (end : values.Tree)
@@ -109,7 +109,7 @@ pub fn audit_cut_stream_by<J: Judges, R: Source>(
     ensures plain { IfErr result IsPlain }
 {
     let Fed { auditor, requests } = begin_and_feed::<J, R>(alloc, by, tree, records, follows)?;
-    let unjudged = auditor.kept();
+    let unsettled = auditor.kept();
     let unanswered = auditor.unanswered();
     let end = auditor.into_settled();
     let written = end.write();
@@ -118,7 +118,7 @@ pub fn audit_cut_stream_by<J: Judges, R: Source>(
     Ok(AcceptedCut {
         tree,
         requests,
-        unjudged,
+        unsettled,
         unanswered,
     })
 }

@@ -14,7 +14,7 @@ ghost use Rattle.sftp_audit.specs.declared.errors.Refusal.TheVariants.{NoMemory}
 ghost use Rattle.sftp_audit.specs.Auditor.{Refuses};
 ghost use Rattle.sftp_audit.specs.Audit.{Accounts, AccountsBy, IsFirstFault, IsFirstFaultBy};
 ghost use Rattle.sftp_audit.specs.Audit.{IsTreeError, IsPlain};
-ghost use Rattle.sftp_audit.specs.Cuts.{AccountsCutBy, unanswered_count, unjudged_count};
+ghost use Rattle.sftp_audit.specs.Cuts.{AccountsCutBy, unanswered_count, unsettled_count};
 ghost use Rattle.sftp_audit.specs.Exchanges.{recorded_exchanges, ledger_of};
 
 use sftp_judges::Judges;
@@ -74,7 +74,7 @@ pub fn explained_when_none_waits()
 
 /// By any judge, an audit of complete sessions accounts for a run exactly if one of cut sessions does and each request
 /// has its reply. So `audit_cut_stream` accepts a session in which nothing is unanswered exactly if `audit_stream`
-/// does, with the same end. Where nothing is unanswered, nothing is left unjudged.
+/// does, with the same end. Where nothing is unanswered, nothing is left unsettled.
 pub fn complete_if_none_is_unanswered<J: Judges>()
     ensures cut { (by : J.By) (tree transcript : List ℕ) (start : Tree) (events : List Event) (end : Tree) →
         AccountsBy J.allowed (J.begun by) J.closed tree transcript start events end →
@@ -87,7 +87,7 @@ pub fn complete_if_none_is_unanswered<J: Judges>()
         unanswered_count (recorded_exchanges events) ≡ 0 →
         AccountsBy J.allowed (J.begun by) J.closed tree transcript start events end }
     ensures judged { (events : List Event) → unanswered_count (recorded_exchanges events) ≡ 0 →
-        unjudged_count events ≡ 0 }
+        unsettled_count events ≡ 0 }
 {}
 
 /// By any judge, an event is refused for one reason at most after given events, unless memory runs out.

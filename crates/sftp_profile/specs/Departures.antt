@@ -2,7 +2,6 @@
 -- EACCES and ENOSPC).
 use Rattle.std.specs.Prelude.{length, nat_lt, ◌&&◌, ◌||◌, not, ℕ, Bool, true, false, Option, Some, None}
 use Rattle.std.specs.List.{list_all}
-use Rattle.sftp_packets.specs.declared.attributes.Attrs.{Attrs}
 use Rattle.sftp_packets.specs.declared.requests.Ask.{Ask}
 use Rattle.sftp_packets.specs.declared.requests.Ask.TheVariants as asks
 use Rattle.sftp_packets.specs.declared.replies.Answer.{Answer}
@@ -21,7 +20,7 @@ use Rattle.sftp_profile.specs.Tellings.{is_dots, is_readdir}
 use Rattle.sftp_profile.specs.Refusals.{is_refusal}
 use Rattle.sftp_profile.specs.Reads.{passes_read}
 use Rattle.sftp_profile.specs.Realpaths.{passes_realpath}
-use Rattle.sftp_profile.specs.Settings.{setstat_of, passes_lsetstat}
+use Rattle.sftp_profile.specs.Settings.{setstat_of, sets_nothing, passes_lsetstat}
 use Rattle.sftp_profile.specs.Copies.{copying_of, passes_copy_data}
 
 -- ---- by the state
@@ -44,13 +43,6 @@ passes_dots s ask answer = is_readdir ask && (are_dots answer && is_none (causes
 abbrev pub passes_slash : Profile → Ask → Answer → Bool
 passes_slash profile ask answer =
     walks_loosely ask && (has_code 2 answer || (has_code 4 answer || profile.codes && is_refusal answer))
-
--- attributes that set nothing
-abbrev pub sets_nothing : Attrs → Bool
-sets_nothing a =
-    not (is_some a.size)
-    && (not (is_some a.owner)
-    && (not (is_some a.permissions) && (not (is_some a.times) && not (is_some a.extended))))
 
 abbrev pub is_empty_setstat : Ask → Bool
 is_empty_setstat (asks.Setstat path attrs) = sets_nothing attrs
@@ -104,7 +96,8 @@ passes_looking profile s ask answer =
 -- an extension whose fields are known may be answered so
 abbrev pub passes_fields : Profile → State → Ask → Answer → Bool
 passes_fields profile s ask answer =
-    profile.lsetstat && passes_lsetstat s.tree ask answer || profile.copy_data && passes_copy_data s ask answer
+    profile.lsetstat && passes_lsetstat profile s.tree ask answer
+    || profile.copy_data && passes_copy_data s ask answer
 
 -- ---- all of them
 

@@ -1,5 +1,5 @@
 -- What the worked examples name: profiles of one departure, trees with little room, and a listing with `.` and `..`.
-use Rattle.std.specs.Prelude.{ℕ, true, List, [], ◌∷◌, ◌++◌, map, codes, Some}
+use Rattle.std.specs.Prelude.{ℕ, ◌+◌, ◌*◌, ◌^◌, true, List, [], ◌∷◌, ◌++◌, map, codes, Some}
 use Rattle.sftp_packets.specs.declared.attributes.Attrs.{Attrs}
 use Rattle.sftp_packets.specs.declared.requests.Ask.{Ask}
 use Rattle.sftp_packets.specs.declared.requests.Ask.TheVariants.{Unknown}
@@ -8,11 +8,11 @@ use Rattle.sftp_packets.specs.declared.replies.Answer.{Answer}
 use Rattle.sftp_packets.specs.declared.replies.Answer.TheVariants.{Name}
 use Rattle.sftp_wire.specs.Examples.{no_attributes}
 use Rattle.sftp_treefile.specs.Limits.{usual_limits}
-use Rattle.sftp_tree.specs.declared.nodes.Node.TheVariants.{Dir, Link}
+use Rattle.sftp_tree.specs.declared.nodes.Node.TheVariants.{Dir, Link, File as a_file}
 use Rattle.sftp_tree.specs.Attributes.{said}
 use Rattle.sftp_tree.specs.Picture.{blank}
 use Rattle.sftp_tree.specs.Tree.{Tree}
-use Rattle.sftp_tree.specs.WalkExamples.{tree_of}
+use Rattle.sftp_tree.specs.WalkExamples.{tree_of, empty_file}
 use Rattle.sftp_handles.specs.State.{State}
 use Rattle.sftp_handles.specs.Examples.{closed, item, with_three, with_text, with_owned}
 use Rattle.sftp_handles.specs.Handles.{kept_flags}
@@ -54,6 +54,9 @@ free_bits = record strict { set_id = true }
 abbrev pub free_links : Profile
 free_links = record strict { link_attrs = true }
 
+abbrev pub free_types : Profile
+free_types = record strict { special = true }
+
 abbrev pub texts_of_paths : Profile
 texts_of_paths = record strict { realpath = true }
 
@@ -83,6 +86,9 @@ set_links = record strict { lsetstat = true }
 
 abbrev pub copied_files : Profile
 copied_files = record strict { copy_data = true }
+
+abbrev pub empty_link_sets : Profile
+empty_link_sets = record strict { empty_setstat = true; lsetstat = true }
 
 abbrev pub known_fields : Profile
 known_fields = record strict { extensions = true; lsetstat = true; copy_data = true }
@@ -149,6 +155,17 @@ listed_three = record {
   handles = (codes "h", Listing (listing with_three (codes "d" ∷ []))) ∷ [];
 }
 
+-- the file `/f` with these bytes, and the root open under the handle `h`
+abbrev pub listed_file : List ℕ → State
+listed_file bytes = record {
+  tree = with_text bytes;
+  handles = (codes "h", Listing (listing (with_text bytes) [])) ∷ [];
+}
+
+-- the same, with the listing of the root at its end
+abbrev pub listed_to_end : List ℕ → State
+listed_to_end bytes = record (listed_file bytes) { handles = (codes "h", Listing []) ∷ [] }
+
 -- the file `/f`, open under the handle `h` to be read
 abbrev pub open_to_read : List ℕ → State
 open_to_read bytes = record {
@@ -161,6 +178,17 @@ abbrev pub open_for_both : List ℕ → State
 open_for_both bytes = record {
   tree = record (with_text bytes) { pins = (0, 1) ∷ [] };
   handles = (codes "h", File 0 (kept_flags 3)) ∷ [];
+}
+
+-- the files `/f` and `/g` with these bytes, `/f` open under the handle `h` to be read, and `/g` under `i` to be written
+abbrev pub open_two : List ℕ → List ℕ → State
+open_two read written = record {
+  tree = record (tree_of ((codes "f" ∷ [], a_file 0) ∷ (codes "g" ∷ [], a_file 1) ∷ [])) {
+    files = (0, record empty_file { bytes = read }) ∷ (1, record empty_file { bytes = written }) ∷ [];
+    made = 2;
+    pins = (0, 1) ∷ (1, 1) ∷ [];
+  };
+  handles = (codes "h", File 0 (kept_flags 1)) ∷ (codes "i", File 1 (kept_flags 2)) ∷ [];
 }
 
 -- the file `/f` with `abc`, of user 5 and group 9, open under the handle `h` to be written
@@ -184,6 +212,10 @@ with_no_room = closed (record blank { limits = record usual_limits { entries = 0
 -- a link to `d/e` of user 7 and group 8, with permissions of its own
 abbrev pub owned_link : Attrs
 owned_link = said 3 7 8 0o120700
+
+-- no bytes of user 0 and group 0, of this type and with these permissions
+abbrev pub of_type : ℕ → ℕ → Attrs
+of_type type permissions = said 0 0 0 (type * 2 ^ 12 + permissions)
 
 -- a directory whose files get its group
 abbrev pub set_group : Attrs

@@ -18,6 +18,7 @@ name_of departures.Dots = codes "dots"
 name_of departures.DirSize = codes "dir-size"
 name_of departures.SetId = codes "set-id"
 name_of departures.LinkAttrs = codes "link-attrs"
+name_of departures.Special = codes "special"
 name_of departures.OpenDir = codes "open-dir"
 name_of departures.Listing = codes "listing"
 name_of departures.Made = codes "made"
@@ -42,6 +43,7 @@ switched profile departures.Dots is_on = record profile { dots = is_on }
 switched profile departures.DirSize is_on = record profile { dir_size = is_on }
 switched profile departures.SetId is_on = record profile { set_id = is_on }
 switched profile departures.LinkAttrs is_on = record profile { link_attrs = is_on }
+switched profile departures.Special is_on = record profile { special = is_on }
 switched profile departures.OpenDir is_on = record profile { open_dir = is_on }
 switched profile departures.Listing is_on = record profile { listing = is_on }
 switched profile departures.Made is_on = record profile { made = is_on }
@@ -56,9 +58,9 @@ abbrev pub every_departure : List Departure
 every_departure =
     departures.Codes ∷ departures.Slash ∷ departures.Limits ∷ departures.Flags ∷ departures.HardlinkLink
     ∷ departures.Realpath ∷ departures.Read ∷ departures.EmptySetstat ∷ departures.Dots ∷ departures.DirSize
-    ∷ departures.SetId ∷ departures.LinkAttrs ∷ departures.OpenDir ∷ departures.Listing ∷ departures.Made
-    ∷ departures.KeepOwner ∷ departures.Extensions ∷ departures.Lsetstat ∷ departures.CopyData ∷ departures.Denied
-    ∷ departures.Full ∷ []
+    ∷ departures.SetId ∷ departures.LinkAttrs ∷ departures.Special ∷ departures.OpenDir ∷ departures.Listing
+    ∷ departures.Made ∷ departures.KeepOwner ∷ departures.Extensions ∷ departures.Lsetstat ∷ departures.CopyData
+    ∷ departures.Denied ∷ departures.Full ∷ []
 
 -- the departure of a name
 unfoldable pub departure_of : List ℕ → Option Departure

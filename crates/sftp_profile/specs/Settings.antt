@@ -2,6 +2,7 @@
 -- for `chown -h` and `chmod -h`).
 use Rattle.std.specs.Prelude.{◌&&◌, ◌||◌, not, ℕ, Bool, false, if◌then◌else◌, List, codes, Option, Some, None}
 use Rattle.std.specs.Prelude.{is_some}
+use Rattle.sftp_packets.specs.declared.attributes.Attrs.{Attrs}
 use Rattle.sftp_packets.specs.declared.requests.Ask.{Ask}
 use Rattle.sftp_packets.specs.declared.requests.Ask.TheVariants as asks
 use Rattle.sftp_packets.specs.declared.replies.Answer.{Answer}
@@ -31,6 +32,13 @@ abbrev pub setstat_of : Ask → Option Ask
 setstat_of (asks.Unknown name rest) = if is_lsetstat name then setstat_in rest else None
 setstat_of other = None
 
+-- attributes that set nothing
+abbrev pub sets_nothing : Attrs → Bool
+sets_nothing a =
+    not (is_some a.size)
+    && (not (is_some a.owner)
+    && (not (is_some a.permissions) && (not (is_some a.times) && not (is_some a.extended))))
+
 -- ---- what is there
 
 -- the path itself leads to a link, and does not go on behind it, as one with a slash or dots at its end does (POSIX.1,
@@ -54,13 +62,14 @@ set_as profile s ask = set_if profile s (setstat_of ask)
 
 -- ---- what passes as it stands
 
--- a size may be refused wherever the path leads; of a link, all else may be set or refused, and the tree keeps none of
--- it
-abbrev pub passes_set : Tree → Option Ask → Answer → Bool
-passes_set t (Some (asks.Setstat path attrs)) answer =
+-- a size may be refused wherever the path leads; what sets nothing may be done there, if a SETSTAT may; of a link, all
+-- else may be set or refused, and the tree keeps none of it
+abbrev pub passes_set : Profile → Tree → Option Ask → Answer → Bool
+passes_set profile t (Some (asks.Setstat path attrs)) answer =
     if is_some attrs.size then has_code 4 answer || has_code 5 answer
-    else is_link_at t path && (has_code 0 answer || has_code 4 answer)
-passes_set t other answer = false
+    else profile.empty_setstat && (sets_nothing attrs && has_code 0 answer)
+    || is_link_at t path && (has_code 0 answer || has_code 4 answer)
+passes_set profile t other answer = false
 
-abbrev pub passes_lsetstat : Tree → Ask → Answer → Bool
-passes_lsetstat t ask answer = passes_set t (setstat_of ask) answer
+abbrev pub passes_lsetstat : Profile → Tree → Ask → Answer → Bool
+passes_lsetstat profile t ask answer = passes_set profile t (setstat_of ask) answer

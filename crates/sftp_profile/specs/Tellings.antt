@@ -49,9 +49,35 @@ with_link profile shown attrs =
     if profile.link_attrs && (is_link shown.permissions && is_link attrs.permissions)
     then record attrs { owner = shown.owner; permissions = shown.permissions } else attrs
 
+-- no bytes
+abbrev pub is_no_size : Option ℕ → Bool
+is_no_size (Some size) = size == 0
+is_no_size None = false
+
+-- a file of no bytes, which may be in the tree for what the tree cannot hold
+abbrev pub is_empty_file : Attrs → Bool
+is_empty_file shown = is_type 8 shown.permissions && is_no_size shown.size
+
+-- a FIFO, a character device, a block device or a socket (POSIX, sys/stat.h)
+abbrev pub is_special : Option ℕ → Bool
+is_special permissions =
+    is_type 1 permissions || (is_type 2 permissions || (is_type 6 permissions || is_type 12 permissions))
+
+-- permissions with the type of a file
+abbrev pub as_file : Option ℕ → Option ℕ
+as_file (Some permissions) = Some (bit_or (bit_and permissions 0o7777) 0o100000)
+as_file None = None
+
+-- the type of a file of no bytes, if the profile leaves it free
+abbrev pub with_special : Profile → Attrs → Attrs → Attrs
+with_special profile shown attrs =
+    if profile.special && (is_empty_file shown && is_special attrs.permissions)
+    then record attrs { permissions = as_file attrs.permissions } else attrs
+
 -- the attributes, with what is shown where the profile leaves a field free
 abbrev pub mended : Profile → Option Attrs → Attrs → Attrs
-mended profile (Some shown) attrs = with_link profile shown (with_id profile shown (with_size profile attrs))
+mended profile (Some shown) attrs =
+    with_special profile shown (with_link profile shown (with_id profile shown (with_size profile attrs)))
 mended profile None attrs = with_size profile attrs
 
 -- ---- names
@@ -81,7 +107,7 @@ is_readdir other = false
 
 -- a field of attributes is free
 abbrev pub frees_attributes : Profile → Bool
-frees_attributes profile = profile.dir_size || (profile.set_id || profile.link_attrs)
+frees_attributes profile = profile.dir_size || (profile.set_id || (profile.link_attrs || profile.special))
 
 abbrev pub told_attributes : Profile → Option Attrs → Attrs → Option Answer
 told_attributes profile shown attrs =

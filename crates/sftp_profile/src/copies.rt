@@ -1,8 +1,9 @@
 //! copy-data: bytes of an open file are copied to another one (OpenSSH's PROTOCOL, section 4).
-ghost use Rattle.std.specs.Prelude.{◌≡◌, ◌+◌, ◌<◌, ◌^◌, nat_lt, Some, Ok, IsTrue, IfOk, take};
+ghost use Rattle.std.specs.Prelude.{◌≡◌, ◌+◌, ◌<◌, ◌^◌, nat_lt, Some, Ok, [], IsTrue, IfOk, take};
 ghost use Rattle.sftp_packets.specs.declared.requests.Ask.TheVariants as asks;
 ghost use Rattle.sftp_packets.specs.Reading.{Reads};
 ghost use Rattle.sftp_tree.specs.Causes.{is_none};
+ghost use Rattle.sftp_handles.specs.Clash.{share, touched};
 ghost use Rattle.sftp_handles.specs.Requests.{causes};
 ghost use Rattle.sftp_handles.specs.Seen.{a_file, seen};
 ghost use Rattle.sftp_profile.specs.Reads.{is_readable};
@@ -185,12 +186,26 @@ pub(crate) fn copied_as(session: &Session<GivenTable>, ask: &Ask) -> Result<Opti
 fn copy_of(session: &Session<GivenTable>, copying: &Copying) -> Result<Option<Ask>, NoMemory>
     ensures { IfOk result (λ other. other ≡ spec.copy_of session.now copying.now) }
 {
-    let reading = copying.reading()?;
-    if session.causes(&reading)?.has_any() {
+    if !may_be_read(session, copying)? {
+        let reading = copying.reading()?;
         return Ok(Some(reading));
     }
     let bytes = copied(session, copying)?;
     write_of(session, copying, bytes)
+}
+
+/// Whether nothing refuses the READ.
+///
+/// # Errors
+///
+/// `NoMemory` if memory runs out.
+fn may_be_read(session: &Session<GivenTable>, copying: &Copying) -> Result<bool, NoMemory>
+    ensures { IfOk result (λ ok. ok ≡ is_none (causes session.now (spec.reading copying.now))) }
+{
+    let reading = copying.reading()?;
+    let causes = session.causes(&reading);
+    drop(reading);
+    Ok(!causes?.has_any())
 }
 
 /// The bytes of a file that are copied.
@@ -237,12 +252,30 @@ fn is_within_file(session: &Session<GivenTable>, copying: &Copying) -> Result<bo
     ensures { IfOk result (λ ok. ok ≡ spec.is_within_file session.now copying.now) }
 {
     let reading = copying.reading()?;
+    let shares = writes_what_is_read(session, copying, &reading);
+    drop(reading);
+    shares
+}
+
+/// Whether the file that is written is the one that this READ reads.
+///
+/// # Errors
+///
+/// `NoMemory` if memory runs out.
+fn writes_what_is_read(
+    session: &Session<GivenTable>,
+    copying: &Copying,
+    reading: &Ask,
+) -> Result<bool, NoMemory>
+    ensures { IfOk result
+        (λ ok. ok ≡ share (touched session.now reading.now) (touched session.now (spec.writing copying.now []))) }
+{
     let writing = copying.writing(Vec::new(session.tree().allocator()))?;
-    Ok(
-        session
-            .touch(&reading)
-            .shares(&reading, session.touch(&writing), &writing),
-    )
+    let shares = session
+        .touch(reading)
+        .shares(reading, session.touch(&writing), &writing);
+    drop(writing);
+    Ok(shares)
 }
 
 /// The bytes of a file from an offset on: as many as are asked for and left; where 0 are asked for, all that are left.

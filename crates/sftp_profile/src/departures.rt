@@ -9,10 +9,10 @@ use crate::limits::is_beyond;
 use crate::paths::walks_loosely;
 use crate::profiles::Profile;
 use crate::refusals::{has_code, has_code_or, is_refusal};
-use crate::settings::setstat_of;
+use crate::settings::{sets_nothing, setstat_of};
 use sftp_tree::NoMemory;
 use sftp_wire::status::{EOF, FAILURE, NO_SUCH_FILE, OK, PERMISSION_DENIED};
-use sftp_wire::{Answer, Ask, Attrs};
+use sftp_wire::{Answer, Ask};
 use std::alloc::Global;
 
 /// Whether the profile lets the answer pass, whatever the session.
@@ -146,15 +146,4 @@ fn is_empty_setstat(ask: &Ask) -> bool
         Ask::Setstat { attrs, .. } => sets_nothing(attrs),
         _ => false,
     }
-}
-
-/// Whether attributes set nothing.
-fn sets_nothing(attrs: &Attrs) -> bool
-    ensures { result ≡ spec.sets_nothing attrs.now }
-{
-    attrs.size.is_none()
-        && attrs.owner.is_none()
-        && attrs.permissions.is_none()
-        && attrs.times.is_none()
-        && attrs.extended.is_none()
 }

@@ -24,6 +24,7 @@ ghost use Rattle.sftp_profile.specs.Examples.{with_other_group};
 ghost use Rattle.sftp_profile.specs.Examples.{large_directory, large_directories, listed_three};
 ghost use Rattle.sftp_profile.specs.Examples.{linked_links, wide_reads, free_bits, free_links, texts_of_paths};
 ghost use Rattle.sftp_profile.specs.Examples.{open_to_read, owned_link, set_group, one_text};
+ghost use Rattle.sftp_profile.specs.Examples.{free_types, of_type, listed_file, listed_to_end};
 ghost use Rattle.sftp_profile.specs.Examples.{with_room_for_one, with_no_room};
 ghost use Rattle.sftp_profile.specs.Examples.{owned_by_bit, with_set_group, set_group_directory};
 ghost use Rattle.sftp_profile.specs.Examples.{kept_owners, owned_by, open_of_another, denied_requests, full_disks};
@@ -184,6 +185,34 @@ pub fn free_attributes()
     ensures sized { permitted free_links (closed with_link) (Lstat (codes "/l"))
         (Attrs (record owned_link { size = Some 4 })) ≡ None }
     ensures directory { permitted free_links (closed with_link) (Lstat (codes "/d")) (Attrs owned_link) ≡ None }
+{}
+
+/// A file of no bytes may be shown as a FIFO, a device or a socket with its permissions. One of a byte may not, nor may
+/// a directory, and its permissions may not be others.
+pub fn types_of_files()
+    ensures fifo { permitted free_types (closed (with_text [])) (Lstat (codes "/f")) (Attrs (of_type 1 0o644))
+        ≡ Some (closed (with_text [])) }
+    ensures character_device { permitted free_types (closed (with_text [])) (Stat (codes "/f"))
+        (Attrs (of_type 2 0o644)) ≡ Some (closed (with_text [])) }
+    ensures block_device { permitted free_types (closed (with_text [])) (Stat (codes "/f")) (Attrs (of_type 6 0o644))
+        ≡ Some (closed (with_text [])) }
+    ensures socket { permitted free_types (closed (with_text [])) (Lstat (codes "/f")) (Attrs (of_type 12 0o644))
+        ≡ Some (closed (with_text [])) }
+    ensures listed { permitted free_types (listed_file []) (Readdir (codes "h"))
+        (Name (item (of_type 12 0o644) (codes "f") ∷ [])) ≡ Some (listed_to_end []) }
+    ensures strict { permitted strict (closed (with_text [])) (Lstat (codes "/f")) (Attrs (of_type 12 0o644)) ≡ None }
+    ensures permissions { permitted free_types (closed (with_text [])) (Lstat (codes "/f")) (Attrs (of_type 12 0o600))
+        ≡ None }
+    ensures size { permitted free_types (closed (with_text [])) (Lstat (codes "/f"))
+        (Attrs (record (of_type 12 0o644) { size = Some 1 })) ≡ None }
+    ensures byte { permitted free_types (closed (with_text (codes "a"))) (Lstat (codes "/f"))
+        (Attrs (record (of_type 12 0o644) { size = Some 1 })) ≡ None }
+    ensures no_byte { permitted free_types (closed (with_text (codes "a"))) (Lstat (codes "/f"))
+        (Attrs (of_type 12 0o644)) ≡ None }
+    ensures listed_byte { permitted free_types (listed_file (codes "a")) (Readdir (codes "h"))
+        (Name (item (of_type 12 0o644) (codes "f") ∷ [])) ≡ None }
+    ensures link { permitted free_types (closed (with_text [])) (Lstat (codes "/f")) (Attrs (of_type 10 0o644)) ≡ None }
+    ensures directory { permitted free_types (closed with_none) (Lstat (codes "/d")) (Attrs (of_type 12 0o755)) ≡ None }
 {}
 
 /// REALPATH of the link `/l` to `/d/e` may give its own text, and not that of another place.

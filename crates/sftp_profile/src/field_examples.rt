@@ -4,16 +4,18 @@
 
 ghost use Rattle.std.specs.Prelude.{◌≡◌, ◌∷◌, ◌++◌, [], Some, None, true, false, codes};
 ghost use Rattle.sftp_packets.specs.declared.requests.Ask.TheVariants.{Unknown};
-ghost use Rattle.sftp_packets.specs.Spelling.{string};
+ghost use Rattle.sftp_packets.specs.Spelling.{string, attributes};
+ghost use Rattle.sftp_wire.specs.Examples.{no_attributes};
 ghost use Rattle.sftp_tree.specs.WalkExamples.{with_link};
 ghost use Rattle.sftp_handles.specs.Examples.{closed, with_text, with_owned, code, sized, owned};
 ghost use Rattle.sftp_profile.specs.Profiles.{strict};
 ghost use Rattle.sftp_profile.specs.Departures.{is_modelled};
 ghost use Rattle.sftp_profile.specs.Permitted.{permitted};
 ghost use Rattle.sftp_profile.specs.Examples.{set_links, copied_files, known_fields, lsetstat, copy_data};
-ghost use Rattle.sftp_profile.specs.Examples.{open_for_both};
+ghost use Rattle.sftp_profile.specs.Examples.{open_for_both, open_two, empty_link_sets};
 
-/// lsetstat sets a file as a SETSTAT does, and nothing of a link: of that no size is set.
+/// lsetstat sets a file as a SETSTAT does, and nothing of a link: of that no size is set. What sets nothing may be done
+/// where there is nothing, by `empty-setstat`.
 pub fn links_set()
     ensures file { permitted set_links (closed (with_text [])) (lsetstat (codes "/f") (owned 7 8)) (code 0)
         ≡ Some (closed (with_owned 7 8 [])) }
@@ -25,6 +27,9 @@ pub fn links_set()
     ensures no_size { permitted set_links (closed with_link) (lsetstat (codes "/l") (sized 0)) (code 5)
         ≡ Some (closed with_link) }
     ensures absent { permitted set_links (closed with_link) (lsetstat (codes "/x") (owned 7 8)) (code 0) ≡ None }
+    ensures nothing { permitted set_links (closed with_link) (lsetstat (codes "/x") no_attributes) (code 0) ≡ None }
+    ensures nothing_set { permitted empty_link_sets (closed with_link) (lsetstat (codes "/x") no_attributes) (code 0)
+        ≡ Some (closed with_link) }
     ensures strict { permitted strict (closed with_link) (lsetstat (codes "/l") (owned 7 8)) (code 0) ≡ None }
 {}
 
@@ -47,13 +52,27 @@ pub fn files_copied()
         ≡ None }
 {}
 
+/// Between two files, bytes that are to be written where they are read in the other one are no overlap, and a copy may
+/// not be refused.
+pub fn files_copied_to_others()
+    ensures copied { permitted copied_files (open_two (codes "abc") (codes "xyz"))
+        (copy_data (codes "h") 1 0 (codes "i") 0) (code 0) ≡ Some (open_two (codes "abc") (codes "bcz")) }
+    ensures refused { permitted copied_files (open_two (codes "abc") (codes "xyz"))
+        (copy_data (codes "h") 1 0 (codes "i") 0) (code 4) ≡ None }
+    ensures backwards { permitted copied_files (open_two (codes "abc") (codes "xyz"))
+        (copy_data (codes "i") 0 0 (codes "h") 0) (code 0) ≡ None }
+{}
+
 /// What has these fields and no byte more is known, whatever its answer.
 pub fn fields_known()
     ensures lsetstat { is_modelled known_fields (lsetstat (codes "/l") (owned 7 8)) (code 0) ≡ true }
     ensures copy_data { is_modelled known_fields (copy_data (codes "h") 0 1 (codes "h") 2) (code 0) ≡ true }
     ensures short { is_modelled known_fields (Unknown (codes "lsetstat@openssh.com") (string (codes "/l"))) (code 0)
         ≡ false }
-    ensures trailing { is_modelled known_fields (Unknown (codes "copy-data") (string (codes "h") ++ string [])) (code 0)
+    ensures short_copy { is_modelled known_fields (Unknown (codes "copy-data") (string (codes "h") ++ string []))
+        (code 0) ≡ false }
+    ensures trailing { is_modelled known_fields
+        (Unknown (codes "lsetstat@openssh.com") (string (codes "/l") ++ (attributes (owned 7 8) ++ 0 ∷ []))) (code 0)
         ≡ false }
     ensures other { is_modelled known_fields (Unknown (codes "lsetstat") []) (code 0) ≡ false }
 {}

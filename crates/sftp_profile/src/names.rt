@@ -19,6 +19,7 @@ pub const NAMES: &[&str] = &[
     "dir-size",
     "set-id",
     "link-attrs",
+    "special",
     "open-dir",
     "listing",
     "made",
@@ -49,6 +50,7 @@ impl Profile {
             read: true,
             set_id: true,
             link_attrs: true,
+            special: true,
             realpath: true,
             open_dir: true,
             listing: true,
@@ -100,6 +102,7 @@ pub(crate) enum Departure {
     DirSize,
     SetId,
     LinkAttrs,
+    Special,
     OpenDir,
     Listing,
     Made,
@@ -112,7 +115,7 @@ pub(crate) enum Departure {
 }
 
 /// Every departure.
-fn every_departure() -> [Departure; 21]
+fn every_departure() -> [Departure; 22]
     ensures { result ≡ names.every_departure }
 {
     [
@@ -128,6 +131,7 @@ fn every_departure() -> [Departure; 21]
         Departure::DirSize,
         Departure::SetId,
         Departure::LinkAttrs,
+        Departure::Special,
         Departure::OpenDir,
         Departure::Listing,
         Departure::Made,
@@ -187,6 +191,7 @@ fn switched(profile: Profile, departure: Departure, is_on: bool) -> Profile
         Departure::DirSize => profile.dir_size = is_on,
         Departure::SetId => profile.set_id = is_on,
         Departure::LinkAttrs => profile.link_attrs = is_on,
+        Departure::Special => profile.special = is_on,
         Departure::OpenDir => profile.open_dir = is_on,
         Departure::Listing => profile.listing = is_on,
         Departure::Made => profile.made = is_on,

@@ -46,7 +46,7 @@ pub(crate) fn passes_fields(
 ) -> Result<bool, NoMemory>
     ensures { IfOk result (λ ok. ok ≡ spec.passes_fields profile session.now ask.now answer.now) }
 {
-    if profile.lsetstat && passes_lsetstat(session.tree(), ask, answer)? {
+    if profile.lsetstat && passes_lsetstat(profile, session.tree(), ask, answer)? {
         return Ok(true);
     }
     if !profile.copy_data {

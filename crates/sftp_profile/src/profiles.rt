@@ -50,6 +50,8 @@ pub struct Profile {
     pub set_id: bool,
     /// The owner of a link and its permissions are free.
     pub link_attrs: bool,
+    /// A file of no bytes may be shown as a FIFO, a device or a socket, which the tree cannot hold: its type is free.
+    pub special: bool,
     /// REALPATH may give the path's text made absolute without a look at the tree; any text where a cause refuses it;
     /// and it may be refused with the code 2 where nothing is at the place.
     pub realpath: bool,
@@ -98,6 +100,7 @@ impl Profile {
             read: false,
             set_id: false,
             link_attrs: false,
+            special: false,
             realpath: false,
             open_dir: false,
             listing: false,

@@ -128,16 +128,32 @@ fn is_link_at(tree: &Tree, path: &[u8]) -> Result<bool, NoMemory>
     }
 }
 
-/// Whether an lsetstat may be answered so, and nothing changes: a size is refused, or a link is set.
+/// Whether attributes set nothing.
+pub(crate) fn sets_nothing(attrs: &Attrs) -> bool
+    ensures { result ≡ spec.sets_nothing attrs.now }
+{
+    attrs.size.is_none()
+        && attrs.owner.is_none()
+        && attrs.permissions.is_none()
+        && attrs.times.is_none()
+        && attrs.extended.is_none()
+}
+
+/// Whether an lsetstat may be answered so, and nothing changes: a size is refused, nothing is set, or a link is.
 ///
 /// # Errors
 ///
 /// `NoMemory` if memory runs out.
-pub(crate) fn passes_lsetstat(tree: &Tree, ask: &Ask, answer: &Answer) -> Result<bool, NoMemory>
-    ensures { IfOk result (λ ok. ok ≡ spec.passes_lsetstat tree.now ask.now answer.now) }
+pub(crate) fn passes_lsetstat(
+    profile: Profile,
+    tree: &Tree,
+    ask: &Ask,
+    answer: &Answer,
+) -> Result<bool, NoMemory>
+    ensures { IfOk result (λ ok. ok ≡ spec.passes_lsetstat profile tree.now ask.now answer.now) }
 {
     let setstat = setstat_of(tree.allocator(), ask)?;
-    let passes = passes_set(tree, setstat.as_ref(), answer);
+    let passes = passes_set(profile, tree, setstat.as_ref(), answer);
     drop(setstat);
     passes
 }
@@ -147,13 +163,22 @@ pub(crate) fn passes_lsetstat(tree: &Tree, ask: &Ask, answer: &Answer) -> Result
 /// # Errors
 ///
 /// `NoMemory` if memory runs out.
-fn passes_set(tree: &Tree, setstat: Option<&Ask>, answer: &Answer) -> Result<bool, NoMemory>
-    ensures { IfOk result (λ ok. ok ≡ spec.passes_set tree.now (option_copied setstat.entry) answer.now) }
+fn passes_set(
+    profile: Profile,
+    tree: &Tree,
+    setstat: Option<&Ask>,
+    answer: &Answer,
+) -> Result<bool, NoMemory>
+    ensures { IfOk result
+        (λ ok. ok ≡ spec.passes_set profile tree.now (option_copied setstat.entry) answer.now) }
 {
     match setstat {
         Some(Ask::Setstat { path, attrs }) => {
             if attrs.size.is_some() {
                 return Ok(has_code(answer, FAILURE) || has_code(answer, BAD_MESSAGE));
+            }
+            if profile.empty_setstat && sets_nothing(attrs) && has_code(answer, OK) {
+                return Ok(true);
             }
             sets_link(tree, path.as_slice(), answer)
         }

@@ -17,6 +17,24 @@ pub(crate) const DIRECTORY: u32 = 4;
 /// The type of a link, in permissions.
 const LINK: u32 = 10;
 
+/// The type of a file, in permissions.
+const FILE: u32 = 8;
+
+/// The same in its place.
+const FILE_BITS: u32 = 0o100_000;
+
+/// All bits of permissions but those of the type.
+const MODE_BITS: u32 = 0o7777;
+
+/// The types of what a tree cannot hold, in permissions (POSIX, sys/stat.h).
+const FIFO: u32 = 1;
+
+const CHARACTER_DEVICE: u32 = 2;
+
+const BLOCK_DEVICE: u32 = 6;
+
+const SOCKET: u32 = 12;
+
 /// The bits that give a program its file's user or group.
 const ID_BITS: u32 = 0o6000;
 
@@ -159,6 +177,7 @@ pub(crate) fn mended(
     };
     take_id(profile, shown, &mut copy);
     take_link(profile, shown, &mut copy);
+    take_special(profile, shown, &mut copy);
     Ok(copy)
 }
 
@@ -178,6 +197,52 @@ fn take_link(profile: Profile, shown: &Attrs, attrs: &mut Attrs)
     if profile.link_attrs && is_type(LINK, shown.permissions) && is_type(LINK, attrs.permissions) {
         attrs.owner = shown.owner;
         attrs.permissions = shown.permissions;
+    }
+}
+
+/// Takes the type of a file of no bytes, if the profile leaves it free.
+fn take_special(profile: Profile, shown: &Attrs, attrs: &mut Attrs)
+    ensures { attrs.new ≡ spec.with_special profile shown.now attrs.old }
+{
+    if profile.special && is_empty_file(shown) && is_special(attrs.permissions) {
+        attrs.permissions = as_file(attrs.permissions);
+    }
+}
+
+/// Whether it is a file of no bytes, which may be in the tree for what the tree cannot hold.
+fn is_empty_file(shown: &Attrs) -> bool
+    ensures { result ≡ spec.is_empty_file shown.now }
+{
+    is_type(FILE, shown.permissions) && is_no_size(shown.size)
+}
+
+/// Whether it is no bytes.
+fn is_no_size(size: Option<u64>) -> bool
+    ensures { result ≡ spec.is_no_size size }
+{
+    match size {
+        Some(size) => size == 0,
+        None => false,
+    }
+}
+
+/// Whether permissions have the type of a FIFO, a device or a socket.
+fn is_special(permissions: Option<u32>) -> bool
+    ensures { result ≡ spec.is_special permissions }
+{
+    is_type(FIFO, permissions)
+        || is_type(CHARACTER_DEVICE, permissions)
+        || is_type(BLOCK_DEVICE, permissions)
+        || is_type(SOCKET, permissions)
+}
+
+/// Permissions with the type of a file.
+fn as_file(permissions: Option<u32>) -> Option<u32>
+    ensures { result ≡ spec.as_file permissions }
+{
+    match permissions {
+        Some(permissions) => Some((permissions & MODE_BITS) | FILE_BITS),
+        None => None,
     }
 }
 
@@ -205,7 +270,7 @@ pub(crate) fn is_type(wanted: u32, permissions: Option<u32>) -> bool
 fn frees_attributes(profile: Profile) -> bool
     ensures { result ≡ spec.frees_attributes profile }
 {
-    profile.dir_size || profile.set_id || profile.link_attrs
+    profile.dir_size || profile.set_id || profile.link_attrs || profile.special
 }
 
 /// Whether the name is `.` or `..`.

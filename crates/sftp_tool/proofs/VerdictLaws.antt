@@ -13,7 +13,7 @@ use Rattle.sftp_audit.specs.declared.cuts.AcceptedCut.{AcceptedCut}
 use Rattle.sftp_audit.specs.declared.errors.AuditError.{AuditError}
 use Rattle.sftp_audit.specs.declared.errors.AuditError.TheVariants as audit_errors
 use Rattle.sftp_audit.specs.Audit.{IsNoJudgement, IsNew, request_count}
-use Rattle.sftp_audit.specs.Cuts.{unanswered_count, unjudged_count}
+use Rattle.sftp_audit.specs.Cuts.{unanswered_count, unsettled_count}
 use Rattle.sftp_audit.specs.Exchanges.{recorded_exchanges}
 use Rattle.sftp_tool.specs.declared.messages.Ending.{Ending}
 use Rattle.sftp_tool.specs.declared.messages.Ending.TheVariants as endings
@@ -70,7 +70,7 @@ module _ (accounts : AccountOf) (faults : FaultOf) (tree : List ℕ) (known : Op
       → IfOk result (λ accepted. (bytes : List ℕ) → IsNew bytes records
       → (start : Tree) × (events : List Event) × (end : Tree)
       × accounts tree bytes start events end × (accepted.tree.items ≡ picture end)
-      × (accepted.requests ≡ request_count events) × (accepted.unjudged ≡ unjudged_count events)
+      × (accepted.requests ≡ request_count events) × (accepted.unsettled ≡ unsettled_count events)
       × (accepted.unanswered ≡ unanswered_count (recorded_exchanges events)))
       → IfErr result (λ e. (IsNoJudgement e → ⊥) → (bytes : List ℕ) → IsNew bytes records
       → HasNoRun accounts tree bytes)

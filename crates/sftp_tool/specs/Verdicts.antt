@@ -13,7 +13,7 @@ use Rattle.sftp_audit.specs.declared.cuts.AcceptedCut.{AcceptedCut}
 use Rattle.sftp_audit.specs.declared.errors.AuditError.{AuditError}
 use Rattle.sftp_audit.specs.Exchanges.{recorded_exchanges}
 use Rattle.sftp_audit.specs.Audit.{Accounts, AccountsBy, IsFirstFault, IsFirstFaultBy, IsNoJudgement, request_count}
-use Rattle.sftp_audit.specs.Cuts.{AccountsCut, AccountsCutBy, unanswered_count, unjudged_count}
+use Rattle.sftp_audit.specs.Cuts.{AccountsCut, AccountsCutBy, unanswered_count, unsettled_count}
 use Rattle.sftp_tool.specs.declared.messages.Ending.{Ending}
 use Rattle.sftp_tool.specs.declared.messages.Ending.TheVariants as endings
 use Rattle.sftp_tool.specs.declared.messages.Failure.{Failure}
@@ -105,7 +105,7 @@ AccountsCutUnder profile = AccountsCutBy Permitted (begun profile) (λ s. closed
 abbrev pub HasCutEnd : ResultOf AcceptedCut
 HasCutEnd accepted events end =
     (accepted.tree.items ≡ picture end) × (accepted.requests ≡ request_count events)
-    × (accepted.unjudged ≡ unjudged_count events)
+    × (accepted.unsettled ≡ unsettled_count events)
     × (accepted.unanswered ≡ unanswered_count (recorded_exchanges events))
 
 abbrev pub IsStrictCutAudit : List ℕ → Option (List ℕ) → Result AcceptedCut AuditError → Type 0

@@ -108,6 +108,12 @@ fn taken<'a, E: Write>(
     }
 }
 
+/// What is said of a device or a FIFO that is left out.
+const LEFT_OUT: &str = "left out (--special file keeps its name)";
+
+/// What is said of one that is a file in the tree.
+const IN_ITS_PLACE: &str = "an empty file in its place (for audit --allow special)";
+
 /// Names the devices and FIFOs of an archive, and what became of them.
 fn name_specials<E: Write>(
     alloc: Global,
@@ -118,8 +124,8 @@ fn name_specials<E: Write>(
     match choice {
         // an archive with one is refused
         SpecialChoice::Refuse => Ok(()),
-        SpecialChoice::Skip => name_each(alloc, archive, "left out", errors),
-        SpecialChoice::File => name_each(alloc, archive, "an empty file in its place", errors),
+        SpecialChoice::Skip => name_each(alloc, archive, LEFT_OUT, errors),
+        SpecialChoice::File => name_each(alloc, archive, IN_ITS_PLACE, errors),
     }
 }
 

@@ -172,13 +172,13 @@ fn accept_cut<'a, R: System, O: Write>(
 
 /// How many requests of an accepted session there are of each kind.
 fn counts_of(accepted: &AcceptedCut) -> Counts
-    ensures judged { result.judged ≡ accepted.now.requests - accepted.now.unjudged }
+    ensures judged { result.judged ≡ accepted.now.requests - accepted.now.unsettled }
     ensures unanswered { result.unanswered ≡ accepted.now.unanswered }
-    ensures unjudged { result.unjudged ≡ accepted.now.unjudged - accepted.now.unanswered }
+    ensures unjudged { result.unjudged ≡ accepted.now.unsettled - accepted.now.unanswered }
 {
     Counts {
-        judged: accepted.requests.saturating_sub(accepted.unjudged as u64),
+        judged: accepted.requests.saturating_sub(accepted.unsettled as u64),
         unanswered: accepted.unanswered,
-        unjudged: accepted.unjudged.saturating_sub(accepted.unanswered),
+        unjudged: accepted.unsettled.saturating_sub(accepted.unanswered),
     }
 }

@@ -146,11 +146,12 @@ than 64 names, and what the limits have no room for; and a compressed archive, b
 
 --special refuse  an archive with a device or a FIFO is refused, as without the option
 --special skip    they are left out
---special file    each is an empty file with its owner and permissions
+--special file    each is an empty file with its owner and permissions; 'sftpv3 audit --allow special', which is part
+                  of its profiles, accepts a listing that shows it as a device or a FIFO
 
 With skip and file, standard error names each of them:
 
-  sftpv3: archive: entry 5, \"dev/null\": a device or a FIFO: left out";
+  sftpv3: archive: entry 5, \"dev/null\": a device or a FIFO: left out (--special file keeps its name)";
 
 pub(crate) const ABOUT_EXPORT: &str =
     "Writes the archive of a tree file to standard output, in a format of tar";

@@ -3,7 +3,7 @@ use Rattle.sftp_audit.proofs.Imports.{◌≡◌, ℕ, Bool, true, false, List, [
 use Rattle.sftp_audit.proofs.Imports.{cases_Bool, eq-eqb, StepOf, Event, IsTrue, InTurn, in_window, turn_after, closed}
 use Rattle.sftp_audit.proofs.Imports.{Explained, Sound, sound_by, Tree, AccountsBy, Exchange, recorded_exchanges}
 use Rattle.sftp_audit.proofs.Imports.{is_answered, is_open, unsettled}
-use Rattle.sftp_audit.specs.Cuts.{AccountsCutBy, is_unanswered, unanswered_count, unjudged_count}
+use Rattle.sftp_audit.specs.Cuts.{AccountsCutBy, is_unanswered, unanswered_count, unsettled_count}
 use Rattle.sftp_audit.proofs.auditing.Lists.{unanswered-past, unsettled-past, unsettled-none}
 use Rattle.sftp_audit.proofs.auditing.Turns.{closed_if_none, none_if_closed}
 
@@ -90,5 +90,5 @@ module _ {S : Type 0} (step : StepOf S) (begin : Tree → S) (close : S → Tree
     }
 
 pub judged-if_answered : (events : List Event) → unanswered_count (recorded_exchanges events) ≡ 0
-    → unjudged_count events ≡ 0
+    → unsettled_count events ≡ 0
 judged-if_answered events none = ap length (none_unsettled (recorded_exchanges events) none)

@@ -24,7 +24,7 @@ fn leaves(alloc: Global, records: &[&[u8]], counts: (u64, usize, usize), tree: &
     let is_wanted = match &judged {
         Ok(accepted) => {
             accepted.tree.as_slice() == tree
-                && (accepted.requests, accepted.unjudged, accepted.unanswered) == counts
+                && (accepted.requests, accepted.unsettled, accepted.unanswered) == counts
         }
         Err(_) => false,
     };

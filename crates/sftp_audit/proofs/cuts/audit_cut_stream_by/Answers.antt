@@ -15,7 +15,7 @@ returns-clause-accepted g c = λ transcript new.
           c.args.tree.now transcript _ _ c.into_settled-end.result fed c.into_settled-end.ensures,
       c.in_ok-tree.ensures,
       fed.was.counted,
-      c.kept-unjudged.ensures.count ∙ ap length fed.was.stands.kept,
+      c.kept-unsettled.ensures.count ∙ ap length fed.was.stands.kept,
       c.unanswered-unanswered.ensures ∙ ap unanswered_count fed.was.stands.kept
           ∙ unanswered-unsettled (recorded_exchanges fed.was.events),
     )
