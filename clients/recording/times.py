@@ -19,12 +19,14 @@ def entries(times):
 
 
 def read(data):
-    """The date of the start, and the time of each record."""
+    """The date of the start, and the time of each record. Raises Malformed if the file is cut, or a time is less than
+    the one before it, which no clock that is never set gives."""
     if data[:8] != OPENING or len(data) < 16:
         raise Malformed("the file has no times")
     if len(data) % 8:
         raise Malformed("the file ends inside an entry")
     date, *times = struct.unpack(f">{len(data) // 8 - 1}Q", data[8:])
-    if any(later < time for time, later in zip(times, times[1:])):
-        raise Malformed("the times fall")
+    for number, (last, time) in enumerate(zip(times, times[1:]), 2):
+        if time < last:
+            raise Malformed(f"the time of record {number} is less than the one before")
     return date, times

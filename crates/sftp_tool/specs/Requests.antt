@@ -14,6 +14,7 @@ pub record IsAuditAsked (rows : List Row) (asked : AuditOptions) : Type 0 where
   pub transcript : value_in rows (codes "transcript") ≡ Some asked.transcript.now
   pub out : value_in rows (codes "out") ≡ option_map (λ name. name.now) asked.out
   pub cuts : asked.cuts ≡ is_given (value_in rows (codes "cut"))
+  pub keeps_going : asked.keeps_going ≡ is_given (value_in rows (codes "keep-going"))
   pub profile : asked.profile ≡ profile_asked (options_in rows)
   pub umask : value_in rows (codes "umask") ≡ option_map (λ digits. digits.now) asked.umask
 

@@ -97,12 +97,22 @@ pub(crate) const AUDIT: &[Argument] = &[
     (
         "json",
         Form::Flag,
-        "Print the verdict, the explanation or the failure as one JSON object",
+        "Print the verdict, the explanation or the failure as a JSON object",
     ),
     (
         "cut",
         Form::Flag,
         "Accept a session that was cut: what comes before its oldest unanswered request is judged",
+    ),
+    (
+        "keep-going",
+        Form::Flag,
+        "Go on behind wrong replies that changed nothing, and print all findings",
+    ),
+    (
+        "most",
+        Form::Number("N"),
+        "With --keep-going: the most findings, 100 by default",
     ),
     profiles::PROFILE,
     profiles::ALLOW,

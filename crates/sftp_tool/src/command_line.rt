@@ -101,6 +101,10 @@ pub(crate) struct AuditOptions<'a> {
     pub(crate) is_json: bool,
     /// Whether a session that was cut is accepted if what comes before its oldest unanswered request is right.
     pub(crate) cuts: bool,
+    /// Whether the audit goes on behind wrong replies that changed nothing.
+    pub(crate) keeps_going: bool,
+    /// The most findings of such an audit.
+    pub(crate) most: Option<u64>,
     /// Which departures from the strict reading are accepted; none where the session is judged strictly.
     pub(crate) profile: Option<Profile>,
     /// The permissions that are taken from whatever is made, as octal digits.
@@ -332,6 +336,8 @@ fn audit_options<'a>(given: &ArgMatches<'a>) -> Option<AuditOptions<'a>>
         explains: given.get_flag("explain"),
         is_json: given.get_flag("json"),
         cuts: flag(given, "cut"),
+        keeps_going: flag(given, "keep-going"),
+        most: given.get_one("most"),
         profile: profiles::profile_of(given),
         umask: value(given, "umask"),
     })

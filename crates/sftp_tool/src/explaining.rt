@@ -1,13 +1,13 @@
 //! `audit --explain`: why a session is refused, as lines of text.
 use crate::command_line::AuditOptions;
+use crate::leaving_out::{LeftOut, feed_rest};
 use crate::messages::{Failure, write_flushed};
 use crate::subcommands::open;
-use sftp_audit::{AuditError, Auditor, Refusal, feed_all};
+use sftp_audit::{AuditError, Auditor, Refusal};
 use sftp_path::good_path;
 use sftp_profile::{Judge, NAMES, Profile};
 use sftp_show::{
-    ExplainError, Found, Quoted, Record, explain_reply, find_record, last_of_id, number_of_request,
-    put_record,
+    ExplainError, Found, Quoted, Record, explain_reply, find_record, last_of_id, put_record,
 };
 use sftp_transcript::{Reader, Tally, TranscriptError, WINDOW};
 use sftp_tree::{NoMemory, Tree};
@@ -59,12 +59,13 @@ impl From<ExplainError> for Unexplained {
     }
 }
 
-/// Writes why the session of these files is refused. The transcript is read again from its start, more than once. Where
-/// that fails, the last line says so.
+/// Writes why the session of these files is refused where this is left out of it. The transcript is read again from its
+/// start, more than once. Where that fails, the last line says so.
 pub(crate) fn explain<'s, 'a, R: Files + AllocGlobal, E: Write>(
     rt: &'s R,
     files: &'s AuditOptions<'a>,
     tree: &'s [u8],
+    left_out: &'s mut LeftOut,
     refusal: Refusal,
     errors: &'s mut E,
 ) {
@@ -72,6 +73,7 @@ pub(crate) fn explain<'s, 'a, R: Files + AllocGlobal, E: Write>(
         rt,
         files,
         tree,
+        left_out,
         refusal,
         errors,
         stopped_by: None,
@@ -88,6 +90,8 @@ struct Explanation<'s, 'a, R, E> {
     files: &'s AuditOptions<'a>,
     /// The bytes of the tree file.
     tree: &'s [u8],
+    /// What the session goes on without.
+    left_out: &'s mut LeftOut,
     refusal: Refusal,
     /// Where the lines go.
     errors: &'s mut E,
@@ -132,9 +136,9 @@ impl<R: Files + AllocGlobal, E: Write> Explanation<'_, '_, R, E> {
         match self.refusal {
             Refusal::UnknownReply { .. } => self.put_unknown_reply(&found.record),
             Refusal::IdInUse { .. } => self.put_used_id(&found.record),
-            Refusal::Window { .. } => self.put_late_request(found),
+            Refusal::Window { .. } => self.put_late_request(&found.record),
             Refusal::NotAllowed { .. } => self.put_unallowed(&found.record),
-            Refusal::Unanswered { .. } => self.put_unanswered(found),
+            Refusal::Unanswered { .. } => self.put_unanswered(&found.record),
             Refusal::NoMemory => self.put_line("request", &found.record),
         }
     }
@@ -186,19 +190,25 @@ impl<R: Files + AllocGlobal, E: Write> Explanation<'_, '_, R, E> {
     }
 
     /// `Window`: the request, and the oldest unanswered one, which is the 1,024th before it.
-    fn put_late_request(&mut self, found: &Found) -> bool {
-        if !self.put_line("request", &found.record) {
+    fn put_late_request(&mut self, request: &Record) -> bool {
+        if !self.put_line("request", request) {
             return false;
         }
-        match self.oldest(found) {
+        match self.oldest(request) {
             Some(number) => self.put_numbered("unanswered", number),
             None => self.stop(Unexplained::OtherTranscript),
         }
     }
 
     /// `Unanswered`: the request, and how many requests before it are accepted: it is the oldest unanswered one.
-    fn put_unanswered(&mut self, found: &Found) -> bool {
-        self.put_line("request", &found.record) && self.put_accepted(found.requests)
+    fn put_unanswered(&mut self, request: &Record) -> bool {
+        if !self.put_line("request", request) {
+            return false;
+        }
+        match self.requests_before(request.number) {
+            Some(requests) => self.put_accepted(requests),
+            None => false,
+        }
     }
 
     fn put_accepted(&mut self, requests: u64) -> bool {
@@ -393,9 +403,22 @@ impl<R: Files + AllocGlobal, E: Write> Explanation<'_, '_, R, E> {
     /// ends or is malformed.
     fn fed(&mut self, auditor: &mut Auditor<Judge>) -> Option<Refusal> {
         let mut records = self.records()?;
-        let fed = feed_all(auditor, &mut records);
+        let fed = feed_rest(auditor, self.left_out, &mut records);
         drop(records);
-        self.refusal_of(fed)
+        let refusal = self.refusal_of(fed)?;
+        self.placed(refusal)
+    }
+
+    /// A refusal with the number that its record has in the transcript.
+    fn placed(&mut self, refusal: Refusal) -> Option<Refusal> {
+        if self.left_out.is_empty() {
+            return Some(refusal);
+        }
+        let mut records = self.records()?;
+        let number = self.left_out.find(&mut records, record_of(refusal));
+        drop(records);
+        let number = self.number_found(number)?;
+        Some(numbered(refusal, number))
     }
 
     /// The refusal in which feeding a session ended, if it is one. If the transcript cannot be read any more or memory
@@ -480,12 +503,28 @@ impl<R: Files + AllocGlobal, E: Write> Explanation<'_, '_, R, E> {
     }
 
     /// The number of the record of the 1,024th request before this one, if there is one.
-    fn oldest(&mut self, found: &Found) -> Option<u64> {
+    fn oldest(&mut self, request: &Record) -> Option<u64> {
+        let before = self.requests_before(request.number)?;
         let mut records = self.records()?;
-        let before = found.requests.saturating_sub(WINDOW as u64);
-        let oldest = number_of_request(&mut records, before, found.record.number);
+        let oldest = self
+            .left_out
+            .number_of_request(&mut records, before.saturating_sub(WINDOW as u64));
         drop(records);
         self.number_found(oldest)
+    }
+
+    /// How many requests come before the record with this number. If they cannot be counted, the explanation stops.
+    fn requests_before(&mut self, number: u64) -> Option<u64> {
+        let mut records = self.records()?;
+        let requests = self.left_out.requests_before(&mut records, number);
+        drop(records);
+        match requests {
+            Ok(requests) => Some(requests),
+            Err(error) => {
+                self.stop(Unexplained::from(error));
+                None
+            }
+        }
     }
 
     /// The number that a search found, if it found one. If the search failed, the explanation stops.
@@ -595,8 +634,20 @@ fn replaces_requests(name: &str) -> bool {
     name == "made" || name == "keep-owner"
 }
 
+/// A refusal with another number of the record.
+pub(crate) fn numbered(refusal: Refusal, record: u64) -> Refusal {
+    match refusal {
+        Refusal::UnknownReply { .. } => Refusal::UnknownReply { record },
+        Refusal::IdInUse { .. } => Refusal::IdInUse { record },
+        Refusal::Window { .. } => Refusal::Window { record },
+        Refusal::NotAllowed { .. } => Refusal::NotAllowed { record },
+        Refusal::Unanswered { .. } => Refusal::Unanswered { record },
+        Refusal::NoMemory => Refusal::NoMemory,
+    }
+}
+
 /// The number of the record that a refusal names.
-fn record_of(refusal: Refusal) -> u64 {
+pub(crate) fn record_of(refusal: Refusal) -> u64 {
     match refusal {
         Refusal::UnknownReply { record }
         | Refusal::IdInUse { record }

@@ -6,6 +6,7 @@ ghost use Rattle.std.specs.Prelude.{◌≤◌};
 
 mod archives;
 mod arguments;
+mod bearings;
 mod command_line;
 mod cut_sessions;
 mod cuts;
@@ -13,8 +14,10 @@ mod diffing;
 mod explaining;
 mod faulty;
 mod gathering;
+mod going_on;
 mod help;
 mod importing;
+mod leaving_out;
 mod memory;
 mod messages;
 mod names;
@@ -30,6 +33,7 @@ mod subcommands;
 mod summaries;
 mod system;
 mod texts;
+mod totals;
 mod viewing;
 mod watching;
 mod words;
@@ -164,6 +168,7 @@ fn said<'a, E: Write>(
 fn is_for_machines(request: &Request<'_>) -> bool {
     match request {
         Request::Audit(files) => files.is_json,
+        Request::Show(options) => options.is_json,
         Request::Diff { is_json, .. } => *is_json,
         _ => false,
     }

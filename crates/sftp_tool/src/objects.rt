@@ -59,7 +59,7 @@ pub(crate) fn print_refused<'a, O: Write>(
 }
 
 /// The outcome of a run whose last step was to print.
-fn ended<'a>(printed: io::Result<()>, ending: Ending) -> Result<Ending, Failure<'a>>
+pub(crate) fn ended<'a>(printed: io::Result<()>, ending: Ending) -> Result<Ending, Failure<'a>>
     ensures ok { IfOk result (λ ended. ended ≡ ending) }
     ensures err { IfErr result IsUnwritten }
 {
@@ -178,7 +178,7 @@ fn put_file<'a, O: Write>(
         Failure::Tree(error) | Failure::TreeOf(_, error) => {
             json.number("entry", u64::from(entry_of(*error)));
         }
-        Failure::Transcript(error) => json.number("record", record_of(*error)),
+        Failure::Transcript(error) => json.number("record", record_of_fault(*error)),
         _ => {}
     }
 }
@@ -209,7 +209,7 @@ fn entry_of(error: TreeError) -> u32 {
 }
 
 /// The number of the record with a fault.
-fn record_of(error: TranscriptError) -> u64 {
+pub(crate) fn record_of_fault(error: TranscriptError) -> u64 {
     match error {
         TranscriptError::Magic { record }
         | TranscriptError::Direction { record }

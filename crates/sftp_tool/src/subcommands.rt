@@ -13,12 +13,15 @@ ghost use Rattle.sftp_tool.specs.Verdicts.{IsStrictVerdict, IsVerdictUnder, IsVe
 use crate::command_line::AuditOptions;
 use crate::cut_sessions::judge_cut_and_report;
 use crate::explaining::explain;
+use crate::going_on::report_findings;
+use crate::leaving_out::LeftOut;
 use crate::memory::{Bounded, Meter};
 use crate::messages::{Ending, Failure, print};
 use crate::objects::{print_accepted, print_refused};
 use crate::profiles::{umask_of, with_umask};
 use crate::saving::{Keeping, write, write_last};
 use crate::system::System;
+use crate::viewing::misused;
 use sftp_audit::{Accepted, AuditError, Refusal};
 use sftp_profile::{Judge, Profile};
 use sftp_transcript::{Reader, Tally};
@@ -27,6 +30,10 @@ use std::alloc::Global;
 use std::fs;
 use std::fs::Files;
 use std::io::{Read, Write};
+
+/// Why `--most` cannot stand alone.
+const LACKS_KEEP_GOING: &str =
+    "the following required arguments were not provided:\n  --keep-going";
 
 /// Audits a session. The tree file is read and the transcript is opened before either is judged. The transcript is read
 /// as a stream.
@@ -38,6 +45,9 @@ pub(crate) fn audit<'a, R: System, O: Write, E: Write>(
 ) -> Result<Ending, Failure<'a>>
     ensures { IsAuditStatus result }
 {
+    if files.most.is_some() && !files.keeps_going {
+        return Err(misused(rt.alloc(), LACKS_KEEP_GOING));
+    }
     let umask = umask_of(rt.alloc(), files.umask)?;
     let mut options = *files;
     options.profile = with_umask(files.profile, umask);
@@ -172,8 +182,15 @@ fn report<'a, R: System, O: Write, E: Write>(
     }
 }
 
+/// Why a session is refused, and whether its profile follows it up to there.
+#[derive(Clone, Copy)]
+pub(crate) struct Finding {
+    pub(crate) refusal: Refusal,
+    pub(crate) follows: bool,
+}
+
 /// Says why a session of these files is not accepted.
-pub(crate) fn report_error<'a, R: Files + AllocGlobal, O: Write, E: Write>(
+pub(crate) fn report_error<'a, R: System, O: Write, E: Write>(
     rt: &R,
     files: &AuditOptions<'a>,
     tree: &[u8],
@@ -191,8 +208,8 @@ pub(crate) fn report_error<'a, R: Files + AllocGlobal, O: Write, E: Write>(
     }
 }
 
-/// Says why a session of these files is refused, and explains it if that is asked for.
-fn report_refusal<'a, R: Files + AllocGlobal, O: Write, E: Write>(
+/// Says why a session of these files is refused, and what else is wrong with it if that is asked for.
+fn report_refusal<'a, R: System, O: Write, E: Write>(
     rt: &R,
     files: &AuditOptions<'a>,
     tree: &[u8],
@@ -204,12 +221,35 @@ fn report_refusal<'a, R: Files + AllocGlobal, O: Write, E: Write>(
     ensures ok { IfOk result (λ ending. ending ≡ endings.Refused) }
     ensures err { IfErr result IsUnwritten }
 {
-    if files.is_json {
-        return refuse_as_object(rt, files, tree, refusal, follows, output);
+    let finding = Finding { refusal, follows };
+    if files.keeps_going {
+        return report_findings(rt, files, tree, finding, output, errors);
     }
-    let ending = refuse(refusal, follows, output)?;
+    let mut left_out = LeftOut::new(rt.alloc());
+    let ending = report_finding(rt, files, tree, &mut left_out, finding, output, errors);
+    drop(left_out);
+    ending
+}
+
+/// Says why a session of these files is refused where this is left out of it, and explains it if that is asked for.
+pub(crate) fn report_finding<'a, R: Files + AllocGlobal, O: Write, E: Write>(
+    rt: &R,
+    files: &AuditOptions<'a>,
+    tree: &[u8],
+    left_out: &mut LeftOut,
+    finding: Finding,
+    output: &mut O,
+    errors: &mut E,
+) -> Result<Ending, Failure<'a>>
+    ensures ok { IfOk result (λ ending. ending ≡ endings.Refused) }
+    ensures err { IfErr result IsUnwritten }
+{
+    if files.is_json {
+        return refuse_as_object(rt, files, tree, left_out, finding, output);
+    }
+    let ending = refuse(finding.refusal, finding.follows, output)?;
     if files.explains {
-        explain(rt, files, tree, refusal, errors);
+        explain(rt, files, tree, left_out, finding.refusal, errors);
     }
     Ok(ending)
 }
@@ -219,19 +259,24 @@ fn refuse_as_object<'a, R: Files + AllocGlobal, O: Write>(
     rt: &R,
     files: &AuditOptions<'a>,
     tree: &[u8],
-    refusal: Refusal,
-    follows: bool,
+    left_out: &mut LeftOut,
+    finding: Finding,
     output: &mut O,
 ) -> Result<Ending, Failure<'a>>
     ensures ok { IfOk result (λ ending. ending ≡ endings.Refused) }
     ensures err { IfErr result IsUnwritten }
 {
     if !files.explains {
-        return print_refused(refusal, follows, None, output);
+        return print_refused(finding.refusal, finding.follows, None, output);
     }
     let mut lines = Vec::new(rt.alloc());
-    explain(rt, files, tree, refusal, &mut lines);
-    let ending = print_refused(refusal, follows, Some(lines.as_slice()), output);
+    explain(rt, files, tree, left_out, finding.refusal, &mut lines);
+    let ending = print_refused(
+        finding.refusal,
+        finding.follows,
+        Some(lines.as_slice()),
+        output,
+    );
     drop(lines);
     ending
 }

@@ -1,6 +1,7 @@
 //! The subcommand `show` with times, with a selection of records, or as JSON.
 ghost use Rattle.std.specs.Prelude.{◌≡◌, IfOk};
 ghost use Rattle.sftp_tool.specs.declared.messages.Ending.TheVariants as endings;
+ghost use Rattle.sftp_tool.specs.Failures.{IsUsage};
 
 use crate::command_line::ShowOptions;
 use crate::cuts::limit_of;
@@ -224,6 +225,8 @@ fn no_transcript<'a>(alloc: Global, name: &str) -> Failure<'a> {
 }
 
 /// The failure for options that cannot be used together.
-pub(crate) fn misused<'a>(alloc: Global, message: &str) -> Failure<'a> {
+pub(crate) fn misused<'a>(alloc: Global, message: &str) -> Failure<'a>
+    ensures { IsUsage result }
+{
     Failure::of_usage(format!(in alloc; "error: {message}\n{MORE}"))
 }
