@@ -6,8 +6,8 @@ import sys
 
 from attacking.ground import CLIENTS, SECONDS, attack
 from attacking.saving import OPENED
-from packets import INIT, number, packet
 from programs import TOP, program
+from sftp3 import init
 
 COMMANDS = ("nightly", "page", "probe", "record", "recordd", "serve", "tree")
 SERVERS = ("servers/any", "servers/gesftpserver", "servers/openssh")
@@ -15,8 +15,9 @@ OPTION = re.compile(r"(?m)^  (?:-\w(?: \w+)?, )?(--[a-z-]+)( [A-Z])?")
 
 # Line feeds, signs that a terminal acts on or that hide others, in ASCII and beyond it, and a byte that is no UTF-8.
 NAME = "x\naccepted 5 requests\n\x1b[2J\x7f\u009b\u202e\u2028\udcff"
-# How the probe finds differences: the server starts from another tree than it is told of.
-DIFFERING = ["--seeds", "1", "--requests", "3", "--jobs", "1", "--budget", "0", "--skip", "transfers", "--"]
+# How the probe finds differences: the server starts from another tree than the one that it is given.
+DIFFERING = ["--seeds", "1", "--requests", "3", "--jobs", "1", "--budget", "0", "--skip", "transfers", "--",
+             "env", "GIVEN={tree}"]
 # What takes no options behind its arguments.
 BEFORE = ("probe", "record")
 SERVE = ["serve", "--tree", "start.tree"]
@@ -127,7 +128,7 @@ def left_by(field, script, words, shell_words):
     environment = {**os.environ, "SFTPV3": program()}
     try:
         done = subprocess.run(shell_words([os.path.join(CLIENTS, script), *words]), cwd=folder, env=environment,
-                              input=packet(INIT, number(3)), stdout=subprocess.DEVNULL, stderr=subprocess.DEVNULL,
+                              input=init(), stdout=subprocess.DEVNULL, stderr=subprocess.DEVNULL,
                               timeout=SECONDS)
         changing = rb"\d{4}-\d\d-\d\dT[\d:]+Z|\[\d+\]|\d+\.\d+|serve-[0-9a-f]{16}"
         left = {name: len(data) if name == "times" else re.sub(changing, b"", data)
