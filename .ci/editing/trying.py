@@ -121,7 +121,7 @@ class Trial:
 
 def try_all(crates: Crates, names: list[str], end: float | None = None) -> int:
     """Tries the edits of these crates, and returns the status of the command."""
-    refused = count = 0
+    refused = count = tried = 0
     for name in names:
         if end is not None and time.monotonic() >= end:
             print(f"edits: no time was left for {name} and what comes after it", flush=True)
@@ -131,6 +131,6 @@ def try_all(crates: Crates, names: list[str], end: float | None = None) -> int:
         if found is None:
             print(f"edits: the time was over before all edits of {name} were tried", flush=True)
             break
-        refused, count = refused + found, count + len(trial.edits)
+        refused, count, tried = refused + found, count + len(trial.edits), tried + 1
     print(f"{refused} edits refused, {count - refused} not refused")
-    return 0 if refused == count else 1
+    return 1 if refused < count else 3 if tried < len(names) else 0

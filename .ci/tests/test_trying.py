@@ -120,8 +120,9 @@ class Trying(unittest.TestCase):
         with mock.patch.dict(os.environ, SECONDS_OF_RT="30"):
             begun = time.monotonic()
             status, lines = self.tried("together", end=begun + 1)
-        self.assertEqual(lines, ["edits: the time was over before all edits of sftp_json were tried",
-                                 "0 edits refused, 0 not refused"])
+        self.assertEqual((status, lines), (3, ["edits: the time was over before all edits of sftp_json were tried",
+                                               "0 edits refused, 0 not refused"]))
+        self.assertEqual(self.tried("together", end=begun)[0], 3)
         self.assertLess(time.monotonic() - begun, 20)
         self.assertTrue(self.is_due())
 
