@@ -99,7 +99,7 @@ impl<'w> Walk<'w> {
 
 impl<'a> World<'a> {
     /// Where a path leads now.
-    pub(crate) fn look(&self, path: &[u8], follows: bool) -> Result<Found, NoMemory> {
+    pub(crate) fn look<'w>(&'w self, path: &'w [u8], follows: bool) -> Result<Found, NoMemory> {
         if !good_path(path) {
             return Ok(Found {
                 look: Look::Bad,

@@ -442,7 +442,7 @@ impl<'a> Search<'a> {
     }
 
     /// Takes that an audit refused the last tree at this record, with no reason that a pass knows.
-    pub fn refuse(&mut self, found: u64) -> Result<(), NoMemory> {
+    pub fn refuse(&mut self, found: u64) {
         if found > self.furthest {
             self.furthest = found;
             self.clash = Some(Clash {
@@ -452,7 +452,6 @@ impl<'a> Search<'a> {
                 what: What::Refused,
             });
         }
-        Ok(())
     }
 }
 

@@ -6,3 +6,4 @@ pub mod Verdicts
 pub mod Options
 pub mod Requests
 pub mod Imports
+pub mod Inferences
