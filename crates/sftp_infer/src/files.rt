@@ -76,6 +76,7 @@ impl File {
     /// The record that told the size now.
     pub(crate) fn size_told(&self) -> u64 {
         match self.size {
+            Some(size) if self.furthest >= size => self.sized.max(self.written_by),
             Some(_) => self.sized,
             None if self.furthest > self.least => self.written_by,
             None => self.least_told.max(self.most_told),

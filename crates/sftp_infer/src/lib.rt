@@ -4,20 +4,26 @@
 
 mod attributes;
 mod base;
+mod candidates;
 mod clashes;
 mod errors;
 mod exchanges;
 mod facts;
 mod files;
+mod first_look;
 mod handles;
 mod homes;
 mod listings;
 mod look;
 mod moves;
+mod moves_refused;
 mod nodes;
+mod opens;
 mod pass;
 mod pieces;
+mod places;
 mod reads;
+mod reasons;
 mod refusals;
 mod rows;
 mod search;
@@ -27,9 +33,10 @@ mod successes;
 mod targets;
 mod world;
 
+pub use candidates::Candidate;
 pub use clashes::{Clash, What};
 pub use facts::{Fact, Says};
 pub use nodes::Sort;
-pub use search::{Candidate, Search, Step};
+pub use search::{Search, Step};
 pub use settings::Settings;
 pub use sftp_path::NoMemory;

@@ -1,15 +1,14 @@
 //! The search: pass after pass, each with further facts, until one goes through.
 
+use crate::candidates::Candidate;
 use crate::clashes::{Clash, What};
 use crate::errors::Stop;
 use crate::exchanges::Exchanges;
-use crate::facts::{Fact, Says};
-use crate::homes::home_of;
+use crate::facts::Fact;
 use crate::pass::Passed;
 use crate::settings::Settings;
 use crate::world::World;
 use sftp_path::NoMemory;
-use sftp_wire::{Answer, Ask};
 use std::alloc::Global;
 
 /// How many steps all passes may take for each record of the session.
@@ -18,28 +17,15 @@ const WORK: u64 = 64;
 /// The most proposals that a contradiction adds to the search.
 const PROPOSALS: usize = 8;
 
-/// A tree that explains the session, as far as a pass can see.
-#[derive(Drop)]
-pub struct Candidate {
-    /// The bytes of the tree file.
-    pub tree: Vec<u8>,
-    /// How many entries it has below its root.
-    pub entries: u64,
-    /// What it assumes beyond what replies tell.
-    pub assumed: Vec<Fact>,
-    /// Whether it has higher limits than the usual ones, since the session needs them.
-    pub is_large: bool,
-}
-
 /// A set of facts to begin a pass with.
 #[derive(Drop)]
-struct Choice {
+pub(crate) struct Choice {
     /// The choice that this one adds to.
-    parent: Option<usize>,
-    facts: Vec<Fact>,
+    pub(crate) parent: Option<usize>,
+    pub(crate) facts: Vec<Fact>,
     /// How many proposals were passed over for it.
-    cost: usize,
-    is_waiting: bool,
+    pub(crate) cost: usize,
+    pub(crate) is_waiting: bool,
 }
 
 /// What a step of the search comes to.
@@ -54,22 +40,22 @@ pub enum Step {
 /// A search for a tree at the start of a session.
 #[derive(Drop)]
 pub struct Search<'a> {
-    alloc: Global,
-    session: &'a [u8],
-    settings: Settings<'a>,
-    home: Vec<u8>,
+    pub(crate) alloc: Global,
+    pub(crate) session: &'a [u8],
+    pub(crate) settings: Settings<'a>,
+    pub(crate) home: Vec<u8>,
     /// Whether a reply told the home, or the caller.
-    is_home_told: bool,
+    pub(crate) is_home_told: bool,
     /// The requests of the session that have replies, and its records.
-    requests: u64,
-    choices: Vec<Choice>,
-    passes: u32,
-    work: u64,
+    pub(crate) requests: u64,
+    pub(crate) choices: Vec<Choice>,
+    pub(crate) passes: u32,
+    pub(crate) work: u64,
     /// The contradiction that came last in the session of those that were met.
-    clash: Option<Clash>,
+    pub(crate) clash: Option<Clash>,
     /// The tree of the pass that came furthest.
-    best: Option<Vec<u8>>,
-    furthest: u64,
+    pub(crate) best: Option<Vec<u8>>,
+    pub(crate) furthest: u64,
 }
 
 impl<'a> Search<'a> {
@@ -134,42 +120,6 @@ impl<'a> Search<'a> {
             Some(tree) => Some(tree.as_slice()),
             None => None,
         }
-    }
-
-    /// Counts the requests, and looks for the home.
-    fn look_first(&mut self) -> Result<(), NoMemory> {
-        let mut exchanges = Exchanges::new(self.alloc, self.session)?;
-        for _ in 0..u64::MAX {
-            match exchanges.next()? {
-                Some(exchange) => {
-                    self.requests = self.requests.saturating_add(1);
-                    let told = match &exchange.reply {
-                        Some(reply) => self.look_at(&exchange.ask, &reply.answer),
-                        None => Ok(()),
-                    };
-                    drop(exchange);
-                    told?;
-                }
-                None => break,
-            }
-        }
-        drop(exchanges);
-        Ok(())
-    }
-
-    fn look_at(&mut self, ask: &Ask, answer: &Answer) -> Result<(), NoMemory> {
-        if self.is_home_told {
-            return Ok(());
-        }
-        if let (Ask::Realpath { path }, Answer::Name(names)) = (ask, answer) {
-            if let Some(item) = names.as_slice().first() {
-                if let Some(home) = home_of(path.as_slice(), item.filename.as_slice()) {
-                    self.home = Vec::from_slice(self.alloc, home)?;
-                    self.is_home_told = true;
-                }
-            }
-        }
-        Ok(())
     }
 
     /// The next tree that explains the session, as far as a pass can see.
@@ -270,7 +220,7 @@ impl<'a> Search<'a> {
     }
 
     /// A choice, the one that it adds to, and so on.
-    fn chain(&self, choice: usize) -> Result<Vec<usize>, NoMemory> {
+    pub(crate) fn chain(&self, choice: usize) -> Result<Vec<usize>, NoMemory> {
         let mut chain = Vec::new(self.alloc);
         let mut next = Some(choice);
         for _ in 0..self.choices.len() {
@@ -379,68 +329,6 @@ impl<'a> Search<'a> {
         Ok(())
     }
 
-    /// The tree of a pass that went through.
-    fn candidate(
-        &self,
-        choice: usize,
-        world: &mut World<'a>,
-    ) -> Result<Option<Candidate>, NoMemory> {
-        let Some((tree, entries)) = world.tree_file()? else {
-            return Ok(None);
-        };
-        let mut assumed = std::mem::replace(&mut world.invented, Vec::new(self.alloc));
-        match self.put_assumed(choice, world, &mut assumed) {
-            Ok(()) => Ok(Some(Candidate {
-                tree,
-                entries,
-                assumed,
-                is_large: world.is_large(),
-            })),
-            Err(error) => {
-                drop(tree);
-                drop(assumed);
-                Err(error)
-            }
-        }
-    }
-
-    /// Appends the facts of a choice that no reply tells.
-    fn put_assumed(
-        &self,
-        choice: usize,
-        world: &World<'a>,
-        assumed: &mut Vec<Fact>,
-    ) -> Result<(), NoMemory> {
-        let chain = self.chain(choice)?;
-        let mut done = Ok(());
-        for index in chain.iter().rev() {
-            if done.is_ok() {
-                done = self.put_assumed_of(*index, assumed);
-            }
-        }
-        drop(chain);
-        done?;
-        if !self.is_home_told && world.needs_home {
-            assumed.push(Fact {
-                place: Vec::from_slice(self.alloc, world.home.as_slice())?,
-                says: Says::Home,
-                told: 0,
-            })?;
-        }
-        Ok(())
-    }
-
-    fn put_assumed_of(&self, index: usize, assumed: &mut Vec<Fact>) -> Result<(), NoMemory> {
-        if let Some(choice) = self.choices.get(index) {
-            for fact in choice.facts.iter() {
-                if is_assumed(&fact.says) {
-                    assumed.push(fact.try_clone(self.alloc)?)?;
-                }
-            }
-        }
-        Ok(())
-    }
-
     /// Takes that an audit refused the last tree at this record, with no reason that a pass knows.
     pub fn refuse(&mut self, found: u64) {
         if found > self.furthest {
@@ -452,13 +340,5 @@ impl<'a> Search<'a> {
                 what: What::Refused,
             });
         }
-    }
-}
-
-/// Whether no reply tells what a fact says.
-fn is_assumed(says: &Says) -> bool {
-    match says {
-        Says::Link(_) | Says::SameFile(_) | Says::Size(_) => true,
-        Says::There | Says::Directory | Says::File | Says::Home => false,
     }
 }

@@ -40,7 +40,8 @@ pub(crate) const ABOUT_AUDIT: &str = "Checks every reply of a recorded session a
 pub(crate) const ABOUT_INFER: &str =
     "Infers a file tree from a recorded session, and checks every reply of the session against it";
 
-pub(crate) const AFTER_INFER: &str = "For the sessions of a server whose files nobody can look into. The tree is made of what the replies tell. The session
+pub(crate) const AFTER_INFER: &str =
+    "For the sessions of a server whose files nobody can look into. The tree is made of what the replies tell. The session
 is then audited with it, as 'audit' does, and TREE is written only if it is accepted:
 
   inferred 15 entries from 57 requests; accepted

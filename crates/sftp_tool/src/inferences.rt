@@ -1,5 +1,5 @@
 //! Trees that are inferred from a session, each judged by the audit before it is believed.
-ghost use Rattle.std.specs.Prelude.{◌≡◌, None, Some, IfOk};
+ghost use Rattle.std.specs.Prelude.{◌≡◌, List, ℕ, None, Some, IfOk};
 ghost use Rattle.sftp_audit.specs.Audit.{Accounts};
 ghost use Rattle.sftp_profile.specs.declared.profiles.Profile.{Profile as profile};
 ghost use Rattle.sftp_tool.specs.Verdicts.{AccountsUnder};
@@ -90,8 +90,8 @@ fn judged(alloc: Global, by: Option<Profile>, session: &[u8], candidate: Candida
 
 /// What the error of an audit says of a session and its tree.
 fn found_by(error: AuditError) -> Found
-    ensures strictly { (session : _) → IsExplained Accounts session result }
-    ensures under { (session : _) (it : profile) → IsExplained (AccountsUnder it) session result }
+    ensures strictly { (session : List ℕ) → IsExplained Accounts session result }
+    ensures under { (session : List ℕ) (it : profile) → IsExplained (AccountsUnder it) session result }
 {
     match error {
         AuditError::Refused(Refusal::NotAllowed { record }) => Found::Unfit(record),

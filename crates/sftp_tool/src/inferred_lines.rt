@@ -50,7 +50,10 @@ pub(crate) fn put_assumed<E: Write>(candidate: &Candidate, errors: &mut E) {
         let _ = write_flushed(errors, format_args!("assumed: {line}\n"));
     }
     if candidate.is_large {
-        let _ = write_flushed(errors, "assumed: the tree has higher limits than the usual ones\n");
+        let _ = write_flushed(
+            errors,
+            "assumed: the tree has higher limits than the usual ones\n",
+        );
     }
 }
 

@@ -8,12 +8,11 @@ use crate::inferences::{Found, Inferred, find};
 use crate::inferred_lines::{put_assumed, put_clash, put_refusal};
 use crate::messages::{Ending, Failure, STANDARD_OUTPUT, print};
 use crate::objects::{print_accepted, print_untold};
-use crate::profiles;
 use crate::profiles::{umask_of, with_umask};
 use crate::saving::{Keeping, write};
-use crate::subcommands;
 use crate::subcommands::read_at_most;
 use crate::system::System;
+use crate::{profiles, subcommands};
 use clap::ArgMatches;
 use sftp_infer::{Search, Settings};
 use sftp_profile::Profile;
@@ -130,7 +129,11 @@ fn settings_of<'s>(options: &InferOptions<'s>) -> Settings<'s> {
         any_code: profile.codes,
         may_deny: profile.denied,
         may_be_full: profile.full,
-        umask: if profile.made { Some(profile.umask) } else { None },
+        umask: if profile.made {
+            Some(profile.umask)
+        } else {
+            None
+        },
         link_first: profile.symlink_draft,
         passes: u32::try_from(passes).unwrap_or(PASSES).min(100_000),
     }
@@ -209,7 +212,12 @@ fn accept<'a, R: System, O: Write, E: Write>(
     errors: &mut E,
 ) -> Result<Ending, Failure<'a>> {
     if let Some(name) = options.tree {
-        write(rt, name, options.keeping, inferred.candidate.tree.as_slice())?;
+        write(
+            rt,
+            name,
+            options.keeping,
+            inferred.candidate.tree.as_slice(),
+        )?;
     }
     if let Some(name) = options.out {
         write(rt, name, options.keeping, inferred.accepted.tree.as_slice())?;
