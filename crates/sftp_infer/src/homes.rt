@@ -33,12 +33,7 @@ impl<'a> World<'a> {
     /// REALPATH told where a path leads.
     pub(crate) fn take_real(&mut self, path: &[u8], text: &[u8]) -> Result<(), Stop> {
         let found = self.reach(path, true)?;
-        let look = found.look;
-        let parent = found.parent;
-        let place = match look {
-            Look::Entry(at) => self.place_now(at),
-            _ => self.place(parent, found.name.as_slice(), false),
-        };
+        let place = self.place(found.parent, found.name.as_slice(), false);
         let told = self.take_place(path, text, &found, place?);
         drop(found);
         told

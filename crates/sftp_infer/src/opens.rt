@@ -70,7 +70,10 @@ impl<'a> World<'a> {
                 }
                 Ok(at)
             }
-            Look::Nothing(_) if makes => self.make_file(found, attrs, false),
+            Look::Nothing(_) if makes => {
+                let is_assumed = self.slot(parent, name).is_assumed;
+                self.make_file(found, attrs, is_assumed)
+            }
             Look::Unknown if makes => {
                 self.tell_nothing(parent, name, true)?;
                 self.make_file(found, attrs, true)

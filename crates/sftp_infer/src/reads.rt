@@ -2,6 +2,7 @@
 
 use crate::clashes::What;
 use crate::errors::Stop;
+use crate::facts::Says;
 use crate::pieces::{Known, Piece};
 use crate::world::World;
 
@@ -150,6 +151,7 @@ impl<'a> World<'a> {
         len: u64,
     ) -> Result<(), Stop> {
         let session = self.session;
+        let end = offset.saturating_add(piece.len);
         let one = part(session, known.from, len);
         let other = part(session, piece.from, len);
         match first_difference(one, other) {
@@ -158,10 +160,23 @@ impl<'a> World<'a> {
                 let left = one.get(place).copied().unwrap_or(0);
                 let right = other.get(place).copied().unwrap_or(0);
                 let offset = offset.saturating_add(place as u64);
+                self.propose_larger(at, end)?;
                 self.propose_same(at)?;
                 Err(self.clash_at(at, known.told, What::Byte(offset, left, right)))
             }
         }
+    }
+
+    /// Proposes a larger size at the start where it was only assumed.
+    fn propose_larger(&mut self, at: usize, size: u64) -> Result<(), Stop> {
+        let is_guessed = match self.entry(at) {
+            Some(entry) => entry.file.is_guessed,
+            None => false,
+        };
+        if is_guessed {
+            self.propose_of(at, Says::Size(size))?;
+        }
+        Ok(())
     }
 
     fn compare_zeros(

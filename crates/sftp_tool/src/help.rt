@@ -41,8 +41,8 @@ pub(crate) const ABOUT_INFER: &str =
     "Infers a file tree from a recorded session, and checks every reply of the session against it";
 
 pub(crate) const AFTER_INFER: &str =
-    "For the sessions of a server whose files nobody can look into. The tree is made of what the replies tell. The session
-is then audited with it, as 'audit' does, and TREE is written only if it is accepted:
+    "For the sessions of a server whose files nobody can look into. The tree is made of what the replies tell. The
+session is then audited with it, as 'audit' does, and TREE is written only if it is accepted:
 
   inferred 15 entries from 57 requests; accepted
 
@@ -55,8 +55,8 @@ If no tree is found, the exit status is 1, and the two records are named that co
 
   no tree found: record 34 contradicts record 20
 
-This is no proof that there is none. With --explain, standard error has both records, what each told, and how many passes
-were tried. A pass begins anew with what an earlier one learned.
+This is no proof that there is none. With --explain, standard error has both records, what each told, and how many
+passes were tried. A pass begins anew with what an earlier one learned.
 
 'sftpv3 audit --tree unknown' does the same, and writes no tree at the start. A tree file of that name is './unknown'.";
 

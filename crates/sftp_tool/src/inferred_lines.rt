@@ -158,12 +158,8 @@ pub(crate) fn put_clash<E: Write>(
         let _ = write_flushed(errors, format_args!("found: {otherwise}\n"));
     }
     let passes = search.passes();
-    let _ = write_flushed(
-        errors,
-        format_args!(
-            "tried: {passes} passes; this contradiction came last in the session\nThis is no proof that there is no tree.\n"
-        ),
-    );
+    let _ = write_flushed(errors, format_args!("tried: {passes} passes\n"));
+    let _ = write_flushed(errors, "This is no proof that there is no tree.\n");
 }
 
 /// Writes the line of a record, if it can be found.
