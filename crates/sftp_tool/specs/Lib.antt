@@ -7,3 +7,4 @@ pub mod Options
 pub mod Requests
 pub mod Imports
 pub mod Going
+pub mod Inferences

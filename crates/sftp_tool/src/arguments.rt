@@ -125,6 +125,63 @@ pub(crate) const AUDIT: &[Argument] = &[
     NO_SYNC,
 ];
 
+pub(crate) const INFER: &[Argument] = &[
+    (
+        "transcript",
+        Form::Required("FILE"),
+        "The transcript: the recorded packets of the session",
+    ),
+    (
+        "out",
+        Form::Optional("FILE"),
+        "The file to write the final tree to, if the session is accepted",
+    ),
+    (
+        "best",
+        Form::Optional("FILE"),
+        "The file to write the tree to that came furthest, if none is found",
+    ),
+    (
+        "home",
+        Form::Optional("PATH"),
+        "Where relative paths begin, if the session does not tell it",
+    ),
+    (
+        "limits",
+        Form::OneOf("WHICH", &["fit", "raised"]),
+        "The limits of the tree: fit by default, the lowest that the session needs, or raised",
+    ),
+    (
+        "passes",
+        Form::Number("N"),
+        "The most passes over the session, 300 by default",
+    ),
+    (
+        "explain",
+        Form::Flag,
+        "Print on standard error which records contradict each other",
+    ),
+    (
+        "json",
+        Form::Flag,
+        "Print the verdict or the failure as one JSON object",
+    ),
+    profiles::PROFILE,
+    profiles::ALLOW,
+    profiles::EXCEPT,
+    profiles::UMASK,
+    profiles::NEW_OWNER,
+    profiles::SYMLINK,
+    MEMORY,
+    MODE,
+    NO_SYNC,
+    (
+        "tree",
+        Form::Place("TREE"),
+        "The tree file to write, if the session is accepted with it",
+    ),
+];
+
 pub(crate) const SHOW: &[Argument] = &[
     (
         "full",

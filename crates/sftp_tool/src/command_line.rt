@@ -9,12 +9,13 @@ ghost use Rattle.sftp_tool.specs.Options.{IsPermissions, value_in, is_given};
 ghost use Rattle.sftp_tool.specs.Requests.{IsAuditAsked, IsAuditRequest, LacksFile};
 
 use crate::arguments::{
-    AUDIT, Argument, BLANK, DIFF, EXPORT, Form, IMPORT, MAKE, RAISE, SERVE, SHOW,
+    AUDIT, Argument, BLANK, DIFF, EXPORT, Form, IMPORT, INFER, MAKE, RAISE, SERVE, SHOW,
 };
 use crate::importing::ImportOptions;
+use crate::inferring::InferOptions;
 use crate::messages::{Failure, MORE};
 use crate::saving::{Keeping, PRIVATE};
-use crate::{help, importing, profiles};
+use crate::{help, importing, inferring, profiles};
 use clap::error::ErrorKind;
 use clap::{Arg, ArgAction, ArgMatches, Command, Error, value_parser};
 use sftp_profile::Profile;
@@ -27,6 +28,8 @@ pub(crate) enum Request<'a> {
     Serve(ServeOptions<'a>),
     /// Audit a session.
     Audit(AuditOptions<'a>),
+    /// Infer a tree from a session, and audit the session with it.
+    Infer(InferOptions<'a>),
     /// Write the blank tree to a file.
     Blank {
         file: &'a str,
@@ -236,6 +239,7 @@ fn requested<'a>(matches: &ArgMatches<'a>) -> Option<Request<'a>>
         "show" => show_options(given).map(Request::Show),
         "raise" => raise_request(given),
         "diff" => diff_request(given),
+        "infer" => inferring::options_of(given).map(Request::Infer),
         "import" => importing::options_of(given).map(Request::Import),
         _ => file_request(name, given.get_str("file")?, keeping_of(given)),
     }
@@ -373,6 +377,7 @@ fn command<'a>(alloc: Global, version: &'a str) -> Result<Command<'a>, AllocErro
 /// The command with the subcommands that compare or make trees.
 fn with_tree_commands<'a>(alloc: Global, command: Command<'a>) -> Result<Command<'a>, AllocError> {
     let command = with_subcommand(command, diff_command(alloc))?;
+    let command = with_subcommand(command, infer_command(alloc))?;
     let command = with_subcommand(command, import_command(alloc))?;
     let command = with_subcommand(command, export_command(alloc))?;
     let command = with_subcommand(command, raise_command(alloc))?;
@@ -426,6 +431,13 @@ fn diff_command<'a>(alloc: Global) -> Result<Command<'a>, AllocError> {
         .about(help::ABOUT_DIFF)
         .after_help(help::AFTER_DIFF);
     with_arguments(alloc, command, DIFF)
+}
+
+fn infer_command<'a>(alloc: Global) -> Result<Command<'a>, AllocError> {
+    let command = Command::new(alloc, "infer")
+        .about(help::ABOUT_INFER)
+        .after_help(help::AFTER_INFER);
+    with_arguments(alloc, command, INFER)
 }
 
 fn import_command<'a>(alloc: Global) -> Result<Command<'a>, AllocError> {

@@ -176,6 +176,7 @@ fn tree_of<'a>(request: &Request<'a>) -> Option<&'a str> {
 fn transcript_of<'a>(request: &Request<'a>) -> Option<&'a str> {
     match request {
         Request::Audit(files) => Some(files.transcript),
+        Request::Infer(options) => Some(options.transcript),
         _ => shown_by(request),
     }
 }

@@ -37,6 +37,29 @@ If the client breaks the protocol, the requests before that are answered, the tr
 
 pub(crate) const ABOUT_AUDIT: &str = "Checks every reply of a recorded session against a file tree";
 
+pub(crate) const ABOUT_INFER: &str =
+    "Infers a file tree from a recorded session, and checks every reply of the session against it";
+
+pub(crate) const AFTER_INFER: &str =
+    "For the sessions of a server whose files nobody can look into. The tree is made of what the replies tell. The
+session is then audited with it, as 'audit' does, and TREE is written only if it is accepted:
+
+  inferred 15 entries from 57 requests; accepted
+
+So an acceptance is a proof that some tree explains the session. What the tree has beyond what replies tell is said on
+standard error, a line each:
+
+  assumed: \"/pub/hard\" and \"/b.bin\" name one file (record 16)
+
+If no tree is found, the exit status is 1, and the two records are named that contradict each other:
+
+  no tree found: record 34 contradicts record 20
+
+This is no proof that there is none. With --explain, standard error has both records, what each told, and how many
+passes were tried. A pass begins anew with what an earlier one learned.
+
+'sftpv3 audit --tree unknown' does the same, and writes no tree at the start. A tree file of that name is './unknown'.";
+
 pub(crate) const ABOUT_SHOW: &str =
     "Prints what a transcript or a tree file holds, a line for each record or entry";
 

@@ -17,6 +17,9 @@ mod gathering;
 mod going_on;
 mod help;
 mod importing;
+mod inferences;
+mod inferred_lines;
+mod inferring;
 mod leaving_out;
 mod memory;
 mod messages;
@@ -223,7 +226,8 @@ fn perform_request<'a, R: System, I: Read, O: Write, E: Write>(
 ) -> Result<Ending, Failure<'a>> {
     match request {
         Request::Serve(options) => serving::serve(rt, options, input, output, errors),
-        Request::Audit(files) => subcommands::audit(rt, files, output, errors),
+        Request::Audit(files) => inferring::audit(rt, files, output, errors),
+        Request::Infer(options) => inferring::infer(rt, options, output, errors),
         Request::Blank { file, keeping } => subcommands::blank(rt, file, *keeping),
         Request::Raise {
             tree,

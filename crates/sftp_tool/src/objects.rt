@@ -58,6 +58,25 @@ pub(crate) fn print_refused<'a, O: Write>(
     ended(json.finish(), Ending::Refused)
 }
 
+/// Prints the object of a session for which no tree was found, as the last step of a run. The numbers are those of the
+/// record that contradicts, and of the one that it contradicts; 0 stands for none.
+pub(crate) fn print_untold<'a, O: Write>(
+    found: u64,
+    told: u64,
+    output: &mut O,
+) -> Result<Ending, Failure<'a>>
+    ensures ok { IfOk result (λ ending. ending ≡ endings.Refused) }
+    ensures err { IfErr result IsUnwritten }
+{
+    let mut json = JsonLines::new(output, usize::MAX);
+    json.open();
+    json.word("verdict", "no-tree");
+    json.number("record", found);
+    json.number("contradicts", told);
+    json.end_line();
+    ended(json.finish(), Ending::Refused)
+}
+
 /// The outcome of a run whose last step was to print.
 pub(crate) fn ended<'a>(printed: io::Result<()>, ending: Ending) -> Result<Ending, Failure<'a>>
     ensures ok { IfOk result (λ ended. ended ≡ ending) }

@@ -1,0 +1,232 @@
+//! What shown attributes tell of an entry.
+
+use crate::clashes::What;
+use crate::errors::Stop;
+use crate::facts::Says;
+use crate::nodes::{Rights, Sort};
+use crate::world::World;
+use sftp_wire::Attrs;
+
+/// The bits of permissions that name the kind.
+const KINDS: u32 = 0o170_000;
+
+/// The permissions themselves.
+pub(crate) const PERMISSIONS: u32 = 0o7777;
+
+/// The kind that these permissions show.
+pub(crate) fn shown_sort(permissions: u32) -> Sort {
+    match permissions & KINDS {
+        0o040_000 => Sort::Directory,
+        0o100_000 => Sort::File,
+        0o120_000 => Sort::Link,
+        _ => Sort::Unknown,
+    }
+}
+
+/// The kind that these attributes show.
+pub(crate) fn sort_of(attrs: &Attrs) -> Sort {
+    match attrs.permissions {
+        Some(permissions) => shown_sort(permissions),
+        None => Sort::Unknown,
+    }
+}
+
+impl<'a> World<'a> {
+    /// Takes what a reply shows of an entry.
+    pub(crate) fn tell_attrs(&mut self, at: usize, attrs: &Attrs) -> Result<(), Stop> {
+        self.tell_sort(at, sort_of(attrs), attrs.size)?;
+        match self.sort(at) {
+            Sort::Link => self.tell_link(at, attrs),
+            Sort::File => {
+                self.tell_rights(at, attrs)?;
+                self.tell_shown_size(at, attrs.size)
+            }
+            _ => self.tell_rights(at, attrs),
+        }
+    }
+
+    fn tell_shown_size(&mut self, at: usize, size: Option<u64>) -> Result<(), Stop> {
+        match size {
+            Some(size) => self.tell_size(at, size),
+            None => Ok(()),
+        }
+    }
+
+    /// Takes the kind that a reply shows.
+    pub(crate) fn tell_sort(
+        &mut self,
+        at: usize,
+        sort: Sort,
+        size: Option<u64>,
+    ) -> Result<(), Stop> {
+        let known = self.sort(at);
+        if sort == Sort::Unknown {
+            return Ok(());
+        }
+        if known == Sort::Unknown || known == sort {
+            self.set_sort(at, sort);
+            if let Some(entry) = self.entry_mut(at) {
+                entry.is_shown = true;
+            }
+            return Ok(());
+        }
+        self.propose_sort(at, sort, size)?;
+        let told = self.told(at);
+        Err(self.clash_at(at, told, What::Kind(known, sort)))
+    }
+
+    /// Proposes that an entry of the start, whose kind no reply showed, is of this kind.
+    fn propose_sort(&mut self, at: usize, sort: Sort, size: Option<u64>) -> Result<(), Stop> {
+        if self.is_shown(at) {
+            return Ok(());
+        }
+        let says = match sort {
+            Sort::Directory => Says::Directory,
+            Sort::File => Says::File,
+            _ => Says::Link(self.invented(at, size)?),
+        };
+        self.propose_of(at, says)?;
+        Ok(())
+    }
+
+    /// Whether a reply showed the kind of an entry, or the session made it.
+    pub(crate) fn is_shown(&self, at: usize) -> bool {
+        match self.entry(at) {
+            Some(entry) => entry.is_shown || !entry.is_old,
+            None => true,
+        }
+    }
+
+    /// Takes what a reply shows of a link.
+    fn tell_link(&mut self, at: usize, attrs: &Attrs) -> Result<(), Stop> {
+        if let Some(owner) = attrs.owner {
+            if self.owner.is_none() && self.settings.is_strict {
+                self.owner = Some(owner);
+            }
+        }
+        match attrs.size {
+            Some(length) => self.tell_length(at, length),
+            None => Ok(()),
+        }
+    }
+
+    fn tell_rights(&mut self, at: usize, attrs: &Attrs) -> Result<(), Stop> {
+        if let Some(owner) = attrs.owner {
+            self.tell_owner(at, owner)?;
+        }
+        if let Some(permissions) = attrs.permissions {
+            self.tell_permissions(at, permissions & PERMISSIONS)?;
+        }
+        Ok(())
+    }
+
+    /// The owner and the permissions of an entry, as far as they are known.
+    pub(crate) fn rights(&self, at: usize) -> Rights {
+        match self.entry(at) {
+            Some(entry) => entry.rights,
+            None => Rights::unknown(),
+        }
+    }
+
+    pub(crate) fn set_rights(&mut self, at: usize, rights: Rights) {
+        let told = self.replied;
+        if let Some(entry) = self.entry_mut(at) {
+            entry.rights = rights;
+            entry.rights.told = told;
+        }
+    }
+
+    fn is_old(&self, at: usize) -> bool {
+        match self.entry(at) {
+            Some(entry) => entry.is_old,
+            None => false,
+        }
+    }
+
+    fn tell_owner(&mut self, at: usize, owner: (u32, u32)) -> Result<(), Stop> {
+        let mut rights = self.rights(at);
+        let known = if rights.owner.is_some() {
+            rights.owner
+        } else if self.is_old(at) {
+            rights.start_owner
+        } else {
+            self.owner
+        };
+        match known {
+            None if self.is_old(at) => {
+                rights.start_owner = Some(owner);
+                self.set_rights(at, rights);
+                Ok(())
+            }
+            None => {
+                self.owner = Some(owner);
+                Ok(())
+            }
+            Some(known) if known == owner || !self.settings.is_strict => Ok(()),
+            Some(known) => self.mismatch(at, What::Owner(known, owner)),
+        }
+    }
+
+    fn tell_permissions(&mut self, at: usize, permissions: u32) -> Result<(), Stop> {
+        let mut rights = self.rights(at);
+        match rights.permissions.or(rights.start_permissions) {
+            None => {
+                rights.start_permissions = Some(permissions);
+                self.set_rights(at, rights);
+                Ok(())
+            }
+            Some(known) if known == permissions => Ok(()),
+            Some(known) => self.mismatch(at, What::Permissions(known, permissions)),
+        }
+    }
+
+    /// Attributes that differ from those that are known: of a file that is only taken for new they show that it is old.
+    fn mismatch(&mut self, at: usize, what: What) -> Result<(), Stop> {
+        if self.revive(at)? {
+            return Ok(());
+        }
+        if !self.settings.is_strict {
+            return Ok(());
+        }
+        let told = self.rights(at).told;
+        Err(self.clash_at(at, told, what))
+    }
+
+    /// Takes the attributes that a request set.
+    pub(crate) fn set_attrs(&mut self, at: usize, attrs: &Attrs) -> Result<(), Stop> {
+        let mut rights = self.rights(at);
+        rights.owner = attrs.owner.or(rights.owner);
+        if let Some(permissions) = attrs.permissions {
+            rights.permissions = Some(permissions & PERMISSIONS);
+        }
+        if attrs.owner.is_some() || attrs.permissions.is_some() {
+            self.set_rights(at, rights);
+        }
+        match attrs.size {
+            Some(size) => {
+                self.set_sort(at, Sort::File);
+                self.cut(at, size)
+            }
+            None => Ok(()),
+        }
+    }
+
+    /// The rights of an entry that a request makes, with these permissions where none are asked for: strictly, and in a
+    /// profile where a umask counts.
+    pub(crate) fn made_rights(&self, attrs: &Attrs, strict: u32, profile: u32) -> Rights {
+        let mut rights = Rights::unknown();
+        rights.told = self.replied;
+        match self.settings.umask {
+            None => {
+                rights.owner = attrs.owner;
+                rights.permissions = Some(attrs.permissions.unwrap_or(strict) & PERMISSIONS);
+            }
+            Some(umask) => {
+                rights.permissions = Some(
+                    attrs.permissions.unwrap_or(profile) & PERMISSIONS & !umask,
+                );
+            }
+        }
+        rights
+    }
+}

@@ -1,0 +1,85 @@
+//! What replies told of a file's size and bytes.
+
+use crate::pieces::Pieces;
+use std::alloc::Global;
+
+/// The size and the bytes of a file, at the start and now.
+#[derive(Drop)]
+pub(crate) struct File {
+    /// Its size at the start is at least and at most so many bytes; and the records that told that.
+    pub(crate) least: u64,
+    pub(crate) most: u64,
+    pub(crate) least_told: u64,
+    pub(crate) most_told: u64,
+    /// Whether its size at the start is assumed to be the least.
+    pub(crate) is_guessed: bool,
+    /// Its size now, once the session cut it or made it.
+    pub(crate) size: Option<u64>,
+    /// The request that set this size.
+    pub(crate) sized: u64,
+    /// The end of what the session wrote furthest, and the request that wrote it.
+    pub(crate) furthest: u64,
+    pub(crate) written_by: u64,
+    /// From here on bytes that the session did not write are zeros.
+    pub(crate) zeros: u64,
+    /// What the session wrote.
+    pub(crate) written: Pieces,
+    /// What replies showed of the start.
+    pub(crate) shown: Pieces,
+    /// Whether an extension may have changed any byte.
+    pub(crate) is_blurred: bool,
+}
+
+impl File {
+    /// A file of the start of which nothing else is known.
+    pub(crate) fn old(alloc: Global) -> File {
+        File {
+            least: 0,
+            most: u64::MAX,
+            least_told: 0,
+            most_told: 0,
+            is_guessed: false,
+            size: None,
+            sized: 0,
+            furthest: 0,
+            written_by: 0,
+            zeros: u64::MAX,
+            written: Pieces::new(alloc),
+            shown: Pieces::new(alloc),
+            is_blurred: false,
+        }
+    }
+
+    /// Makes it a file that the session made.
+    pub(crate) fn empty(&mut self, told: u64) {
+        self.size = Some(0);
+        self.sized = told;
+        self.zeros = 0;
+    }
+
+    /// The fewest bytes that it may have now.
+    pub(crate) fn least_now(&self) -> u64 {
+        match self.size {
+            Some(size) => size,
+            None => self.least.max(self.furthest),
+        }
+    }
+
+    /// The most bytes that it may have now.
+    pub(crate) fn most_now(&self) -> u64 {
+        match self.size {
+            Some(size) => size,
+            None => self.most.max(self.furthest),
+        }
+    }
+
+    /// The record that told the size now.
+    pub(crate) fn size_told(&self) -> u64 {
+        match self.size {
+            Some(size) if self.furthest >= size => self.sized.max(self.written_by),
+            Some(_) => self.sized,
+            None if self.furthest > self.least => self.written_by,
+            None => self.least_told.max(self.most_told),
+        }
+    }
+}

@@ -1,0 +1,98 @@
+//! Where relative paths begin, and what REALPATH tells.
+
+use crate::clashes::What;
+use crate::errors::Stop;
+use crate::facts::{Fact, Says};
+use crate::look::Look;
+use crate::nodes::Sort;
+use crate::world::World;
+use sftp_path::NoMemory;
+
+/// The home that a REALPATH of a relative path tells: the text before that path.
+pub(crate) fn home_of<'t>(path: &[u8], text: &'t [u8]) -> Option<&'t [u8]> {
+    if path.is_empty() || path == b".".as_slice() {
+        return Some(text);
+    }
+    if path.first() == Some(&b'/') || path.iter().any(|byte| *byte == b'.') {
+        return None;
+    }
+    let length = text.len().checked_sub(path.len())?;
+    let behind = text.get(length..)?;
+    if behind != path {
+        return None;
+    }
+    let home = length.checked_sub(1)?;
+    if home == 0 {
+        text.get(..1)
+    } else {
+        text.get(..home)
+    }
+}
+
+impl<'a> World<'a> {
+    /// REALPATH told where a path leads.
+    pub(crate) fn take_real(&mut self, path: &[u8], text: &[u8]) -> Result<(), Stop> {
+        let found = self.reach(path, true)?;
+        let place = self.place(found.parent, found.name.as_slice(), false);
+        let told = self.take_place(path, text, &found, place?);
+        drop(found);
+        told
+    }
+
+    fn take_place(
+        &mut self,
+        path: &[u8],
+        text: &[u8],
+        found: &crate::look::Found,
+        place: Vec<u8>,
+    ) -> Result<(), Stop> {
+        if place.as_slice() == text || !self.settings.is_strict {
+            drop(place);
+            return Ok(());
+        }
+        let told = match found.look {
+            Look::Entry(at) => {
+                self.propose_link(at, text)?;
+                self.told(at)
+            }
+            Look::Unknown => {
+                self.propose(
+                    found.parent,
+                    found.name.as_slice(),
+                    Says::Link(Vec::from_slice(self.alloc, text)?),
+                )?;
+                0
+            }
+            _ => 0,
+        };
+        if path.first() != Some(&b'/') {
+            self.propose_home(path, text)?;
+        }
+        Err(self.clash(place, told, What::Place))
+    }
+
+    /// Proposes that an entry, or the directory that it is in, is a link to what this text is the place of.
+    fn propose_link(&mut self, at: usize, text: &[u8]) -> Result<(), NoMemory> {
+        if !self.is_shown(at) || self.sort(at) == Sort::Unknown {
+            let target = Vec::from_slice(self.alloc, text)?;
+            self.propose_of(at, Says::Link(target))?;
+        }
+        Ok(())
+    }
+
+    fn propose_home(&mut self, path: &[u8], text: &[u8]) -> Result<(), NoMemory> {
+        match home_of(path, text) {
+            Some(home) => {
+                let place = Vec::from_slice(self.alloc, home)?;
+                let told = self.replied;
+                self.proposals.push(Fact {
+                    place,
+                    says: Says::Home,
+                    told,
+                })?;
+                Ok(())
+            }
+            None => Ok(()),
+        }
+    }
+}

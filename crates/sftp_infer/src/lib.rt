@@ -1,0 +1,42 @@
+//! A tree at the start of a recorded session, inferred from the session alone. What it gives is a guess that an audit
+//! has to judge: nothing is proved of it but that each call is safe, and that it returns.
+#![tactic(auto)]
+
+mod attributes;
+mod base;
+mod candidates;
+mod clashes;
+mod errors;
+mod exchanges;
+mod facts;
+mod files;
+mod first_look;
+mod handles;
+mod homes;
+mod listings;
+mod look;
+mod moves;
+mod moves_refused;
+mod nodes;
+mod opens;
+mod pass;
+mod pieces;
+mod places;
+mod reads;
+mod reasons;
+mod refusals;
+mod rows;
+mod search;
+mod settings;
+mod sizes;
+mod successes;
+mod targets;
+mod world;
+
+pub use candidates::Candidate;
+pub use clashes::{Clash, What};
+pub use facts::{Fact, Says};
+pub use nodes::Sort;
+pub use search::{Search, Step};
+pub use settings::Settings;
+pub use sftp_path::NoMemory;

@@ -1,0 +1,122 @@
+//! What READDIR tells.
+
+use crate::attributes::sort_of;
+use crate::clashes::What;
+use crate::errors::Stop;
+use crate::handles::Opened;
+use crate::nodes::{Held, Slot};
+use crate::world::World;
+use sftp_path::{is_dot, is_dot_dot, is_name};
+use sftp_wire::{NameItem, Names};
+
+impl<'a> World<'a> {
+    /// Takes the names that a listing gave.
+    pub(crate) fn list(&mut self, listing: Opened, names: &Names) -> Result<(), Stop> {
+        for item in names.as_slice() {
+            self.work = self.work.saturating_add(1);
+            self.list_item(listing, item)?;
+        }
+        Ok(())
+    }
+
+    fn list_item(&mut self, listing: Opened, item: &NameItem) -> Result<(), Stop> {
+        let name = item.filename.as_slice();
+        if is_dot(name) || is_dot_dot(name) || !is_name(name) {
+            return Ok(());
+        }
+        let slot = self.slot(listing.entry, name);
+        if slot.changed > listing.asked {
+            return self.mark(listing, name);
+        }
+        match self.held(listing.entry, name) {
+            Some((Held::Entry(at), _)) => self.list_entry(listing, at, item)?,
+            Some((Held::Nothing, told)) => self.list_absent(listing, item, told)?,
+            None => self.list_unknown(listing, item)?,
+        }
+        self.mark(listing, name)
+    }
+
+    /// Notes that a listing gave a name.
+    fn mark(&mut self, listing: Opened, name: &[u8]) -> Result<(), Stop> {
+        let mut slot = self.slot(listing.entry, name);
+        slot.listed = slot.listed.max(listing.told);
+        Ok(self.set_slot(listing.entry, name, slot)?)
+    }
+
+    fn list_unknown(&mut self, listing: Opened, item: &NameItem) -> Result<(), Stop> {
+        let name = item.filename.as_slice();
+        let at = self.tell(listing.entry, name, sort_of(&item.attrs))?;
+        self.tell_attrs(at, &item.attrs)
+    }
+
+    /// Takes what a listing shows of an entry, unless a request may have changed it since the listing was opened.
+    fn list_entry(&mut self, listing: Opened, at: usize, item: &NameItem) -> Result<(), Stop> {
+        if self.changed(at) > listing.asked {
+            return Ok(());
+        }
+        self.tell_attrs(at, &item.attrs)
+    }
+
+    /// The last request that changed an entry's attributes.
+    fn changed(&self, at: usize) -> u64 {
+        match self.entry(at) {
+            Some(entry) => {
+                let file = entry.file.written_by.max(entry.file.sized);
+                file.max(entry.rights.told)
+            }
+            None => 0,
+        }
+    }
+
+    fn list_absent(&mut self, listing: Opened, item: &NameItem, told: u64) -> Result<(), Stop> {
+        let name = item.filename.as_slice();
+        if told > listing.told && !self.slot(listing.entry, name).is_assumed {
+            return Ok(());
+        }
+        if self.retract(listing.entry, name)? {
+            return self.list_unknown(listing, item);
+        }
+        Err(self.clash_name(listing.entry, name, told, What::There))
+    }
+
+    /// Takes the end of a listing: no name is left that it did not give.
+    pub(crate) fn list_end(&mut self, listing: Opened) -> Result<(), Stop> {
+        if let Some((slot, name)) = self.left_out(listing)? {
+            let missing = self.clash_name(
+                listing.entry,
+                name.as_slice(),
+                slot.told,
+                What::Unlisted,
+            );
+            drop(name);
+            return Err(missing);
+        }
+        self.complete(listing.entry);
+        Ok(())
+    }
+
+    /// A name that was in the directory all the time, and that a listing left out.
+    fn left_out(&mut self, listing: Opened) -> Result<Option<(Slot, Vec<u8>)>, Stop> {
+        let Some(directory) = self.nodes.get(listing.entry) else {
+            return Ok(None);
+        };
+        self.work = self.work.saturating_add(directory.names.len() as u64);
+        for (name, slot) in directory.names.iter() {
+            if is_left_out(slot, listing) {
+                let name = Vec::from_slice(self.alloc, name.as_slice())?;
+                return Ok(Some((*slot, name)));
+            }
+        }
+        Ok(None)
+    }
+}
+
+/// Whether a name was in a directory when a listing was opened and ever since, and the listing did not give it.
+fn is_left_out(slot: &Slot, listing: Opened) -> bool {
+    let is_there = match slot.now.or(slot.start) {
+        Some(Held::Entry(_)) => true,
+        Some(Held::Nothing) => false,
+        None => false,
+    };
+    is_there && slot.changed < listing.asked && slot.listed < listing.told
+}

@@ -1,0 +1,269 @@
+//! Where a path leads, as far as that is known.
+
+use crate::nodes::{Held, Sort};
+use crate::world::World;
+use sftp_path::{NoMemory, good_path, is_dot, is_dot_dot};
+
+/// The most components that a walk looks at.
+const COMPONENT_LIMIT: usize = 90_000;
+
+/// The most links that a walk follows.
+const LINK_LIMIT: u32 = 40;
+
+/// Where a path leads.
+#[derive(Clone, Copy)]
+pub(crate) enum Look {
+    /// To this entry.
+    Entry(usize),
+    /// To a name at which nothing is, as this record told.
+    Nothing(u64),
+    /// To a name of which nothing is known.
+    Unknown,
+    /// Nowhere: nothing is at a name on the way, as this record told.
+    NoEntry(u64),
+    /// Nowhere: this entry on the way is no directory.
+    NotDir(usize),
+    /// Nowhere: too many links are on the way.
+    Loop,
+    /// Nowhere: the path is bad.
+    Bad,
+    /// A name on the way is not known.
+    UnknownWay,
+    /// An entry on the way is of no known kind.
+    Unsure(usize),
+    /// A link on the way has no known target.
+    Blind(usize),
+}
+
+/// Where a path leads, and the directory and the name where the walk ended.
+#[derive(Drop)]
+pub(crate) struct Found {
+    pub(crate) look: Look,
+    pub(crate) parent: usize,
+    pub(crate) name: Vec<u8>,
+}
+
+/// A walk that has not ended.
+#[derive(Drop)]
+struct Walk<'w> {
+    at: usize,
+    rest: &'w [u8],
+    /// What comes after the rest, the next one last.
+    waiting: Vec<&'w [u8]>,
+    links: u32,
+}
+
+/// What a step of a walk comes to.
+enum Step<'w> {
+    /// The walk goes on.
+    On,
+    /// It ends here, at this name.
+    End(Look, &'w [u8]),
+}
+
+/// The first component of a path and what is behind it, if there is any.
+pub(crate) fn next_part(path: &[u8]) -> Option<(&[u8], &[u8])> {
+    let start = path.iter().position(|byte| *byte != b'/')?;
+    let inner = path.get(start..)?;
+    let end = inner
+        .iter()
+        .position(|byte| *byte == b'/')
+        .unwrap_or(inner.len());
+    Some((inner.get(..end)?, inner.get(end..)?))
+}
+
+/// Whether a path has a component.
+fn has_part(path: &[u8]) -> bool {
+    path.iter().any(|byte| *byte != b'/')
+}
+
+impl<'w> Walk<'w> {
+    /// Whether no component is left.
+    fn is_done(&self) -> bool {
+        self.waiting.is_empty() && !has_part(self.rest)
+    }
+
+    /// Goes on with a link's target from this directory.
+    fn follow(&mut self, target: &'w [u8]) -> Result<(), NoMemory> {
+        if has_part(self.rest) {
+            self.waiting.push(self.rest)?;
+        }
+        self.rest = target;
+        self.links = self.links.saturating_add(1);
+        if target.first() == Some(&b'/') {
+            self.at = 0;
+        }
+        Ok(())
+    }
+}
+
+impl<'a> World<'a> {
+    /// Where a path leads now.
+    pub(crate) fn look<'w>(&'w self, path: &'w [u8], follows: bool) -> Result<Found, NoMemory> {
+        if !good_path(path) {
+            return Ok(Found {
+                look: Look::Bad,
+                parent: 0,
+                name: Vec::new(self.alloc),
+            });
+        }
+        let mut walk = Walk {
+            at: 0,
+            rest: path,
+            waiting: Vec::new(self.alloc),
+            links: 0,
+        };
+        if path.first() != Some(&b'/') {
+            walk.waiting.push(path)?;
+            walk.rest = self.home.as_slice();
+        }
+        self.walk(walk, follows)
+    }
+
+    fn walk<'w>(&'w self, walk: Walk<'w>, follows: bool) -> Result<Found, NoMemory> {
+        let mut walk = walk;
+        for _ in 0..COMPONENT_LIMIT {
+            match self.step(&mut walk, follows)? {
+                Step::On => {}
+                Step::End(look, name) => {
+                    let parent = walk.at;
+                    drop(walk);
+                    return Ok(Found {
+                        look,
+                        parent,
+                        name: Vec::from_slice(self.alloc, name)?,
+                    });
+                }
+            }
+        }
+        drop(walk);
+        Ok(Found {
+            look: Look::Loop,
+            parent: 0,
+            name: Vec::new(self.alloc),
+        })
+    }
+
+    fn step<'w>(&'w self, walk: &mut Walk<'w>, follows: bool) -> Result<Step<'w>, NoMemory> {
+        match next_part(walk.rest) {
+            Some((name, behind)) => {
+                walk.rest = behind;
+                self.enter(walk, name, follows)
+            }
+            None => match walk.waiting.pop() {
+                Some(rest) => {
+                    walk.rest = rest;
+                    Ok(Step::On)
+                }
+                None => Ok(self.end_in(walk)),
+            },
+        }
+    }
+
+    /// The walk ends in the directory that it has reached.
+    fn end_in<'w>(&'w self, walk: &mut Walk<'w>) -> Step<'w> {
+        let look = Look::Entry(walk.at);
+        match self.entry(walk.at) {
+            Some(directory) => {
+                walk.at = directory.parent;
+                Step::End(look, directory.name.as_slice())
+            }
+            None => Step::End(look, &[]),
+        }
+    }
+
+    fn enter<'w>(
+        &'w self,
+        walk: &mut Walk<'w>,
+        name: &'w [u8],
+        follows: bool,
+    ) -> Result<Step<'w>, NoMemory> {
+        if is_dot(name) {
+            return Ok(Step::On);
+        }
+        if is_dot_dot(name) {
+            walk.at = match self.entry(walk.at) {
+                Some(directory) => directory.parent,
+                None => 0,
+            };
+            return Ok(Step::On);
+        }
+        let is_last = walk.is_done();
+        match self.held(walk.at, name) {
+            Some((Held::Entry(at), _)) => self.enter_entry(walk, name, at, is_last, follows),
+            Some((Held::Nothing, told)) if is_last => Ok(Step::End(Look::Nothing(told), name)),
+            Some((Held::Nothing, told)) => Ok(Step::End(Look::NoEntry(told), name)),
+            None if is_last => Ok(Step::End(Look::Unknown, name)),
+            None => Ok(Step::End(Look::UnknownWay, name)),
+        }
+    }
+
+    fn enter_entry<'w>(
+        &'w self,
+        walk: &mut Walk<'w>,
+        name: &'w [u8],
+        at: usize,
+        is_last: bool,
+        follows: bool,
+    ) -> Result<Step<'w>, NoMemory> {
+        match self.sort(at) {
+            Sort::Link if follows || !is_last => self.follow(walk, name, at),
+            _ if is_last => Ok(Step::End(Look::Entry(at), name)),
+            Sort::Directory => {
+                walk.at = at;
+                Ok(Step::On)
+            }
+            Sort::Unknown => Ok(Step::End(Look::Unsure(at), name)),
+            _ => Ok(Step::End(Look::NotDir(at), name)),
+        }
+    }
+
+    fn follow<'w>(
+        &'w self,
+        walk: &mut Walk<'w>,
+        name: &'w [u8],
+        at: usize,
+    ) -> Result<Step<'w>, NoMemory> {
+        if walk.links >= LINK_LIMIT {
+            return Ok(Step::End(Look::Loop, name));
+        }
+        match self.target(at) {
+            Some(target) => {
+                walk.follow(target)?;
+                Ok(Step::On)
+            }
+            None => Ok(Step::End(Look::Blind(at), name)),
+        }
+    }
+
+    /// The target of a link, if it is known.
+    pub(crate) fn target(&self, at: usize) -> Option<&[u8]> {
+        match self.entry(at) {
+            Some(link) => match &link.target {
+                Some(target) => Some(target.as_slice()),
+                None => None,
+            },
+            None => None,
+        }
+    }
+
+    /// What a name in a directory leads to now, and the record that told it, if that is known.
+    pub(crate) fn held(&self, parent: usize, name: &[u8]) -> Option<(Held, u64)> {
+        let directory = self.entry(parent)?;
+        let known = match directory.names.get(name) {
+            Some(slot) => match slot.now {
+                Some(held) => Some((held, slot.changed)),
+                None => match slot.start {
+                    Some(held) => Some((held, slot.told)),
+                    None => None,
+                },
+            },
+            None => None,
+        };
+        match (known, directory.complete) {
+            (Some(known), _) => Some(known),
+            (None, Some(told)) => Some((Held::Nothing, told)),
+            (None, None) => None,
+        }
+    }
+}

@@ -1,0 +1,237 @@
+//! Requests that make, remove and move names.
+
+use crate::clashes::What;
+use crate::errors::Stop;
+use crate::look::{Found, Look};
+use crate::nodes::{Held, Node, Sort};
+use crate::world::World;
+use sftp_wire::Attrs;
+
+/// How often a walk is begun anew, since what it met was told on the way.
+const WALKS: u32 = 8_192;
+
+impl<'a> World<'a> {
+    /// Where a path leads whose request was done: each name on the way is a directory.
+    pub(crate) fn reach(&mut self, path: &[u8], follows: bool) -> Result<Found, Stop> {
+        for _ in 0..WALKS {
+            let found = self.look(path, follows)?;
+            match found.look {
+                Look::UnknownWay | Look::Unsure(_) | Look::Blind(_) | Look::NoEntry(_) => {
+                    self.open_way(found)?;
+                }
+                Look::NotDir(at) => {
+                    drop(found);
+                    self.tell_sort(at, Sort::Directory, None)?;
+                    return Err(Stop::Clash);
+                }
+                _ => return Ok(found),
+            }
+        }
+        let found = self.look(path, follows)?;
+        Ok(found)
+    }
+
+    /// Tells that what stopped a walk does not stop it.
+    fn open_way(&mut self, found: Found) -> Result<(), Stop> {
+        let opened = self.open_way_at(&found);
+        drop(found);
+        opened
+    }
+
+    fn open_way_at(&mut self, found: &Found) -> Result<(), Stop> {
+        let (parent, name) = (found.parent, found.name.as_slice());
+        match found.look {
+            Look::UnknownWay => {
+                self.tell(parent, name, Sort::Directory)?;
+                Ok(())
+            }
+            Look::Unsure(at) => {
+                self.set_sort(at, Sort::Directory);
+                Ok(())
+            }
+            Look::Blind(at) => self.invent_target(at),
+            Look::NoEntry(told) => self.require(parent, name, told),
+            _ => Ok(()),
+        }
+    }
+
+    /// Something is at a name of which this record told that nothing is.
+    fn require(&mut self, parent: usize, name: &[u8], told: u64) -> Result<(), Stop> {
+        if self.retract(parent, name)? {
+            return Ok(());
+        }
+        Err(self.clash_name(parent, name, told, What::There))
+    }
+
+    /// The entry to which a path leads whose request was done and needs one. If nothing is known of it, it is of this
+    /// kind.
+    pub(crate) fn reach_entry(
+        &mut self,
+        path: &[u8],
+        follows: bool,
+        sort: Sort,
+    ) -> Result<usize, Stop> {
+        let found = self.reach(path, follows)?;
+        let at = self.entry_of(&found, sort);
+        drop(found);
+        at
+    }
+
+    fn entry_of(&mut self, found: &Found, sort: Sort) -> Result<usize, Stop> {
+        let (parent, name) = (found.parent, found.name.as_slice());
+        match found.look {
+            Look::Entry(at) => {
+                self.set_sort(at, sort);
+                Ok(at)
+            }
+            Look::Unknown => Ok(self.tell(parent, name, sort)?),
+            Look::Nothing(told) => {
+                self.require(parent, name, told)?;
+                Ok(self.tell(parent, name, sort)?)
+            }
+            _ => Err(self.clash_name(parent, name, 0, What::Place)),
+        }
+    }
+
+    /// The directory and the name to which a path leads at which a request made something: nothing was there.
+    pub(crate) fn reach_free(&mut self, path: &[u8]) -> Result<Found, Stop> {
+        let found = self.reach(path, false)?;
+        match self.require_free(&found) {
+            Ok(()) => Ok(found),
+            Err(stop) => {
+                drop(found);
+                Err(stop)
+            }
+        }
+    }
+
+    fn require_free(&mut self, found: &Found) -> Result<(), Stop> {
+        let (parent, name) = (found.parent, found.name.as_slice());
+        match found.look {
+            Look::Unknown => Ok(self.tell_nothing(parent, name, false)?),
+            Look::Nothing(_) => Ok(()),
+            Look::Entry(at) => {
+                let told = self.told(at);
+                Err(self.clash_at(at, told, What::Gone))
+            }
+            _ => Err(self.clash_name(parent, name, 0, What::Place)),
+        }
+    }
+
+    /// A directory was made.
+    pub(crate) fn mkdir(&mut self, path: &[u8], attrs: &Attrs) -> Result<(), Stop> {
+        let found = self.reach_free(path)?;
+        let mut made = Node::new(self.alloc, Sort::Directory, self.replied);
+        made.rights = self.made_rights(attrs, 0o755, 0o777);
+        let done = self.make(made, found.parent, found.name.as_slice());
+        drop(found);
+        done?;
+        Ok(())
+    }
+
+    /// A link was made.
+    pub(crate) fn symlink(&mut self, target: &[u8], path: &[u8]) -> Result<(), Stop> {
+        let found = self.reach_free(path)?;
+        let text = Vec::from_slice(self.alloc, target)?;
+        let mut made = Node::new(self.alloc, Sort::Link, self.replied);
+        made.target = Some(text);
+        let done = self.make(made, found.parent, found.name.as_slice());
+        drop(found);
+        done?;
+        Ok(())
+    }
+
+    /// A name was removed.
+    pub(crate) fn remove(&mut self, path: &[u8]) -> Result<(), Stop> {
+        let found = self.reach(path, false)?;
+        let done = self.remove_at(&found);
+        drop(found);
+        done
+    }
+
+    fn remove_at(&mut self, found: &Found) -> Result<(), Stop> {
+        let at = self.entry_of(found, Sort::File)?;
+        if self.sort(at) == Sort::Directory {
+            self.tell_sort(at, Sort::File, None)?;
+        }
+        Ok(self.change(found.parent, found.name.as_slice(), Held::Nothing)?)
+    }
+
+    /// An empty directory was removed.
+    pub(crate) fn rmdir(&mut self, path: &[u8]) -> Result<(), Stop> {
+        let found = self.reach(path, false)?;
+        let done = self.rmdir_at(&found);
+        drop(found);
+        done
+    }
+
+    fn rmdir_at(&mut self, found: &Found) -> Result<(), Stop> {
+        let at = self.entry_of(found, Sort::Directory)?;
+        self.tell_sort(at, Sort::Directory, None)?;
+        if self.has_entries(at) == Some(true) {
+            let told = self.told(at);
+            return Err(self.clash_at(at, told, What::Entries));
+        }
+        self.complete(at);
+        Ok(self.change(found.parent, found.name.as_slice(), Held::Nothing)?)
+    }
+
+    /// Tells that a directory has no names but those that are known.
+    pub(crate) fn complete(&mut self, at: usize) {
+        let told = self.replied;
+        if let Some(directory) = self.entry_mut(at) {
+            if directory.complete.is_none() {
+                directory.complete = Some(told);
+            }
+        }
+    }
+
+    /// Something was moved to a name at which nothing was.
+    pub(crate) fn rename(&mut self, old: &[u8], new: &[u8]) -> Result<(), Stop> {
+        let at = self.reach_entry(old, false, Sort::Unknown)?;
+        let to = self.reach_free(new)?;
+        let done = self.move_from(old, at, &to);
+        drop(to);
+        done
+    }
+
+    /// Something was moved to a name at which something may have been.
+    pub(crate) fn replace(&mut self, old: &[u8], new: &[u8]) -> Result<(), Stop> {
+        let at = self.reach_entry(old, false, Sort::Unknown)?;
+        let to = self.reach(new, false)?;
+        let done = match to.look {
+            Look::Entry(other) if other == at => Ok(()),
+            _ => self.move_from(old, at, &to),
+        };
+        drop(to);
+        done
+    }
+
+    /// Moves an entry, to which this path leads, to another name.
+    fn move_from(&mut self, old: &[u8], at: usize, to: &Found) -> Result<(), Stop> {
+        let from = self.look(old, false)?;
+        let done = self.change(from.parent, from.name.as_slice(), Held::Nothing);
+        drop(from);
+        done?;
+        self.change(to.parent, to.name.as_slice(), Held::Entry(at))?;
+        let name = Vec::from_slice(self.alloc, to.name.as_slice())?;
+        match self.entry_mut(at) {
+            Some(entry) => {
+                entry.parent = to.parent;
+                entry.name = name;
+            }
+            None => drop(name),
+        }
+        Ok(())
+    }
+
+    /// A file got a further name.
+    pub(crate) fn hardlink(&mut self, old: &[u8], new: &[u8]) -> Result<(), Stop> {
+        let at = self.reach_entry(old, false, Sort::File)?;
+        let to = self.reach_free(new)?;
+        let done = self.change(to.parent, to.name.as_slice(), Held::Entry(at));
+        drop(to);
+        done?;
+        Ok(())
+    }
+}

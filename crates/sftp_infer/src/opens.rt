@@ -1,0 +1,99 @@
+//! What it tells that something was opened.
+
+use crate::clashes::What;
+use crate::errors::Stop;
+use crate::handles::Opened;
+use crate::look::{Found, Look};
+use crate::nodes::{Node, Sort};
+use crate::world::World;
+use bitflags::Flags;
+use sftp_wire::{Ask, Attrs, ByteString, OpenFlags};
+
+impl<'a> World<'a> {
+    /// A reply gave a handle.
+    pub(crate) fn take_handle(&mut self, ask: &Ask, handle: &ByteString) -> Result<(), Stop> {
+        let (at, flags, is_listing) = match ask {
+            Ask::Open {
+                path,
+                pflags,
+                attrs,
+            } => {
+                let at = self.open(path.as_slice(), *pflags, attrs)?;
+                (at, *pflags, false)
+            }
+            Ask::Opendir { path } => {
+                let at = self.reach_entry(path.as_slice(), true, Sort::Directory)?;
+                self.tell_sort(at, Sort::Directory, None)?;
+                (at, 0, true)
+            }
+            _ => return Ok(()),
+        };
+        let opened = Opened {
+            entry: at,
+            told: self.replied,
+            asked: self.asked,
+            is_listing,
+            flags,
+        };
+        let name = Vec::from_slice(self.alloc, handle.as_slice())?;
+        self.handles.insert(name, opened)?;
+        self.most_handles = self.most_handles.max(self.handles.len() as u64);
+        Ok(())
+    }
+
+    /// OPEN was done.
+    fn open(&mut self, path: &[u8], flags: u32, attrs: &Attrs) -> Result<usize, Stop> {
+        let set = OpenFlags::from_bits_retain(flags);
+        if set.contains(OpenFlags::EXCL) && set.contains(OpenFlags::CREAT) {
+            let found = self.reach_free(path)?;
+            let at = self.make_file(&found, attrs, false);
+            drop(found);
+            return at;
+        }
+        let found = self.reach(path, true)?;
+        let at = self.open_found(&found, set.contains(OpenFlags::CREAT), attrs);
+        drop(found);
+        let at = at?;
+        if set.contains(OpenFlags::TRUNC) {
+            self.cut(at, 0)?;
+        }
+        Ok(at)
+    }
+
+    fn open_found(&mut self, found: &Found, makes: bool, attrs: &Attrs) -> Result<usize, Stop> {
+        let (parent, name) = (found.parent, found.name.as_slice());
+        match found.look {
+            Look::Entry(at) => {
+                self.set_sort(at, Sort::File);
+                if self.sort(at) == Sort::Directory && self.settings.is_strict {
+                    self.tell_sort(at, Sort::File, None)?;
+                }
+                Ok(at)
+            }
+            Look::Nothing(_) if makes => {
+                let is_assumed = self.slot(parent, name).is_assumed;
+                self.make_file(found, attrs, is_assumed)
+            }
+            Look::Unknown if makes => {
+                self.tell_nothing(parent, name, true)?;
+                self.make_file(found, attrs, true)
+            }
+            Look::Unknown => Ok(self.tell(parent, name, Sort::File)?),
+            Look::Nothing(told) => {
+                if self.retract(parent, name)? {
+                    return Ok(self.tell(parent, name, Sort::File)?);
+                }
+                Err(self.clash_name(parent, name, told, What::There))
+            }
+            _ => Err(self.clash_name(parent, name, 0, What::Place)),
+        }
+    }
+
+    /// Makes a file; `is_chosen` says whether it may as well have been there.
+    fn make_file(&mut self, found: &Found, attrs: &Attrs, is_chosen: bool) -> Result<usize, Stop> {
+        let mut made = Node::new(self.alloc, Sort::File, self.replied);
+        made.rights = self.made_rights(attrs, 0o644, 0o666);
+        made.is_chosen = is_chosen;
+        Ok(self.make(made, found.parent, found.name.as_slice())?)
+    }
+}

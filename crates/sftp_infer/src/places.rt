@@ -1,0 +1,142 @@
+//! The texts of places, and what is said of them: facts and contradictions.
+
+use crate::clashes::{Clash, What};
+use crate::errors::Stop;
+use crate::facts::{Fact, Says};
+use crate::world::World;
+use sftp_path::{DEPTH_LIMIT, NoMemory};
+
+impl<'a> World<'a> {
+    /// Learns a fact about a place of the start.
+    pub(crate) fn learn(&mut self, parent: usize, name: &[u8], says: Says) -> Result<(), NoMemory> {
+        match self.old_place(parent, name) {
+            Ok(place) => {
+                let told = self.replied;
+                self.learned.push(Fact { place, says, told })?;
+                Ok(())
+            }
+            Err(error) => {
+                drop(says);
+                Err(error)
+            }
+        }
+    }
+
+    /// Proposes a fact about a place of the start.
+    pub(crate) fn propose(
+        &mut self,
+        parent: usize,
+        name: &[u8],
+        says: Says,
+    ) -> Result<(), NoMemory> {
+        match self.old_place(parent, name) {
+            Ok(place) => {
+                let told = self.replied;
+                self.proposals.push(Fact { place, says, told })?;
+                Ok(())
+            }
+            Err(error) => {
+                drop(says);
+                Err(error)
+            }
+        }
+    }
+
+    /// The text of a place at the start.
+    pub(crate) fn old_place(&self, parent: usize, name: &[u8]) -> Result<Vec<u8>, NoMemory> {
+        self.place(parent, name, true)
+    }
+
+    /// The text of a place, at the start or now.
+    pub(crate) fn place(
+        &self,
+        parent: usize,
+        name: &[u8],
+        is_old: bool,
+    ) -> Result<Vec<u8>, NoMemory> {
+        let mut above: Vec<usize> = Vec::new(self.alloc);
+        let mut at = parent;
+        for _ in 0..DEPTH_LIMIT.saturating_mul(2) {
+            if at == 0 {
+                break;
+            }
+            above.push(at)?;
+            at = self.parent_of(at, is_old);
+        }
+        let mut text = Vec::new(self.alloc);
+        for at in above.iter().rev() {
+            self.put_name(*at, is_old, &mut text)?;
+        }
+        if !name.is_empty() || text.is_empty() {
+            text.push(b'/')?;
+            text.extend_from_slice(name)?;
+        }
+        drop(above);
+        Ok(text)
+    }
+
+    /// The directory that an entry is in, at the start or now.
+    fn parent_of(&self, at: usize, is_old: bool) -> usize {
+        match self.nodes.get(at) {
+            Some(entry) => {
+                if is_old {
+                    entry.old_parent
+                } else {
+                    entry.parent
+                }
+            }
+            None => 0,
+        }
+    }
+
+    /// Appends a slash and the name of an entry.
+    fn put_name(&self, at: usize, is_old: bool, text: &mut Vec<u8>) -> Result<(), NoMemory> {
+        text.push(b'/')?;
+        if let Some(entry) = self.nodes.get(at) {
+            if is_old {
+                text.extend_from_slice(entry.old_name.as_slice())?;
+            } else {
+                text.extend_from_slice(entry.name.as_slice())?;
+            }
+        }
+        Ok(())
+    }
+
+    /// The text of the place where an entry is now.
+    pub(crate) fn place_now(&self, at: usize) -> Result<Vec<u8>, NoMemory> {
+        match self.nodes.get(at) {
+            Some(entry) if at != 0 => self.place(entry.parent, entry.name.as_slice(), false),
+            _ => self.place(0, &[], false),
+        }
+    }
+
+    /// The contradiction of the reply at hand with what this record told.
+    pub(crate) fn clash_at(&mut self, at: usize, told: u64, what: What) -> Stop {
+        match self.place_now(at) {
+            Ok(place) => self.clash(place, told, what),
+            Err(_) => Stop::NoMemory,
+        }
+    }
+
+    pub(crate) fn clash(&mut self, place: Vec<u8>, told: u64, what: What) -> Stop {
+        if self.clash.is_none() {
+            self.clash = Some(Clash {
+                told,
+                found: self.replied,
+                place,
+                what,
+            });
+        } else {
+            drop(place);
+        }
+        Stop::Clash
+    }
+
+    /// The contradiction at a name.
+    pub(crate) fn clash_name(&mut self, parent: usize, name: &[u8], told: u64, what: What) -> Stop {
+        match self.place(parent, name, false) {
+            Ok(place) => self.clash(place, told, what),
+            Err(_) => Stop::NoMemory,
+        }
+    }
+}

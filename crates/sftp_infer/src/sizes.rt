@@ -1,0 +1,220 @@
+//! What requests and replies tell of a file's size.
+
+use crate::clashes::What;
+use crate::errors::Stop;
+use crate::facts::Says;
+use crate::nodes::{Held, Sort};
+use crate::pieces::Piece;
+use crate::world::World;
+
+impl<'a> World<'a> {
+    /// Takes the size that a reply shows of a file.
+    pub(crate) fn tell_size(&mut self, at: usize, size: u64) -> Result<(), Stop> {
+        self.most_bytes = self.most_bytes.max(size);
+        let (least, most) = self.size_now(at);
+        if size < least || size > most {
+            if self.revive(at)? {
+                return self.tell_size_of_old(at, size);
+            }
+            self.propose_size(at, size)?;
+            return Err(self.clash_size(at, least, most, size));
+        }
+        self.tell_size_of_old(at, size)
+    }
+
+    /// The fewest and the most bytes that a file may have now.
+    pub(crate) fn size_now(&self, at: usize) -> (u64, u64) {
+        match self.entry(at) {
+            Some(entry) if entry.file.is_blurred => (0, u64::MAX),
+            Some(entry) => (entry.file.least_now(), entry.file.most_now()),
+            None => (0, u64::MAX),
+        }
+    }
+
+    fn clash_size(&mut self, at: usize, least: u64, most: u64, size: u64) -> Stop {
+        let known = if size < least { least } else { most };
+        let told = match self.entry(at) {
+            Some(entry) => entry.file.size_told(),
+            None => 0,
+        };
+        self.clash_at(at, told, What::Size(known, size))
+    }
+
+    /// Proposes another size at the start where it was only assumed.
+    fn propose_size(&mut self, at: usize, size: u64) -> Result<(), Stop> {
+        let guess = match self.entry(at) {
+            Some(entry) if entry.file.is_guessed => Some((entry.file.least, entry.file.furthest)),
+            _ => None,
+        };
+        if let Some((least, furthest)) = guess {
+            let more = size.saturating_sub(furthest);
+            self.propose_of(at, Says::Size(least.saturating_add(more)))?;
+        }
+        Ok(())
+    }
+
+    /// Takes a size, which the file may have, for what it says of the start.
+    fn tell_size_of_old(&mut self, at: usize, size: u64) -> Result<(), Stop> {
+        let told = self.replied;
+        if let Some(entry) = self.entry_mut(at) {
+            let file = &mut entry.file;
+            if file.size.is_some() || file.is_blurred {
+                return Ok(());
+            }
+            if size > file.furthest && size > file.least {
+                file.least = size;
+                file.least_told = told;
+            }
+            if size < file.most {
+                file.most = size;
+                file.most_told = told;
+            }
+        }
+        Ok(())
+    }
+
+    /// Tells that a file has at least so many bytes now.
+    pub(crate) fn tell_least(&mut self, at: usize, size: u64) -> Result<(), Stop> {
+        let (_, most) = self.size_now(at);
+        if size > most && !self.revive(at)? {
+            self.propose_size(at, size)?;
+            return Err(self.clash_size(at, 0, most, size));
+        }
+        let told = self.replied;
+        if let Some(entry) = self.entry_mut(at) {
+            let file = &mut entry.file;
+            if file.size.is_none() && size > file.furthest && size > file.least {
+                file.least = size;
+                file.least_told = told;
+            }
+        }
+        Ok(())
+    }
+
+    /// Tells that a file has at most so many bytes now.
+    pub(crate) fn tell_most(&mut self, at: usize, size: u64) -> Result<(), Stop> {
+        let (least, _) = self.size_now(at);
+        if least > size {
+            return Err(self.clash_size(at, least, least, size));
+        }
+        let told = self.replied;
+        if let Some(entry) = self.entry_mut(at) {
+            let file = &mut entry.file;
+            if file.size.is_none() && size < file.most {
+                file.most = size;
+                file.most_told = told;
+            }
+        }
+        Ok(())
+    }
+
+    /// Sets the size of a file.
+    pub(crate) fn cut(&mut self, at: usize, size: u64) -> Result<(), Stop> {
+        self.most_bytes = self.most_bytes.max(size);
+        let told = self.replied;
+        if let Some(entry) = self.entry_mut(at) {
+            let file = &mut entry.file;
+            file.size = Some(size);
+            file.sized = told;
+            file.zeros = file.zeros.min(size);
+            file.written.clear(size, u64::MAX)?;
+        }
+        Ok(())
+    }
+
+    /// Takes bytes that a request wrote at an offset, or at the end of the file.
+    pub(crate) fn write(
+        &mut self,
+        at: usize,
+        offset: u64,
+        appends: bool,
+        piece: Piece,
+    ) -> Result<(), Stop> {
+        if piece.len == 0 {
+            return Ok(());
+        }
+        let offset = if appends { self.end_now(at) } else { offset };
+        let end = offset.saturating_add(piece.len);
+        self.most_bytes = self.most_bytes.max(end);
+        let told = self.replied;
+        if let Some(entry) = self.entry_mut(at) {
+            let file = &mut entry.file;
+            let before = file.written.len();
+            file.written.put(offset, piece)?;
+            let more = file.written.len().saturating_sub(before);
+            if let Some(size) = file.size {
+                file.size = Some(size.max(end));
+            }
+            if end > file.furthest {
+                file.furthest = end;
+                file.written_by = told;
+            }
+            self.taken = self.taken.saturating_add(more as u64);
+        }
+        Ok(())
+    }
+
+    /// The size of a file now. If it is not known, it is taken for the least that it may be.
+    fn end_now(&mut self, at: usize) -> u64 {
+        let told = self.replied;
+        match self.entry_mut(at) {
+            Some(entry) => {
+                let file = &mut entry.file;
+                let least = file.least_now();
+                if file.size.is_none() && file.most_now() > least {
+                    file.is_guessed = true;
+                    file.least = file.least.max(least);
+                    file.most = file.least;
+                    file.most_told = told;
+                }
+                least
+            }
+            None => 0,
+        }
+    }
+
+    /// Takes an entry that was taken for new, where it may as well be old, for old. The pass goes on with what is known
+    /// now, and a further one begins with it. Says whether that could be.
+    pub(crate) fn revive(&mut self, at: usize) -> Result<bool, Stop> {
+        let Some((parent, name)) = self.chosen(at)? else {
+            return Ok(false);
+        };
+        let mut slot = self.slot(parent, name.as_slice());
+        slot.start = Some(Held::Entry(at));
+        slot.is_assumed = false;
+        let done = self.set_slot(parent, name.as_slice(), slot);
+        let learned = self.learn(parent, name.as_slice(), Says::File);
+        drop(name);
+        done?;
+        learned?;
+        self.age(at);
+        Ok(true)
+    }
+
+    /// Where an entry is that was taken for new, where it may as well be old.
+    fn chosen(&self, at: usize) -> Result<Option<(usize, Vec<u8>)>, Stop> {
+        match self.entry(at) {
+            Some(entry) if entry.is_chosen => {
+                let name = Vec::from_slice(self.alloc, entry.old_name.as_slice())?;
+                Ok(Some((entry.old_parent, name)))
+            }
+            _ => Ok(None),
+        }
+    }
+
+    /// Makes an entry one of the start.
+    fn age(&mut self, at: usize) {
+        if let Some(entry) = self.entry_mut(at) {
+            entry.is_chosen = false;
+            entry.is_old = true;
+            entry.sort = Sort::File;
+            entry.rights.owner = None;
+            entry.rights.permissions = None;
+            let file = &mut entry.file;
+            if file.zeros == 0 && file.sized == entry.told {
+                file.size = None;
+                file.zeros = u64::MAX;
+            }
+        }
+    }
+}

@@ -1,0 +1,246 @@
+//! What a success tells.
+
+use crate::attributes::sort_of;
+use crate::clashes::What;
+use crate::errors::Stop;
+use crate::exchanges::{Exchange, Reply};
+use crate::facts::Says;
+use crate::handles::Opened;
+use crate::nodes::Sort;
+use crate::pieces::Piece;
+use crate::world::World;
+use sftp_wire::{Answer, Ask, Attrs, ByteString, Names, status};
+
+impl<'a> World<'a> {
+    /// Takes an exchange.
+    pub(crate) fn take(&mut self, exchange: &Exchange, reply: &Reply) -> Result<(), Stop> {
+        self.asked = exchange.number;
+        self.replied = reply.number;
+        self.work = self.work.saturating_add(1);
+        match &reply.answer {
+            Answer::Status { code, .. } => self.take_status(exchange, *code),
+            Answer::Handle(handle) => self.take_handle(&exchange.ask, handle),
+            Answer::Data(bytes) => self.take_data(&exchange.ask, bytes, reply.end),
+            Answer::Name(names) => self.take_names(&exchange.ask, names),
+            Answer::Attrs(attrs) => self.take_attrs(&exchange.ask, attrs),
+            Answer::Extended(_) => Ok(()),
+        }
+    }
+
+    fn take_status(&mut self, exchange: &Exchange, code: u32) -> Result<(), Stop> {
+        if code == status::OK {
+            return self.take_done(exchange);
+        }
+        match &exchange.ask {
+            Ask::Read {
+                handle,
+                offset,
+                len,
+            } if code == status::EOF && *len > 0 => {
+                match self.handle(handle) {
+                    Some(opened) if !opened.is_listing => self.read_end(opened.entry, *offset),
+                    _ => Ok(()),
+                }
+            }
+            Ask::Readdir { handle } if code == status::EOF => match self.handle(handle) {
+                Some(opened) if opened.is_listing => self.list_end(opened),
+                _ => Ok(()),
+            },
+            ask => self.refuse(ask, code),
+        }
+    }
+
+    /// What a handle leads to.
+    pub(crate) fn handle(&self, handle: &ByteString) -> Option<Opened> {
+        self.handles.get(handle.as_slice()).copied()
+    }
+
+    /// A request was done that changes something.
+    fn take_done(&mut self, exchange: &Exchange) -> Result<(), Stop> {
+        match &exchange.ask {
+            Ask::Close { handle } => {
+                self.handles.remove(handle.as_slice());
+                Ok(())
+            }
+            Ask::Write {
+                handle,
+                offset,
+                bytes,
+            } => { self.take_written(handle, *offset, bytes, exchange.end) }
+            Ask::Setstat { path, attrs } => self.take_set(path, attrs),
+            Ask::Fsetstat { handle, attrs } => match self.handle(handle) {
+                Some(opened) => self.set_attrs(opened.entry, attrs),
+                None => Ok(()),
+            },
+            other => self.take_changed(other),
+        }
+    }
+
+    /// A request was done that changes names.
+    fn take_changed(&mut self, ask: &Ask) -> Result<(), Stop> {
+        match ask {
+            Ask::Remove { path } => self.remove(path.as_slice()),
+            Ask::Rmdir { path } => self.rmdir(path.as_slice()),
+            Ask::Mkdir { path, attrs } => self.mkdir(path.as_slice(), attrs),
+            Ask::Rename { oldpath, newpath } => {
+                self.rename(oldpath.as_slice(), newpath.as_slice())
+            }
+            Ask::PosixRename { oldpath, newpath } => {
+                self.replace(oldpath.as_slice(), newpath.as_slice())
+            }
+            Ask::Hardlink { oldpath, newpath } => {
+                self.hardlink(oldpath.as_slice(), newpath.as_slice())
+            }
+            Ask::Symlink {
+                targetpath,
+                linkpath,
+            } if self.settings.link_first => {
+                self.symlink(linkpath.as_slice(), targetpath.as_slice())
+            }
+            Ask::Symlink {
+                targetpath,
+                linkpath,
+            } => { self.symlink(targetpath.as_slice(), linkpath.as_slice()) }
+            Ask::Unknown { .. } => {
+                self.blur();
+                Ok(())
+            }
+            _ => Ok(()),
+        }
+    }
+
+    /// An extension may have changed any file that is open to be written.
+    fn blur(&mut self) {
+        for opened in self.handles.values() {
+            if opened.flags & 2 != 0 {
+                if let Some(entry) = self.nodes.get_mut(opened.entry) {
+                    entry.file.is_blurred = true;
+                }
+            }
+        }
+    }
+
+    fn take_set(&mut self, path: &ByteString, attrs: &Attrs) -> Result<(), Stop> {
+        if attrs.size.is_none()
+            && attrs.owner.is_none()
+            && attrs.permissions.is_none()
+            && !self.settings.is_strict
+        {
+            return Ok(());
+        }
+        let at = self.reach_entry(path.as_slice(), true, Sort::Unknown)?;
+        self.set_attrs(at, attrs)
+    }
+
+    fn take_written(
+        &mut self,
+        handle: &ByteString,
+        offset: u64,
+        bytes: &ByteString,
+        end: usize,
+    ) -> Result<(), Stop> {
+        let len = bytes.as_slice().len();
+        let piece = Piece {
+            len: len as u64,
+            from: end.saturating_sub(len),
+            told: self.asked,
+        };
+        match self.handle(handle) {
+            Some(opened) => {
+                let appends = opened.flags & 4 != 0;
+                self.write(opened.entry, offset, appends, piece)
+            }
+            None => Ok(()),
+        }
+    }
+
+    fn take_data(&mut self, ask: &Ask, bytes: &ByteString, end: usize) -> Result<(), Stop> {
+        let len = bytes.as_slice().len();
+        let piece = Piece {
+            len: len as u64,
+            from: end.saturating_sub(len),
+            told: self.replied,
+        };
+        match ask {
+            Ask::Read {
+                handle,
+                offset,
+                len,
+            } => match self.handle(handle) {
+                Some(opened) => self.read(opened.entry, *offset, u64::from(*len), piece),
+                None => Ok(()),
+            },
+            _ => Ok(()),
+        }
+    }
+
+    fn take_attrs(&mut self, ask: &Ask, attrs: &Attrs) -> Result<(), Stop> {
+        let sort = sort_of(attrs);
+        let at = match ask {
+            Ask::Stat { path } => self.reach_entry(path.as_slice(), true, sort)?,
+            Ask::Lstat { path } => self.reach_entry(path.as_slice(), false, sort)?,
+            Ask::Fstat { handle } => match self.handle(handle) {
+                Some(opened) => opened.entry,
+                None => return Ok(()),
+            },
+            _ => return Ok(()),
+        };
+        self.tell_attrs(at, attrs)
+    }
+
+    fn take_names(&mut self, ask: &Ask, names: &Names) -> Result<(), Stop> {
+        match ask {
+            Ask::Readdir { handle } => match self.handle(handle) {
+                Some(opened) if opened.is_listing => self.list(opened, names),
+                _ => Ok(()),
+            },
+            Ask::Readlink { path } => match names.as_slice().first() {
+                Some(item) => self.take_target(path.as_slice(), item.filename.as_slice()),
+                None => Ok(()),
+            },
+            Ask::Realpath { path } => match names.as_slice().first() {
+                Some(item) => self.take_real(path.as_slice(), item.filename.as_slice()),
+                None => Ok(()),
+            },
+            _ => Ok(()),
+        }
+    }
+
+    /// READLINK told a target.
+    fn take_target(&mut self, path: &[u8], target: &[u8]) -> Result<(), Stop> {
+        let at = self.reach_entry(path, false, Sort::Link)?;
+        if self.sort(at) != Sort::Link {
+            let text = Vec::from_slice(self.alloc, target)?;
+            if self.is_shown(at) {
+                drop(text);
+            } else {
+                self.propose_of(at, Says::Link(text))?;
+            }
+            let told = self.told(at);
+            let known = self.sort(at);
+            return Err(self.clash_at(at, told, What::Kind(known, Sort::Link)));
+        }
+        match self.target(at) {
+            Some(known) if known == target => Ok(()),
+            Some(_) => {
+                let text = Vec::from_slice(self.alloc, target)?;
+                self.propose_of(at, Says::Link(text))?;
+                let told = self.told(at);
+                Err(self.clash_at(at, told, What::Target))
+            }
+            None => self.set_target(at, target),
+        }
+    }
+
+    fn set_target(&mut self, at: usize, target: &[u8]) -> Result<(), Stop> {
+        let text = Vec::from_slice(self.alloc, target)?;
+        match self.entry_mut(at) {
+            Some(link) => {
+                link.target = Some(text);
+                link.is_shown = true;
+            }
+            None => drop(text),
+        }
+        Ok(())
+    }
+}

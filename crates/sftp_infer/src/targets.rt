@@ -1,0 +1,208 @@
+//! Links whose targets no reply told, and names that nothing mentions.
+
+use crate::errors::Stop;
+use crate::facts::{Fact, Says};
+use crate::nodes::{Held, Node, Sort};
+use crate::world::World;
+use sftp_path::NoMemory;
+
+/// How many fresh names are tried.
+const TRIES: u32 = 100_000;
+
+/// The letters of fresh names.
+const LETTERS: &[u8] = b"abcdefghijklmnopqrstuvwxyz0123456789";
+
+/// The longest name that is made up.
+const NAME_LIMIT: u64 = 255;
+
+impl<'a> World<'a> {
+    /// Proposes a fact about an entry of the start, if it is one.
+    pub(crate) fn propose_of(&mut self, at: usize, says: Says) -> Result<(), NoMemory> {
+        match self.old_text(at) {
+            Ok(Some(place)) => {
+                let told = self.replied;
+                self.proposals.push(Fact { place, says, told })?;
+                Ok(())
+            }
+            Ok(None) => {
+                drop(says);
+                Ok(())
+            }
+            Err(error) => {
+                drop(says);
+                Err(error)
+            }
+        }
+    }
+
+    /// Where an entry was at the start.
+    pub(crate) fn old_text(&self, at: usize) -> Result<Option<Vec<u8>>, NoMemory> {
+        match self.entry(at) {
+            Some(entry) if entry.is_old && at != 0 => Ok(Some(self.old_place(
+                entry.old_parent,
+                entry.old_name.as_slice(),
+            )?)),
+            _ => Ok(None),
+        }
+    }
+
+    /// Proposes that a file of the start is the file that the session changed last, under another name.
+    pub(crate) fn propose_same(&mut self, at: usize) -> Result<(), NoMemory> {
+        match self.changed_last(at) {
+            Some(other) => match self.old_text(other)? {
+                Some(place) => self.propose_of(at, Says::SameFile(place)),
+                None => Ok(()),
+            },
+            None => Ok(()),
+        }
+    }
+
+    /// The file of the start that the session changed last, but for this one.
+    fn changed_last(&self, at: usize) -> Option<usize> {
+        let mut last: Option<usize> = None;
+        let mut latest: u64 = 0;
+        for (other, entry) in self.nodes.iter().enumerate() {
+            let changed = entry.file.written_by.max(entry.file.sized);
+            if other != at && entry.is_old && entry.sort == Sort::File && changed > latest {
+                last = Some(other);
+                latest = changed;
+            }
+        }
+        last
+    }
+
+    /// A target for a link of the start, of this length if it is told, that leads to a name beside it that nothing
+    /// mentions.
+    pub(crate) fn invented(&self, at: usize, length: Option<u64>) -> Result<Vec<u8>, NoMemory> {
+        let parent = match self.entry(at) {
+            Some(link) => link.parent,
+            None => 0,
+        };
+        self.fresh_name(parent, length.unwrap_or(8))
+    }
+
+    /// A name of this length of which nothing is known in a directory.
+    pub(crate) fn fresh_name(&self, parent: usize, length: u64) -> Result<Vec<u8>, NoMemory> {
+        let mut name = Vec::new(self.alloc);
+        for number in 0..TRIES {
+            name.clear();
+            spell(&mut name, number, length.min(NAME_LIMIT).max(1))?;
+            if self.held(parent, name.as_slice()).is_none() {
+                return Ok(name);
+            }
+        }
+        Ok(name)
+    }
+
+    /// Gives a link whose target is not known one that leads to a name that nothing mentions.
+    pub(crate) fn invent_target(&mut self, at: usize) -> Result<(), Stop> {
+        let length = match self.entry(at) {
+            Some(link) => link.length,
+            None => None,
+        };
+        let target = self.invented(at, length)?;
+        let told = self.replied;
+        let place = self.place_now(at)?;
+        let says = Says::Link(Vec::from_slice(self.alloc, target.as_slice())?);
+        self.invented.push(Fact { place, says, told })?;
+        if let Some(link) = self.entry_mut(at) {
+            link.target = Some(target);
+        } else {
+            drop(target);
+        }
+        Ok(())
+    }
+
+    /// Takes the length that a reply shows of a link.
+    pub(crate) fn tell_length(&mut self, at: usize, length: u64) -> Result<(), Stop> {
+        let known = match self.target(at) {
+            Some(target) => Some(target.len() as u64),
+            None => None,
+        };
+        match known {
+            Some(known) if known != length => {
+                let told = self.told(at);
+                let target = self.invented(at, Some(length))?;
+                self.propose_of(at, Says::Link(target))?;
+                Err(self.clash_at(at, told, crate::clashes::What::Size(known, length)))
+            }
+            _ => {
+                if let Some(link) = self.entry_mut(at) {
+                    link.length = Some(length);
+                }
+                Ok(())
+            }
+        }
+    }
+
+    /// Puts an entry of a fresh name into a directory at the start, so that it is not empty.
+    pub(crate) fn invent_entry(&mut self, parent: usize) -> Result<(), Stop> {
+        let name = self.fresh_name(parent, 12)?;
+        let told = self.tell(parent, name.as_slice(), Sort::File);
+        let place = self.place(parent, name.as_slice(), false);
+        drop(name);
+        told?;
+        let told = self.replied;
+        let place = place?;
+        self.invented.push(Fact {
+            place,
+            says: Says::File,
+            told,
+        })?;
+        Ok(())
+    }
+
+    /// Whether a directory has an entry now, and whether that is known: `None` if it is not.
+    pub(crate) fn has_entries(&self, at: usize) -> Option<bool> {
+        let Some(directory) = self.entry(at) else {
+            return Some(false);
+        };
+        for slot in directory.names.values() {
+            if let Some(Held::Entry(_)) = slot.now.or(slot.start) {
+                return Some(true);
+            }
+        }
+        if directory.complete.is_some() {
+            Some(false)
+        } else {
+            None
+        }
+    }
+
+    /// A new entry, with the place where it is made as its first one.
+    pub(crate) fn make(
+        &mut self,
+        made: Node,
+        parent: usize,
+        name: &[u8],
+    ) -> Result<usize, NoMemory> {
+        let mut made = made;
+        made.old_parent = parent;
+        match Vec::from_slice(self.alloc, name) {
+            Ok(name) => made.old_name = name,
+            Err(_) => {
+                drop(made);
+                return Err(NoMemory);
+            }
+        }
+        let at = self.put(made, parent, name)?;
+        self.change(parent, name, Held::Entry(at))?;
+        Ok(at)
+    }
+}
+
+/// Appends a name of this length that has a number in it.
+fn spell(name: &mut Vec<u8>, number: u32, length: u64) -> Result<(), NoMemory> {
+    let mut left = number;
+    for place in 0..length {
+        let digit = left % 36;
+        left /= 36;
+        let letter = LETTERS.get(digit as usize).copied().unwrap_or(b'a');
+        if place == 0 && digit == 0 {
+            name.push(b'x')?;
+        } else {
+            name.push(letter)?;
+        }
+    }
+    Ok(())
+}

@@ -1,0 +1,230 @@
+//! The lazy tree: what replies told so far, and what the session made of it.
+
+use crate::clashes::Clash;
+use crate::facts::{Fact, Says};
+use crate::handles::Opened;
+use crate::nodes::{Held, Node, Slot, Sort};
+use crate::settings::Settings;
+use sftp_path::NoMemory;
+use std::alloc::Global;
+use std::collections::BTreeMap;
+
+/// What is known in the middle of a pass.
+#[derive(Drop)]
+pub(crate) struct World<'a> {
+    pub(crate) alloc: Global,
+    pub(crate) session: &'a [u8],
+    pub(crate) settings: Settings<'a>,
+    /// The entries; the first one is the root.
+    pub(crate) nodes: Vec<Node>,
+    pub(crate) home: Vec<u8>,
+    pub(crate) handles: BTreeMap<Vec<u8>, Opened>,
+    /// Who owns what is made, and the record that told it.
+    pub(crate) owner: Option<(u32, u32)>,
+    /// The most bytes that a READ gave, that a file had, and the most handles that were open.
+    pub(crate) most_read: u64,
+    pub(crate) most_bytes: u64,
+    pub(crate) most_handles: u64,
+    /// Facts that this pass found, which it could follow at once.
+    pub(crate) learned: Vec<Fact>,
+    /// What is made up, since a reply asks for something that nothing tells.
+    pub(crate) invented: Vec<Fact>,
+    /// Whether a path was relative.
+    pub(crate) needs_home: bool,
+    /// The contradiction that ends the pass, and what might resolve it.
+    pub(crate) clash: Option<Clash>,
+    pub(crate) proposals: Vec<Fact>,
+    /// The records at hand: of the request, and of its reply.
+    pub(crate) asked: u64,
+    pub(crate) replied: u64,
+    /// The steps of the pass, and the bytes that its facts take.
+    pub(crate) work: u64,
+    pub(crate) taken: u64,
+}
+
+impl<'a> World<'a> {
+    /// A tree of which nothing is known but its root.
+    pub(crate) fn new(
+        alloc: Global,
+        session: &'a [u8],
+        settings: Settings<'a>,
+        home: &[u8],
+    ) -> Result<World<'a>, NoMemory> {
+        let mut nodes = Vec::new(alloc);
+        nodes.push(Node::old(alloc, Sort::Directory, 0))?;
+        let home = Vec::from_slice(alloc, home)?;
+        Ok(World {
+            alloc,
+            session,
+            settings,
+            nodes,
+            home,
+            handles: BTreeMap::new(alloc),
+            owner: None,
+            most_read: 0,
+            most_bytes: 0,
+            most_handles: 0,
+            learned: Vec::new(alloc),
+            invented: Vec::new(alloc),
+            needs_home: false,
+            clash: None,
+            proposals: Vec::new(alloc),
+            asked: 0,
+            replied: 0,
+            work: 0,
+            taken: 0,
+        })
+    }
+
+    pub(crate) fn entry(&self, at: usize) -> Option<&Node> {
+        self.nodes.get(at)
+    }
+
+    pub(crate) fn entry_mut(&mut self, at: usize) -> Option<&mut Node> {
+        self.nodes.get_mut(at)
+    }
+
+    /// The kind of an entry.
+    pub(crate) fn sort(&self, at: usize) -> Sort {
+        match self.nodes.get(at) {
+            Some(entry) => entry.sort,
+            None => Sort::Unknown,
+        }
+    }
+
+    /// The record that told of an entry.
+    pub(crate) fn told(&self, at: usize) -> u64 {
+        match self.nodes.get(at) {
+            Some(entry) => entry.told,
+            None => 0,
+        }
+    }
+
+    /// Sets the kind of an entry that was of no known kind.
+    pub(crate) fn set_sort(&mut self, at: usize, sort: Sort) {
+        let told = self.replied;
+        if let Some(entry) = self.nodes.get_mut(at) {
+            if entry.sort == Sort::Unknown {
+                entry.sort = sort;
+                entry.told = told;
+            }
+        }
+    }
+
+    /// What is known of a name in a directory.
+    pub(crate) fn slot(&self, parent: usize, name: &[u8]) -> Slot {
+        match self.nodes.get(parent) {
+            Some(entry) => match entry.names.get(name) {
+                Some(slot) => *slot,
+                None => Slot::unknown(),
+            },
+            None => Slot::unknown(),
+        }
+    }
+
+    /// Changes what is known of a name in a directory.
+    pub(crate) fn set_slot(
+        &mut self,
+        parent: usize,
+        name: &[u8],
+        slot: Slot,
+    ) -> Result<(), NoMemory> {
+        let alloc = self.alloc;
+        if let Some(entry) = self.nodes.get_mut(parent) {
+            if let Some(known) = entry.names.get_mut(name) {
+                *known = slot;
+                return Ok(());
+            }
+            entry.names.insert(Vec::from_slice(alloc, name)?, slot)?;
+        }
+        Ok(())
+    }
+
+    /// Makes an entry at a name, and returns its number.
+    pub(crate) fn put(
+        &mut self,
+        entry: Node,
+        parent: usize,
+        name: &[u8],
+    ) -> Result<usize, NoMemory> {
+        let at = self.nodes.len();
+        let mut entry = entry;
+        match Vec::from_slice(self.alloc, name) {
+            Ok(name) => entry.name = name,
+            Err(_) => {
+                drop(entry);
+                return Err(NoMemory);
+            }
+        }
+        entry.parent = parent;
+        self.nodes.push(entry)?;
+        Ok(at)
+    }
+
+    /// Tells that the start has something at a name of which nothing is known.
+    pub(crate) fn tell(
+        &mut self,
+        parent: usize,
+        name: &[u8],
+        sort: Sort,
+    ) -> Result<usize, NoMemory> {
+        let mut entry = Node::old(self.alloc, sort, self.replied);
+        entry.old_parent = parent;
+        match Vec::from_slice(self.alloc, name) {
+            Ok(name) => entry.old_name = name,
+            Err(_) => {
+                drop(entry);
+                return Err(NoMemory);
+            }
+        }
+        let at = self.put(entry, parent, name)?;
+        let mut slot = self.slot(parent, name);
+        slot.start = Some(Held::Entry(at));
+        slot.told = self.replied;
+        self.set_slot(parent, name, slot)?;
+        Ok(at)
+    }
+
+    /// Tells that the start has nothing at a name of which nothing is known.
+    pub(crate) fn tell_nothing(
+        &mut self,
+        parent: usize,
+        name: &[u8],
+        is_assumed: bool,
+    ) -> Result<(), NoMemory> {
+        let mut slot = self.slot(parent, name);
+        if slot.start.is_none() {
+            slot.start = Some(Held::Nothing);
+            slot.told = self.replied;
+            slot.is_assumed = is_assumed;
+        }
+        self.set_slot(parent, name, slot)
+    }
+
+    /// Has a name lead to something from now on.
+    pub(crate) fn change(
+        &mut self,
+        parent: usize,
+        name: &[u8],
+        held: Held,
+    ) -> Result<(), NoMemory> {
+        let mut slot = self.slot(parent, name);
+        slot.now = Some(held);
+        slot.changed = self.asked;
+        self.set_slot(parent, name, slot)
+    }
+
+    /// Takes back that nothing was at a name at the start, if it was only assumed and still matters. The pass goes on,
+    /// and a further one begins with what is learned.
+    pub(crate) fn retract(&mut self, parent: usize, name: &[u8]) -> Result<bool, NoMemory> {
+        let mut slot = self.slot(parent, name);
+        if !slot.is_assumed || slot.now.is_some() {
+            return Ok(false);
+        }
+        slot.start = None;
+        slot.is_assumed = false;
+        self.set_slot(parent, name, slot)?;
+        self.learn(parent, name, Says::There)?;
+        Ok(true)
+    }
+}

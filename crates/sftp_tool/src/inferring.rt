@@ -1,0 +1,285 @@
+//! `infer`, and `audit --tree unknown`: audits of sessions whose tree nobody knows.
+ghost use Rattle.std.specs.Prelude.{◌≡◌, IfOk, IfErr};
+ghost use Rattle.sftp_tool.specs.declared.messages.Ending.TheVariants as endings;
+ghost use Rattle.sftp_tool.specs.Failures.{IsUnwritten};
+
+use crate::command_line::{AuditOptions, keeping_of};
+use crate::inferences::{Found, Inferred, find};
+use crate::inferred_lines::{put_assumed, put_clash, put_refusal};
+use crate::messages::{Ending, Failure, STANDARD_OUTPUT, print};
+use crate::objects::{print_accepted, print_untold};
+use crate::profiles::{umask_of, with_umask};
+use crate::saving::{Keeping, write};
+use crate::subcommands::read_at_most;
+use crate::system::System;
+use crate::{profiles, subcommands};
+use clap::ArgMatches;
+use sftp_infer::{Search, Settings};
+use sftp_profile::Profile;
+use std::io::Write;
+
+/// The name that stands for a tree that nobody knows.
+pub(crate) const UNKNOWN: &str = "unknown";
+
+/// The passes of a search, without an option.
+const PASSES: u32 = 300;
+
+/// The options of `infer`, and those of `audit` that go with them.
+#[derive(Clone, Copy)]
+pub(crate) struct InferOptions<'a> {
+    /// The recorded bytes of the session.
+    pub(crate) transcript: &'a str,
+    /// The file to write the tree at the start to.
+    pub(crate) tree: Option<&'a str>,
+    /// The file to write the tree of the pass that came furthest to.
+    pub(crate) best: Option<&'a str>,
+    /// The file to write the final tree to.
+    pub(crate) out: Option<&'a str>,
+    pub(crate) keeping: Keeping,
+    pub(crate) memory: Option<u64>,
+    pub(crate) explains: bool,
+    pub(crate) is_json: bool,
+    pub(crate) profile: Option<Profile>,
+    pub(crate) umask: Option<&'a str>,
+    /// Where relative paths begin.
+    pub(crate) home: Option<&'a str>,
+    pub(crate) is_raised: bool,
+    /// The most passes.
+    pub(crate) passes: Option<u64>,
+}
+
+/// The options that the command line gives, if it names the files.
+pub(crate) fn options_of<'a>(given: &ArgMatches<'a>) -> Option<InferOptions<'a>> {
+    Some(InferOptions {
+        transcript: given.get_str("transcript")?,
+        tree: Some(given.get_str("tree")?),
+        best: given.get_str("best"),
+        out: given.get_str("out"),
+        keeping: keeping_of(given),
+        memory: given.get_one("memory"),
+        explains: given.get_flag("explain"),
+        is_json: given.get_flag("json"),
+        profile: profiles::profile_of(given),
+        umask: given.get_str("umask"),
+        home: given.get_str("home"),
+        is_raised: given.get_str("limits").unwrap_or("fit") == "raised",
+        passes: given.get_one("passes"),
+    })
+}
+
+/// The options of an audit without a tree.
+fn options_of_audit<'a>(files: &AuditOptions<'a>) -> InferOptions<'a> {
+    InferOptions {
+        transcript: files.transcript,
+        tree: None,
+        best: None,
+        out: files.out,
+        keeping: files.keeping,
+        memory: files.memory,
+        explains: files.explains,
+        is_json: files.is_json,
+        profile: files.profile,
+        umask: files.umask,
+        home: None,
+        is_raised: false,
+        passes: None,
+    }
+}
+
+/// Audits a session: with the tree of a file, or with one that is inferred.
+pub(crate) fn audit<'a, R: System, O: Write, E: Write>(
+    rt: &R,
+    files: &AuditOptions<'a>,
+    output: &mut O,
+    errors: &mut E,
+) -> Result<Ending, Failure<'a>> {
+    if files.tree == UNKNOWN && !files.cuts {
+        return infer(rt, &options_of_audit(files), output, errors);
+    }
+    subcommands::audit(rt, files, output, errors)
+}
+
+/// Infers a tree from a session, and audits the session with it.
+pub(crate) fn infer<'a, R: System, O: Write, E: Write>(
+    rt: &R,
+    options: &InferOptions<'a>,
+    output: &mut O,
+    errors: &mut E,
+) -> Result<Ending, Failure<'a>> {
+    let umask = umask_of(rt.alloc(), options.umask)?;
+    let mut options = *options;
+    options.profile = with_umask(options.profile, umask);
+    let session = read_at_most(rt, options.transcript, options.memory)?;
+    let ending = infer_from(rt, &options, session.as_slice(), output, errors);
+    drop(session);
+    ending
+}
+
+/// What a search takes for granted by these options.
+fn settings_of<'s>(options: &InferOptions<'s>) -> Settings<'s> {
+    let profile = options.profile.unwrap_or(Profile::strict());
+    let passes = options.passes.unwrap_or(u64::from(PASSES));
+    Settings {
+        home: match options.home {
+            Some(home) => Some(home.as_bytes()),
+            None => None,
+        },
+        is_raised: options.is_raised,
+        is_strict: options.profile.is_none(),
+        any_code: profile.codes,
+        may_deny: profile.denied,
+        may_be_full: profile.full,
+        umask: if profile.made {
+            Some(profile.umask)
+        } else {
+            None
+        },
+        link_first: profile.symlink_draft,
+        passes: u32::try_from(passes).unwrap_or(PASSES).min(100_000),
+    }
+}
+
+fn infer_from<'a, R: System, O: Write, E: Write>(
+    rt: &R,
+    options: &InferOptions<'a>,
+    session: &[u8],
+    output: &mut O,
+    errors: &mut E,
+) -> Result<Ending, Failure<'a>> {
+    let home = options.home;
+    let mut settings = settings_of(options);
+    settings.home = match home {
+        Some(home) => Some(home.as_bytes()),
+        None => None,
+    };
+    let mut search = Search::new(rt.alloc(), session, settings)?;
+    let found = find(rt.alloc(), options.profile, session, &mut search);
+    let ending = match found {
+        Ok(found) => report(rt, options, session, &search, found, output, errors),
+        Err(_) => Err(Failure::OutOfMemory),
+    };
+    drop(search);
+    ending
+}
+
+/// Says what came of a search.
+fn report<'a, R: System, O: Write, E: Write>(
+    rt: &R,
+    options: &InferOptions<'a>,
+    session: &[u8],
+    search: &Search<'_>,
+    found: Found,
+    output: &mut O,
+    errors: &mut E,
+) -> Result<Ending, Failure<'a>> {
+    match found {
+        Found::Inferred(inferred) => {
+            let ending = accept(rt, options, &inferred, output, errors);
+            drop(inferred);
+            ending
+        }
+        Found::Malformed(error) => Err(Failure::of_transcript(error, options.transcript)),
+        Found::OutOfMemory => Err(Failure::OutOfMemory),
+        Found::Refused(refusal) => {
+            if options.is_json {
+                return print_untold(refusal_record(refusal), 0, output);
+            }
+            put_refusal(refusal, output)?;
+            Ok(Ending::Refused)
+        }
+        Found::Nothing => refuse(rt, options, session, search, output, errors),
+        Found::Unfit(_) => refuse(rt, options, session, search, output, errors),
+    }
+}
+
+fn refusal_record(refusal: sftp_audit::Refusal) -> u64 {
+    match refusal {
+        sftp_audit::Refusal::UnknownReply { record } => record,
+        sftp_audit::Refusal::IdInUse { record } => record,
+        sftp_audit::Refusal::Window { record } => record,
+        sftp_audit::Refusal::NotAllowed { record } => record,
+        sftp_audit::Refusal::Unanswered { record } => record,
+        sftp_audit::Refusal::NoMemory => 0,
+    }
+}
+
+/// Writes the files of an accepted session, and says so.
+fn accept<'a, R: System, O: Write, E: Write>(
+    rt: &R,
+    options: &InferOptions<'a>,
+    inferred: &Inferred,
+    output: &mut O,
+    errors: &mut E,
+) -> Result<Ending, Failure<'a>> {
+    if let Some(name) = options.tree {
+        write(
+            rt,
+            name,
+            options.keeping,
+            inferred.candidate.tree.as_slice(),
+        )?;
+    }
+    if let Some(name) = options.out {
+        write(rt, name, options.keeping, inferred.accepted.tree.as_slice())?;
+    }
+    put_assumed(&inferred.candidate, errors);
+    let requests = inferred.accepted.requests;
+    let entries = inferred.candidate.entries;
+    if options.is_json {
+        return print_accepted(requests, None, output);
+    }
+    print(
+        output,
+        format_args!("inferred {entries} entries from {requests} requests; accepted\n"),
+        Ending::Done,
+    )
+}
+
+/// Says that no tree was found, and which records contradict each other.
+fn refuse<'a, R: System, O: Write, E: Write>(
+    rt: &R,
+    options: &InferOptions<'a>,
+    session: &[u8],
+    search: &Search<'_>,
+    output: &mut O,
+    errors: &mut E,
+) -> Result<Ending, Failure<'a>> {
+    if let (Some(name), Some(tree)) = (options.best, search.best()) {
+        write(rt, name, options.keeping, tree)?;
+    }
+    let (told, found) = match search.clash() {
+        Some(clash) => (clash.told, clash.found),
+        None => (0, 0),
+    };
+    if options.is_json {
+        return print_untold(found, told, output);
+    }
+    print_contradiction(told, found, output)?;
+    if options.explains {
+        put_clash(rt.alloc(), session, search, errors);
+    }
+    Ok(Ending::Refused)
+}
+
+/// The line for two records that contradict each other; 0 stands for none.
+fn print_contradiction<'a, O: Write>(
+    told: u64,
+    found: u64,
+    output: &mut O,
+) -> Result<Ending, Failure<'a>> {
+    if told == 0 && found == 0 {
+        return print(output, "no tree found\n", Ending::Refused);
+    }
+    if told == 0 {
+        return print(
+            output,
+            format_args!("no tree found: nothing explains record {found}\n"),
+            Ending::Refused,
+        );
+    }
+    print(
+        output,
+        format_args!("no tree found: record {found} contradicts record {told}\n"),
+        Ending::Refused,
+    )
+}
