@@ -11,7 +11,7 @@ from texts import TOP
 
 # The scripts with texts of their own.
 SCRIPTS = ("sftpv3-nightly", "sftpv3-page", "sftpv3-probe", "sftpv3-record", "sftpv3-recordd", "sftpv3-serve",
-           "sftpv3-tree")
+           "sftpv3-tree", "sftpv3-walk")
 INIT = bytes.fromhex("000000050100000003")
 
 

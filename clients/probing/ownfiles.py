@@ -11,7 +11,7 @@ READINGS = 8
 
 NO_TREE = ("neither the command nor --reset has {tree}, so nobody knows which files the server has, and sessions "
            "change and remove files: put {tree} where the server takes a tree file, or name the tree that it always "
-           "starts from by --tree")
+           "starts from by --tree, or by --look-first a place where each session makes a directory of its own")
 
 
 def looking():
@@ -26,11 +26,8 @@ def names_in(packet):
     fields = sftp3.Fields(packet[4:])
     if fields.byte() != sftp3.NAME:
         return
-    fields.word()
-    for _ in range(fields.word()):
-        yield fields.string()
-        fields.string()
-        fields.attributes()
+    fields.uint32()
+    yield from (name for name, _, _ in fields.names())
 
 
 def shown(session):
