@@ -14,6 +14,8 @@ class Place:
     """Where sessions make their directories: an absolute path, as REALPATH tells it, of a directory."""
 
     def __init__(self, server, path, timeout):
+        if not inferring.can_infer(program.program()):
+            raise inferring.NotInferred("the program sftpv3 has no `infer`, which --look-first needs")
         self.path = None
         clearing.hold(server, self.steps(path), timeout)
 

@@ -17,7 +17,7 @@ PARTS = [b"..", b".", b"", b"a", b"to-d", b"..\0", b"..\0x", b"a\0b", b"\0..", b
 
 
 def probe(folder, options, command):
-    return run([PROBE, "--seeds", "1-4", "--skip", "crowds", "--keep", os.path.join(folder, "kept"), *options, "--",
+    return run([PROBE, "--seeds", "1-2", "--skip", "crowds", "--keep", os.path.join(folder, "kept"), *options, "--",
                 *command], folder)
 
 
@@ -62,7 +62,7 @@ def try_openssh(steps, folder):
             file.write(b"theirs")
     before = picture(live)
     status, said = probe(folder, ["--look-first", os.path.join(live, "place"), *POSIX], [SFTP_SERVER])
-    steps.check("OpenSSH's server: sessions are judged", status in (0, 1) and "4 sessions" in said, said[-2000:])
+    steps.check("OpenSSH's server: sessions are judged", status in (0, 1) and "2 sessions" in said, said[-2000:])
     steps.check("the files of others are as they were, and nothing is left", picture(live) == before)
     steps.check("what is found is what this server is known for", all(
         any(word in line for word in ("READDIR", "SETSTAT", "REALPATH", "RENAME", "READLINK", "FSETSTAT", "STATUS"))
@@ -76,8 +76,8 @@ def try_serve(steps, folder):
     for words in ([], ["--shuffle", "3"]):
         status, said = probe(folder, ["--look-first", "place"], serve + words)
         steps.check(f"{' '.join(['serve', *words])}: sessions are accepted",
-                    status == 0 and "accepted: 4 sessions" in said, said[-2000:])
-    status, said = probe(folder, ["--look-first", "/place", "--budget", "20"], [*MISBEHAVING, "fifth-refusal", *serve])
+                    status == 0 and "accepted: 2 sessions" in said, said[-2000:])
+    status, said = probe(folder, ["--look-first", "/place", "--budget", "5"], [*MISBEHAVING, "fifth-refusal", *serve])
     steps.check("each fifth refusal is OK: it is found", status == 1 and "STATUS with code 0 (OK)" in said,
                 said[-2000:])
     kept = os.path.join(folder, "kept")

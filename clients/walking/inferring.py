@@ -8,6 +8,12 @@ class NotInferred(Exception):
     """`sftpv3 infer` ended, and not with a tree or with the words that there is none."""
 
 
+def can_infer(program):
+    """Whether the program has the subcommand: older ones have not."""
+    return subprocess.run([program, "help", "infer"], stdin=subprocess.DEVNULL, capture_output=True,
+                          check=False).returncode == 0
+
+
 def infer(program, transcript, tree, words=()):
     """Has the tree written that explains the session. Gives whether there is one, and what was said of it, on standard
     output and on standard error."""
