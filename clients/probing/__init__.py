@@ -10,14 +10,16 @@ weights     how often each scene is drawn, and which seeds have which large scen
 scenes      small scenes that make sense; refusals: requests that some cause refuses; effects: what they do to the model
 transfers   large scenes with much data; crowds: those with many names or handles; endings: all is read back
 room        the steps of a plan within what the server says that it has room for
-servers     starts and ends the server; leftovers: ends what it leaves running
+servers     starts and ends the server; leftovers: ends what it leaves running; streams: packets to and from it
 sessions    plays a plan against a server, and records it
+below       a plan below a directory of its own; clearing: removes what sessions made there
 ownfiles    refuses to play where the server has other files than the tree's
 verdicts    asks `sftpv3 audit`, and goes on after a difference
 groups      differences that are alike; causes: those that have one cause
 shrinking   the shortest session that still shows a difference; guessing: which requests and entries it may need
 options     the command line, and the exit statuses
 limits      what ends a run early; workers: what plays sessions side by side; progress: says how far the probe is
+unseen      sessions with a server whose files nobody can see, which look first
 runs        one run of the probe; tally: what was played
 recorded    the plan of a session that was recorded
 reports     what is printed, kept and reported; keeping: what is kept of the server

@@ -119,6 +119,9 @@ def add_of_plans(add):
     add("--also", metavar="NAME,...", type=names_among(features.BEYOND), default=[],
         help="what to plan besides: large, long-target, for which a server has room, and the tree may not")
     add("--session", metavar="FILE", help="play the requests of this transcript, not those of seeds")
+    add("--look-first", metavar="PLACE", type=os.fsencode,
+        help="play each session below a directory that it makes below this place, and judge it by the tree that was "
+             "seen; behind it the directory is removed")
 
 
 def add_of_run(add):
@@ -157,5 +160,9 @@ def can_write(option, name):
 
 
 def options(about):
-    """The command line as it was given."""
-    return parser(about).parse_args()
+    """The command line as it was given. Wrong usage ends the program."""
+    found = parser(about)
+    given = found.parse_args()
+    if given.look_first is not None and (given.reset or any("{tree}" in word for word in given.command)):
+        found.error("--look-first is for servers that start from files of their own: it excludes --reset and {tree}")
+    return given

@@ -11,7 +11,7 @@ READINGS = 8
 
 NO_TREE = ("neither the command nor --reset has {tree}, so nobody knows which files the server has, and sessions "
            "change and remove files: put {tree} where the server takes a tree file, or name the tree that it always "
-           "starts from by --tree")
+           "starts from by --tree, or by --look-first a place where each session makes a directory of its own")
 
 
 def looking():
@@ -27,10 +27,7 @@ def names_in(packet):
     if fields.byte() != sftp3.NAME:
         return
     fields.uint32()
-    for _ in range(fields.uint32()):
-        yield fields.string()
-        fields.string()
-        fields.attributes()
+    yield from (name for name, _, _ in fields.names())
 
 
 def shown(session):

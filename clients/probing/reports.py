@@ -25,7 +25,7 @@ def keep(judge, folder, number, group, kept):
     files.folder(folder)
     files.folder(place)
     keeping.of_server(place, kept.difference)
-    files.write(os.path.join(place, "start.tree"), trees.put(kept.tree))
+    files.write(os.path.join(place, "start.tree"), kept.difference.session.start or trees.put(kept.tree))
     files.write(os.path.join(place, "session.transcript"), sftp3.put_records(kept.difference.records))
     texts = {kind: text_of(judge, os.path.join(place, kind)) for kind in ("start.tree", "session.transcript")}
     for kind, text in texts.items():

@@ -7,7 +7,7 @@ from typing import List, Optional
 
 from paging import single
 from probing import (causes, features, groups, limits, options, ownfiles, planner, program, progress, recorded, reports,
-                     sessions, shrinking, starting, tally, verdicts, workers)
+                     sessions, shrinking, starting, tally, unseen, verdicts, workers)
 from probing.sessions import NotStarted
 from sftp3 import trees
 
@@ -111,22 +111,31 @@ class Run:
         options.can_write("--keep", given.keep)
         if given.report:
             options.can_write("--report", given.report)
-        self.tree = options.read("--tree", given.tree, trees.get) if given.tree else starting.usual()
+        usual = starting.usual if given.look_first is None else starting.few
+        self.tree = options.read("--tree", given.tree, trees.get) if given.tree else usual()
         self.recorded = options.read("--session", given.session, recorded.steps_of) if given.session else None
         self.program = program.program()
         auditor = verdicts.Auditor(self.program, folder)
         auditor.options = self.profile(auditor)
         server = sessions.Server(given.command, given.reset, left)
-        if not server.takes_tree() and not given.tree:
+        is_known = server.takes_tree() or given.look_first is not None
+        if not is_known and not given.tree:
             raise options.Wrong(ownfiles.NO_TREE)
-        players = [workers.Worker(self.place(folder, number), server, auditor, given.timeout)
-                   for number in range(options.jobs(given))]
+        players = self.workers(folder, server, auditor)
         self.pool = workers.Pool(players)
         self.until = limits.Until(halt, given.patience)
-        if not server.takes_tree() and (why := ownfiles.trouble(server, players[0], self.tree, halt)):
+        if not is_known and (why := ownfiles.trouble(server, players[0], self.tree, halt)):
             raise options.Wrong(why)
         self.playing = limits.Halt(self.until)
         self.groups, self.tally, self.progress = groups.Groups(), tally.Tally(), progress.Progress()
+
+    def workers(self, folder, server, auditor):
+        """What plays the sessions, one for each that is played at a time."""
+        folders = [self.place(folder, number) for number in range(options.jobs(self.given))]
+        if self.given.look_first is None:
+            return [workers.Worker(one, server, auditor, self.given.timeout) for one in folders]
+        place = unseen.Place(server, self.given.look_first, self.given.timeout)
+        return [unseen.Worker(one, server, auditor, self.given.timeout, place) for one in folders]
 
     def place(self, folder, number):
         """The folder of a worker."""

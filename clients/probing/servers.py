@@ -50,12 +50,16 @@ class Server:
         words = [word.replace("{tree}", tree_file) for word in self.command]
         mark = self.leftovers.mark() if self.leftovers else ""
         environment.update({leftovers.VARIABLE: mark} if mark else {})
-        try:
-            return Running(subprocess.Popen(words, stdin=subprocess.PIPE, stdout=subprocess.PIPE,
-                                            stderr=subprocess.PIPE, bufsize=0, env=environment,
-                                            start_new_session=True), self.leftovers, mark)
-        except OSError as error:
-            raise NotStarted(str(error)) from error
+        return Running(started(words, environment), self.leftovers, mark)
+
+
+def started(words, environment=None):
+    """The process of a server, in a session of its own, with pipes."""
+    try:
+        return subprocess.Popen(words, stdin=subprocess.PIPE, stdout=subprocess.PIPE, stderr=subprocess.PIPE, bufsize=0,
+                                env=environment, start_new_session=True)
+    except (OSError, ValueError) as error:
+        raise NotStarted(str(error)) from error
 
 
 def run_reset(command, environment, seconds, stop):

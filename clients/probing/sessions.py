@@ -1,6 +1,4 @@
 """Plays a plan against a server, and records the session."""
-import os
-import selectors
 import signal
 import time
 from collections import deque
@@ -8,14 +6,11 @@ from dataclasses import dataclass, field
 from typing import List, Optional, Tuple
 
 import sftp3
-from probing import room, servers
+from probing import room, servers, streams
 from probing.servers import NotStarted, Server, Stopped  # noqa: F401 (callers have them from here)
 
 # Seconds to wait for a reply, and how many times as long for VERSION.
 TIMEOUT, OPENING = 10, 12
-
-# The most bytes of a packet that are taken in; docs/PROTOCOL.md allows fewer.
-LARGEST = 1 << 20
 
 # How many requests behind one without a reply are asked at most: the audit refuses a client that asks more.
 WINDOW = 1000
@@ -50,6 +45,8 @@ class Session:
     errors: bytes = b""
     # The server's exit status, below 0 for a signal; None if it did not end by itself and was stopped.
     status: Optional[int] = None
+    # The tree file that it was judged by, where that was seen and not given.
+    start: Optional[bytes] = None
 
     def transcript(self):
         return sftp3.put_records(self.records)
@@ -95,10 +92,7 @@ class Player:
         self.session = Session(in_flight)
         self.unanswered, self.handles = {}, {}
         self.asked = self.unwanted = 0
-        self.leaving, self.arrived = deque(), Arrived()
-        self.selector = selectors.DefaultSelector()
-        for stream in (running.process.stdout, running.process.stderr):
-            self.selector.register(stream, selectors.EVENT_READ)
+        self.streams = streams.Streams(running)
         # when a reply came that was waited for, or what is waited for was asked
         self.heard, self.patience = time.monotonic(), timeout * OPENING
 
@@ -108,7 +102,7 @@ class Player:
 
     def give(self, packet):
         self.record(b"C", packet)
-        self.leaving.append(memoryview(packet))
+        self.streams.give(packet)
 
     def opening(self):
         """Sends INIT and waits for VERSION 3."""
@@ -136,7 +130,7 @@ class Player:
     def within_room(self, steps):
         """The steps, within what the server says that it has room for. The question is not recorded, since no plan has
         it."""
-        self.leaving.append(memoryview(room.question()))
+        self.streams.give(room.question())
         packet = self.next_packet()
         while packet is None:
             self.exchange()
@@ -176,49 +170,19 @@ class Player:
 
     def exchange(self):
         """Writes what can be written, and reads what is there; waits until one of both can be done."""
-        if self.leaving:
-            self.send()
-        blocked = bool(self.leaving)
-        if blocked:
-            self.selector.register(self.running.process.stdin, selectors.EVENT_WRITE)
         left = self.heard + self.patience - time.monotonic()
-        ready = [key.fileobj for key, _ in self.selector.select(max(0, min(left, 0.2)))]
-        if blocked:
-            self.selector.unregister(self.running.process.stdin)
+        came = self.streams.exchange(min(left, 0.2))
         if self.stop and self.stop.is_set():
             raise Stopped()
-        if self.running.process.stderr in ready and not self.running.listen():
-            self.selector.unregister(self.running.process.stderr)
-        if self.running.process.stdout in ready:
-            if not self.receive(self.running.read()):
-                self.session.end = "the server ended"
-        elif left <= 0 and not self.session.end:
+        if came is None:
+            self.session.end = "the server ended"
+        elif not came and left <= 0 and not self.session.end:
             self.session.end = f"no reply within {self.patience:g} seconds"
 
-    def send(self):
-        try:
-            while self.leaving:
-                count = os.write(self.running.process.stdin.fileno(), self.leaving[0])
-                if count < len(self.leaving[0]):
-                    self.leaving[0] = self.leaving[0][count:]
-                    return
-                self.leaving.popleft()
-        except BlockingIOError:
-            pass
-        except OSError:
-            # what the server wrote before it ended is read first
-            self.leaving.clear()
-
-    def receive(self, data):
-        """Takes what came, and says whether more may come and is wanted."""
-        self.arrived.add(data)
-        return bool(data) and len(self.arrived) <= 4 * LARGEST
-
     def next_packet(self):
-        count = self.arrived.length()
-        if count is not None and count > LARGEST and not self.session.end:
-            self.session.end = f"a packet has {count} bytes"
-        return self.arrived.take(count) if count is not None and count <= min(LARGEST, len(self.arrived)) else None
+        packet = self.streams.next_packet()
+        self.session.end = self.session.end or self.streams.wrong
+        return packet
 
     def take_all(self):
         packet = self.next_packet()
@@ -246,41 +210,17 @@ class Player:
     def part(self):
         """Lets the server end, and records what it still writes."""
         session = self.session
-        self.selector.close()
+        self.streams.selector.close()
         session.status = self.running.part(servers.SILENT_PARTING if session.silent() else servers.PARTING,
-                                           self.receive)
+                                           self.streams.receive)
         self.take_all()
-        if len(self.arrived):
-            # no packet, or not the whole of one
-            self.record(b"S", self.arrived.take(min(len(self.arrived), LARGEST)))
+        if len(self.streams.arrived):
+            self.record(b"S", self.streams.rest())
         session.errors = bytes(self.running.said)
         session.unanswered, session.unasked = len(self.unanswered), len(self.waiting)
         if session.end == "the server ended":
             session.end = f"the server ended {session.ending()}" if session.status is not None else \
                 "the server closed its output"
-
-
-class Arrived:
-    """Bytes that came, from which packets are taken. Nothing is copied more than twice."""
-
-    def __init__(self):
-        self.data, self.place = bytearray(), 0
-
-    def __len__(self):
-        return len(self.data) - self.place
-
-    def add(self, data):
-        if self.place > len(self.data) // 2:
-            del self.data[:self.place]
-            self.place = 0
-        self.data += data
-
-    def length(self):
-        return sftp3.length(bytes(self.data[self.place:self.place + 4]))
-
-    def take(self, count):
-        self.place += count
-        return bytes(memoryview(self.data)[self.place - count:self.place])
 
 
 def play(server, tree_file, steps, in_flight, timeout=TIMEOUT, stop=None):

@@ -28,3 +28,8 @@ def usual():
     ]
     many = [Entry(b"/many/%03d" % number, FILE, b"", permissions=0o644) for number in range(130)]
     return Tree(entries + many, limits=ROOMY)
+
+
+def few():
+    """The same with few entries, for sessions that make them."""
+    return Tree([entry for entry in usual().entries if not entry.path.startswith(b"/many/")])

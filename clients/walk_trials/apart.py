@@ -1,0 +1,99 @@
+"""`clients/probe --look-first`: sessions that keep to a directory of their own, on a server with other files."""
+import os
+import random
+import subprocess
+import sys
+
+from probing import below, planner, starting
+from probing.program import TOP, program
+from sftp3 import trees
+from walk_trials.walks import POSIX, SFTP_SERVER, run
+
+PROBE = os.path.join(TOP, "clients", "probe")
+MISBEHAVING = [sys.executable, os.path.join(TOP, "clients", "probing", "misbehaving.py")]
+BASE = b"/live/base"
+
+PARTS = [b"..", b".", b"", b"a", b"to-d", b"..\0", b"..\0x", b"a\0b", b"\0..", b"...", b"n" * 255]
+
+
+def probe(folder, options, command):
+    return run([PROBE, "--seeds", "1-2", "--skip", "crowds", "--keep", os.path.join(folder, "kept"), *options, "--",
+                *command], folder)
+
+
+def is_below(path):
+    """Whether a path leads below the base: as a server has it that knows its length, and as one in C does."""
+    return all(os.path.normpath(os.fsdecode(it) + "/").startswith(os.fsdecode(BASE))
+               for it in (path, path.partition(b"\0")[0]))
+
+
+def try_paths(steps):
+    """No request of a plan names a place that is not below the directory, whatever its paths are."""
+    draw, base, wrong = random.Random(1), below.Below(BASE, starting.few()), []
+    for _ in range(20000):
+        path, other = (b"/".join(draw.choices(PARTS, k=draw.randint(1, 6))) for _ in range(2))
+        found = [base.at(path), base.target(path, other)]
+        wrong += [(path, other)] if not all(map(is_below, found)) or b".." in found[1].split(b"/") else []
+    steps.check("20000 random paths and targets: all are below the directory", not wrong, wrong[:3])
+    wrong = []
+    for seed in range(1, 30):
+        for step in base.steps(planner.plan(seed, starting.few(), 60)):
+            paths = [step.fields[place] for place in below.PATHS.get(step.name, ())]
+            is_look = step.number <= base.looking[-1].number and step.number > below.FIRST
+            wrong += [step.name for path in paths if not is_below(path) and not is_look]
+            wrong += [step.name] if is_look and step.name not in ("REALPATH", "LSTAT", "MKDIR") else []
+            wrong += [step.name] if step.name == "EXTENDED" else []
+    steps.check("29 plans: all paths are below the directory, but those that look at the way to it", not wrong, wrong)
+
+
+def picture(folder):
+    """What is in a folder, to compare."""
+    return subprocess.run(["find", folder, "-printf", "%p %y %m %s %U %G %l\n"], capture_output=True, check=True).stdout
+
+
+def try_openssh(steps, folder):
+    if not os.path.exists(SFTP_SERVER):
+        steps.skip("OpenSSH's server", "apt-get install openssh-sftp-server")
+        return
+    live = os.path.join(folder, "others")
+    os.makedirs(os.path.join(live, "place", "theirs"))
+    for name in ("f", "place/theirs/f", "a", "d"):
+        with open(os.path.join(live, name), "wb") as file:
+            file.write(b"theirs")
+    before = picture(live)
+    status, said = probe(folder, ["--look-first", os.path.join(live, "place"), *POSIX], [SFTP_SERVER])
+    steps.check("OpenSSH's server: sessions are judged", status in (0, 1) and "2 sessions" in said, said[-2000:])
+    steps.check("the files of others are as they were, and nothing is left", picture(live) == before)
+    steps.check("what is found is what this server is known for", all(
+        any(word in line for word in ("READDIR", "SETSTAT", "REALPATH", "RENAME", "READLINK", "FSETSTAT", "STATUS"))
+        for line in said.splitlines() if line.startswith("seed ")), said[-2000:])
+
+
+def try_serve(steps, folder):
+    start = os.path.join(folder, "blank.tree")
+    trees.write(trees.Tree([trees.Entry(b"/place", trees.DIRECTORY)], limits=starting.ROOMY), start)
+    serve = [program(), "serve", "--tree", start]
+    for words in ([], ["--shuffle", "3"]):
+        status, said = probe(folder, ["--look-first", "place"], serve + words)
+        steps.check(f"{' '.join(['serve', *words])}: sessions are accepted",
+                    status == 0 and "accepted: 2 sessions" in said, said[-2000:])
+    status, said = probe(folder, ["--look-first", "/place", "--budget", "5"], [*MISBEHAVING, "fifth-refusal", *serve])
+    steps.check("each fifth refusal is OK: it is found", status == 1 and "STATUS with code 0 (OK)" in said,
+                said[-2000:])
+    kept = os.path.join(folder, "kept")
+    first = os.path.join(kept, sorted(os.listdir(kept))[0]) if os.path.isdir(kept) else folder
+    status, said = run([program(), "audit", "--tree", os.path.join(first, "start.tree"), "--transcript",
+                        os.path.join(first, "session.transcript")], folder)
+    steps.check("what is kept is refused with the tree that is kept", status == 1 and said.startswith("refused"), said)
+
+
+def try_usage(steps, folder):
+    start = os.path.join(folder, "blank.tree")
+    for options, command, wanted, word in (
+            (["--look-first", "/"], [program(), "serve", "--tree", "{tree}"], 2, "excludes"),
+            (["--look-first", "/", "--reset", "true"], ["true"], 2, "excludes"),
+            (["--look-first", "/absent"], [program(), "serve", "--tree", start], 3, "is no directory"),
+            (["--look-first", "/"], ["true"], 3, "the server ended")):
+        status, said = probe(folder, options, command)
+        steps.check(f"{' '.join(options)}: status {wanted}, {word}", status == wanted and word in said
+                    and "Traceback" not in said, f"{status}: {said}")

@@ -1,0 +1,277 @@
+"""Servers that mean harm to whoever walks through them.
+
+    python3 clients/walk_trials/hostile.py KIND
+
+is a server with a few entries below `/`, of which KIND, the name of a class below, says what is wrong.
+"""
+import os
+import sys
+import time
+
+sys.path.insert(0, os.path.dirname(os.path.dirname(os.path.realpath(__file__))))
+
+import sftp3  # noqa: E402 (the folder above is not searched before)
+
+DIRECTORY, FILE, LINK, FIFO = 0o040755, 0o100644, 0o120777, 0o010644
+BOLD = b"\x1b[1m"
+
+
+def status(code):
+    return sftp3.STATUS, code.to_bytes(4, "big") + sftp3.string(BOLD + b"no\n") + sftp3.string(b"")
+
+
+def names(*found):
+    return sftp3.NAME, sftp3.names([(name, BOLD, given) for name, given in found])
+
+
+def data(found):
+    return sftp3.DATA, sftp3.string(found)
+
+
+class Right:
+    """Nothing is wrong: a directory `d` with a link, and a file `f` of ten bytes."""
+
+    content = b"0123456789"
+    size = 10
+
+    def __init__(self):
+        self.left = {}
+
+    def entries(self, path):
+        """The names in a directory, with their permissions."""
+        return {b"/": [(b"d", DIRECTORY), (b"f", FILE)], b"/d": [(b"l", LINK)]}.get(path, [])
+
+    def permissions(self, path):
+        if path == b"/":
+            return DIRECTORY
+        above, _, name = path.rpartition(b"/")
+        return dict(self.entries(above or b"/")).get(name)
+
+    def attributes(self, permissions):
+        size = {FILE: self.size, LINK: 4}.get(permissions, 0)
+        return {"size": size, "owner": (0, 0), "permissions": permissions, "times": (1, 1)}
+
+    def realpath(self, path):
+        return names((b"/", {}))
+
+    def lstat(self, path):
+        found = self.permissions(path)
+        if found is None:
+            return status(sftp3.NO_SUCH_FILE)
+        return sftp3.ATTRS, sftp3.attributes(self.attributes(found))
+
+    def stat(self, path):
+        return self.lstat(b"/f" if path == b"/d/l" else path)
+
+    def readlink(self, path):
+        return names((b"../f", {}))
+
+    def opendir(self, path):
+        self.left[path] = [(name, self.attributes(found)) for name, found in self.entries(path)]
+        return sftp3.HANDLE, sftp3.string(path)
+
+    def readdir(self, handle):
+        found, self.left[handle] = self.left.get(handle), []
+        return names(*found) if found else status(sftp3.EOF)
+
+    def open(self, path, *_):
+        return sftp3.HANDLE, sftp3.string(path)
+
+    def read(self, handle, offset, length):
+        found = self.content[offset:offset + length]
+        return data(found) if found else status(sftp3.EOF)
+
+    def close(self, handle):
+        return status(sftp3.OK)
+
+
+class slash_in_name(Right):
+    def entries(self, path):
+        return [(b"../../etc/" + BOLD + b"passwd", FILE)]
+
+
+class empty_name(Right):
+    def entries(self, path):
+        return [(b"", FILE)]
+
+
+class long_name(Right):
+    def entries(self, path):
+        return [(b"n" * 300, FILE)]
+
+
+class endless_listing(Right):
+    """There is always one name more."""
+
+    count = 0
+
+    def readdir(self, handle):
+        endless_listing.count += 2000
+        return names(*((b"%0200d" % number, {}) for number in range(self.count, self.count + 1000)))
+
+
+class repeating_listing(Right):
+    def readdir(self, handle):
+        return names((b"f", self.attributes(FILE)))
+
+
+class idle_listing(Right):
+    def readdir(self, handle):
+        return names()
+
+
+class deep(Right):
+    """Each directory has another one."""
+
+    def entries(self, path):
+        return [(b"d", DIRECTORY)]
+
+    def permissions(self, path):
+        return DIRECTORY
+
+
+class huge_size(Right):
+    size = 1 << 62
+
+
+class wide_size(Right):
+    """Larger than --max-bytes, and a file of a tree may be so large."""
+
+    size = 60_000_000
+
+
+class grows(Right):
+    size = 5
+
+
+class shrinks(Right):
+    size = 70_000
+
+
+class short_reads(Right):
+    """A READ gives one byte."""
+
+    size = 1_000_000
+
+    def read(self, handle, offset, length):
+        return data(b"x") if offset < self.size else status(sftp3.EOF)
+
+
+class empty_reads(Right):
+    def read(self, handle, offset, length):
+        return data(b"")
+
+
+class too_much(Right):
+    """A READ gives more than was asked for."""
+
+    def read(self, handle, offset, length):
+        return data(bytes(length + 1))
+
+
+class ring(Right):
+    """A link that leads to itself."""
+
+    def readlink(self, path):
+        return names((b"/d/l", {}))
+
+    def stat(self, path):
+        return status(sftp3.FAILURE) if path.endswith(b"/l") else super().stat(path)
+
+
+class fifo(Right):
+    def entries(self, path):
+        return [(BOLD + b"pipe", FIFO), (b"f", FILE)] if path == b"/" else []
+
+    def open(self, path, *_):
+        if path != b"/f":
+            time.sleep(600)
+        return super().open(path)
+
+
+class no_kinds(Right):
+    """Attributes without permissions."""
+
+    def attributes(self, permissions):
+        return {"size": 1}
+
+
+class relative_realpath(Right):
+    def realpath(self, path):
+        return names((BOLD + b"home", {}))
+
+
+class no_realpath(Right):
+    def realpath(self, path):
+        return status(sftp3.OP_UNSUPPORTED)
+
+
+class denied(Right):
+    def opendir(self, path):
+        return super().opendir(path) if path == b"/" else status(sftp3.PERMISSION_DENIED)
+
+    def open(self, path, *_):
+        return status(sftp3.PERMISSION_DENIED)
+
+
+class hang(Right):
+    def opendir(self, path):
+        time.sleep(600)
+
+
+class ends(Right):
+    def opendir(self, path):
+        sys.stderr.write("\x1b[1mout of order\n")
+        sys.stderr.flush()
+        os._exit(5)
+
+
+class counts_wrong(Right):
+    """NAME says that it has four billion names."""
+
+    def readdir(self, handle):
+        return sftp3.NAME, b"\xff\xff\xff\xff" + bytes(20)
+
+
+class wrong_type(Right):
+    """Each reply is DATA."""
+
+    def lstat(self, path):
+        return data(b"abc")
+
+
+class many_replies(Right):
+    """A thousand replies to nothing."""
+
+    def lstat(self, path):
+        for number in range(1000):
+            os.write(1, sftp3.packet(sftp3.STATUS, (1 << 31 | number).to_bytes(4, "big") + bytes(12)))
+        return super().lstat(path)
+
+
+class long_packet(Right):
+    def lstat(self, path):
+        os.write(1, b"\x7f\xff\xff\xff")
+        return super().lstat(path)
+
+
+def answer(server, asked):
+    act = getattr(server, asked.name.lower(), None)
+    kind, body = act(*asked.fields) if act else status(sftp3.OP_UNSUPPORTED)
+    return sftp3.packet(kind, asked.number.to_bytes(4, "big") + body)
+
+
+def main():
+    server, source = globals()[sys.argv[1]](), sys.stdin.buffer
+    while True:
+        head = source.read(4)
+        if len(head) < 4:
+            return
+        packet = head + source.read(int.from_bytes(head, "big"))
+        reply = sftp3.version(3, []) if packet[4] == sftp3.INIT else answer(server, sftp3.decode(packet))
+        sys.stdout.buffer.write(reply)
+        sys.stdout.buffer.flush()
+
+
+if __name__ == "__main__":
+    main()

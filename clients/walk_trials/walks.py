@@ -1,0 +1,166 @@
+"""Walks through servers that mean harm, and through right ones."""
+import os
+import resource
+import subprocess
+import sys
+import tempfile
+
+from probing import starting
+from probing.program import TOP, program
+from sftp3 import trees
+
+WALK = os.path.join(TOP, "clients", "walk")
+HOSTILE = [sys.executable, os.path.join(TOP, "clients", "walk_trials", "hostile.py")]
+SFTP_SERVER = "/usr/lib/openssh/sftp-server"
+POSIX = ["--profile", "posix"]
+
+# Seconds after which a walk is said not to end, and the most bytes of memory that one may take.
+ENDLESS, MEMORY = 300, 1 << 30
+
+# Servers of hostile.py at which the walk ends, and what it says.
+ENDED = [
+    ("slash_in_name", r'the listing of "/" has the name "../../etc/\x1b[1mpasswd"'),
+    ("empty_name", 'the listing of "/" has the name ""'),
+    ("long_name", 'the listing of "/" has the name "nnn'),
+    ("endless_listing", "there are more than 1,048,576 entries, as many as a tree file has"),
+    ("repeating_listing", 'the listing of "/" goes on without names that are new'),
+    ("idle_listing", 'the listing of "/" goes on without names that are new'),
+    ("short_reads", 'READ of "/f" gives few bytes at a time'),
+    ("relative_realpath", r'REALPATH of "." gave "\x1b[1mhome", which is no absolute path'),
+    ("no_realpath", 'REALPATH of "." gave 8 OP_UNSUPPORTED'),
+    ("hang", "the server did not reply within 1 seconds"),
+    ("ends", r"standard error: \x1b[1mout of order"),
+    ("ends", "the server ended, or closed its output"),
+    ("counts_wrong", "a reply of the server is malformed: a field goes past the end"),
+    ("many_replies", "101 replies of the server are to no request"),
+    ("long_packet", "the server sent no packets: a packet has 2147483651 bytes"),
+]
+
+# Servers at which it goes on, and what it says; `infer` may find a tree or none.
+TOLD = [
+    ("deep", "has entries deeper than the 64 names of any tree file"),
+    ("huge_size", '"/f" has 4,611,686,018,427,387,904 bytes, more than the 67,108,864 of any tree file'),
+    ("wide_size", '"/f" is not read: its 60,000,000 bytes are more than are left of --max-bytes'),
+    ("grows", '"/f" was 5 bytes long, and has bytes behind that'),
+    ("shrinks", '"/f" was 70,000 bytes long, and ended before byte'),
+    ("empty_reads", '"/f" cannot be read: a READ of 10 bytes gave 0'),
+    ("too_much", '"/f" cannot be read: a READ of 10 bytes gave 11'),
+    ("ring", ""),
+    ("fifo", r'"/\x1b[1mpipe" is no directory, file or link, which no tree file has'),
+    ("no_kinds", '"/" is no directory, file or link'),
+    ("denied", '"/d" cannot be listed: 3 PERMISSION_DENIED'),
+    ("denied", '"/f" cannot be opened: 3 PERMISSION_DENIED'),
+    ("wrong_type", '"/" cannot be looked at: a reply of type 103'),
+]
+
+
+def limit_memory():
+    resource.setrlimit(resource.RLIMIT_AS, (MEMORY, MEMORY))
+
+
+def run(words, cwd, **options):
+    """The status of a command of the repository, and what it printed on both streams."""
+    done = subprocess.run(words, cwd=cwd, stdin=subprocess.DEVNULL, stdout=subprocess.PIPE, stderr=subprocess.STDOUT,
+                          timeout=ENDLESS, check=False, **options)
+    return done.returncode, done.stdout.decode(errors="replace")
+
+
+def walk(folder, options, command):
+    return run([WALK, *options, "--", *command], folder, preexec_fn=limit_memory)
+
+
+def is_clean(said):
+    """Whether a text has no traceback, and nothing that a terminal acts on."""
+    return "Traceback" not in said and "\x1b" not in said
+
+
+def try_hostile(steps, folder):
+    for kind, wanted in TOLD:
+        to = os.path.join(tempfile.mkdtemp(dir=folder), "seen.tree")
+        status, said = walk(folder, ["--timeout", "1", "--max-bytes", "5000000", *POSIX, "--to", to],
+                            [*HOSTILE, kind])
+        steps.check(f"{kind.replace('_', ' ')}: {wanted or 'it ends'}",
+                    status in (0, 1) and wanted in said and is_clean(said) and os.path.exists(to) == (status == 0),
+                    f"{status}: {said[:600]}")
+
+
+def show(name):
+    """A tree file as text; of its head the home, without limits and whose the new entries are."""
+    text = subprocess.run([program(), "show", "--full", "--data", "all", name], capture_output=True, check=True).stdout
+    head, _, rest = text.partition(b"\n")
+    return head.split(b" uid ")[0] + b"\n" + rest
+
+
+def try_records(steps, folder):
+    """Sessions that are recorded, and no trees."""
+    start, session = (os.path.join(folder, name) for name in ("recorded.tree", "recorded.transcript"))
+    trees.write(starting.usual(), start)
+    for words in ([], ["--shuffle", "7"]):
+        name = session + "".join(words)
+        status, said = walk(folder, ["--below", "/", "--session", name], [program(), "serve", "--tree", start, *words])
+        _, verdict = run([program(), "audit", "--tree", start, "--transcript", name], folder)
+        steps.check(f"{' '.join(['serve', *words])}: the session is recorded, and accepted with the server's tree",
+                    status == 0 and verdict.startswith("accepted "), said + verdict)
+    status, said = walk(folder, ["--below", "/", "--session", session], [program(), "serve", "--tree", start])
+    steps.check("a record that is there is kept", status == 0 and os.path.exists(session + ".2"), said)
+    name = os.path.join(folder, "hostile.transcript")
+    for kind, wanted in ENDED:
+        status, said = walk(folder, ["--timeout", "1", "--session", name], [*HOSTILE, kind])
+        steps.check(f"{kind.replace('_', ' ')}, recorded: {wanted}", status == 3 and wanted in said and is_clean(said),
+                    f"{status}: {said[:600]}")
+
+
+def try_strict(steps, folder):
+    """A tree without files of several names comes back whole."""
+    start, seen = (os.path.join(folder, name) for name in ("start.tree", "strict.tree"))
+    entries = [entry for entry in starting.usual().entries if entry.kind != trees.FURTHER]
+    trees.write(trees.Tree(entries, b"/d", 0, 0), start)
+    serve = [program(), "serve", "--tree", start]
+    for words in ([], ["--shuffle", "7"], ["--in-flight", "1"]):
+        server = serve + (words if words[:1] == ["--shuffle"] else [])
+        options = words if words[:1] == ["--in-flight"] else []
+        status, said = walk(folder, [*options, "--below", "/", "--to", seen], server)
+        steps.check(f"{' '.join(['serve', *words])}: the tree that is seen is that of the server",
+                    status == 0 and show(seen) == show(start), said)
+    status, said = walk(folder, ["--no-contents", "--below", "/d", "--to", seen], serve)
+    text = show(seen)
+    steps.check("serve: --no-contents and --below: what is there and on the way, and no bytes",
+                status == 0 and b'F "/d/e/f"' in text and b"abcdefghij" not in text and b'"/many' not in text, said)
+
+
+def try_posix(steps, folder):
+    """A live folder of OpenSSH's server."""
+    if not os.path.exists(SFTP_SERVER):
+        steps.skip("OpenSSH's server", "apt-get install openssh-sftp-server")
+        return
+    live, seen, other = (os.path.join(folder, name) for name in ("live", "live.tree", "other.tree"))
+    os.makedirs(os.path.join(live, "d", "e"))
+    for name, content in (("f", b"abc"), ("d/large", bytes(range(256)) * 4000), ("d/e/empty", b"")):
+        with open(os.path.join(live, name), "wb") as file:
+            file.write(content)
+    os.symlink("../f", os.path.join(live, "d", "up"))
+    os.symlink("nowhere", os.path.join(live, "dangling"))
+    status, said = walk(folder, ["--below", live, "--to", seen, *POSIX], [SFTP_SERVER])
+    run([os.path.join(TOP, "clients", "tree"), "--out", other, live], folder)
+    steps.check("OpenSSH's server: the tree that is seen is that of clients/tree, but for home and links above",
+                status == 0 and entries_below(seen, live) == entries_below(other, live) != [], said)
+    done = subprocess.run([WALK, "--below", live, *POSIX, "--", SFTP_SERVER], cwd=folder, capture_output=True,
+                          check=False)
+    with open(seen, "rb") as file:
+        steps.check("the same to standard output", done.returncode == 0 and done.stdout == file.read(), done.stderr)
+
+
+def entries_below(name, place):
+    return [line for line in show(name).splitlines() if f'"{place}'.encode() in line.split(b" ", 2)[1]]
+
+
+def try_usage(steps, folder):
+    for options, command, wanted in (
+            (["--max-bytes", "x"], ["true"], 2), (["--timeout", "0"], ["true"], 2),
+            (["--in-flight", "5000"], ["true"], 2), (["--to", "/nowhere/x"], [*HOSTILE, "Right"], 3),
+            (["--session", "/nowhere/x"], ["true"], 3),
+            (["--session", "/dev/null"], ["true"], 3), (["--to", "x"], ["/nowhere/server"], 3),
+            (["--to", "x"], ["true"], 3), (["--to", "x"], ["yes"], 3)):
+        status, said = walk(folder, options, command)
+        steps.check(f"{' '.join(options)} -- {os.path.basename(command[-1])}: status {wanted}",
+                    status == wanted and is_clean(said) and said, f"{status}: {said}")

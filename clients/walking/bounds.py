@@ -1,0 +1,43 @@
+"""What ends a walk, and what no tree file has: docs/TREE.md has the limits."""
+from paging import packets
+
+# The most entries below the root, bytes of a file, bytes of a name, and names from the root to an entry, of any tree.
+ENTRIES, LARGEST, NAME, DEPTH = 1_048_576, 67_108_864, 255, 64
+
+# The most bytes that all names together may have, since they are held until they are looked at.
+NAMES = 1 << 28
+
+# How many replies to READDIR without a new name, and how many READs of fewer than LITTLE bytes that are not the end of
+# a file, there may be in a directory or a file.
+IDLE, SHORT, LITTLE = 100, 100, 256
+
+# The most bytes of files that are read, unless --max-bytes says otherwise.
+READ = 1 << 28
+
+# How many notes are printed.
+NOTES = 20
+
+
+class Misbehaves(Exception):
+    """The walk cannot go on: what the server did."""
+
+
+def shown(path):
+    """A path in a message."""
+    return packets.quoted(path, 200)
+
+
+class Notes:
+    """What was not looked at, or cannot be in a tree file, and why. The first of them are printed at once."""
+
+    def __init__(self, tell):
+        self.tell, self.count = tell, 0
+
+    def add(self, path, why):
+        self.count += 1
+        if self.count <= NOTES:
+            self.tell(f"{shown(path)} {why}")
+
+    def end(self):
+        if self.count > NOTES:
+            self.tell(f"and {self.count - NOTES} further places")

@@ -1,0 +1,206 @@
+"""What a walk asks: where things are, what a directory has, what a link and a file hold. It follows no link."""
+from collections import deque
+
+import sftp3
+from walking import bounds
+from walking.bounds import Misbehaves, shown
+from walking.replies import DIRECTORY, FILE, LINK, kind_of
+
+# The bytes of a READ, and how many of one file are asked at a time.
+CHUNK, BATCH = 32768, 32
+
+
+def ask(name, *fields):
+    return sftp3.Request(None, name, list(fields))
+
+
+def parts_of(path):
+    return [part for part in path.split(b"/") if part not in (b"", b".")]
+
+
+def above(path):
+    """The paths of the directories above a place, from the root on, without the place."""
+    parts = parts_of(path)
+    return [b"/" + b"/".join(parts[:count]) for count in range(len(parts))]
+
+
+def within(path, name):
+    return (b"" if path == b"/" else path) + b"/" + name
+
+
+class Walk:
+    """Looks at what is below some places. Without `contents` no file is read; `most` is how many bytes are read of all
+    files together. `notes` gets what was not looked at, or cannot be in a tree file."""
+
+    def __init__(self, places, notes, contents=True, most=bounds.READ):
+        self.notes, self.contents, self.left = notes, contents, most
+        self.entries = self.names = 0
+        self.looked = set()
+        # what is to be done, the last first: iterators over the steps of tasks
+        self.stack = [iter([self.begin(places)])]
+
+    def next(self):
+        """The steps of the next task, or None."""
+        while self.stack:
+            steps = next(self.stack[-1], None)
+            if steps is not None:
+                return steps
+            self.stack.pop()
+        return None
+
+    def later(self, steps):
+        self.stack.append(iter(steps))
+
+    def begin(self, places):
+        """Asks where the places are, and where relative paths start."""
+        asked = list(dict.fromkeys([b".", *places]))
+        replies = yield [ask("REALPATH", path) for path in asked]
+        found = {path: self.real(path, reply) for path, reply in zip(asked, replies)}
+        for place in reversed(list(dict.fromkeys(places))):
+            absolute = place if place.startswith(b"/") else within(found[b"."], place)
+            self.later([self.way(absolute), self.way(found[place]), self.entry(found[place])])
+
+    def real(self, path, reply):
+        """The place that REALPATH tells."""
+        if not reply.names:
+            raise Misbehaves(f"REALPATH of {shown(path)} gave {reply.why()}")
+        place = reply.names[0]
+        if not place.startswith(b"/") or b"\0" in place:
+            raise Misbehaves(f"REALPATH of {shown(path)} gave {shown(place)}, which is no absolute path")
+        return b"/" + b"/".join(parts_of(place))
+
+    def way(self, path):
+        """Looks at what is on the way to a place: directories and links."""
+        wanted = [place for place in above(path) if place not in self.looked]
+        self.looked.update(wanted)
+        replies = yield [ask("LSTAT", place) for place in wanted]
+        links = [place for place, reply in zip(wanted, replies)
+                 if reply.attributes and kind_of(reply.attributes) == LINK]
+        yield [ask("READLINK", place) for place in links]
+
+    def entry(self, path):
+        """Looks at what is at a place, and then at what is in it."""
+        (found,) = yield [ask("LSTAT", path)]
+        if found.attributes is None:
+            self.notes.add(path, f"cannot be looked at: {found.why()}")
+            return
+        kind = kind_of(found.attributes)
+        if kind == DIRECTORY:
+            yield from self.directory(path)
+        elif kind == FILE:
+            yield from self.file(path, found.attributes.get("size"))
+        elif kind == LINK:
+            yield [ask("READLINK", path), ask("STAT", path)]
+        else:
+            self.notes.add(path, "is no directory, file or link, which no tree file has")
+
+    def directory(self, path):
+        (opened,) = yield [ask("OPENDIR", path)]
+        if opened.handle is None:
+            self.notes.add(path, f"cannot be listed: {opened.why()}")
+            return
+        names = yield from self.listing(path, opened.handle)
+        yield [ask("CLOSE", opened.handle)]
+        if len(parts_of(path)) < bounds.DEPTH:
+            self.later(self.entry(within(path, name)) for name in names)
+        elif names:
+            self.notes.add(path, f"has entries deeper than the {bounds.DEPTH} names of any tree file")
+
+    def listing(self, path, handle):
+        """The names in a directory, without `.` and `..`, each once."""
+        names, idle = {}, 0
+        while True:
+            (reply,) = yield [ask("READDIR", handle)]
+            if reply.names is None:
+                if reply.code != sftp3.EOF:
+                    self.notes.add(path, f"was not listed to its end: {reply.why()}")
+                return list(names)
+            fresh = [name for name in reply.names if name not in (b".", b"..") and name not in names]
+            names.update(dict.fromkeys(fresh))
+            idle = 0 if fresh else idle + 1
+            if idle > bounds.IDLE:
+                raise Misbehaves(f"the listing of {shown(path)} goes on without names that are new")
+            self.count(path, fresh)
+
+    def count(self, path, names):
+        """Counts names, and looks whether they are some."""
+        for name in names:
+            if not name or len(name) > bounds.NAME or b"/" in name or b"\0" in name:
+                raise Misbehaves(f"the listing of {shown(path)} has the name {shown(name)}")
+        self.entries += len(names)
+        self.names += sum(map(len, names)) + len(path)
+        if self.entries > bounds.ENTRIES:
+            raise Misbehaves(f"there are more than {bounds.ENTRIES:,} entries, as many as a tree file has")
+        if self.names > bounds.NAMES:
+            raise Misbehaves(f"the names of all entries have more than {bounds.NAMES:,} bytes")
+
+    def file(self, path, size):
+        """Reads a file, if it is to be read."""
+        if size is None or size > bounds.LARGEST:
+            self.notes.add(path, "has no size" if size is None else
+                           f"has {size:,} bytes, more than the {bounds.LARGEST:,} of any tree file")
+            return
+        if not self.contents:
+            return
+        if size > self.left:
+            self.notes.add(path, f"is not read: its {size:,} bytes are more than are left of --max-bytes")
+            return
+        self.left -= size
+        (opened,) = yield [ask("OPEN", path, sftp3.READ, {})]
+        if opened.handle is None:
+            self.notes.add(path, f"cannot be opened: {opened.why()}")
+            return
+        why = yield from self.reading(path, opened.handle, size)
+        if why:
+            self.notes.add(path, why)
+        yield [ask("CLOSE", opened.handle)]
+
+    def reading(self, path, handle, size):
+        """Reads a file of this size, and whether it ends there. Gives why it was not read, or None."""
+        wanted, short = Ranges(size), 0
+        while True:
+            batch = wanted.take(BATCH)
+            if not batch:
+                return None
+            replies = yield [ask("READ", handle, *one) for one in batch]
+            for (offset, length), reply in zip(batch, replies):
+                why = ends_early(offset, length, size, reply)
+                if why:
+                    return why
+                if reply.count is not None and reply.count < length:
+                    wanted.add(offset + reply.count, length - reply.count)
+                    short += reply.count < bounds.LITTLE
+            if short > bounds.SHORT:
+                raise Misbehaves(f"READ of {shown(path)} gives few bytes at a time")
+
+
+class Ranges:
+    """The ranges of a file that are still to be read, the last one behind its end."""
+
+    def __init__(self, size):
+        self.size, self.place, self.again = size, 0, deque()
+
+    def add(self, offset, length):
+        self.again.append((offset, length))
+
+    def take(self, most):
+        """The next ranges, at most so many."""
+        found = [self.again.popleft() for _ in range(min(most, len(self.again)))]
+        while len(found) < most and self.place is not None:
+            length = min(CHUNK, self.size - self.place)
+            found.append((self.place, length or CHUNK))
+            self.place = self.place + length if length else None
+        return found
+
+
+def ends_early(offset, length, size, reply):
+    """Why a file is read no further, by the reply to a READ, or None."""
+    if reply.code == sftp3.EOF:
+        return None if offset >= size else f"was {size:,} bytes long, and ended before byte {offset + length:,}"
+    if reply.count is None:
+        return f"cannot be read: {reply.why()}"
+    if offset >= size:
+        return f"was {size:,} bytes long, and has bytes behind that"
+    if not 0 < reply.count <= length:
+        return f"cannot be read: a READ of {length:,} bytes gave {reply.count:,}"
+    return None

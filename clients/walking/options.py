@@ -1,0 +1,60 @@
+"""The command line of a walk, and its exit statuses."""
+import argparse
+import os
+import sys
+
+from probing import program, sessions, verdicts
+from probing.options import flying, seconds
+from walking import bounds
+
+# The exit statuses: the tree was written; no tree explains what the server told; wrong usage; it was not written.
+WRITTEN, NO_TREE, BAD_USAGE, NOT_WRITTEN = range(4)
+
+# How many requests are in flight, unless it is told otherwise.
+IN_FLIGHT = 64
+
+
+def count(text):
+    if not (text.isascii() and text.isdigit()):
+        raise argparse.ArgumentTypeError(f"{text!r} is no number")
+    return int(text)
+
+
+def parser(about):
+    found = program.Parser(
+        prog=program.called("walk"), usage=f"{program.called('walk')} [OPTIONS] -- COMMAND [ARGUMENT ...]",
+        formatter_class=argparse.RawDescriptionHelpFormatter, description=about)
+    add = found.add_argument
+    add("--to", metavar="TREE", help="the tree file to write (standard output)")
+    add("--below", metavar="PLACE", action="append", type=os.fsencode,
+        help="a place to look at, with all that is below it; may be given several times (where relative paths start)")
+    add("--no-contents", action="store_true", help="read no files: they have bytes of 0 in the tree")
+    add("--max-bytes", metavar="N", type=count, default=bounds.READ,
+        help=f"the most bytes of files to read, all together; a line names each file that is left ({bounds.READ})")
+    add("--session", metavar="FILE", help="keep the transcript of the session, which is made anew")
+    add("--memory", metavar="BYTES", type=count, help="the most memory of `sftpv3 infer` (no limit)")
+    add("--in-flight", metavar="N", type=flying, default=IN_FLIGHT,
+        help=f"the most requests without a reply ({IN_FLIGHT})")
+    add("--timeout", metavar="S", type=seconds, default=sessions.TIMEOUT,
+        help=f"seconds to wait for a reply ({sessions.TIMEOUT}), and {sessions.OPENING} times as long for VERSION")
+    for option in verdicts.PROFILE_OPTIONS:
+        add(option, metavar="WORD", help=f"for `sftpv3 infer`, as of `sftpv3 audit {option}`")
+    add("command", nargs="+", help=argparse.SUPPRESS)
+    return found
+
+
+def options(about):
+    """The command line as it was given. Wrong usage ends the program."""
+    found = parser(about)
+    given = found.parse_args()
+    if given.to is None and given.session is None and sys.stdout.isatty():
+        found.error("--to or --session is needed, or a standard output that is no terminal")
+    given.below = given.below or [b"."]
+    given.infer_words = profile_words(given) + (["--memory", str(given.memory)] if given.memory else [])
+    return given
+
+
+def profile_words(given):
+    """The options of a profile, for the program."""
+    values = {option: getattr(given, option[2:].replace("-", "_")) for option in verdicts.PROFILE_OPTIONS}
+    return [word for option, value in values.items() if value is not None for word in (option, value)]

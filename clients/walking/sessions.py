@@ -1,0 +1,156 @@
+"""A session with a server: asks what tasks want, many requests at a time, and records all that passes."""
+import time
+from collections import deque
+
+import sftp3
+from probing import servers, streams
+from walking.bounds import Misbehaves
+from walking.replies import Reply
+
+# How many tasks there are at a time, each with at most one handle; and how many replies to nothing end the walk.
+TASKS, UNWANTED = 16, 100
+
+# How many times as long as for a reply it waits for VERSION.
+OPENING = 12
+
+# How many requests there may be from the oldest unanswered one on, so that an audit judges the session.
+WINDOW = 1000
+
+
+class Task:
+    """Steps that are a generator: it yields lists of requests, and gets their replies, in the same order."""
+
+    def __init__(self, steps):
+        self.steps, self.replies, self.missing = steps, [], 0
+
+    def wait_for(self, count):
+        self.replies, self.missing = [None] * count, count
+
+    def take(self, place, reply):
+        """Keeps a reply, and says whether all are there."""
+        self.replies[place] = reply
+        self.missing -= 1
+        return self.missing == 0
+
+
+class Session:
+    """A session with a server that runs. `record` gets its packets, as recording.sinks.FileSink does; `timeout` is how
+    many seconds it waits for a reply."""
+
+    def __init__(self, running, record, timeout, in_flight):
+        self.running, self.record, self.in_flight = running, record, in_flight
+        self.streams = streams.Streams(running)
+        self.waiting, self.unanswered = deque(), {}
+        self.asked = self.unwanted = self.tasks = 0
+        self.ended = False
+        self.timeout, self.patience, self.heard = timeout, timeout * OPENING, time.monotonic()
+        record.begin(sftp3.OPENING)
+
+    def give(self, packet):
+        """A packet is recorded before it is sent."""
+        self.record.put_packets(b"C", [packet])
+        self.streams.give(packet)
+
+    def exchange(self):
+        left = self.heard + self.patience - time.monotonic()
+        came = self.streams.exchange(left)
+        if came is None:
+            self.ended = True
+        elif not came and left <= 0:
+            raise Misbehaves(f"the server did not reply within {self.patience:g} seconds")
+
+    def packets(self):
+        """The packets that have come, which are recorded. Raises Misbehaves if there are none and no more will come."""
+        found, packet = [], self.streams.next_packet()
+        while packet is not None:
+            found.append(packet)
+            packet = self.streams.next_packet()
+        if found:
+            self.record.put_packets(b"S", found)
+        elif self.streams.wrong:
+            raise Misbehaves(f"the server sent no packets: {self.streams.wrong}")
+        elif self.ended:
+            raise Misbehaves("the server ended, or closed its output")
+        return found
+
+    def open(self):
+        """Sends INIT and waits for VERSION 3."""
+        self.give(sftp3.init())
+        found = []
+        while not found:
+            self.exchange()
+            found = self.packets()
+        try:
+            number, _ = sftp3.version_of(found[0])
+        except sftp3.Malformed as error:
+            raise Misbehaves(f"the first packet of the server is not right: {error}") from None
+        if number != 3:
+            raise Misbehaves(f"the server speaks version {number}, not 3")
+        self.patience, self.heard = self.timeout, time.monotonic()
+        for packet in found[1:]:
+            self.take(packet)
+
+    def play(self, work):
+        """Does all tasks of `work`, whose `next` gives the steps of one more, or None if there is none now."""
+        while True:
+            self.begin(work)
+            self.ask()
+            if not self.unanswered:
+                break
+            self.exchange()
+            for packet in self.packets():
+                self.take(packet)
+
+    def begin(self, work):
+        while self.tasks < TASKS:
+            steps = work.next()
+            if steps is None:
+                break
+            self.tasks += 1
+            self.go_on(Task(steps), None)
+
+    def go_on(self, task, replies):
+        """Gives a task its replies, and takes what it wants to ask next."""
+        wanted = []
+        try:
+            while not wanted:
+                wanted = task.steps.send(replies)
+                replies = []
+        except StopIteration:
+            self.tasks -= 1
+            return
+        task.wait_for(len(wanted))
+        self.waiting += [(task, place, request) for place, request in enumerate(wanted)]
+
+    def ask(self):
+        while self.waiting and len(self.unanswered) < self.in_flight and not self.far_behind():
+            task, place, request = self.waiting.popleft()
+            if not self.unanswered:
+                self.heard = time.monotonic()
+            self.asked += 1
+            self.unanswered[self.asked] = task, place
+            self.give(sftp3.encode(sftp3.Request(self.asked, request.name, request.fields)))
+
+    def far_behind(self):
+        return bool(self.unanswered) and self.asked - next(iter(self.unanswered)) >= WINDOW
+
+    def take(self, packet):
+        try:
+            reply = Reply(packet)
+        except sftp3.Malformed as error:
+            raise Misbehaves(f"a reply of the server is malformed: {error}") from None
+        task, place = self.unanswered.pop(reply.number, (None, 0))
+        if task is None:
+            self.unwanted += 1
+            if self.unwanted > UNWANTED:
+                raise Misbehaves(f"{self.unwanted} replies of the server are to no request")
+            return
+        self.heard = time.monotonic()
+        if task.take(place, reply):
+            self.go_on(task, task.replies)
+
+    def close(self):
+        """Lets the server end, and gives the last lines that it wrote to standard error."""
+        self.streams.selector.close()
+        self.running.part(servers.PARTING, lambda data: bool(data))
+        return bytes(self.running.said).decode(errors="replace").splitlines()[-5:]
