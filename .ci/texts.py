@@ -1,19 +1,21 @@
-"""What is checked of scripts and documents without the built program: that scripts can be read, that links and file
-names lead to files, that lines are within 120 columns, and that benches import definitions that are there. Each check
+"""What is checked of documents without the built program: that links and file names lead to files, that lines are
+within 120 columns, and that benches import definitions that are there; and with it of scripts and edits. Each check
 yields a line for each mistake."""
 import re
 import shutil
 import subprocess
-from pathlib import Path
 
-TOP = Path(__file__).resolve().parents[1]
+import scripts
+from crates import TOP, Crates
+from editing.checks import wrong_edits
+
 COLUMNS = 120
 MANUAL = "packaging/sftpv3.1.in"
 # Diaries name files as they were when they were written.
 DATED = ("docs/measurements/", "CHANGELOG.md")
 # Files that no person writes line by line, and `crates.txt`, in which a crate is a line.
 UNBROKEN = re.compile(
-    r"\.(cases|edit|tree|transcript)$|/proofs/|(^|/)(crates|list)\.txt$|^LICENSE$|/TRIED$")
+    r"\.(cases|edit|tree|transcript)$|/proofs/|(^|/)(crates|list|edits)\.txt$|^LICENSE$")
 # Sources with longer lines, and how many each may have: code that was proved before the check was there.
 LONGER = TOP / ".ci" / "longer"
 
@@ -33,29 +35,6 @@ def files():
 
 def text(name):
     return (TOP / name).read_text(errors="replace")
-
-
-def scripts(names, kind):
-    """Returns the scripts whose first line names an interpreter of this kind, and for Python its modules."""
-    heads = {it: (TOP / it).open("rb").readline(80) for it in names}
-    is_script = re.compile(rb"#!.*\b" + kind.encode() + rb"[0-9.]*( -IS?)?\s*$")
-    return [it for it in names if is_script.match(heads[it]) or kind == "python" and it.endswith(".py")]
-
-
-def wrong_python(names):
-    for name in scripts(names, "python"):
-        try:
-            compile(text(name), name, "exec")
-        except SyntaxError as error:
-            yield f"{name}:{error.lineno}: {error.msg}"
-
-
-def wrong_shell(names):
-    for name in [*scripts(names, "sh"), *scripts(names, "bash")]:
-        words = ["shellcheck", "--format=gcc", name] if shutil.which("shellcheck") else ["sh", "-n", name]
-        ran = subprocess.run(words, cwd=TOP, stdout=subprocess.PIPE, stderr=subprocess.STDOUT, text=True)
-        if ran.returncode:
-            yield from ran.stdout.splitlines() or [f"{name}: {' '.join(words[:2])} refuses it"]
 
 
 def longer_lines(names):
@@ -108,7 +87,7 @@ def wrong_links(pages):
 
 def stands_for(word, names):
     """Returns whether the word names a file or a folder: from the top, or as the last part of a longer name."""
-    if re.search(r"[A-Z]{3}|[{}<>$]", re.sub(r"[A-Z]+\.md|TRIED|README|LICENSE|CHANGELOG|HANDLES", "", word)):
+    if re.search(r"[A-Z]{3}|[{}<>$]", re.sub(r"[A-Z]+\.md|README|LICENSE|CHANGELOG|HANDLES", "", word)):
         return True
     if any(TOP.glob(word.rstrip("/"))):
         return True
@@ -158,10 +137,18 @@ def wrong_imports(names):
                         yield f"{name}: {path} has no {word}"
 
 
+def wrong_version():
+    """Finds a version of the program that does not head CHANGELOG.md."""
+    number = re.search(r'pub const VERSION: &str = "(.*)";', text("crates/sftp_tool/src/lib.rt"))
+    head = re.search(r"(?m)^## ([\d.]+)", text("CHANGELOG.md"))
+    if not number or not head or number[1] != head[1]:
+        yield (f"CHANGELOG.md: the newest heading, {head and head[1]}, is not the VERSION of the program, "
+               f"{number and number[1]}")
+
+
 def skipped():
     """Yields a line for each program that is not there, and what is therefore not checked."""
-    if not shutil.which("shellcheck"):
-        yield "shellcheck is not installed: of shell scripts only the syntax is checked"
+    yield from scripts.skipped()
     if not shutil.which("mandoc"):
         yield "mandoc is not installed: the manual page is not checked"
 
@@ -174,11 +161,12 @@ def wrong_manual():
 
 
 def mistakes():
-    """Returns a line for each mistake of a script or a document, and what was checked, in words."""
-    names = files()
+    """Returns a line for each mistake of a script, a document or an edit, and what was checked, in words."""
+    names, crates = files(), Crates()
     pages = [it for it in names if it.endswith(".md")]
-    found = [*wrong_python(names), *wrong_shell(names), *wrong_columns(names), *wrong_links(pages),
-             *wrong_names(pages, names), *wrong_quotes(pages), *unlisted(pages), *wrong_imports(names),
-             *wrong_manual()]
-    count = sum(len(scripts(names, it)) for it in ("python", "sh", "bash"))
-    return found, f"{count} scripts, {len(pages)} documents and the columns of {len(names)} files"
+    found = [*scripts.wrong_python(names), *scripts.wrong_shell(names), *scripts.wrong_tests(), *wrong_columns(names),
+             *wrong_links(pages), *wrong_names(pages, names), *wrong_quotes(pages), *unlisted(pages),
+             *wrong_imports(names), *wrong_manual(), *wrong_version(),
+             *(it for name in crates.lines for it in wrong_edits(crates, name))]
+    count = sum(len(scripts.scripts(names, it)) for it in ("python", "sh", "bash"))
+    return found, f"{count} scripts, {len(pages)} documents, the columns of {len(names)} files, and all edits"

@@ -1,15 +1,15 @@
 """Random requests, trees, and changes of bytes, each by a given source of random numbers."""
-from packets import (CLOSE, EXTENDED, FSETSTAT, FSTAT, HIGHEST_LIMITS, LOWEST_LIMITS, LSTAT, MKDIR, OPEN, OPENDIR, READ,
-                     READDIR, READLINK, REALPATH, REMOVE, RENAME, RMDIR, SETSTAT, STAT, SYMLINK, TRANSCRIPT_OPENING,
-                     WRITE, attrs, number, packet, records, string, transcript, tree, wide)
+from sftp3 import OPENING, Request, encode, put_records, string, uint32, uint64, until_fault
+from sftp3.trees import DIRECTORY, FILE, FURTHER, HIGHEST, LINK, USUAL, Entry, Tree, put, text_of
 
 NAMES = [b"a", b"b", b"c", b"d", b"l", b"m"]
 STEPS = [*NAMES, b"..", b".", b"", b"\xff\x01"]
 NUMBERS = [0, 1, 2, 4, 5, 9, 64, 0x100, 0x101, 0x400, 0x401, 0x1000, 0x8000, 0x8001, 0x10000, 0x10001, 0x3FFFC, 0x3FFFD,
            0x100000, 0x100001, 0x1000000, 0x1000001, 0x4000000, 0x4000001, 0x7FFFFFFF, 0x80000000, 0xFFFFFFFF]
 OFFSETS = [0, 0, 0, 1, 2, 3, 5, 10, 100, 32_768, 65_536, 16_777_215, 16_777_216, 67_108_864, 2**32, 2**63, 2**64 - 1]
-WEIGHTS = {OPEN: 12, CLOSE: 4, READ: 10, WRITE: 10, LSTAT: 3, FSTAT: 4, SETSTAT: 4, FSETSTAT: 4, OPENDIR: 6, READDIR: 9,
-           REMOVE: 4, MKDIR: 9, RMDIR: 3, REALPATH: 4, STAT: 4, RENAME: 5, READLINK: 3, SYMLINK: 6, EXTENDED: 11}
+WEIGHTS = {"OPEN": 12, "CLOSE": 4, "READ": 10, "WRITE": 10, "LSTAT": 3, "FSTAT": 4, "SETSTAT": 4, "FSETSTAT": 4,
+           "OPENDIR": 6, "READDIR": 9, "REMOVE": 4, "MKDIR": 9, "RMDIR": 3, "REALPATH": 4, "STAT": 4, "RENAME": 5,
+           "READLINK": 3, "SYMLINK": 6, "EXTENDED": 11}
 
 
 def bad_path(rng):
@@ -27,7 +27,7 @@ def path(rng):
 
 def some_attrs(rng):
     if rng.random() < 0.5:
-        return attrs()
+        return {}
     given = {}
     if rng.random() < 0.5:
         given["size"] = rng.choice(OFFSETS)
@@ -39,7 +39,7 @@ def some_attrs(rng):
         given["times"] = 1, 2
     if rng.random() < 0.2:
         given["extended"] = [(b"k", b"v")] * rng.choice([0, 1, 3])
-    return attrs(**given)
+    return given
 
 
 class Handles:
@@ -58,74 +58,88 @@ def handle(rng, handles):
     """One of these handles, mostly."""
     if handles and rng.random() < 0.95:
         return rng.choice(handles[-6:])
-    return rng.choice([b"", b"h", wide(0) + number(0), wide(1) + number(0), wide(2**64 - 1) + number(0), b"h" * 256])
+    return rng.choice([b"", b"h", bytes(12), uint64(1) + bytes(4), uint64(2**64 - 1) + bytes(4), b"h" * 256])
 
 
 def extension(rng, handles):
+    """A name of an extension and what comes behind it."""
     name = rng.choice([b"posix-rename@openssh.com", b"posix-rename@openssh.com", b"hardlink@openssh.com",
                        b"fsync@openssh.com", b"limits@sftpv3.test", b"statvfs@openssh.com", b""])
     if name.startswith((b"posix", b"hard")):
-        return string(name) + string(path(rng)) + string(path(rng))
+        return [name, string(path(rng)) + string(path(rng))]
     if name.startswith(b"limits"):
-        return string(name)
-    rest = string(handle(rng, handles.files)) if name.startswith(b"fsync") else rng.randbytes(rng.randint(0, 9))
-    return string(name) + rest
+        return [name, b""]
+    return [name, string(handle(rng, handles.files)) if name.startswith(b"fsync") else rng.randbytes(rng.randint(0, 9))]
 
 
-def fields(rng, kind, handles):
-    """The fields behind the id of a request of this type."""
-    if kind == OPEN:
-        flags = rng.choice([1, 1, 3, 3, 9, 0xB, 0xB, 0xA, 0x1B, 0x2B, 0xE, 0x1A, rng.randrange(64),
-                            rng.choice(NUMBERS)])
-        return string(rng.choice([path(rng), b"/" + rng.choice(NAMES)])) + number(flags) + some_attrs(rng)
-    if kind in (CLOSE, FSTAT, READDIR):
-        known = handles.files if rng.random() < (0.95 if kind == FSTAT else 0.05) else handles.listings
-        it = handle(rng, rng.choice([handles.files, handles.listings]) if kind == CLOSE else known)
-        if kind == CLOSE and rng.random() < 0.8:
-            handles.closed(it)
-        return string(it)
-    if kind == READ:
-        at = rng.choice(OFFSETS[:10] if rng.random() < 0.8 else OFFSETS)
-        return string(handle(rng, handles.files)) + wide(at) + number(rng.choice(NUMBERS))
-    if kind == WRITE:
-        data = rng.randbytes(rng.choice([0, 1, 3, 10, 10, 100, 1_000, 32_768, rng.choice([65_536, 200_000])]))
-        offset = rng.choice(OFFSETS if rng.random() < 0.1 else OFFSETS[:10])
-        return string(handle(rng, handles.files)) + wide(offset) + string(data)
-    if kind in (SETSTAT, MKDIR):
-        return string(path(rng)) + some_attrs(rng)
-    if kind == FSETSTAT:
-        return string(handle(rng, handles.files)) + some_attrs(rng)
-    if kind in (RENAME, SYMLINK):
-        return string(path(rng)) + string(path(rng))
-    return extension(rng, handles) if kind == EXTENDED else string(path(rng))
+def of_handle(rng, name, handles):
+    """The fields of a request that has a handle alone."""
+    known = handles.files if rng.random() < (0.95 if name == "FSTAT" else 0.05) else handles.listings
+    it = handle(rng, rng.choice([handles.files, handles.listings]) if name == "CLOSE" else known)
+    if name == "CLOSE" and rng.random() < 0.8:
+        handles.closed(it)
+    return [it]
+
+
+def of_open(rng):
+    flags = rng.choice([1, 1, 3, 3, 9, 0xB, 0xB, 0xA, 0x1B, 0x2B, 0xE, 0x1A, rng.randrange(64), rng.choice(NUMBERS)])
+    return [rng.choice([path(rng), b"/" + rng.choice(NAMES)]), flags, some_attrs(rng)]
+
+
+def of_read(rng, handles):
+    at = rng.choice(OFFSETS[:10] if rng.random() < 0.8 else OFFSETS)
+    return [handle(rng, handles.files), at, rng.choice(NUMBERS)]
+
+
+def of_write(rng, handles):
+    data = rng.randbytes(rng.choice([0, 1, 3, 10, 10, 100, 1_000, 32_768, rng.choice([65_536, 200_000])]))
+    offset = rng.choice(OFFSETS if rng.random() < 0.1 else OFFSETS[:10])
+    return [handle(rng, handles.files), offset, data]
+
+
+def fields(rng, name, handles):
+    """The fields of a request of this name."""
+    if name == "OPEN":
+        return of_open(rng)
+    if name in ("CLOSE", "FSTAT", "READDIR"):
+        return of_handle(rng, name, handles)
+    if name == "READ":
+        return of_read(rng, handles)
+    if name == "WRITE":
+        return of_write(rng, handles)
+    if name in ("SETSTAT", "MKDIR"):
+        return [path(rng), some_attrs(rng)]
+    if name == "FSETSTAT":
+        return [handle(rng, handles.files), some_attrs(rng)]
+    if name in ("RENAME", "SYMLINK"):
+        return [path(rng), path(rng)]
+    return extension(rng, handles) if name == "EXTENDED" else [path(rng)]
 
 
 def request(rng, id, handles):
-    kind = rng.choices([*WEIGHTS], [*WEIGHTS.values()])[0]
-    known = {CLOSE: handles.files, READDIR: handles.listings}.get(kind, handles.files)
-    if kind in (CLOSE, READ, WRITE, FSTAT, FSETSTAT, READDIR) and not known and rng.random() < 0.9:
-        kind = rng.choice([MKDIR, OPEN, OPENDIR])
-    return packet(kind, number(id) + fields(rng, kind, handles))
+    name = rng.choices([*WEIGHTS], [*WEIGHTS.values()])[0]
+    known = handles.listings if name == "READDIR" else handles.files
+    if name in ("CLOSE", "READ", "WRITE", "FSTAT", "FSETSTAT", "READDIR") and not known and rng.random() < 0.9:
+        name = rng.choice(["MKDIR", "OPEN", "OPENDIR"])
+    return encode(Request(id, name, fields(rng, name, handles)))
 
 
 def owner(rng):
-    return number(rng.choice(NUMBERS)) + number(rng.choice(NUMBERS)) + number(rng.choice([0, 0o644, 0o755, 0o7777]))
+    return rng.choice(NUMBERS), rng.choice(NUMBERS), rng.choice([0, 0o644, 0o755, 0o7777])
 
 
 def some_limits(rng):
-    """The limits of a tree: the lowest, the highest, or others."""
+    """The limits of a tree: the usual ones, the highest, or others."""
     pick = rng.random()
     if pick < 0.4:
-        return LOWEST_LIMITS
+        return USUAL
     if pick < 0.6:
-        return HIGHEST_LIMITS
-    return tuple(rng.choice([*it, rng.randint(*it)]) for it in zip(LOWEST_LIMITS, HIGHEST_LIMITS))
+        return HIGHEST
+    return tuple(rng.choice([*it, rng.randint(*it)]) for it in zip(USUAL, HIGHEST))
 
 
-def some_tree(rng):
-    """A tree file: without entries, or with up to 40, of which files have up to some 100,000 bytes."""
-    if rng.random() < 0.2:
-        return tree([], limits=some_limits(rng))
+def some_places(rng):
+    """Up to 40 places, and the directories among them."""
     places, directories = set(), [()]
     for _ in range(rng.randint(1, 40)):
         place = rng.choice(directories) + (rng.choice(NAMES + [b"x" * 255, b"\xff", b"!"]),)
@@ -133,21 +147,32 @@ def some_tree(rng):
             places.add(place)
             if len(place) < 60 and rng.random() < 0.4:
                 directories.append(place)
-    entries, files = [], []
-    for at, place in enumerate(sorted(map(list, places)), 1):
-        pick = rng.random()
-        if tuple(place) in directories or pick < 0.1:
-            entries.append((place, b"D" + owner(rng)))
-        elif pick < 0.35:
-            entries.append((place, b"L" + string(path(rng) or b"a" if pick < 0.2 else rng.choice(NAMES))))
-        elif pick < 0.6 and files:
-            entries.append((place, b"H" + number(rng.choice(files))))
-        else:
-            data = rng.randbytes(rng.choice([0, 1, 3, 10, 1_000, 40_000, 100_000 if pick > 0.95 else 5]))
-            files.append(at)
-            entries.append((place, b"F" + owner(rng) + string(data)))
+    return sorted(places), directories
+
+
+def some_entry(rng, place, directories, files):
+    """An entry there. `files` has the paths of the files so far."""
+    pick, it = rng.random(), text_of(place)
+    if place in directories or pick < 0.1:
+        return Entry(it, DIRECTORY, b"", *owner(rng))
+    if pick < 0.35:
+        return Entry(it, LINK, path(rng) or b"a" if pick < 0.2 else rng.choice(NAMES))
+    if pick < 0.6 and files:
+        return Entry(it, FURTHER, rng.choice(files))
+    data = rng.randbytes(rng.choice([0, 1, 3, 10, 1_000, 40_000, 100_000 if pick > 0.95 else 5]))
+    files.append(it)
+    return Entry(it, FILE, data, *owner(rng))
+
+
+def some_tree(rng):
+    """A tree file: without entries, or with up to 40, of which files have up to some 100,000 bytes."""
+    if rng.random() < 0.2:
+        return put(Tree([], limits=some_limits(rng)))
+    places, directories = some_places(rng)
+    files = []
+    entries = [some_entry(rng, place, directories, files) for place in places]
     home = b"/" + b"/".join(rng.choices(NAMES, k=rng.randint(0, 2)))
-    return tree(entries, home, (rng.choice(NUMBERS), rng.choice(NUMBERS)), limits=some_limits(rng))
+    return put(Tree(entries, home, rng.choice(NUMBERS), rng.choice(NUMBERS), limits=some_limits(rng)))
 
 
 def change_bytes(rng, data):
@@ -163,7 +188,7 @@ def change_bytes(rng, data):
     if pick == 3:
         return data[:at] + data[at:at + rng.randint(1, 40)] + data[at:]
     if pick == 4:
-        return data[:at] + number(rng.choice(NUMBERS)) + data[at + 4:]
+        return data[:at] + uint32(rng.choice(NUMBERS)) + data[at + 4:]
     if pick == 5:
         return data[:at] + bytes([rng.randrange(256)]) + data[at + 1:]
     return data[:at] + bytes([data[at] ^ 1 << rng.randrange(8)]) + data[at + 1:] if at < len(data) else data
@@ -171,7 +196,7 @@ def change_bytes(rng, data):
 
 def change_records(rng, data):
     """The transcript with its records changed."""
-    found, _ = records(data)
+    found, _ = until_fault(data)
     if len(found) < 3:
         return change_bytes(rng, data)
     first, second = rng.randrange(2, len(found)), rng.randrange(2, len(found))
@@ -189,13 +214,13 @@ def change_records(rng, data):
         side, it = found[first]
         at = rng.randint(9, max(9, len(it) - 1))
         found[first] = side, it[:at] + bytes([rng.choice([0, 1, 2, 3, 4, 5, 8, 255])]) + it[at + 1:]
-    return transcript(found)
+    return put_records(found)
 
 
 def changed(rng, data):
     """The bytes with one to three changes."""
     for _ in range(rng.choice([1, 1, 1, 2, 3])):
-        of_records = data.startswith(TRANSCRIPT_OPENING) and rng.random() < 0.6
+        of_records = data.startswith(OPENING) and rng.random() < 0.6
         data = change_records(rng, data) if of_records else change_bytes(rng, data)
     return data
 

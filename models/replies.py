@@ -1,8 +1,8 @@
 """Which replies to a request are allowed, which one `serve` gives, and what the request does (docs/PROTOCOL.md)."""
-import struct
-
-from packets import FLAGS
-from trees import NAMES, Tree, is_bad, with_given
+from sftp3 import Packet, uint32, uint64
+from sftp3.packets import FLAGS
+from sftp3.trees import DEEPEST, is_good_path
+from trees import with_given
 
 NAMES_OF_REPLY, PACKET_BYTES = 32, 262_144
 
@@ -121,11 +121,11 @@ class Ask:
         self.judge_new(path)
 
     def judge_symlink(self, target, path):
-        self.path_is_bad = not target or is_bad(target)
+        self.path_is_bad = not target or not is_good_path(target)
         self.judge_new(path)
 
     def overfills_mkdir(self):
-        return len(self.place) > NAMES or len(self.tree.nodes) > self.tree.entry_limit
+        return len(self.place) > DEEPEST or len(self.tree.nodes) > self.tree.entry_limit
 
     overfills_symlink = overfills_hardlink = overfills_mkdir
 
@@ -142,7 +142,7 @@ class Ask:
         self.add("Inside", self.is_inside)
 
     def overfills_rename(self):
-        return self.tree.depth_if_moved(self.old, self.place) > NAMES
+        return self.tree.depth_if_moved(self.old, self.place) > DEEPEST
 
     def judge_posix_rename(self, old, new):
         self.judge_two(old, new)
@@ -236,7 +236,7 @@ class Ask:
             return ("DATA", (bytes_[offset:end],)) if offset < len(bytes_) else EOF
         if name == "LIMITS":
             read, handles = self.tree.read_limit, self.tree.handle_limit
-            return "EXTENDED_REPLY", (struct.pack(">QQQQ", PACKET_BYTES, read, read, handles),)
+            return "EXTENDED_REPLY", (uint64(PACKET_BYTES, read, read, handles),)
         if name == "READDIR":
             return ("LISTING", (self.it.left,)) if self.it.left else EOF
         return OK
@@ -319,24 +319,23 @@ class Session:
         return {other[-1]: self.tree.shown(other) for other in self.tree.nodes if other and other[:-1] == place}
 
     def close(self, handle):
-        it = self.open.pop(handle)
+        self.open.pop(handle)
         if len(handle) == 12:
-            self.free_slots.append(struct.unpack(">QI", handle)[0])
+            self.free_slots.append(int.from_bytes(handle[:8], "big"))
 
     def new_handle(self):
         """The name that `serve` gives: the slot that was freed last, or a new one, and how many were given before."""
         slot = self.free_slots.pop() if self.free_slots else self.slots
         self.slots = max(self.slots, slot + 1)
         self.serial += 1
-        return struct.pack(">QI", slot, self.serial - 1)
+        return uint64(slot) + uint32(self.serial - 1)
 
     def answer(self, request):
         """The reply that `serve` gives, once the request is done."""
-        name, id, values = request
-        ask = Ask(self, name, values)
+        ask = Ask(self, request.name, request.fields)
         causes = ask.causes()
         if causes:
-            return "STATUS", id, [CODES[causes[0]][0], (b"", b"")]
+            return Packet(request.number, "STATUS", [CODES[causes[0]][0], b"", b""])
         kind, said = ask.said()
         if kind == "HANDLE":
             values = [self.new_handle()]
@@ -345,17 +344,16 @@ class Session:
         elif kind == "NAME":
             values = [[(said[0], said[0], {})]]
         elif kind == "STATUS":
-            values = [said[0], (b"", b"")]
+            values = [said[0], b"", b""]
         else:
             values = list(said)
         ask.do(values)
-        return kind, id, values
+        return Packet(request.number, kind, values)
 
     def accept(self, request, reply):
         """Whether a reply is allowed; then the request is done."""
-        name, _, values = request
-        kind, _, answer = reply
-        ask = Ask(self, name, values)
+        kind, answer = reply.name, reply.fields
+        ask = Ask(self, request.name, request.fields)
         causes = ask.causes()
         if causes:
             return kind == "STATUS" and any(answer[0] in CODES[cause] for cause in causes)

@@ -1,4 +1,4 @@
-"""Numbers that a seed fixes, and the output of the scripts."""
+"""Numbers that a seed fixes, and the words and the output of the scripts."""
 import sys
 
 
@@ -35,6 +35,16 @@ def print_lines(keyword, lines):
         print(line)
 
 
-def seeds_of_words(usual):
-    """The numbers that the words of the command line are, or else these."""
-    return [int(word) for word in sys.argv[1:]] or usual
+def words_of(usage):
+    """The words of the command line; where there are none, it prints the usage and ends the script."""
+    if not sys.argv[1:]:
+        print(usage, file=sys.stderr)
+        sys.exit(2)
+    return sys.argv[1:]
+
+
+def parts_of_word(word, usual):
+    """The parts of `SEED/REST:COUNT`; without a colon the usual count."""
+    front, _, count = word.partition(":")
+    seed, _, rest = front.partition("/")
+    return int(seed), rest, int(count or usual)

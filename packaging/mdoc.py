@@ -1,6 +1,26 @@
 """Text in the language of manual pages, mdoc."""
+import datetime
+import os
 import re
+import subprocess
 import textwrap
+from pathlib import Path
+
+TOP = Path(__file__).resolve().parents[1]
+
+
+def page_date():
+    """Returns the date of a page: that of SOURCE_DATE_EPOCH, as of a package that can be made again, or of the last
+    commit, or, without git, of CHANGELOG.md."""
+    seconds = os.environ.get("SOURCE_DATE_EPOCH", "")
+    if not seconds.isdecimal():
+        words = ["git", "-C", str(TOP), "log", "-1", "--format=%ct"]
+        try:
+            seconds = subprocess.run(words, capture_output=True, text=True, check=True).stdout.strip()
+        except (OSError, subprocess.CalledProcessError):
+            seconds = (TOP / "CHANGELOG.md").stat().st_mtime
+    day = datetime.datetime.fromtimestamp(int(seconds), datetime.timezone.utc)
+    return f"{day:%B} {day.day}, {day.year}"
 
 
 def escaped(line):

@@ -5,6 +5,7 @@ from typing import Dict
 
 import sftp3
 from paging import packets
+from sftp3.packets import KINDS_OF
 
 # A session of so many records is shown whole. Of a longer one, so many before and behind what differs.
 WHOLE, AROUND = 400, 60
@@ -90,5 +91,5 @@ def paths_of(session, place):
         request = sftp3.decode(session.records[place][1])
     except sftp3.Malformed:
         return set()
-    fields = sftp3.REQUESTS[request.name][1].split()
-    return {value for kind, value in zip(fields, request.fields) if kind == "string" and request.name != "WRITE"}
+    kinds = KINDS_OF[request.name]
+    return {value for kind, value in zip(kinds, request.fields) if kind == "string" and request.name != "WRITE"}

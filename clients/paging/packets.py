@@ -6,6 +6,7 @@ from dataclasses import dataclass, field
 from typing import List, Optional, Tuple
 
 import sftp3
+from sftp3.packets import FLAGS
 
 # How many signs of a text a line has, and how many its field; and how many bytes the field of what is no packet.
 SHORT, LONG, RAW = 40, 512, 256
@@ -15,18 +16,6 @@ LISTED = 20
 
 CODES = {0: "OK", 1: "EOF", 2: "NO_SUCH_FILE", 3: "PERMISSION_DENIED", 4: "FAILURE", 5: "BAD_MESSAGE",
          6: "NO_CONNECTION", 7: "CONNECTION_LOST", 8: "OP_UNSUPPORTED"}
-
-FLAGS = {sftp3.READ: "READ", sftp3.WRITE: "WRITE", sftp3.APPEND: "APPEND", sftp3.CREAT: "CREAT",
-         sftp3.TRUNC: "TRUNC", sftp3.EXCL: "EXCL"}
-
-# What the fields of a request are called, in the order of the packet.
-FIELDS = {
-    "OPEN": "path flags attributes", "READ": "handle offset length", "WRITE": "handle offset data",
-    "SETSTAT": "path attributes", "FSETSTAT": "handle attributes", "MKDIR": "path attributes",
-    "RENAME": "path new_path", "POSIX-RENAME": "path new_path", "HARDLINK": "path new_path",
-    "SYMLINK": "target link", "EXTENDED": "extension data", "LIMITS": "",
-    "CLOSE": "handle", "FSTAT": "handle", "READDIR": "handle", "FSYNC": "handle",
-}
 
 PLAIN = set(string.printable[:95].encode()) - set(b'"\\')
 
@@ -78,8 +67,8 @@ def code_of(code):
 
 
 def flags_of(flags):
-    known = [name for bit, name in FLAGS.items() if flags & bit]
-    left = flags & ~sum(FLAGS)
+    known = [name for name, bit in FLAGS.items() if flags & bit]
+    left = flags & ~sum(FLAGS.values())
     return "|".join(known + ([f"0x{left:x}"] if left else [])) or "none"
 
 
@@ -142,7 +131,7 @@ def of_client(data, handle=None):
     if data[4:5] == bytes([sftp3.INIT]):
         return of_opening("INIT", fields)
     request = sftp3.decode(data)
-    values = dict(zip(FIELDS.get(request.name, "path").split(), request.fields))
+    values = dict(zip(sftp3.REQUESTS[request.name][1].replace("rest", "data").split(), request.fields))
     shown = [(name.replace("_", " "), of_field(name, value, LONG)) for name, value in values.items()]
     parts = [handle if handle and name == "handle" else in_line(name, value) for name, value in values.items()]
     line = ", ".join(part for part in parts if part)
@@ -172,7 +161,7 @@ def in_line(name, value):
 
 def of_opening(name, fields):
     fields.byte()
-    number, pairs = fields.word(), fields.pairs()
+    number, pairs = fields.uint32(), fields.pairs()
     shown = [(quoted(key, LONG), quoted(value, LONG)) for key, value in pairs[:LISTED]]
     return Packet(name, None, f"version {number}" + (f", {len(pairs)} extensions" if pairs else ""),
                   [("version", str(number))] + shown + more(pairs))
@@ -189,7 +178,7 @@ def of_server(data):
         return of_opening("VERSION", sftp3.Fields(data[4:]))
     if kind not in REPLIES:
         raise sftp3.Malformed(f"no reply has the type {kind}")
-    number = fields.word()
+    number = fields.uint32()
     name, read = REPLIES[kind]
     packet = read(name, number, fields)
     whole(fields)
@@ -197,7 +186,7 @@ def of_server(data):
 
 
 def of_status(name, number, fields):
-    code = fields.word()
+    code = fields.uint32()
     shown = [("code", code_of(code))]
     # some servers leave out both
     if fields.place < len(fields.data):
@@ -216,9 +205,7 @@ def of_data(name, number, fields):
 
 
 def of_names(name, number, fields):
-    items = []
-    for _ in range(fields.word()):
-        items.append((fields.string(), fields.string(), fields.attributes()))
+    items = fields.names()
     first = " ".join(quoted(item[0], SHORT) for item in items[:3])
     shown = [(quoted(item[0], LONG), attributes_of(item[2])) for item in items[:LISTED]]
     count = f"{len(items):,} name{'s' if len(items) != 1 else ''}"
@@ -244,11 +231,12 @@ REPLIES = {
 
 def kind_of(side, data):
     """The name of a packet, without reading all of it."""
-    if side == b"C" and data[4:5] != b"\xc8":
-        return {sftp3.INIT: "INIT", **sftp3.NAMES}.get(data[4] if len(data) > 4 else None, "raw")
-    if side == b"C":
+    name = sftp3.NAMES.get(data[4]) if len(data) > 4 else None
+    if side != b"C":
+        return name if name in sftp3.REPLIES else "raw"
+    if name == "EXTENDED":
         try:
             return sftp3.decode(data).name
         except sftp3.Malformed:
             return "raw"
-    return REPLIES.get(data[4] if len(data) > 4 else None, ("raw",))[0]
+    return name if name == "INIT" or name in sftp3.REQUESTS else "raw"

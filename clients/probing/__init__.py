@@ -12,6 +12,7 @@ transfers   large scenes with much data; crowds: those with many names or handle
 room        the steps of a plan within what the server says that it has room for
 servers     starts and ends the server; leftovers: ends what it leaves running
 sessions    plays a plan against a server, and records it
+ownfiles    refuses to play where the server has other files than the tree's
 verdicts    asks `sftpv3 audit`, and goes on after a difference
 groups      differences that are alike; causes: those that have one cause
 shrinking   the shortest session that still shows a difference; guessing: which requests and entries it may need

@@ -96,16 +96,12 @@ def with_data(packet, data):
 
 def names_of(packet):
     """The items of NAME: each a name, a long name and attributes."""
-    fields = sftp3.Fields(packet[9:])
-    return [(fields.string(), fields.string(), fields.attributes()) for _ in range(fields.word())]
+    return sftp3.Fields(packet[9:]).names()
 
 
 def with_names(packet, items):
     """NAME with these items in place of a reply; without any it is the end of the listing."""
-    body = b"".join(sftp3.string(name) + sftp3.string(long) + sftp3.attributes(given) for name, long, given in items)
-    if not items:
-        return status(packet, END)
-    return sftp3.packet(sftp3.NAME, packet[5:9] + len(items).to_bytes(4, "big") + body)
+    return sftp3.packet(sftp3.NAME, packet[5:9] + sftp3.names(items)) if items else status(packet, END)
 
 
 class Writes(Fault):

@@ -1,7 +1,7 @@
 """Guesses which requests and which entries a difference needs. A guess is played like any other try, so a wrong one
 costs a session and no more."""
 import sftp3
-from probing import trees
+from sftp3 import trees
 
 
 def names_of(step):

@@ -2,7 +2,7 @@
 it: that is `sftpv3 audit`'s part."""
 import copy
 
-from probing import trees
+from sftp3 import trees
 
 DIRECTORY, FILE, LINK = "directory", "file", "link"
 

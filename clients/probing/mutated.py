@@ -102,13 +102,11 @@ def lost_write(records):
 
 def names_of(packet):
     """The items of NAME, each with its name, its long name and its attributes."""
-    fields = sftp3.Fields(packet[9:])
-    return [(fields.string(), fields.string(), fields.attributes()) for _ in range(fields.word())]
+    return sftp3.Fields(packet[9:]).names()
 
 
 def name_packet(one, items):
-    body = b"".join(sftp3.string(name) + sftp3.string(long) + sftp3.attributes(given) for name, long, given in items)
-    return sftp3.packet(sftp3.NAME, one.reply[5:9] + len(items).to_bytes(4, "big") + body)
+    return sftp3.packet(sftp3.NAME, one.reply[5:9] + sftp3.names(items))
 
 
 def listings(records):

@@ -71,7 +71,7 @@ class missing_name(Bug):
 
     def changed(self, name, packet):
         fields = sftp3.Fields(packet[9:])
-        if name != "READDIR" or packet[4] != sftp3.NAME or fields.word() < 2:
+        if name != "READDIR" or packet[4] != sftp3.NAME or fields.uint32() < 2:
             return packet
         ends = []
         while fields.place < len(fields.data):

@@ -9,7 +9,8 @@ import time
 
 import sftp3
 from paging import document, packets, runs
-from probing import files, junit, keeping, printed, program, shown, trees
+from probing import files, junit, keeping, printed, program, shown
+from sftp3 import trees
 
 
 def text_of(judge, name):
@@ -46,7 +47,8 @@ def seeds_of(group):
 
 
 def print_group(number, group):
-    program.say(f"\n{number}. {group.title()}")
+    program.say("")
+    program.say(f"{number}. {group.title()}")
     for line in group.text():
         program.say(f"   {line}")
     seeds = f"{group.count} in {len(group.seeds)} sessions, first in seed {group.seeds[0]}"

@@ -6,9 +6,10 @@ from dataclasses import dataclass, field
 from typing import List, Optional
 
 from paging import single
-from probing import (causes, features, groups, limits, options, planner, program, progress, recorded, reports, sessions,
-                     shrinking, tally, trees, verdicts, workers)
+from probing import (causes, features, groups, limits, options, ownfiles, planner, program, progress, recorded, reports,
+                     sessions, shrinking, starting, tally, verdicts, workers)
 from probing.sessions import NotStarted
+from sftp3 import trees
 
 # How often a plan is played at most, each time without one more of its requests; and how often, if the server ends
 # behind as many requests each time, whatever they are.
@@ -110,15 +111,20 @@ class Run:
         options.can_write("--keep", given.keep)
         if given.report:
             options.can_write("--report", given.report)
-        self.tree = options.read("--tree", given.tree, trees.get) if given.tree else trees.usual()
+        self.tree = options.read("--tree", given.tree, trees.get) if given.tree else starting.usual()
         self.recorded = options.read("--session", given.session, recorded.steps_of) if given.session else None
         self.program = program.program()
         auditor = verdicts.Auditor(self.program, folder)
         auditor.options = self.profile(auditor)
         server = sessions.Server(given.command, given.reset, left)
-        self.pool = workers.Pool([workers.Worker(self.place(folder, number), server, auditor, given.timeout)
-                                  for number in range(options.jobs(given))])
+        if not server.takes_tree() and not given.tree:
+            raise options.Wrong(ownfiles.NO_TREE)
+        players = [workers.Worker(self.place(folder, number), server, auditor, given.timeout)
+                   for number in range(options.jobs(given))]
+        self.pool = workers.Pool(players)
         self.until = limits.Until(halt, given.patience)
+        if not server.takes_tree() and (why := ownfiles.trouble(server, players[0], self.tree, halt)):
+            raise options.Wrong(why)
         self.playing = limits.Halt(self.until)
         self.groups, self.tally, self.progress = groups.Groups(), tally.Tally(), progress.Progress()
 
@@ -138,7 +144,7 @@ class Run:
             elif value is not None:
                 unknown.append(option)
         if unknown:
-            print(f"probe: this program audits strictly: it has no {', '.join(unknown)}", file=sys.stderr)
+            program.say(f"probe: this program audits strictly: it has no {', '.join(unknown)}", sys.stderr)
         return words
 
     def tasks(self):
@@ -229,9 +235,11 @@ class Run:
             reports.print_group(group.number, group)
         vain = len(self.tally.played) - self.tally.sessions
         if vain:
-            print(f"probe: in {vain} session{'s' if vain != 1 else ''} no request was played", file=sys.stderr)
+            program.say(f"probe: in {vain} session{'s' if vain != 1 else ''} no request was played", sys.stderr)
         if found or self.tally.left or not self.vain():
-            program.say(("\n" if found else "") + reports.summary(self.tally, found))
+            if found:
+                program.say("")
+            program.say(reports.summary(self.tally, found))
         if wrong:
             raise wrong[0]
 

@@ -4,8 +4,9 @@ import queue
 from collections import deque
 from concurrent import futures
 
-from probing import sessions, trees, verdicts
-from probing.sessions import NotStarted, Session
+from probing import sessions, verdicts
+from sftp3 import trees
+from probing.sessions import Session
 
 # For each worker, how many tasks are begun before the first of them is asked for its result.
 AHEAD = 8

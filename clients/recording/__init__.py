@@ -1,7 +1,9 @@
 """The parts of the recorder, clients/record, and of clients/recordd, each building on those before it:
 
+standard  the three standard descriptors
 hiding    keeps other processes of the user out
-packets   a stream of bytes as packets, one direction of a session; VERSION without extensions
+packets   a stream of bytes as packets, one direction of a session
+plain     VERSION without extensions
 times     the file of times beside a transcript
 notices   lines to standard error, to a log, to syslog
 folders   whether others could replace a file
@@ -10,9 +12,11 @@ sinks     where records go: files, pipes, a spool
 signals   the module `signal`, quickly imported
 server    the server's process: its start, its end, its status
 auditing  an audit that reads along
+awaiting  what the client of a session that ends still awaits
 sessions  the loop that passes packets on, and how it ends
 shares    what each user has of a spool
 keeping   the daemon that keeps records in a spool
 options   the commands
+complaints  about command lines
 parsers   their options, with help and complaints
 """

@@ -2,7 +2,8 @@
 import os
 import struct
 
-import sftp3
+# The opening of a transcript, as `sftp3` has it. Each session waits for the recorder's start, which does without.
+OPENING = b"SFTPTR01"
 
 # The longest packet that is recorded, its length field included: OpenSSH's server takes 262,144 bytes behind the length
 # field, and some more bytes do no harm. What is longer is passed on, never held.
@@ -15,15 +16,6 @@ FULL = 1 << 18
 ROOM = 1 << 17
 
 length_at = struct.Struct(">I").unpack_from
-
-
-def plain(packet):
-    """A VERSION without the extensions that the auditor does not judge. Any other packet stays as it is."""
-    try:
-        number, pairs = sftp3.version_of(packet)
-    except sftp3.Malformed:
-        return packet
-    return sftp3.version(number, [pair for pair in pairs if pair[0] in sftp3.EXTENSIONS.values()])
 
 
 class Flow:

@@ -10,44 +10,41 @@ from attacking.ground import SECONDS, attack
 from attacking.measured import MEBI
 from attacking.recorders import KEEPER, beside
 from attacking.sessions import HELLO
-from packets import (CLIENT, CLOSE, FSETSTAT, HANDLE, MKDIR, OPEN, REMOVE, RMDIR, SERVER, STATUS, VERSION, attrs,
-                     number, packet, string, transcript)
 from programs import program
+from sftp3 import CLIENT, CREAT, SERVER, WRITE, Packet, Request, encode, put_records, status, version
 
 # A user who is there on every machine, and whom another one attacks.
 VICTIM = pwd.getpwnam("nobody")
-CREAT_WRITE = 0x2 | 0x8
 # What a file may have by the limits of a nightly tree, which are the highest.
 LARGEST = 64 * MEBI
 
 
 def session(*requests):
-    """A transcript in which each request, a type and the fields behind its id, is done."""
-    records = [(CLIENT, HELLO), (SERVER, packet(VERSION, number(3)))]
-    for serial, (kind, fields) in enumerate(requests):
-        answer = (HANDLE, string(b"h")) if kind == OPEN else (STATUS, number(0) + string(b"") + string(b""))
-        records += [(CLIENT, packet(kind, number(serial) + fields)),
-                    (SERVER, packet(answer[0], number(serial) + answer[1]))]
-    return transcript(records)
+    """A transcript in which each request, a name with its fields, is done."""
+    records = [(CLIENT, HELLO), (SERVER, version(3, []))]
+    for serial, (name, *fields) in enumerate(requests):
+        reply = encode(Packet(serial, "HANDLE", [b"h"])) if name == "OPEN" else status(serial, 0)
+        records += [(CLIENT, encode(Request(serial, name, fields))), (SERVER, reply)]
+    return put_records(records)
 
 
 def mkdir(path):
-    return MKDIR, string(path.encode()) + attrs()
+    return "MKDIR", path.encode(), {}
 
 
 def rmdir(path):
-    return RMDIR, string(path.encode())
+    return "RMDIR", path.encode()
 
 
 def opened(path):
-    return OPEN, string(path.encode()) + number(CREAT_WRITE) + attrs()
+    return "OPEN", path.encode(), CREAT | WRITE, {}
 
 
 def sized(size):
-    return FSETSTAT, string(b"h") + attrs(size)
+    return "FSETSTAT", b"h", {"size": size}
 
 
-CLOSED = (CLOSE, string(b"h"))
+CLOSED = ("CLOSE", b"h")
 
 
 class Nights:
@@ -128,7 +125,7 @@ def a_verdict_on_another_user_is_forged(field):
     nights = Nights(field, VICTIM)
     nights.change()
     own = nights.own(field.user.pw_uid)
-    forged = session((MKDIR, string(os.fsencode(f"{nights.home}/unrecorded")) + attrs(permissions=0o755)))
+    forged = session(("MKDIR", os.fsencode(f"{nights.home}/unrecorded"), {"permissions": 0o755}))
     nights.put(f"{VICTIM.pw_name}/{record_name(VICTIM)}", forged, field.user.pw_uid)
     yield from wrong(nights.run(), 1, "something else changed the folder", own, without=["accepted 1 requests"])
     if not os.listdir(own):
@@ -178,7 +175,7 @@ def a_name_has_no_time(field):
     """A record whose name has a time that there is none of, or one in digits of other scripts, is one as others."""
     nights = Nights(field, field.user)
     for date in ("99999999T999999Z", "20261399T000000Z", "٢٠٢٦١١٢٧T١٠١٥٠٠Z", "00000101T000000Z"):
-        nights.put(record_name(field.user, date), session((REMOVE, string(b"/x")))[:8], field.user.pw_uid)
+        nights.put(record_name(field.user, date), session(("REMOVE", b"/x"))[:8], field.user.pw_uid)
     yield from wrong(nights.run(), 1, "record 1: Start", "not judged")
     yield from wrong(nights.run(), 0, "the folder is as they left it")
 
@@ -217,7 +214,7 @@ def a_record_takes_all_memory(field):
     nights = Nights(field, field.user)
     files = [f"{nights.home}/m{it}" for it in range(24)]
     made = [it for file in files for it in (opened(file), sized(LARGEST), CLOSED)]
-    many = session(*made, *((REMOVE, string(file.encode())) for file in files))
+    many = session(*made, *(("REMOVE", file.encode()) for file in files))
     nights.put(record_name(field.user), many, field.user.pw_uid)
     found = nights.run()
     yield from wrong(found, 1, "not judged: ", "--memory", without=["status 3"])

@@ -3,11 +3,11 @@ import os
 import subprocess
 
 from attacking.ground import SECONDS, attack, wrong_status
-from packets import INIT, MKDIR, attrs, number, packet, string
 from programs import program
+from sftp3 import Request, encode, init
 
-HELLO = packet(INIT, number(3))
-ASKED = HELLO + packet(MKDIR, number(1) + string(b"/a") + attrs())
+HELLO = init()
+ASKED = HELLO + encode(Request(1, "MKDIR", [b"/a", {}]))
 
 
 @attack(is_small=True)

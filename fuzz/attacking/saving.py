@@ -7,11 +7,12 @@ import threading
 import time
 
 from attacking.ground import attack, wrong_status
-from packets import CLIENT, INIT, SERVER, VERSION, number, packet, string, transcript, tree
 from programs import TOP, program
+from sftp3 import CLIENT, SERVER, init, put_records, version
+from sftp3.trees import FILE, Entry, Tree, put
 
-HELLO = packet(INIT, number(3))
-OPENED = transcript([(CLIENT, HELLO), (SERVER, packet(VERSION, number(3)))])
+HELLO = init()
+OPENED = put_records([(CLIENT, HELLO), (SERVER, version(3, []))])
 TRIES = 400
 
 
@@ -29,8 +30,7 @@ def swap(folder, victim, name):
 
 
 def large(size):
-    fields = b"F" + number(0) * 2 + number(0o644) + string(b"x" * 1_000_000)
-    return tree([([b"%03d" % it], fields) for it in range(size)])
+    return put(Tree([Entry(b"/%03d" % it, FILE, b"x" * 1_000_000, permissions=0o644) for it in range(size)]))
 
 
 @attack("user")
@@ -128,7 +128,7 @@ def an_archive_makes_a_program_of_root(field):
     """What a client uploaded with set-id bits has none, where root unpacks it as the documents have it."""
     with open("/usr/bin/id", "rb") as file:
         content = file.read()
-    field.put("end.tree", tree([([b"id"], b"F" + number(0) * 2 + number(0o4755) + string(content))]))
+    field.put("end.tree", put(Tree([Entry(b"/id", FILE, content, permissions=0o4755)])))
     archive = field.run("export", "end.tree").stdout
     for document in ("README.md", "docs/USING.md"):
         with open(os.path.join(TOP, document), encoding="utf-8") as file:

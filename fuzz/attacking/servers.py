@@ -4,10 +4,10 @@ import subprocess
 import time
 
 from attacking.ground import SECONDS, attack
-from packets import INIT, number, packet
 from programs import program
+from sftp3 import init
 
-HELLO = packet(INIT, number(3))
+HELLO = init()
 
 # A server that answers INIT, does something, and waits for the end of its input.
 SERVER = """

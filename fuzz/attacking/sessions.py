@@ -1,9 +1,10 @@
 """Sessions and files that are short and make a program take much memory."""
-from packets import (CLIENT, HANDLE, INIT, LOWEST_LIMITS, OPEN, OPENDIR, REMOVE, SERVER, SETSTAT, STATUS, VERSION,
-                     attrs, number, packet, string, transcript, tree, wide)
+from sftp3 import (CLIENT, CREAT, READ, SERVER, WRITE, Packet, Request, encode, init, put_records, status, uint32,
+                   uint64, version)
+from sftp3.trees import FILE, USUAL, Entry, Tree, put
 
-READ_WRITE_CREATE = number(0xB)
-HELLO = packet(INIT, number(3))
+READ_WRITE_CREATE = READ | WRITE | CREAT
+HELLO = init()
 USUAL_FILE, HIGHEST_FILE = 16_777_216, 67_108_864
 
 
@@ -14,46 +15,39 @@ def name(index):
 def sparse_requests(count, size):
     """Yields the requests that make so many files, and give each this size."""
     for it in range(count):
-        yield OPEN, number(2 * it) + string(name(it)) + READ_WRITE_CREATE + attrs()
-        yield SETSTAT, number(2 * it + 1) + string(name(it)) + attrs(size=size)
+        yield Request(2 * it, "OPEN", [name(it), READ_WRITE_CREATE, {}])
+        yield Request(2 * it + 1, "SETSTAT", [name(it), {"size": size}])
 
 
 def sparse(count, size=USUAL_FILE):
     """Returns the input of a session that makes so many files of this size, all zeros."""
-    return HELLO + b"".join(packet(*it) for it in sparse_requests(count, size))
+    return HELLO + b"".join(map(encode, sparse_requests(count, size)))
 
 
 def removed(count, size=HIGHEST_FILE):
     """The same, where each file is removed while it is open."""
-    asked = [HELLO]
+    asked = []
     for it in range(count):
-        asked += [packet(OPEN, number(it) + string(name(it)) + READ_WRITE_CREATE + attrs()),
-                  packet(SETSTAT, number(it + 2000) + string(name(it)) + attrs(size=size)),
-                  packet(REMOVE, number(it + 4000) + string(name(it)))]
-    return b"".join(asked)
+        asked += [Request(it, "OPEN", [name(it), READ_WRITE_CREATE, {}]),
+                  Request(it + 2000, "SETSTAT", [name(it), {"size": size}]), Request(it + 4000, "REMOVE", [name(it)])]
+    return HELLO + b"".join(map(encode, asked))
 
 
 def listings(count):
     """Returns the input of a session that opens so many listings of the root."""
-    return HELLO + b"".join(packet(OPENDIR, number(it) + string(b"/")) for it in range(count))
+    return HELLO + b"".join(encode(Request(it, "OPENDIR", [b"/"])) for it in range(count))
 
 
-def wide_tree(count, limits=LOWEST_LIMITS):
+def wide_tree(count, limits=USUAL):
     """Returns the tree file of so many empty files with long names in the root, with these limits."""
-    fields = b"F" + number(0) * 2 + number(0o644) + string(b"")
-    return tree([([b"%0255d" % it], fields) for it in range(count)], limits=limits)
+    return put(Tree([Entry(b"/%0255d" % it, FILE, permissions=0o644) for it in range(count)], limits=limits))
 
 
 def sparse_transcript(count, size=USUAL_FILE):
     """Returns the transcript of a session that makes so many files of this size, where all is answered at the end."""
-    records = [(CLIENT, HELLO), (SERVER, packet(VERSION, number(3)))]
-    answers = []
-    for kind, body in sparse_requests(count, size):
-        records.append((CLIENT, packet(kind, body)))
-        if kind == OPEN:
-            serial = len(answers) // 2
-            answers.append((SERVER, packet(HANDLE, body[:4] + string(wide(serial) + number(serial)))))
-        else:
-            answers.append((SERVER, packet(STATUS, body[:4] + number(0) + string(b"") + string(b""))))
-        records.append(answers[-1])
-    return transcript(records)
+    records = [(CLIENT, HELLO), (SERVER, version(3, []))]
+    for number, request in enumerate(sparse_requests(count, size)):
+        handle = Packet(number, "HANDLE", [uint64(number // 2) + uint32(number // 2)])
+        reply = encode(handle) if request.name == "OPEN" else status(number, 0)
+        records += [(CLIENT, encode(request)), (SERVER, reply)]
+    return put_records(records)

@@ -7,7 +7,8 @@ import subprocess
 
 from attacking.ground import attack
 from attacking.saving import OPENED, TOP
-from packets import CLIENT, INIT, SERVER, STAT, STATUS, VERSION, number, packet, string, transcript, tree
+from sftp3 import CLIENT, SERVER, Request, encode, init, put_records, status, version
+from sftp3.trees import DIRECTORY, Entry, Tree, put
 
 # Names that a shell or make would act on, in several of their contexts.
 HOSTILE_NAMES = ("`touch ran`", "`touch${IFS}ran`", "a;touch${IFS}ran;", "$(touch${IFS}ran)", "'`touch${IFS}ran`'",
@@ -33,7 +34,7 @@ def a_name_passes_for_a_verdict(field):
             ["audit", "--umask", NAME, "--tree", start, "--transcript", start], ["blank", "--mode", NAME, start],
             ["show", "--full", "--data", NAME, start]]
     for words in runs:
-        done = field.run(*words, input=packet(INIT, number(3)) if words[0] == "serve" else b"home\n")
+        done = field.run(*words, input=init() if words[0] == "serve" else b"home\n")
         said = done.stderr + (b"" if words[0] == "serve" else done.stdout)
         if done.returncode == 0 or not said:
             yield f"{words[0]}: status {done.returncode}, {said!r}"
@@ -71,9 +72,8 @@ def a_name_runs_in_a_makefile(field):
             os.remove(field.path(f"records/{name}.transcript"))
 
 
-SESSION = [(CLIENT, packet(INIT, number(3))), (SERVER, packet(VERSION, number(3))),
-           (CLIENT, packet(STAT, number(1) + string(b"/\x01\xff\"\\\n"))),
-           (SERVER, packet(STATUS, number(1) + number(0) + string(b"\x1b[2J\xff") + string(b"")))]
+SESSION = [(CLIENT, init()), (SERVER, version(3, [])),
+           (CLIENT, encode(Request(1, "STAT", [b"/\x01\xff\"\\\n"]))), (SERVER, status(1, 0, b"\x1b[2J\xff"))]
 NAMES = [b"\x01", b'"', b"\\", b"\n", b"\x7f", b"\xc3\xa9", b"\xed\xa0\x80", b"\xff", b"\xc0\xaf"]
 
 
@@ -100,9 +100,8 @@ def objects(done):
 def a_name_breaks_a_json_object(field):
     """Whatever names of files, paths and packets have, each line of --json is one object, with the very bytes."""
     start, bad = field.blank(), field.put(NAME.replace("/", ""), b"SFTREE01")
-    record = field.put("refused", transcript(SESSION))
-    directory = b"D" + number(0) * 2 + number(0o755)
-    field.put("names.tree", tree([([it], directory) for it in sorted(NAMES)]))
+    record = field.put("refused", put_records(SESSION))
+    field.put("names.tree", put(Tree([Entry(b"/" + it, DIRECTORY) for it in NAMES])))
     diff = field.run("diff", "--json", start, "names.tree")
     wanted = [{"change": "added", **member("path", b"/" + it), "kind": "D"} for it in sorted(NAMES)]
     if diff.returncode != 1 or objects(diff) != wanted:
@@ -114,12 +113,12 @@ def a_name_breaks_a_json_object(field):
             [it["part"] for it in said[0]["explanation"]][:3] != ["request", "reply", "causes"]:
         yield f"audit: {audit.returncode}, {audit.stdout!r}"
     absent = NAME + "absent"
-    for status, words, file in ((3, ["audit", "--tree", absent, "--transcript", record], absent),
+    for wanted, words, file in ((3, ["audit", "--tree", absent, "--transcript", record], absent),
                                 (2, ["audit", "--tree", bad, "--transcript", bad], bad),
                                 (2, ["audit", "--tree", start, "--transcript", bad], bad),
                                 (2, ["diff", start, bad], bad), (3, ["diff", absent, start], absent)):
         done = field.run(*words, "--json")
         said = objects(done)
-        if done.returncode != status or len(said) != 1 or said[0]["error"]["status"] != status or \
+        if done.returncode != wanted or len(said) != 1 or said[0]["error"]["status"] != wanted or \
                 said[0]["error"]["file"] != file or not done.stderr:
             yield f"{' '.join(words)!r}: {done.returncode}, {done.stdout!r}"

@@ -1,0 +1,111 @@
+"""The three ways to try edits in a copy of a crate: together, singly, and alone by the gate's command."""
+import os
+from collections.abc import Iterable, Iterator
+from contextlib import contextmanager
+from pathlib import Path
+
+from editing import verdicts
+from editing.blocks import Edit, EditsError
+from editing.commands import Commands
+from editing.functions import function_of
+
+# The edits that were refused, and why; or None if there was no time.
+Refusals = dict[Edit, str] | None
+
+
+def jobs() -> list[str]:
+    return ["--jobs", os.environ["RT_JOBS"]] if "RT_JOBS" in os.environ else []
+
+
+def groups(edits: Iterable[Edit], crate: Path) -> list[dict[str, Edit]]:
+    """Returns lists of edits of different functions, with these functions."""
+    found: list[dict[str, Edit]] = []
+    for edit in edits:
+        function = function_of(edit, crate)
+        if function is None:
+            continue
+        group = next((it for it in found if function not in it), None)
+        if group is None:
+            group = {}
+            found.append(group)
+        group[function] = edit
+    return found
+
+
+@contextmanager
+def applied(edits: Iterable[Edit], crate: Path) -> Iterator[dict[str, str]]:
+    """Applies edits to the files of a crate, and takes them back. An edit that does not apply is left out."""
+    texts: dict[str, str] = {}
+    for edit in edits:
+        try:
+            texts |= edit.applied(lambda file: texts.get(file) or (crate / file).read_text())
+        except EditsError:
+            continue
+    before = {file: (crate / file).read_bytes() for file in texts}
+    try:
+        for file, text in texts.items():
+            (crate / file).write_text(text)
+        yield texts
+    finally:
+        for file, data in before.items():
+            (crate / file).write_bytes(data)
+
+
+class Attempts:
+    """Tries edits of a crate in a copy of the repository, until a time."""
+
+    def __init__(self, commands: Commands, copy: Path, name: str, end: float | None):
+        self.commands, self.copy, self.name, self.end = commands, copy, name, end
+        self.crate = copy / "crates" / name
+
+    def check(self, *words: str) -> list[str] | None:
+        return self.commands.run_until(["rt", "check", *jobs(), *words], self.crate, self.end)
+
+    def together(self, group: dict[str, Edit]) -> Refusals:
+        """Tries edits of different functions in one check."""
+        with applied(group.values(), self.crate):
+            lines = self.check(*(word for it in group for word in ("--only", verdicts.short(it))))
+            broken = verdicts.broken_files(lines or [])
+            if lines and not broken and not verdicts.is_tried(lines):
+                # a name that does not fit one function alone
+                lines = self.check()
+        if lines is None:
+            return None
+        if broken:
+            left = {function: edit for function, edit in group.items() if not broken & edit.files()}
+            return self.together(left) if left and len(left) < len(group) else {}
+        whys = {edit: verdicts.refused_in(lines, function) for function, edit in group.items()}
+        return {edit: why for edit, why in whys.items() if why}
+
+    def singly(self, edits: list[Edit]) -> Refusals:
+        """Tries edits one by one, each in a check of the whole crate, which goes on from the one before. Without the
+        edits the crate has to be proved, or none is tried."""
+        found: dict[Edit, str] = {}
+        lines = self.check()
+        if lines is None:
+            return None
+        if not verdicts.is_proved(lines):
+            return found
+        for edit in edits:
+            with applied([edit], self.crate) as texts:
+                lines = self.check() if texts else []
+            if lines is None:
+                return None
+            if why := verdicts.refused_by(lines):
+                found[edit] = why
+        return found
+
+    def alone(self, edits: list[Edit]) -> Refusals:
+        """Tries edits one by one by the gate's command."""
+        folder = self.crate / "must-fail"
+        folder.mkdir(exist_ok=True)
+        for edit in edits:
+            (folder / edit.file_name).write_text(edit.text)
+        lines = self.commands.run_until(["rt", "must-fail", self.name], self.copy, self.end)
+        if lines is None:
+            return None
+        for line in lines:
+            if ": refused, as it must be" not in line:
+                print(line, flush=True)
+        refused = verdicts.refused_alone(lines, self.name)
+        return {edit: refused[edit.file_name] for edit in edits if edit.file_name in refused}

@@ -1,0 +1,26 @@
+"""What `packaging/` writes that does not depend on the program."""
+import os
+import sys
+import unittest
+from datetime import datetime, timezone
+from pathlib import Path
+from unittest import mock
+
+sys.dont_write_bytecode = True
+sys.path.insert(0, str(Path(__file__).resolve().parents[2] / "packaging"))
+import mdoc
+
+
+class Dates(unittest.TestCase):
+    def test_page_has_the_date_that_is_given(self):
+        with mock.patch.dict(os.environ, SOURCE_DATE_EPOCH="90000"):
+            self.assertEqual(mdoc.page_date(), "January 2, 1970")
+
+    def test_page_has_the_date_of_the_changes_without_git(self):
+        changed = datetime.fromtimestamp((mdoc.TOP / "CHANGELOG.md").stat().st_mtime, timezone.utc)
+        with mock.patch.dict(os.environ, SOURCE_DATE_EPOCH="", PATH="/nowhere"):
+            self.assertEqual(mdoc.page_date(), changed.strftime("%B %-d, %Y"))
+
+
+if __name__ == "__main__":
+    unittest.main()

@@ -1,0 +1,1 @@
+"""What the test scripts of clients/ and fuzz/ share: steps, and trials in parts."""

@@ -1,0 +1,114 @@
+"""The text of packets as cases have it (docs/CASES.md)."""
+import re
+import struct
+
+from sftp3.packets import CLIENT, FLAGS, LAYOUTS, SIDES
+
+
+def text_of_bytes(text):
+    """Bytes in quotes; what repeats often is `"x"*1000`, and texts with nothing between them are one."""
+    parts, start, at = [], 0, 0
+    while at < len(text):
+        length, count = max(((it, repeats(text, at, it)) for it in (1, 2)), key=lambda it: it[0] * it[1])
+        if length * count >= 20:
+            if start < at:
+                parts.append(quoted(text[start:at]))
+            parts.append(f"{quoted(text[at:at + length])}*{count}")
+            at += length * count
+            start = at
+        else:
+            at += 1
+    if start < len(text) or not parts:
+        parts.append(quoted(text[start:]))
+    return "".join(parts)
+
+
+def repeats(text, at, length):
+    """How many times the bytes of this length at a place stand there, one after the other."""
+    part, count = text[at:at + length], 0
+    while len(part) == length and text[at + count * length:at + (count + 1) * length] == part:
+        count += 1
+    return count
+
+
+def quoted(text):
+    shown = "".join(chr(it) if 0x20 <= it <= 0x7e and it not in b'"\\' else f"\\x{it:02x}" for it in text)
+    return f'"{shown}"'
+
+
+def text_of_pairs(pairs, separator):
+    return separator.join(f"{text_of_bytes(name)}={text_of_bytes(data)}" for name, data in pairs)
+
+
+def text_of_handle(handle):
+    """A handle as `serve` names them is `#SLOT.SERIAL`, or `#N` if both are N."""
+    if len(handle) == 12:
+        slot, serial = struct.unpack(">QI", handle)
+        return f"#{slot}" if slot == serial else f"#{slot}.{serial}"
+    return text_of_bytes(handle)
+
+
+def text_of_flags(flags):
+    names = "|".join(name for name, bit in FLAGS.items() if flags & bit)
+    return names if flags and not flags & ~63 else str(flags)
+
+
+def words_of_attributes(attributes):
+    words = []
+    if "size" in attributes:
+        words.append(f"size={attributes['size']}")
+    if "owner" in attributes:
+        words.append("owner=%d,%d" % attributes["owner"])
+    if "permissions" in attributes:
+        words.append(f"permissions=0{attributes['permissions']:o}")
+    if "times" in attributes:
+        words.append("times=%d,%d" % attributes["times"])
+    if "extended" in attributes:
+        words.append(f"extended={text_of_pairs(attributes['extended'], ',')}")
+    return words
+
+
+def words_of_status(code, message, language):
+    return [str(code), *(text_of_bytes(it) for it in (message, language) if message or language)]
+
+
+def words_of_names(items):
+    texts = [" ".join([text_of_bytes(name), text_of_bytes(long), *words_of_attributes(it)]) for name, long, it in items]
+    return ["; ".join(texts)] if texts else []
+
+
+def words_of_field(field, value):
+    if field == "flags":
+        return [text_of_flags(value)]
+    if field == "handle":
+        return [text_of_handle(value)]
+    if field == "attributes":
+        return words_of_attributes(value)
+    if field == "names":
+        return words_of_names(value)
+    if field == "pairs":
+        return [text_of_pairs(value, " ")] if value else []
+    return [text_of_bytes(value) if isinstance(value, bytes) else str(value)]
+
+
+def text_of(packet):
+    """The line of a packet."""
+    side = "C" if packet.name in SIDES[CLIENT] else "S"
+    words = [side, *([] if packet.number is None else [str(packet.number)]), packet.name]
+    if packet.name == "STATUS":
+        return " ".join(words + words_of_status(*packet.fields))
+    for field, value in zip(LAYOUTS[packet.name][1].split(), packet.fields):
+        words += words_of_field(field, value)
+    return " ".join(words)
+
+
+def lines_of(line):
+    """A line below a block: indented, and cut at spaces outside of quotes where it would be too long."""
+    lines, current = [], "  "
+    for word in re.findall(r'(?:[^" ]|"[^"]*")+', line):
+        if current.strip() and len(current) + 1 + len(word) > 120:
+            lines.append(current)
+            current = "        " + word
+        else:
+            current += word if not current.strip() else " " + word
+    return [*lines, current]
