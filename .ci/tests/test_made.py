@@ -1,0 +1,139 @@
+"""What `.ci/pages` finds in cases that are lost, in an index that is old, and in promises that nothing makes. Expected
+values are written by hand."""
+import sys
+import tempfile
+import unittest
+from pathlib import Path
+from unittest import mock
+
+sys.dont_write_bytecode = True
+sys.path.insert(0, str(Path(__file__).resolve().parents[1]))
+import indexing
+import making
+from contracts import functions_of, head_of
+
+SOURCE = """//! Files that are counted, and
+//! no more. A second sentence.
+
+/// A count.
+pub trait Counts: Drop {
+    /// What is known.
+    ghost known: { Self → ℕ };
+
+    /// Counts one more: the count is one higher.
+    fn count(&mut self)
+        ensures counted { known self.new ≡ known self.old + 1 };
+}
+
+impl<'a> Files<'a> {
+    /// How many files there are.
+    #[inline]
+    pub fn len(&self) -> u64
+        requires { True }
+        ensures { result ≡ length self }
+    {
+        ensures_nothing();
+        self.len
+    }
+
+    pub(crate) fn hidden(&self)
+        ensures kept { self.new ≡ self.old }
+    {
+    }
+}
+
+/// Reads.
+pub fn read(bytes: &[u8]) -> Option<u8>
+    // What is read is there.
+    ensures found { IfSome result (λ it.
+        it ∈ bytes) }
+    ensures none { result ≡ None }
+{
+    bytes.first()
+}
+"""
+CASES = b"# Made.\n\ncase one\n  C 1 CLOSE\n\ncase two\n"
+
+
+class Sources(unittest.TestCase):
+    def setUp(self):
+        room = tempfile.TemporaryDirectory()
+        self.addCleanup(room.cleanup)
+        self.file = Path(room.name, "counts.rt")
+        self.file.write_text(SOURCE)
+
+    def test_head_is_the_first_sentence(self):
+        self.assertEqual(head_of(self.file), "Files that are counted, and no more")
+
+    def test_functions_have_their_types_and_clauses(self):
+        found = [(it.title(), it.is_public, [name for name, _ in it.clauses]) for it in functions_of(self.file)]
+        self.assertEqual(found, [("Counts::known", False, []), ("Counts::count", True, ["counted"]),
+                                 ("Files::len", True, [""]), ("Files::hidden", False, ["kept"]),
+                                 ("read", True, ["found", "none"])])
+
+    def test_entry_names_public_functions_alone(self):
+        self.assertEqual(indexing.entry(self.file, self.file.parent),
+                         ["- `counts.rt`: Files that are counted, and no more. `Counts::count` (`counted`), "
+                          "`Files::len`, `read` (`found`, `none`)."])
+
+
+class Index(unittest.TestCase):
+    def test_index_that_is_old_is_found(self):
+        with tempfile.TemporaryDirectory() as room, mock.patch.object(indexing, "TOP", Path(room)), \
+                mock.patch.object(indexing, "INDEX", Path(room, "README.md")), \
+                mock.patch.object(indexing, "made_index", return_value="new\n"):
+            self.assertEqual(len(list(indexing.wrong_index())), 1)
+            indexing.write_index()
+            self.assertEqual(list(indexing.wrong_index()), [])
+            Path(room, "README.md").write_text("old\n")
+            self.assertEqual(len(list(indexing.wrong_index())), 1)
+
+    def test_names_that_no_source_has_are_found(self):
+        page = "\n".join([
+            "## `sftp_wire`", "", "| function | clause | meaning |", "|---|---|---|",
+            "| `front` | `exact`, `exacter` | x |", "| | `only` | x |", "| `fronts` | | x |", "",
+            "| ended | what |", "|---|---|", "| `Nothing` | x |", ""])
+        with tempfile.TemporaryDirectory() as room:
+            file = Path(room, "PROMISES.md")
+            file.write_text(page)
+            with mock.patch.object(indexing, "PROMISES", file):
+                found = list(indexing.wrong_promises())
+        self.assertEqual(found, ["docs/PROMISES.md:5: no clause exacter of `front`",
+                                 "docs/PROMISES.md:7: sftp_wire has no function fronts"])
+
+
+class Cases(unittest.TestCase):
+    def wrong(self, line, text=CASES, status=0):
+        return list(making.wrong_text(making.Made(line), text, status))
+
+    def test_cases_as_listed(self):
+        self.assertEqual(self.wrong(f"a.cases 2 6 {making.hash_of(CASES)} lists 1"), [])
+
+    def test_case_that_is_lost(self):
+        self.assertEqual(self.wrong(f"a.cases 3 9 {making.hash_of(CASES)} lists 1 2"),
+                         ["models/lists 1 2: it prints 2 cases in 6 lines, not 3 in 9"])
+
+    def test_line_that_is_another(self):
+        found = self.wrong(f"a.cases 2 6 {making.hash_of(CASES)} lists 1", CASES.replace(b"1", b"2"))
+        self.assertEqual(len(found), 1)
+
+    def test_stored_file_that_is_another(self):
+        found = self.wrong("types.cases 2 6 stored types")
+        self.assertEqual(found, ["models/types: this is not what is in crates/sftp_cases/data/types.cases"])
+
+    def test_script_that_fails(self):
+        self.assertEqual(self.wrong("a.cases 2 6 00 lists", b"", 2), ["models/lists: it ended with status 2"])
+
+    def test_script_without_stored_cases(self):
+        table = [it for it in making.lines_of_table() if not (it.is_stored and it.script == "moves")]
+        self.assertEqual(list(making.wrong_table(table)), ["models/made.txt: no stored file of models/moves"])
+
+    def test_program_that_fails_is_reported(self):
+        made = making.Made("a.cases 2 6 00 lists 1")
+        found = making.run_cases("/bin/false", made, CASES)
+        self.assertEqual(found, ["models/lists 1: /bin/false ended with status 1"])
+        self.assertEqual(len(making.run_cases("/bin/true", made, CASES)), 1)
+
+
+if __name__ == "__main__":
+    unittest.main()
