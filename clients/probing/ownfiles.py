@@ -26,8 +26,8 @@ def names_in(packet):
     fields = sftp3.Fields(packet[4:])
     if fields.byte() != sftp3.NAME:
         return
-    fields.word()
-    for _ in range(fields.word()):
+    fields.uint32()
+    for _ in range(fields.uint32()):
         yield fields.string()
         fields.string()
         fields.attributes()
