@@ -61,8 +61,10 @@ def wrong_shell(names: list[str]) -> Iterator[str]:
 
 
 def wrong_tests() -> list[str]:
-    """Runs the tests in .ci/tests, which need neither the program nor the prover."""
-    return said([sys.executable, "-B", "-m", "unittest", "discover", "-s", ".ci/tests"])
+    """Runs the tests in .ci/tests and clients/test-sftp3, which need neither the program nor the prover."""
+    of_codec = said([sys.executable, "-B", "clients/test-sftp3"])
+    return [*said([sys.executable, "-B", "-m", "unittest", "discover", "-s", ".ci/tests"]),
+            *(f"clients/test-sftp3: {it}" for it in of_codec if not it.startswith("ok: "))]
 
 
 def skipped() -> Iterator[str]:

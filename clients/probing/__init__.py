@@ -1,6 +1,6 @@
 """The parts of clients/probe. In the order in which they are used:
 
-trees       tree files: reading, writing, the tree that a probe starts from
+starting    the tree that a probe starts from
 model       what the planner believes the server's tree to be
 spelling    many paths that lead to one place
 plans       the steps of a plan; contents: the bytes in them
@@ -27,6 +27,5 @@ planted     servers with bugs, for clients/test-probe
 faults      servers with one fault each, for clients/test-probe-faults: faulty_writes, faulty_reads, faulty_names,
             faulty_replies and faulty_order have them, faulty what they are made of
 misbehaving servers that end, hang and are late, for clients/test-probe-runs
-steps       the steps of a test script
 mutated     mistakes in sessions that are right, for clients/test-profiles
 """

@@ -1,4 +1,4 @@
-"""Counts what holds and what does not; starts recorders, and waits for processes to end."""
+"""Starts recorders, and waits for processes to end."""
 import os
 import subprocess
 import sys
@@ -14,26 +14,6 @@ RECORD = os.environ.get("RECORD", str(TOP / "clients/record"))
 STUB = str(TOP / "clients/record_trials/stub.py")
 PROGRAM = os.environ.get("SFTPV3", str(TOP / "out/sftpv3"))
 INIT = sftp3.init()
-
-
-class Steps:
-    """Counts the steps, and prints a line for each."""
-
-    def __init__(self):
-        self.passed = self.failed = self.skipped = 0
-
-    def check(self, name, holds, why=""):
-        if holds:
-            self.passed += 1
-            print(f"ok: {name}", flush=True)
-        else:
-            self.failed += 1
-            print(f"FAILED: {name}{': ' if why else ''}{why}", flush=True)
-        return holds
-
-    def skip(self, name, why):
-        self.skipped += 1
-        print(f"skipped: {name}: {why}", flush=True)
 
 
 class Room:

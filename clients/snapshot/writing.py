@@ -1,14 +1,12 @@
 """The tree file (docs/FORMATS.md) of what a view has, written entry by entry."""
 import os
 import stat
-import struct
 from typing import BinaryIO, Callable, Dict, NamedTuple, Tuple
 
+from sftp3 import trees
+from sftp3.trees import HIGHEST, LONGEST_NAME, USUAL, text_of
 from snapshot.looking import Entry, Trouble, is_mounted_over, kind, shown
 from snapshot.places import View
-
-# docs/TREE.md, Limits: entries, bytes of a file, bytes that one READ gives, open handles.
-USUAL, RAISED = (65536, 16777216, 32768, 256), (1048576, 67108864, 65536, 1024)
 
 PIECE = 1 << 20
 
@@ -66,13 +64,13 @@ class Needs:
                 if (entry.state.st_dev, entry.state.st_ino) not in counted:
                     counted.add((entry.state.st_dev, entry.state.st_ino))
                     self.bytes += entry.state.st_size
-                if entry.state.st_size > RAISED[1]:
+                if entry.state.st_size > HIGHEST[1]:
                     raise Trouble(f"{shown(entry.place)}: {entry.state.st_size} bytes; a file of a tree has at most "
-                                  f"{RAISED[1]}")
+                                  f"{HIGHEST[1]}")
         if refused:
             raise Trouble(f"{refused} sockets, FIFOs or devices, which no tree holds")
-        if self.entries > RAISED[0]:
-            raise Trouble(f"{self.entries} entries; a tree has at most {RAISED[0]}")
+        if self.entries > HIGHEST[0]:
+            raise Trouble(f"{self.entries} entries; a tree has at most {HIGHEST[0]}")
 
     def check_room(self, file: BinaryIO, most: int) -> None:
         """Refuses what a sparse file may pretend to have, before anything is written."""
@@ -88,19 +86,11 @@ class Needs:
         lowest = tuple(map(max, USUAL, (self.entries, self.largest, 0, 0)))
         if wanted == "usual" and lowest != USUAL:
             raise Trouble(f"{self.entries} entries and a file of {self.largest} bytes need more than the usual limits")
-        return {"usual": USUAL, "raised": RAISED, "fit": lowest}[wanted]
+        return {"usual": USUAL, "raised": HIGHEST, "fit": lowest}[wanted]
 
 
-def numbers(*values: int) -> bytes:
-    return struct.pack(f">{len(values)}I", *values)
-
-
-def string(data: bytes) -> bytes:
-    return numbers(len(data)) + data
-
-
-def owner_of(state: os.stat_result) -> bytes:
-    return numbers(state.st_uid, state.st_gid, stat.S_IMODE(state.st_mode))
+def owner_of(state: os.stat_result) -> Tuple[int, int, int]:
+    return state.st_uid, state.st_gid, stat.S_IMODE(state.st_mode)
 
 
 class Writer:
@@ -111,44 +101,37 @@ class Writer:
         self.first: Dict[Tuple[int, int], int] = {}
 
     def head(self, view: View, owner: Owner, limits: Tuple[int, ...], count: int) -> None:
-        of_its_own = () if limits == USUAL else limits
-        self.file.write(b"SFTREE02" if of_its_own else b"SFTREE01")
-        self.file.write(string(owner.home) + numbers(owner.user, owner.group, *of_its_own, count))
-        self.file.write(owner_of(view.root_state()))
+        made_by = owner.user, owner.group
+        self.file.write(trees.head(owner.home, made_by, limits, count, owner_of(view.root_state())))
 
     def put(self, entry: Entry) -> None:
         self.count += 1
-        self.file.write(string(b"/" + b"/".join(entry.place)))
+        path = text_of(entry.place)
         if stat.S_ISDIR(entry.state.st_mode):
-            self.file.write(b"D" + owner_of(entry.state))
+            self.file.write(trees.directory(path, owner_of(entry.state)))
         elif stat.S_ISLNK(entry.state.st_mode):
-            self.file.write(b"L" + string(target_of(entry)))
-        elif kind(entry):
-            self.put_empty(entry)
-        else:
-            self.put_file(entry)
+            self.file.write(trees.link(path, target_of(entry)))
+        elif not self.is_further_name(entry, path):
+            self.put_file(entry, path)
 
-    def is_further_name(self, entry: Entry) -> bool:
+    def is_further_name(self, entry: Entry, path: bytes) -> bool:
         """Whether the file has a name already; this one is then written as a further name."""
         number = self.first.setdefault((entry.state.st_dev, entry.state.st_ino), self.count)
         if number != self.count:
-            self.file.write(b"H" + numbers(number))
+            self.file.write(trees.further(path, number))
         return number != self.count
 
-    def put_empty(self, entry: Entry) -> None:
-        """An empty file in the place of a socket, a FIFO or a device, which is not opened."""
-        if not self.is_further_name(entry):
-            self.file.write(b"F" + owner_of(entry.state) + string(b""))
-
-    def put_file(self, entry: Entry) -> None:
-        if self.is_further_name(entry):
+    def put_file(self, entry: Entry, path: bytes) -> None:
+        """A file; in the place of a socket, a FIFO or a device, which is not opened, an empty one."""
+        if kind(entry):
+            self.file.write(trees.file_of(path, owner_of(entry.state), 0))
             return
         held = os.open(entry.name, os.O_RDONLY | os.O_NOFOLLOW | os.O_NONBLOCK, dir_fd=entry.directory)
         with open(held, "rb", buffering=0) as source:
             state = os.fstat(held)
             if not stat.S_ISREG(state.st_mode) or state.st_size != entry.state.st_size:
                 raise changed(entry)
-            self.file.write(b"F" + owner_of(state) + numbers(state.st_size))
+            self.file.write(trees.file_of(path, owner_of(state), state.st_size))
             self.copy(source, entry)
 
     def copy(self, source, entry: Entry) -> None:
@@ -166,8 +149,9 @@ def target_of(entry: Entry) -> bytes:
     """The target of a link. docs/TREE.md: a good path has no name of more than 255 bytes."""
     target = os.readlink(entry.name, dir_fd=entry.directory)
     target = os.fsencode(target)
-    if not target or any(len(name) > 255 for name in target.split(b"/")):
-        raise Trouble(f"{shown(entry.place)}: the link's target is empty or has a name of more than 255 bytes")
+    if not target or any(len(name) > LONGEST_NAME for name in target.split(b"/")):
+        raise Trouble(f"{shown(entry.place)}: the link's target is empty or has a name of more than {LONGEST_NAME} "
+                      "bytes")
     return target
 
 

@@ -5,9 +5,10 @@ import re
 import shutil
 import subprocess
 
+import sftp3
 from attacking.ground import attack
 from attacking.saving import OPENED, TOP
-from sftp3 import CLIENT, SERVER, Request, encode, init, put_records, status, version
+from sftp3 import CLIENT, SERVER, Request, encode, init, put_records, version
 from sftp3.trees import DIRECTORY, Entry, Tree, put
 
 # Names that a shell or make would act on, in several of their contexts.
@@ -73,7 +74,7 @@ def a_name_runs_in_a_makefile(field):
 
 
 SESSION = [(CLIENT, init()), (SERVER, version(3, [])),
-           (CLIENT, encode(Request(1, "STAT", [b"/\x01\xff\"\\\n"]))), (SERVER, status(1, 0, b"\x1b[2J\xff"))]
+           (CLIENT, encode(Request(1, "STAT", [b"/\x01\xff\"\\\n"]))), (SERVER, sftp3.status(1, 0, b"\x1b[2J\xff"))]
 NAMES = [b"\x01", b'"', b"\\", b"\n", b"\x7f", b"\xc3\xa9", b"\xed\xa0\x80", b"\xff", b"\xc0\xaf"]
 
 
