@@ -2,7 +2,6 @@
 of docs/PROMISES.md: that each function and each clause that a table of it names is there."""
 import re
 import textwrap
-from pathlib import Path
 
 from contracts import functions_of, head_of
 from crates import Crates
@@ -12,8 +11,10 @@ INDEX, PROMISES = TOP / "crates/README.md", TOP / "docs/PROMISES.md"
 HEAD = """# The files of the crates
 
 Each file with the first sentence of its own comment, and its public functions that have a contract, with the names of
-their clauses; a function without names in brackets has one clause. `.ci/pages --write` makes this page, and `.ci/pages`
-compares it. [ARCHITECTURE.md](../docs/ARCHITECTURE.md) says how the crates stand on each other, and
+their clauses; a function without names in brackets has one clause. The files of `specs` come in the order of
+`specs/Lib.antt`, and the subjects of the proofs, which are files and folders, in that of `proofs/Lib.antt`: each builds
+on those before it. `.ci/pages --write` makes this page, and `.ci/pages` compares it.
+[ARCHITECTURE.md](../docs/ARCHITECTURE.md) says how the crates stand on each other, and
 [PROMISES.md](../docs/PROMISES.md) what the promises come to.
 """
 COLUMNS = 120
@@ -40,15 +41,24 @@ def shown(functions):
 def entry(file, folder):
     """Returns the lines of a file."""
     promises = shown(functions_of(file)) if file.suffix == ".rt" else ""
-    text = f"`{file.relative_to(folder)}`: {head_of(file) or 'no comment'}.{promises}"
+    head = head_of(file) or ", ".join(f"`{it}`" for it in modules_of(file))
+    text = f"`{file.relative_to(folder)}`: {head}.{promises}"
     return textwrap.wrap(text, COLUMNS, initial_indent="- ", subsequent_indent="  ", break_long_words=False,
                          break_on_hyphens=False)
 
 
+def modules_of(file):
+    """Returns the modules that a file of definitions or proofs has below it, in its order."""
+    names = re.findall(r"(?m)^pub mod (\w+)", file.read_text()) if file.is_file() else []
+    return [it for it in names if it != "Imports"]
+
+
 def files_of(folder):
-    """Returns the sources of a crate that say something of themselves: not the lists of modules of definitions."""
-    sources = [*sorted((folder / "src").rglob("*.rt")), *sorted((folder / "specs").rglob("*.antt"))]
-    return [it for it in sources if it.relative_to(folder) != Path("specs/Lib.antt")]
+    """Returns the sources of a crate: its code by name, then its definitions and the subjects of its proofs in the
+    order of their lists, in which each builds on those before it."""
+    listed = [folder / part / f"{name}.antt" for part in ("specs", "proofs")
+              for name in modules_of(folder / part / "Lib.antt")]
+    return [*sorted((folder / "src").rglob("*.rt")), *(it for it in listed if it.is_file())]
 
 
 def made_index():

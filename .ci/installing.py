@@ -5,13 +5,15 @@ import pwd
 import re
 import shutil
 import subprocess
-from pathlib import Path
 
 from texts import TOP
 
 # The scripts with texts of their own.
 SCRIPTS = ("sftpv3-nightly", "sftpv3-page", "sftpv3-probe", "sftpv3-record", "sftpv3-recordd", "sftpv3-serve",
            "sftpv3-tree", "sftpv3-walk")
+# What reads a part of what is installed, and which part that is.
+TOOLS = {"mandoc": "manual pages", "bash": "completions of bash", "zsh": "completions of zsh",
+         "dpkg-deb": "the Debian package", "lintian": "what is wrong with the Debian package"}
 INIT = bytes.fromhex("000000050100000003")
 
 
@@ -192,6 +194,13 @@ def wrong_package(program, room):
         printed = called(["lintian", "--allow-root", packages[0]], "")[1]
         if re.search("(?m)^[EW]: ", printed):
             yield f"install: lintian says of the package: {printed}"
+
+
+def skipped():
+    """Yields a line for each program that is not there, and what is therefore not checked."""
+    for name, part in TOOLS.items():
+        if not shutil.which(name):
+            yield f"{name} is not installed: not checked: {part}"
 
 
 def wrong_installation(program, room):

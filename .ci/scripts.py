@@ -8,6 +8,9 @@ from collections.abc import Iterator
 
 from crates import TOP
 
+# What reads scripts in Python for mistakes, not for their layout: the first of these that is installed.
+READERS = (["ruff", "check", "--quiet", "--isolated", "--no-cache", "--select", "E9,F"], ["pyflakes3"], ["pyflakes"])
+
 
 def scripts(names: list[str], kind: str) -> list[str]:
     """Returns the scripts whose first line names an interpreter of this kind, and for Python its modules."""
@@ -24,12 +27,28 @@ def said(words: list[str]) -> list[str]:
     return lines if ran.returncode else []
 
 
+def reader() -> list[str]:
+    """Returns the command that reads scripts in Python, or nothing if none is installed."""
+    return next((it for it in READERS if shutil.which(it[0])), [])
+
+
+def is_meant(mistake: str) -> bool:
+    """Returns whether the line of a mistake is marked by `noqa`, which ruff heeds and pyflakes does not know."""
+    place = re.match(r"([^:]+):(\d+):", mistake)
+    return bool(place) and "# noqa" in (TOP / place[1]).read_text().splitlines()[int(place[2]) - 1]
+
+
 def wrong_python(names: list[str]) -> Iterator[str]:
-    for name in scripts(names, "python"):
+    found = scripts(names, "python")
+    wrong = False
+    for name in found:
         try:
             compile((TOP / name).read_text(errors="replace"), name, "exec")
         except SyntaxError as error:
+            wrong = True
             yield f"{name}:{error.lineno}: {error.msg}"
+    if found and reader() and not wrong:
+        yield from (it for it in said([*reader(), *found]) if not is_meant(it))
 
 
 def wrong_shell(names: list[str]) -> Iterator[str]:
@@ -48,5 +67,7 @@ def wrong_tests() -> list[str]:
 
 def skipped() -> Iterator[str]:
     """Yields a line for each program that is not there, and what is therefore not checked."""
+    if not reader():
+        yield "neither ruff nor pyflakes is installed: of scripts in Python only the syntax is checked"
     if not shutil.which("shellcheck"):
         yield "shellcheck is not installed: of shell scripts only the syntax is checked"

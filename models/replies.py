@@ -319,7 +319,7 @@ class Session:
         return {other[-1]: self.tree.shown(other) for other in self.tree.nodes if other and other[:-1] == place}
 
     def close(self, handle):
-        it = self.open.pop(handle)
+        self.open.pop(handle)
         if len(handle) == 12:
             self.free_slots.append(int.from_bytes(handle[:8], "big"))
 

@@ -89,9 +89,10 @@ class Index(unittest.TestCase):
             self.assertEqual(len(list(indexing.wrong_index())), 1)
 
     def test_names_that_no_source_has_are_found(self):
-        page = ("## `sftp_wire`\n\n| function | clause | meaning |\n|---|---|---|\n"
-                "| `front` | `exact`, `exacter` | x |\n"
-                "| | `only` | x |\n| `fronts` | | x |\n\n| ended | what |\n|---|---|\n| `Nothing` | x |\n")
+        page = "\n".join([
+            "## `sftp_wire`", "", "| function | clause | meaning |", "|---|---|---|",
+            "| `front` | `exact`, `exacter` | x |", "| | `only` | x |", "| `fronts` | | x |", "",
+            "| ended | what |", "|---|---|", "| `Nothing` | x |", ""])
         with tempfile.TemporaryDirectory() as room:
             file = Path(room, "PROMISES.md")
             file.write_text(page)
@@ -113,7 +114,8 @@ class Cases(unittest.TestCase):
                          ["models/lists 1 2: it prints 2 cases in 6 lines, not 3 in 9"])
 
     def test_line_that_is_another(self):
-        self.assertEqual(len(self.wrong(f"a.cases 2 6 {making.hash_of(CASES)} lists 1", CASES.replace(b"1", b"2"))), 1)
+        found = self.wrong(f"a.cases 2 6 {making.hash_of(CASES)} lists 1", CASES.replace(b"1", b"2"))
+        self.assertEqual(len(found), 1)
 
     def test_stored_file_that_is_another(self):
         found = self.wrong("types.cases 2 6 stored types")
@@ -128,8 +130,8 @@ class Cases(unittest.TestCase):
 
     def test_program_that_fails_is_reported(self):
         made = making.Made("a.cases 2 6 00 lists 1")
-        wrong = making.run_cases("/bin/false", made, CASES)
-        self.assertEqual(wrong, ["models/lists 1: /bin/false ended with status 1"])
+        found = making.run_cases("/bin/false", made, CASES)
+        self.assertEqual(found, ["models/lists 1: /bin/false ended with status 1"])
         self.assertEqual(len(making.run_cases("/bin/true", made, CASES)), 1)
 
 

@@ -29,6 +29,14 @@ class Scripts(unittest.TestCase):
         # no script
         self.assertEqual(list(scripts.wrong_python(self.script("print(1\n"))), [])
 
+    @unittest.skipUnless(scripts.reader(), "neither ruff nor pyflakes is installed")
+    def test_reads_names_of_python(self):
+        wrong = list(scripts.wrong_python(self.script("#!/usr/bin/env python3\nimport os\nprint(here)\n")))
+        self.assertIn("os", wrong[0])
+        self.assertTrue(any("here" in it for it in wrong))
+        marked = self.script("#!/usr/bin/env python3\nimport os  # noqa: F401 (others have it from here)\n")
+        self.assertEqual(list(scripts.wrong_python(marked)), [])
+
     def test_reads_the_syntax_of_shell(self):
         self.assertEqual(list(scripts.wrong_shell(self.script("#!/bin/sh\nif true; then echo; fi\n"))), [])
         wrong = self.script("#!/bin/sh\nif true; then echo\n")
@@ -44,7 +52,8 @@ class Scripts(unittest.TestCase):
     def test_says_what_is_not_there(self):
         with mock.patch.object(shutil, "which", lambda _: None):
             self.assertEqual([it.partition(":")[0] for it in scripts.skipped()],
-                             ["shellcheck is not installed"])
+                             ["neither ruff nor pyflakes is installed", "shellcheck is not installed"])
+            self.assertEqual(list(scripts.wrong_python(self.script("#!/usr/bin/env python3\nimport os\n"))), [])
 
 
 if __name__ == "__main__":

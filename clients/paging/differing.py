@@ -100,7 +100,7 @@ def dump(byte, reply):
                  for place, one in enumerate(part)]
         text = safe("".join(chr(one) if 32 <= one < 127 else "." for one in part))
         rows.append(f'<span class="at">{start + at:6}</span>  {" ".join(cells)}{"   " * (8 - len(part))}  {text}')
-    return f'<pre class="dump" tabindex="0" aria-label="bytes of the packet found">' + "\n".join(rows) + "</pre>"
+    return '<pre class="dump" tabindex="0" aria-label="bytes of the packet found">' + "\n".join(rows) + "</pre>"
 
 
 def of_session(name, shown, kind, is_first, whole, around):

@@ -3,7 +3,7 @@
     python3 clients/probing/faults.py FAULT COMMAND [ARGUMENT ...]
 
 runs the command, a sound server, and stands between it and the client; `python3 clients/probing/faults.py` lists the
-faults. docs/PROBE.md has the table of them, and what finds each.
+faults. docs/PROBE.md says what finds each.
 """
 import os
 import sys
@@ -13,7 +13,7 @@ sys.path.insert(0, os.path.dirname(os.path.dirname(os.path.realpath(__file__))))
 from probing import (  # noqa: E402 (the folder above is not searched before)
     faulty, faulty_names, faulty_order, faulty_reads, faulty_replies, faulty_writes, planted)
 
-# The faults by their names, in the order of the table in docs/PROBE.md.
+# The faults by their names, in the order of docs/PROBE.md.
 FAULTS = {fault.__name__.replace("_", "-"): fault
           for module in (faulty_writes, faulty_reads, faulty_names, faulty_replies, faulty_order)
           for fault in module.FAULTS}

@@ -5,6 +5,7 @@ import textwrap
 
 import sftp3
 from probing import features, files, program, refusals, sessions, shrinking, verdicts
+from recording.complaints import Parser
 
 # The exit statuses: all sessions were accepted; there are differences; the command line is wrong, or plans nothing; the
 # server, the command of --reset or the program could not be started; no difference was found, and not all was played.
@@ -96,7 +97,7 @@ def parser(about):
     causes = ", ".join(sorted(refusals.CAUSES))
     names = f"names of requests, as in docs/FORMATS.md, of causes ({causes}), and of features:"
     known = [f"  {name:<15} {text}" for name, text in features.FEATURES.items()]
-    found = program.Parser(
+    found = Parser(
         prog=program.called("probe"), usage=f"{program.called('probe')} [OPTIONS] -- COMMAND [ARGUMENT ...]",
         formatter_class=argparse.RawDescriptionHelpFormatter, description=about,
         epilog="\n".join(textwrap.wrap("--skip takes " + names, 120) + known))

@@ -1,5 +1,4 @@
 """Finds the program `sftpv3`: in the repository, where ./sftpv3 builds it, or installed, beside these modules."""
-import argparse
 import os
 import subprocess
 import sys
@@ -45,18 +44,11 @@ def called(name):
 
 
 def say(text, stream=None):
-    """Prints a text that may have words of a server or of a file: no sign of it does anything to a terminal."""
-    print(packets.clean(str(text)), file=stream or sys.stdout, flush=True)
-
-
-class Parser(argparse.ArgumentParser):
-    """A parser whose complaints show names of files as one line."""
-
-    def error(self, message):
-        super().error(packets.line(message))
+    """Prints a line that may have words of a server or of a file: no sign of it does anything to a terminal."""
+    print(packets.line(str(text)), file=stream or sys.stdout, flush=True)
 
 
 def complain(name, why, status):
     """Says in a line why a command of clients/ ends, and gives the status."""
-    say(packets.line(f"{os.path.basename(called(name))}: {why}"), sys.stderr)
+    say(f"{os.path.basename(called(name))}: {why}", sys.stderr)
     return status

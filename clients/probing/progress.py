@@ -9,9 +9,9 @@ PAUSE = 10
 class Progress:
     """A line on a terminal that is always the latest; elsewhere a line every ten seconds."""
 
-    def __init__(self, stream=sys.stderr, pause=PAUSE):
-        self.stream, self.pause = stream, pause
-        self.terminal = stream.isatty()
+    def __init__(self, stream=None, pause=PAUSE):
+        self.stream, self.pause = stream or sys.stderr, pause
+        self.terminal = self.stream.isatty()
         self.last = time.monotonic()
 
     def say(self, text):

@@ -47,7 +47,8 @@ def seeds_of(group):
 
 
 def print_group(number, group):
-    program.say(f"\n{number}. {group.title()}")
+    program.say("")
+    program.say(f"{number}. {group.title()}")
     for line in group.text():
         program.say(f"   {line}")
     seeds = f"{group.count} in {len(group.seeds)} sessions, first in seed {group.seeds[0]}"

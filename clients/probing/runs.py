@@ -153,7 +153,7 @@ class Run:
             elif value is not None:
                 unknown.append(option)
         if unknown:
-            print(f"probe: this program audits strictly: it has no {', '.join(unknown)}", file=sys.stderr)
+            program.say(f"probe: this program audits strictly: it has no {', '.join(unknown)}", sys.stderr)
         return words
 
     def tasks(self):
@@ -244,9 +244,11 @@ class Run:
             reports.print_group(group.number, group)
         vain = len(self.tally.played) - self.tally.sessions
         if vain:
-            print(f"probe: in {vain} session{'s' if vain != 1 else ''} no request was played", file=sys.stderr)
+            program.say(f"probe: in {vain} session{'s' if vain != 1 else ''} no request was played", sys.stderr)
         if found or self.tally.left or not self.vain():
-            program.say(("\n" if found else "") + reports.summary(self.tally, found))
+            if found:
+                program.say("")
+            program.say(reports.summary(self.tally, found))
         if wrong:
             raise wrong[0]
 

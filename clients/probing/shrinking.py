@@ -1,7 +1,7 @@
 """The shortest session that still shows a difference: first the requests behind it go, and those that by a guess have
 nothing to do with it, then entries of the tree, then other requests. Each try is a session of its own; where replies
 race, several are played for one try. All groups share the time that there is; what is not shrunk is kept as it came."""
-from probing import groups, guessing, limits, sessions
+from probing import groups, guessing, limits
 from sftp3 import trees
 from probing.sessions import NotStarted, Stopped
 

@@ -6,7 +6,7 @@ from concurrent import futures
 
 from probing import sessions, verdicts
 from sftp3 import trees
-from probing.sessions import NotStarted, Session
+from probing.sessions import Session
 
 # For each worker, how many tasks are begun before the first of them is asked for its result.
 AHEAD = 8

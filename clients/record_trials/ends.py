@@ -129,6 +129,39 @@ def whole_sessions(steps, room):
                 ended(process, 5) == 0 and "saved" in errors(process))
 
 
+def goes_on(room, words, options, asked, is_there):
+    """How long a session goes on after the end of the client's input, or None if it goes on for over ten seconds. The
+    client takes all that comes as long as it `is_there`."""
+    process = room.stub("t", *words, options=["--overwrite", "--grace", "1", *options])
+    open_session(process)
+    process.stdin.write(asked)
+    reader = subprocess.Popen(["cat"], stdin=process.stdout, stdout=subprocess.DEVNULL)
+    close(process.stdout)
+    if not is_there:
+        reader.kill()
+    close(process.stdin)
+    since = time.monotonic()
+    status = ended(process, 10)
+    lasted = time.monotonic() - since
+    reader.kill(), reader.wait()
+    for it in stubs(room.folder):
+        os.kill(it, signal.SIGKILL)
+    return None if status is None else lasted
+
+
+def sending_servers(steps, room):
+    """What a server sends that nobody awaits gives it no time."""
+    stat = request(1, "STAT", b"/")
+    full = ["--log", "/dev/full"]
+    for words, options, asked in ((["floods"], [], b""), (["floods", "ignores"], [], stat), (["endless"], [], stat),
+                                  (["endless", "ignores"], full, stat), (["drips"], [], stat), (["leaves"], [], stat)):
+        for is_there in (True, False):
+            lasted = goes_on(room, words, options, asked, is_there)
+            steps.check(f"a server that {' and '.join(words)}, a client that {'reads on' if is_there else 'is gone'}: "
+                        "it ends within --grace", lasted is not None and lasted < 3,
+                        "it goes on" if lasted is None else f"{lasted:.1f} seconds")
+
+
 def room_record():
     from record_trials.steps import RECORD
     return RECORD
@@ -180,4 +213,4 @@ def sockets(steps, room):
 
 
 TRIALS = (vanishing_client, streams, pipes_alone, ending_servers, signals, ignored_signals, whole_sessions,
-          slow_client, sockets)
+          slow_client, sockets, sending_servers)

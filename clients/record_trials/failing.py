@@ -1,13 +1,12 @@
 """Full disks, long packets, lack of memory, commands that cannot run, code of the user."""
 import os
 import resource
-import signal
 import subprocess
 import time
 
 import sftp3
-from record_trials.ends import SOON, whole
-from record_trials.steps import INIT, RECORD, STUB, close, ended, errors, open_session, receive, request
+from record_trials.ends import whole
+from record_trials.steps import INIT, RECORD, STUB, request
 
 
 def run(room, *words, data=b"", **options):

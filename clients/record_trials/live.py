@@ -8,7 +8,6 @@ import subprocess
 import time
 from pathlib import Path
 
-import sftp3
 from record_trials.ends import SOON, whole
 from record_trials.failing import limited, run
 from record_trials.steps import INIT, PROGRAM, close, ended, errors, open_session, receive, request

@@ -5,7 +5,10 @@
                           closes-output: it closes that pipe after the VERSION and sleeps; ends: it ends after the
                           VERSION with status 7; dies: by SIGKILL there; wrong: its third reply has a wrong id;
                           late: it takes two seconds for each reply but the VERSION; saves: it works for two seconds
-                          after the end of its input and prints `saved` to standard error
+                          after the end of its input and prints `saved` to standard error; floods: after the end of
+                          its input it sends replies that nobody asked for, without end; endless: a packet without
+                          end, as part of which its reply to a STAT begins; drips: a byte of its reply to a STAT ten
+                          times a second; leaves: it ends, and a process that it leaves behind floods
 """
 import os
 import signal
@@ -62,6 +65,27 @@ def work(seconds):
         pass
 
 
+def go_on(piece, pause=0.0):
+    """Sends this without end, also if nobody takes it."""
+    signal.signal(signal.SIGPIPE, signal.SIG_IGN)
+    while True:
+        try:
+            write_all(piece)
+        except OSError:
+            time.sleep(0.01)
+        time.sleep(pause)
+
+
+def end_badly(words):
+    """What a word asks for once the input has ended."""
+    if "leaves" in words:
+        if os.fork():
+            os._exit(0)
+        os.setsid()
+    if {"floods", "leaves"} & set(words):
+        go_on(packet(101, bytes(16)))
+
+
 def main(words):
     if not {"stays", "ignores"} & set(words):
         signal.signal(signal.SIGPIPE, signal.SIG_DFL)
@@ -74,6 +98,11 @@ def main(words):
         if not request:
             break
         count += 1
+        if request[0] == 17 and "endless" in words:
+            go_on(b"\xff" * 4096)
+        if request[0] == 17 and "drips" in words:
+            write_all(bytes.fromhex("0003ffff65"))
+            go_on(b"x", 0.1)
         reply = answer(request)
         if "wrong" in words and count == 4:
             reply = reply[:5] + b"\xff\xff\xff\xfe" + reply[9:]
@@ -85,6 +114,7 @@ def main(words):
             break
         if count == 1:
             behave(words)
+    end_badly(words)
     if "saves" in words:
         work(2)
         print("saved", file=sys.stderr)

@@ -1,5 +1,6 @@
 """The parts of the recorder, clients/record, and of clients/recordd, each building on those before it:
 
+standard  the three standard descriptors
 hiding    keeps other processes of the user out
 packets   a stream of bytes as packets, one direction of a session
 plain     VERSION without extensions
@@ -11,9 +12,11 @@ sinks     where records go: files, pipes, a spool
 signals   the module `signal`, quickly imported
 server    the server's process: its start, its end, its status
 auditing  an audit that reads along
+awaiting  what the client of a session that ends still awaits
 sessions  the loop that passes packets on, and how it ends
 shares    what each user has of a spool
 keeping   the daemon that keeps records in a spool
 options   the commands
+complaints  about command lines
 parsers   their options, with help and complaints
 """

@@ -13,6 +13,7 @@ from recording.packets import OPENING
 from recording.server import NotStarted, start
 from recording.sessions import OWN_FAILURE, Session, Signals
 from recording.sinks import Failed, FileSink, SpoolSink, TimesSink
+from recording.standard import open_standard_files
 
 NAME = "sftpv3-record"
 
@@ -237,19 +238,9 @@ def record_session(options):
     return status
 
 
-def open_standard_files():
-    """Makes sure that 0, 1 and 2 are open, so that no file of ours becomes one of them."""
-    while True:
-        file = os.open(os.devnull, os.O_RDWR)
-        if file > 2:
-            os.close(file)
-            return
-
-
 def run(act, name):
     """Does the work of a program. No fault ends with a traceback, or with status 0."""
     try:
-        open_standard_files()
         return act()
     except MemoryError:
         write_error(f"{name}: out of memory\n")
@@ -261,6 +252,7 @@ def run(act, name):
 
 
 def record(words=None):
+    open_standard_files()
     return run(lambda: record_session(read_options(sys.argv[1:] if words is None else words)), NAME)
 
 
@@ -289,6 +281,7 @@ def keep_records(options):
 
 
 def recordd(words=None):
+    open_standard_files()
     from recording.parsers import daemon_parser
     options = daemon_parser().parse_args(words)
     return run(lambda: keep_records(options), "sftpv3-recordd")

@@ -1,6 +1,7 @@
 """The command lines of sftpv3-record and sftpv3-recordd: options, help and complaints, by argparse."""
 import argparse
 
+from recording.complaints import Parser
 from recording.options import AUDIT_FLAGS, AUDIT_MEMORY, AUDIT_VALUES, GRACE, NAME
 
 RECORD_NOTES = """\
@@ -48,7 +49,7 @@ def seconds(text):
 
 
 def record_parser():
-    parser = argparse.ArgumentParser(
+    parser = Parser(
         prog=NAME, allow_abbrev=False, formatter_class=argparse.RawDescriptionHelpFormatter, epilog=RECORD_NOTES,
         usage=f"{NAME} [OPTIONS] TRANSCRIPT COMMAND [ARGUMENT ...]\n"
               f"       {NAME} [OPTIONS] --spool SOCKET COMMAND [ARGUMENT ...]",
@@ -64,7 +65,8 @@ def record_parser():
     parser.add_argument("--log", metavar="FILE", help="append what is said to FILE, and the verdict of --audit")
     parser.add_argument("--syslog", action="store_true", help="say it to syslog, too")
     parser.add_argument("--grace", metavar="SECONDS", type=seconds, default=GRACE,
-                        help="how long a server that still works may go on after the session, 30 by default")
+                        help="how long a server that still works may go on after the session, or after the last reply "
+                             "that the client still awaited, 30 by default")
     parser.add_argument("words", nargs=argparse.REMAINDER, help=argparse.SUPPRESS)
     group = parser.add_argument_group("options of an audit that reads along")
     group.add_argument("--audit", action="store_true", help="audit the session while it runs, from the tree of --tree")
@@ -79,7 +81,7 @@ def record_parser():
 
 
 def daemon_parser():
-    parser = argparse.ArgumentParser(
+    parser = Parser(
         prog="sftpv3-recordd", allow_abbrev=False, formatter_class=argparse.RawDescriptionHelpFormatter,
         epilog=DAEMON_NOTES, usage="sftpv3-recordd [OPTIONS] FOLDER",
         description="Keeps the records of sftpv3-record --spool where the users who are recorded cannot touch them.")

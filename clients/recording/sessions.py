@@ -3,7 +3,7 @@
 One thread waits for all pipes. Nothing is passed on before every sink has it, and while a sink is busy nothing is read.
 Whatever ends first ends the session: the other pipes are closed, and a server that is idle then gets SIGTERM after
 IDLE seconds and SIGKILL after KILL more. One that still works, or whose replies a client still awaits, has `grace`
-seconds from the last byte that moved.
+seconds from the last of these that came or that the client took. What nobody asked for gives it no time.
 """
 import fcntl
 import os
@@ -11,6 +11,7 @@ import select
 import time
 
 from recording import signals
+from recording.awaiting import Awaiting
 from recording.packets import Flow
 from recording.sinks import Failed
 
@@ -94,6 +95,7 @@ class Session:
         self.ends = Ends()
         self.asked = Flow(b"C", self.ends.input, server.input)
         self.replied = Flow(b"S", server.output, self.ends.output, change)
+        self.awaiting = Awaiting(self.asked, self.replied, self.is_read)
         self.record = None
         self.times = None
         self.audit = None
@@ -202,19 +204,25 @@ class Session:
     # what is passed
 
     def take(self, flow):
+        known = flow.packets
         count = flow.take()
-        if count:
-            self.moved = time.monotonic()
         if count or flow.ended:
             self.add(flow)
+        if count and self.ending is not None and flow is self.replied and self.awaiting.has_come(known):
+            self.note_moved()
         return count
 
     def give(self, flow):
         count = flow.give()
-        if count > 0:
-            self.moved = time.monotonic()
+        if count > 0 and self.ending is not None and (flow is self.asked or self.awaiting.was_taken(count)):
+            self.note_moved()
         elif count < 0:
             self.break_target(flow)
+
+    def note_moved(self):
+        """In an ending session: something moved that is awaited."""
+        self.moved = time.monotonic()
+        self.awaiting.look()
 
     def break_target(self, flow):
         """The target does not take any more: the server reads nothing more, or the client is gone."""
@@ -252,7 +260,8 @@ class Session:
 
     def begin_ending(self):
         if self.ending is None:
-            self.ending = self.moved = self.worked = time.monotonic()
+            self.ending = self.worked = time.monotonic()
+            self.note_moved()
 
     def cut(self, status):
         """Ends the session at once: what is held is dropped, all pipes are closed."""
@@ -303,7 +312,7 @@ class Session:
 
     def is_awaited(self):
         """Whether the client still gets something: replies that it did not take, or that the server owes it."""
-        owed = self.asked.packets > self.replied.packets and self.has_output
+        owed = self.awaiting.is_owed() and self.has_output
         return self.has_client_output and (owed or not self.replied.is_empty())
 
     def hurry(self):

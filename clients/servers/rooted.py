@@ -22,22 +22,28 @@ sys.path.insert(0, os.path.dirname(HERE))
 import apart  # noqa: E402 (the folder above is not searched before)
 import folders  # noqa: E402
 import mounts  # noqa: E402
+from recording.notices import printable  # noqa: E402
+from recording.standard import open_standard_files  # noqa: E402
 
 LDD = "/usr/bin/ldd"
 # How many seconds it may take, and as whom it runs.
 LOOKING, NOBODY = 10, 65534
+
+# How much of a packet is read before it is passed on.
+LONGEST = 1 << 18
 
 # Where the program stands for a moment.
 ASIDE = ".sftpv3-start"
 
 
 def fail(text):
-    print(f"{os.path.basename(sys.argv[0])}: {text}", file=sys.stderr)
+    print(f"{os.path.basename(sys.argv[0])}: {printable(text)}", file=sys.stderr)
     sys.exit(3)
 
 
 def folder_of(arguments, package, program):
     """The folder of the tree that the first word names, if all that is needed is there."""
+    open_standard_files()
     if len(arguments) < 2:
         fail("usage: clients/servers/" + os.path.basename(arguments[0]) + " TREE [ARGUMENT ...]")
     if os.geteuid() != 0:
@@ -162,10 +168,10 @@ class Lent:
 
 
 def read_packet(source):
-    """The next packet, or what is left if the stream ends."""
+    """The next packet, or what is left if the stream ends. Of one that is longer than any may be, the beginning."""
     data = b""
-    while len(data) < 4 or len(data) < 4 + int.from_bytes(data[:4], "big"):
-        wanted = 4 if len(data) < 4 else 4 + int.from_bytes(data[:4], "big")
+    while len(data) < 4 or len(data) < min(4 + int.from_bytes(data[:4], "big"), LONGEST):
+        wanted = 4 if len(data) < 4 else min(4 + int.from_bytes(data[:4], "big"), LONGEST)
         piece = os.read(source, min(wanted - len(data), 1 << 16))
         if not piece:
             break

@@ -1,6 +1,7 @@
 """The command line of sftpv3-serve as argparse has it, for help and complaints."""
 import argparse
 
+from recording.complaints import Parser
 from serving.options import NAME
 
 NOTES = """\
@@ -21,7 +22,7 @@ file of --save or the log cannot be written, 126 if the program cannot be run, a
 
 
 def parser():
-    made = argparse.ArgumentParser(
+    made = Parser(
         prog=NAME, allow_abbrev=False, formatter_class=argparse.RawDescriptionHelpFormatter, epilog=NOTES,
         usage=f"{NAME} [OPTIONS] --tree FILE",
         description="Serves a session of 'sftpv3 serve' that a signal ends as if the client had left.")

@@ -5,6 +5,7 @@ import time
 
 from recording import naming
 from recording.notices import Notices, write_error
+from recording.standard import open_standard_files
 from serving.inputs import Filled, Given, is_local_socket, shut_output
 from serving.options import NAME, Misused, Options, read
 from serving.saving import Saving, Unfit
@@ -247,20 +248,11 @@ def complain(text: str | None):
     parser().error(text)
 
 
-def open_standard_files():
-    """Makes sure that 0, 1 and 2 are open, so that no file of ours becomes one of them."""
-    while True:
-        file = os.open(os.devnull, os.O_RDWR)
-        if file > 2:
-            os.close(file)
-            return
-
-
 def serve(words: list[str]) -> int:
     """Does the work of the command. No fault ends with a traceback, or with status 0."""
+    open_standard_files()
     log = Log(NAME)
     try:
-        open_standard_files()
         if "--help" in words or "-h" in words:
             complain(None)
         options = read(words)

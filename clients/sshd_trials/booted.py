@@ -13,7 +13,7 @@ SPACES = ["unshare", "--mount", "--pid", "--fork", "--kill-child", "--net", "--u
           "--propagation", "private"]
 DEVICES = ("null", "zero", "full", "random", "urandom", "tty")
 LINKS = {"fd": "/proc/self/fd", "stdin": "fd/0", "stdout": "fd/1", "stderr": "fd/2"}
-SECONDS = 120
+SECONDS = 300
 SAID = "/said"
 # Where the repository is in the copy, whose /tmp is emptied.
 SOURCES = "/mnt/sources"

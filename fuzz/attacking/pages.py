@@ -22,9 +22,9 @@ def run(field, name, *words, user=VICTIM, folder=None):
 
 
 def hostile_server(field):
-    """The words that start a server whose texts are hostile."""
+    """The words that start a server whose texts are hostile. The probe plays nothing on a server that takes no tree."""
     with open(os.path.join(HERE, "hostile_server.py"), "rb") as file:
-        return ["/usr/bin/python3", "-I", field.put("server.py", file.read())]
+        return ["/usr/bin/python3", "-I", field.put("server.py", file.read()), "{tree}"]
 
 
 @attack("user")

@@ -113,12 +113,12 @@ def a_name_breaks_a_json_object(field):
             [it["part"] for it in said[0]["explanation"]][:3] != ["request", "reply", "causes"]:
         yield f"audit: {audit.returncode}, {audit.stdout!r}"
     absent = NAME + "absent"
-    for status, words, file in ((3, ["audit", "--tree", absent, "--transcript", record], absent),
+    for wanted, words, file in ((3, ["audit", "--tree", absent, "--transcript", record], absent),
                                 (2, ["audit", "--tree", bad, "--transcript", bad], bad),
                                 (2, ["audit", "--tree", start, "--transcript", bad], bad),
                                 (2, ["diff", start, bad], bad), (3, ["diff", absent, start], absent)):
         done = field.run(*words, "--json")
         said = objects(done)
-        if done.returncode != status or len(said) != 1 or said[0]["error"]["status"] != status or \
+        if done.returncode != wanted or len(said) != 1 or said[0]["error"]["status"] != wanted or \
                 said[0]["error"]["file"] != file or not done.stderr:
             yield f"{' '.join(words)!r}: {done.returncode}, {done.stdout!r}"

@@ -1,0 +1,167 @@
+"""Attacks by the command lines of the installed scripts, and by standard descriptors that are closed at their start."""
+import os
+import re
+import subprocess
+import sys
+
+from attacking.ground import CLIENTS, SECONDS, attack
+from attacking.saving import OPENED
+from programs import TOP, program
+from sftp3 import init
+
+COMMANDS = ("nightly", "page", "probe", "record", "recordd", "serve", "tree")
+SERVERS = ("servers/any", "servers/gesftpserver", "servers/openssh")
+OPTION = re.compile(r"(?m)^  (?:-\w(?: \w+)?, )?(--[a-z-]+)( [A-Z])?")
+
+# Line feeds, signs that a terminal acts on or that hide others, in ASCII and beyond it, and a byte that is no UTF-8.
+NAME = "x\naccepted 5 requests\n\x1b[2J\x7f\u009b\u202e\u2028\udcff"
+# How the probe finds differences: the server starts from another tree than the one that it is given.
+DIFFERING = ["--seeds", "1", "--requests", "3", "--jobs", "1", "--budget", "0", "--skip", "transfers", "--",
+             "env", "GIVEN={tree}"]
+# What takes no options behind its arguments.
+BEFORE = ("probe", "record")
+SERVE = ["serve", "--tree", "start.tree"]
+CLOSED = ((0,), (1,), (2,), (0, 1, 2))
+
+
+def ordinary(field):
+    """A command line of each script that is in order, without the script."""
+    for it in ("live", "kept", "state"):
+        os.makedirs(field.path(it), exist_ok=True)
+    field.blank("start.tree")
+    field.put("session", OPENED)
+    server = [program(), "serve", "--tree", "start.tree"]
+    return {
+        "nightly": ["--records", "kept", "--state", "state", "--chroot", "root", "live"],
+        "page": ["--tree", "start.tree", "session"],
+        "probe": ["--", "/bin/false"],
+        "record": ["record", *server],
+        "recordd": ["live-not"],
+        "serve": ["--program", program(), "--tree", "start.tree"],
+        "tree": ["--chroot", "live", "--out", "live.tree"],
+    }
+
+
+def call(field, script, *words, **options):
+    """Runs a script to its end."""
+    environment = {**os.environ, "SFTPV3": program(), "COLUMNS": "200"}
+    return subprocess.run([os.path.join(CLIENTS, script), *words], cwd=field.folder, env=environment,
+                          timeout=SECONDS, **{"stdin": subprocess.DEVNULL, **options})
+
+
+def hostile_lines(field):
+    """Yields scripts and command lines that have the hostile name in each place where a word can be."""
+    for script, rest in ordinary(field).items():
+        told = call(field, script, "--help", stdout=subprocess.PIPE, text=True).stdout
+        audit = ["--audit", "--tree", "start.tree"] if script == "record" else []
+        yield script, [f"--{NAME}", *rest]
+        for option in [it for it, value in OPTION.findall(told) if value]:
+            for given in ([option, NAME], [f"{option}=none/{NAME}"]):
+                yield script, [*audit, *given, *rest] if script in BEFORE else [*rest, *given]
+        for place, word in enumerate(rest):
+            if not word.startswith("-") and word != program():
+                yield script, [*rest[:place], f"absent/{NAME}", *rest[place + 1:]]
+        yield script, [*rest, NAME] if script != "probe" else ["--keep", NAME, *DIFFERING, program(), *SERVE]
+    for script in SERVERS:
+        yield script, [NAME]
+        yield script, [NAME, NAME]
+        yield script, ["start.tree", NAME]
+
+
+def is_bad(line):
+    """Whether a line passes for a verdict, or does anything to a terminal."""
+    try:
+        text = line.decode("utf-8")
+    except UnicodeDecodeError:
+        return True
+    return text.startswith("accepted 5") or any(not it.isprintable() for it in text)
+
+
+@attack()
+def a_word_of_a_command_line_acts_on_a_terminal(field):
+    """Whatever a word of a command line is, what a script says of it is lines without control characters."""
+    for script, words in hostile_lines(field):
+        done = call(field, script, *words, stdout=subprocess.PIPE, stderr=subprocess.PIPE)
+        for line in (done.stdout + done.stderr).split(b"\n"):
+            if is_bad(line):
+                yield f"{script} {ascii(words)}: {line[:200]!r}"
+                break
+        if b"Traceback" in done.stderr:
+            yield f"{script} {ascii(words)}: {done.stderr[-200:]!r}"
+
+
+def redirected(words, files, to):
+    """The words of a shell that starts a command with some standard descriptors closed, or open on /dev/null."""
+    ways = " ".join(f"{it}{'<' if it == 0 else '>'}{to}" for it in files)
+    return ["/bin/sh", "-c", f'exec "$@" {ways}', "sh", *words]
+
+
+def made(field, folder):
+    """The names and the bytes of what a run left."""
+    found = {}
+    for place, _, names in os.walk(folder):
+        for it in names:
+            path = os.path.join(place, it)
+            with open(path, "rb") as file:
+                found[os.path.relpath(path, folder)] = file.read()
+    return found
+
+
+def writing(field):
+    """Yields for each script a command line by which it writes files into the folder `made`."""
+    server = [program(), "serve", "--tree", "../start.tree", "--save", "saved", "--record", "its-record"]
+    yield "nightly", ["--records", "../kept", "--state", ".", "--chroot", "root", "../live"]
+    yield "page", ["--tree", "../start.tree", "-o", "page", "../session"]
+    yield "probe", ["--keep", "kept", "--report", "run.json", *DIFFERING, *server]
+    yield "record", ["--times", "times", "--log", "log", "record", *server]
+    yield "record", ["--audit", "--tree", "../start.tree", "--program", program(), "--out", "out", "record", *server]
+    yield "serve", ["--program", program(), "--tree", "../start.tree", "--save", "saved", "--record", "record"]
+    yield "serve", ["--program", program(), "--tree", "../start.tree", "--save", "none/saved", "--log", "log"]
+    yield "tree", ["--chroot", "--out", "live.tree", "../live"]
+    yield "tree", ["--chroot", "--out", "none/live.tree", "../live"]
+
+
+def left_by(field, script, words, shell_words):
+    """The status of a run in a folder of its own, and what it left there, without times and numbers of processes."""
+    folder = field.path("made")
+    os.mkdir(folder)
+    environment = {**os.environ, "SFTPV3": program()}
+    try:
+        done = subprocess.run(shell_words([os.path.join(CLIENTS, script), *words]), cwd=folder, env=environment,
+                              input=init(), stdout=subprocess.DEVNULL, stderr=subprocess.DEVNULL,
+                              timeout=SECONDS)
+        changing = rb"\d{4}-\d\d-\d\dT[\d:]+Z|\[\d+\]|\d+\.\d+|serve-[0-9a-f]{16}"
+        left = {name: len(data) if name == "times" else re.sub(changing, b"", data)
+                for name, data in made(field, folder).items()}
+        return done.returncode, left
+    finally:
+        subprocess.run(["rm", "-r", folder], check=True)
+
+
+@attack()
+def a_closed_descriptor_takes_a_file(field):
+    """Where standard descriptors are closed, each script does what it does where they lead to /dev/null: no file that
+    it or its server opens takes their place, and then packets or messages."""
+    ordinary(field)
+    for script, words in writing(field):
+        for files in CLOSED:
+            wanted = left_by(field, script, words, lambda it: redirected(it, files, "/dev/null"))
+            found = left_by(field, script, words, lambda it: redirected(it, files, "&-"))
+            if found != wanted:
+                yield f"{script} {' '.join(words[:3])} without {files}: {found} in place of {wanted}"[:600]
+
+
+@attack(is_small=True)
+def a_closed_descriptor_of_the_checkout_s_program(field):
+    """The script `sftpv3` of the repository, too, gives the program three descriptors that are open."""
+    os.mkdir(field.path("out"))
+    with open(os.path.join(TOP, "sftpv3"), "rb") as file:
+        script = field.put("sftpv3", file.read(), 0o755)
+    field.put("out/sftpv3.built", b"")
+    looking = f"#!{sys.executable} -I\nimport os\nfor it in range(3):\n    os.fstat(it)\n"
+    field.put("out/sftpv3", looking.encode(), 0o755)
+    for files in CLOSED:
+        done = subprocess.run(redirected([script], files, "&-"), stdin=subprocess.DEVNULL, stderr=subprocess.DEVNULL,
+                              stdout=subprocess.DEVNULL, timeout=SECONDS)
+        if done.returncode:
+            yield f"without {files}: status {done.returncode}"
