@@ -5,6 +5,7 @@ import sys
 
 from probing import program, sessions, verdicts
 from probing.options import flying, seconds
+from recording.complaints import Parser
 from walking import bounds
 
 # The exit statuses: the tree was written; no tree explains what the server told; wrong usage; it was not written.
@@ -21,7 +22,7 @@ def count(text):
 
 
 def parser(about):
-    found = program.Parser(
+    found = Parser(
         prog=program.called("walk"), usage=f"{program.called('walk')} [OPTIONS] -- COMMAND [ARGUMENT ...]",
         formatter_class=argparse.RawDescriptionHelpFormatter, description=about)
     add = found.add_argument
