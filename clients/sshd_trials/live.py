@@ -27,11 +27,8 @@ def said(count):
 
 def serve_lies(option):
     """From now on, the last byte of each READ is another one. `option` is one more of the recorder."""
-    for name in ("probing", "sftp3.py"):
-        place = LIES / name
-        if not place.exists():
-            LIES.mkdir(exist_ok=True)
-            (shutil.copytree if name == "probing" else shutil.copy)(TOP / "clients" / name, place)
+    for name in ("probing", "sftp3"):
+        shutil.copytree(TOP / "clients" / name, LIES / name, dirs_exist_ok=True)
     subprocess.run(["chmod", "-R", "a+rX", LIES], check=True)
     text = re.sub(r"(?m)^(Subsystem .*?sftpv3-record).*?( --audit .*transcript) .*(/usr/lib/openssh/\S+) .*$",
                   rf"\1 {option}\2 /usr/bin/python3 -I {LIES}/probing/planted.py wrong_byte \3 -u 022",
