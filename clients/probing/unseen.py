@@ -52,8 +52,8 @@ class Worker(workers.Worker):
             session = sessions.play(self.server, "", base.steps(steps), in_flight, timeout or self.timeout, stop)
         finally:
             left = clearing.Clearing(base.path).run(self.server, self.timeout)
-            if left:
-                program.say(f"probe: {left}", sys.stderr)
+            for line in left.split("\n") if left else ():
+                program.say(f"probe: {line}", sys.stderr)
         self.infer(session, {step.number for step in base.looking})
         return session, verdicts.judge(self.auditor, self.kept_tree, session, seed, stop)
 
