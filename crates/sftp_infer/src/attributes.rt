@@ -111,11 +111,12 @@ impl<'a> World<'a> {
     }
 
     fn tell_rights(&mut self, at: usize, attrs: &Attrs) -> Result<(), Stop> {
-        if let Some(owner) = attrs.owner {
-            self.tell_owner(at, owner)?;
-        }
+        // first, so that a contradiction still has the record that told the permissions
         if let Some(permissions) = attrs.permissions {
             self.tell_permissions(at, permissions & PERMISSIONS)?;
+        }
+        if let Some(owner) = attrs.owner {
+            self.tell_owner(at, owner)?;
         }
         Ok(())
     }

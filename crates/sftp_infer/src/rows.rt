@@ -206,7 +206,7 @@ impl<'a> World<'a> {
         };
         match entry.sort {
             Sort::Directory => put_directory(out, path, &self.owner_of(listed.at, 0o755)),
-            Sort::Link => self.put_link_row(path, entry, out),
+            Sort::Link => self.put_link_row(path, listed.at, out),
             _ => match take_first(firsts, listed.at, number) {
                 Some(first) => put_further_name(out, path, first),
                 None => self.put_file_row(path, listed.at, entry, out),
@@ -214,15 +214,19 @@ impl<'a> World<'a> {
         }
     }
 
-    fn put_link_row(&self, path: &[u8], link: &Node, out: &mut Vec<u8>) -> Result<(), NoMemory> {
-        let target = match &link.target {
-            Some(target) => target.as_slice(),
-            None => b"x",
+    fn put_link_row(&self, path: &[u8], at: usize, out: &mut Vec<u8>) -> Result<(), NoMemory> {
+        let Some(link) = self.entry(at) else {
+            return Ok(());
         };
-        if path.len() > LONGEST || target.len() > LONGEST {
-            return Err(NoMemory);
+        match &link.target {
+            Some(target) => put_target(path, target.as_slice(), out),
+            None => {
+                let target = self.invented(at, link.length)?;
+                let put = put_target(path, target.as_slice(), out);
+                drop(target);
+                put
+            }
         }
-        put_link(out, path, target)
     }
 
     fn put_file_row(
@@ -291,4 +295,12 @@ fn put_zeros(bytes: &mut Vec<u8>, size: u64) -> Result<(), NoMemory> {
         }
     }
     Ok(())
+}
+
+/// Appends the entry of a link, unless it is longer than the format allows.
+fn put_target(path: &[u8], target: &[u8], out: &mut Vec<u8>) -> Result<(), NoMemory> {
+    if path.len() > LONGEST || target.len() > LONGEST {
+        return Err(NoMemory);
+    }
+    put_link(out, path, target)
 }
