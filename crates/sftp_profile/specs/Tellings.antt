@@ -68,10 +68,10 @@ abbrev pub as_file : Option ℕ → Option ℕ
 as_file (Some permissions) = Some (bit_or (bit_and permissions 0o7777) 0o100000)
 as_file None = None
 
--- the type of a file of no bytes, if the profile leaves it free
+-- the type of a file that is shown with no bytes and has none, if the profile leaves it free
 abbrev pub with_special : Profile → Attrs → Attrs → Attrs
 with_special profile shown attrs =
-    if profile.special && (is_empty_file shown && is_special attrs.permissions)
+    if profile.special && (is_empty_file shown && (is_no_size attrs.size && is_special attrs.permissions))
     then record attrs { permissions = as_file attrs.permissions } else attrs
 
 -- the attributes, with what is shown where the profile leaves a field free

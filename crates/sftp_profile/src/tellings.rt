@@ -200,11 +200,15 @@ fn take_link(profile: Profile, shown: &Attrs, attrs: &mut Attrs)
     }
 }
 
-/// Takes the type of a file of no bytes, if the profile leaves it free.
+/// Takes the type of a file that is shown with no bytes and has none, if the profile leaves it free.
 fn take_special(profile: Profile, shown: &Attrs, attrs: &mut Attrs)
     ensures { attrs.new ≡ spec.with_special profile shown.now attrs.old }
 {
-    if profile.special && is_empty_file(shown) && is_special(attrs.permissions) {
+    if profile.special
+        && is_empty_file(shown)
+        && is_no_size(attrs.size)
+        && is_special(attrs.permissions)
+    {
         attrs.permissions = as_file(attrs.permissions);
     }
 }

@@ -86,7 +86,13 @@ fn next_finding<R: System>(
     finding: Finding,
 ) -> Result<Finding, End> {
     leave_out(rt, files, left_out, finding)?;
-    judge_rest(rt, files, tree, left_out)
+    let next = judge_rest(rt, files, tree, left_out)?;
+    let record = record_of(next.refusal);
+    if record == record_of(finding.refusal) {
+        // another request with its id was left out, and nobody knows whose reply this is
+        return Err(End::Stopped(record, Reason::SameId));
+    }
+    Ok(next)
 }
 
 /// Leaves out what was found wrong, if the audit can go on behind it.
@@ -121,6 +127,10 @@ fn leave_exchange<R: Files + AllocGlobal>(
     let asked = request_of(rt, files, replied)?;
     if !is_harmless(asked.bearing, replied.outcome, follows) {
         return Err(End::Stopped(number, reason_of(follows)));
+    }
+    if left_out.leaves(asked.number) {
+        // a request that hangs on another one has the same id, and nobody knows whose reply this is
+        return Err(End::Stopped(number, Reason::SameId));
     }
     left_out.leave_record(asked.number)?;
     leave_handle(rt, files, left_out, asked, replied)

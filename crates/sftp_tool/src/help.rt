@@ -232,7 +232,8 @@ that it gets without --cut. Every refusal but Unanswered stays.
 With --keep-going, the audit goes on behind a wrong reply that changed nothing, as if it and its request were not there.
 Each finding has a line, and the last line says how many there are:
 
-  N findings, accepted M requests          all that was judged besides is right; with --cut, it goes on as above
+  N findings, accepted M requests          the rest that was judged is right, if what was left out changed nothing;
+                                           with --cut, it goes on as above
   N findings, stopped at record R: REASON  nobody knows what the request of this reply changed, or to which request
                                            a reply belongs, or a request has no reply
   N findings, stopped: REASON              there are as many as --most says, or the transcript cannot be read on
@@ -240,9 +241,11 @@ Each finding has a line, and the last line says how many there are:
 A wrong reply changed nothing if its request only looks, if it says that the request was refused, if it ends a CLOSE, if
 it gives a handle for an OPENDIR or for an OPEN without CREAT and TRUNC, or if no request has its id. What hangs on it
 is left out, too, and counts as not judged: all requests through a handle that it gives, and the READDIRs behind a wrong
-READDIR, until a reply gives the handle anew. Records have the numbers that they have in the transcript, which is read
-again for each finding, so it cannot be a pipe. A session with a finding is refused: the status is 1, and --out writes
-nothing. Each finding is as if the earlier ones were not there: it may follow from what a server got wrong before.
+READDIR, until a reply gives the handle anew. Nobody knows what these changed: a WRITE through such a handle may have
+made a later reply right that is found wrong, or wrong that is not. Records have the numbers that they have in the
+transcript, which is read again for each finding, so it cannot be a pipe. A session with a finding is refused: the
+status is 1, and --out writes nothing. Each finding is as if the earlier ones were not there: it may follow from what a
+server got wrong before.
 
 With --json, standard output has one JSON object in every case: the verdict with the parts of the explanation, or the
 failure; with --keep-going one for each finding, and one for the last line. The statuses are the same.

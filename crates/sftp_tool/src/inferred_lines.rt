@@ -1,4 +1,5 @@
 //! The lines about an inferred tree: what it assumes, and which records contradict each other.
+ghost use Rattle.sftp_tool.specs.Status.{IsAuditStatus};
 
 use crate::messages::{Ending, Failure, print, write_flushed};
 use sftp_audit::Refusal;
@@ -61,7 +62,9 @@ pub(crate) fn put_assumed<E: Write>(candidate: &Candidate, errors: &mut E) {
 pub(crate) fn put_refusal<'a, O: Write>(
     refusal: Refusal,
     output: &mut O,
-) -> Result<Ending, Failure<'a>> {
+) -> Result<Ending, Failure<'a>>
+    ensures { IsAuditStatus result }
+{
     print(
         output,
         format_args!("no tree found: {refusal}\n"),

@@ -1,7 +1,5 @@
 //! `infer`, and `audit --tree unknown`: audits of sessions whose tree nobody knows.
-ghost use Rattle.std.specs.Prelude.{◌≡◌, IfOk, IfErr};
-ghost use Rattle.sftp_tool.specs.declared.messages.Ending.TheVariants as endings;
-ghost use Rattle.sftp_tool.specs.Failures.{IsUnwritten};
+ghost use Rattle.sftp_tool.specs.Status.{IsAuditStatus};
 
 use crate::command_line::{AuditOptions, keeping_of};
 use crate::inferences::{Found, Inferred, find};
@@ -12,6 +10,7 @@ use crate::profiles::{umask_of, with_umask};
 use crate::saving::{Keeping, write};
 use crate::subcommands::read_at_most;
 use crate::system::System;
+use crate::viewing::misused;
 use crate::{profiles, subcommands};
 use clap::ArgMatches;
 use sftp_infer::{Search, Settings};
@@ -20,6 +19,10 @@ use std::io::Write;
 
 /// The name that stands for a tree that nobody knows.
 pub(crate) const UNKNOWN: &str = "unknown";
+
+/// Why some options cannot stand beside a tree that nobody knows.
+const NEEDS_TREE: &str =
+    "--cut, --keep-going and --most cannot be used with '--tree unknown': infer a tree first";
 
 /// The passes of a search, without an option.
 const PASSES: u32 = 300;
@@ -92,11 +95,16 @@ pub(crate) fn audit<'a, R: System, O: Write, E: Write>(
     files: &AuditOptions<'a>,
     output: &mut O,
     errors: &mut E,
-) -> Result<Ending, Failure<'a>> {
-    if files.tree == UNKNOWN && !files.cuts {
-        return infer(rt, &options_of_audit(files), output, errors);
+) -> Result<Ending, Failure<'a>>
+    ensures { IsAuditStatus result }
+{
+    if files.tree != UNKNOWN {
+        return subcommands::audit(rt, files, output, errors);
     }
-    subcommands::audit(rt, files, output, errors)
+    if files.cuts || files.keeps_going || files.most.is_some() {
+        return Err(misused(rt.alloc(), NEEDS_TREE));
+    }
+    infer(rt, &options_of_audit(files), output, errors)
 }
 
 /// Infers a tree from a session, and audits the session with it.
@@ -105,7 +113,9 @@ pub(crate) fn infer<'a, R: System, O: Write, E: Write>(
     options: &InferOptions<'a>,
     output: &mut O,
     errors: &mut E,
-) -> Result<Ending, Failure<'a>> {
+) -> Result<Ending, Failure<'a>>
+    ensures { IsAuditStatus result }
+{
     let umask = umask_of(rt.alloc(), options.umask)?;
     let mut options = *options;
     options.profile = with_umask(options.profile, umask);
@@ -145,7 +155,9 @@ fn infer_from<'a, R: System, O: Write, E: Write>(
     session: &[u8],
     output: &mut O,
     errors: &mut E,
-) -> Result<Ending, Failure<'a>> {
+) -> Result<Ending, Failure<'a>>
+    ensures { IsAuditStatus result }
+{
     let home = options.home;
     let mut settings = settings_of(options);
     settings.home = match home {
@@ -171,7 +183,9 @@ fn report<'a, R: System, O: Write, E: Write>(
     found: Found,
     output: &mut O,
     errors: &mut E,
-) -> Result<Ending, Failure<'a>> {
+) -> Result<Ending, Failure<'a>>
+    ensures { IsAuditStatus result }
+{
     match found {
         Found::Inferred(inferred) => {
             let ending = accept(rt, options, &inferred, output, errors);
@@ -210,7 +224,9 @@ fn accept<'a, R: System, O: Write, E: Write>(
     inferred: &Inferred,
     output: &mut O,
     errors: &mut E,
-) -> Result<Ending, Failure<'a>> {
+) -> Result<Ending, Failure<'a>>
+    ensures { IsAuditStatus result }
+{
     if let Some(name) = options.tree {
         write(
             rt,
@@ -243,7 +259,9 @@ fn refuse<'a, R: System, O: Write, E: Write>(
     search: &Search<'_>,
     output: &mut O,
     errors: &mut E,
-) -> Result<Ending, Failure<'a>> {
+) -> Result<Ending, Failure<'a>>
+    ensures { IsAuditStatus result }
+{
     if let (Some(name), Some(tree)) = (options.best, search.best()) {
         write(rt, name, options.keeping, tree)?;
     }
@@ -266,7 +284,9 @@ fn print_contradiction<'a, O: Write>(
     told: u64,
     found: u64,
     output: &mut O,
-) -> Result<Ending, Failure<'a>> {
+) -> Result<Ending, Failure<'a>>
+    ensures { IsAuditStatus result }
+{
     if told == 0 && found == 0 {
         return print(output, "no tree found\n", Ending::Refused);
     }

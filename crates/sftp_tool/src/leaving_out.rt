@@ -94,6 +94,16 @@ impl LeftOut {
         self.numbers.is_empty()
     }
 
+    /// Whether the record with this number is left out.
+    pub(crate) fn leaves(&self, number: u64) -> bool {
+        for each in self.numbers.iter() {
+            if *each == number {
+                return true;
+            }
+        }
+        false
+    }
+
     /// Leaves out the record with this number: a request with its reply, or a reply to no request.
     ///
     /// # Errors

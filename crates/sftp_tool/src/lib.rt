@@ -171,6 +171,7 @@ fn said<'a, E: Write>(
 fn is_for_machines(request: &Request<'_>) -> bool {
     match request {
         Request::Audit(files) => files.is_json,
+        Request::Infer(options) => options.is_json,
         Request::Show(options) => options.is_json,
         Request::Diff { is_json, .. } => *is_json,
         _ => false,
