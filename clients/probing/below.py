@@ -1,4 +1,5 @@
-"""A plan below a directory of its own on a server whose other files stay as they are.
+"""A plan below a directory of its own on a server whose other files stay as they are. The directory is in one that only
+the server's user can enter: the plan makes files that others could write, and set-id bits.
 
 No path of the plan leads out of the directory, whatever it would lead to if the directory were the root: a `..` is
 taken out with the name before it, and each link leads to a place below the directory, by an absolute path. In either
@@ -12,6 +13,9 @@ from sftp3 import trees
 
 # The numbers of the requests that come before a plan: no plan has as many requests.
 FIRST = 1 << 24
+
+# The attributes of a directory that only its owner can enter.
+PRIVATE = {"permissions": 0o700}
 
 # The bytes of one WRITE.
 BLOCK = 32768
@@ -38,11 +42,13 @@ def straight(path):
 
 
 class Below:
-    """A directory of the server that a session makes, by its absolute path; and the steps that a session begins with:
-    it looks where the directory is to be, makes it, and makes the entries of the tree that the plan starts from."""
+    """A directory of the server that a session makes, by its absolute path, with `path`, that of the plan, in it; and
+    the steps that a session begins with: it looks where they are to be, makes them, and makes the entries of the tree
+    that the plan starts from."""
 
-    def __init__(self, path, tree):
-        self.path, self.tree, self.last = path, tree, FIRST
+    def __init__(self, own, tree):
+        self.own, self.path = own, own + b"/plan"
+        self.tree, self.last = tree, FIRST
         self.looking = self.look()
         self.first = self.looking + self.build()
 
@@ -75,10 +81,14 @@ class Below:
 
     def look(self):
         """What is asked first: where relative paths start, what is on the way, and what is made."""
-        parts = [part for part in self.path.split(b"/") if part]
+        parts = [part for part in self.own.split(b"/") if part]
         above = [b"/" + b"/".join(parts[:count]) for count in range(len(parts))]
         return [self.ask("REALPATH", b"."), *(self.ask("LSTAT", place) for place in above),
-                self.ask("LSTAT", self.path), self.ask("MKDIR", self.path, {}), self.ask("LSTAT", self.path)]
+                *self.made(self.own, PRIVATE), *self.made(self.path, {})]
+
+    def made(self, path, given):
+        """Makes a directory, and looks at the place before and after that."""
+        return [self.ask("LSTAT", path), self.ask("MKDIR", path, given), self.ask("LSTAT", path)]
 
     def build(self):
         """Makes the entries of the tree."""

@@ -1,11 +1,17 @@
-"""Removes what sessions made below a directory of a server, in a session of its own. It follows no link."""
+"""Removes what sessions made below a directory of a server, in a session of its own. It follows no link, and ends at a
+server that lists what no session made."""
+import time
+
 from probing import servers
 from walking import bounds, sessions
-from walking.looking import ask, within
+from walking.looking import ask, parts_of, within
 from walking.replies import DIRECTORY, kind_of
 
 # How many entries are looked at and removed at a time.
 BATCH = 32
+
+# How many names deep it goes, how many entries it removes, and for how many seconds: sessions leave far fewer.
+DEEPEST, ENTRIES, SECONDS = 2 * bounds.DEPTH, 200_000, 600
 
 
 class NoRecord:
@@ -49,6 +55,7 @@ class Clearing:
 
     def __init__(self, path):
         self.path, self.left = path, []
+        self.entries, self.deadline = 0, time.monotonic() + SECONDS
 
     def run(self, server, timeout):
         """Gives why something is left, or None."""
@@ -67,6 +74,8 @@ class Clearing:
         """Removes entries, given as their paths and their attributes."""
         directories = [path for path, found in entries if kind_of(found.attributes) == DIRECTORY]
         for path in directories:
+            if len(parts_of(path)) - len(parts_of(self.path)) > DEEPEST:
+                raise bounds.Misbehaves(f"it has more than {DEEPEST} directories within each other")
             yield from self.empty(path)
         others = [path for path, found in entries if path not in directories]
         replies = yield [ask("RMDIR", path) for path in directories] + [ask("REMOVE", path) for path in others]
@@ -79,19 +88,34 @@ class Clearing:
             _, opened = yield [ask("SETSTAT", path, {"permissions": 0o700}), ask("OPENDIR", path)]
         if opened.handle is None:
             return
-        names = yield from listing(opened.handle)
+        names = yield from self.listing(opened.handle)
         yield [ask("CLOSE", opened.handle)]
         for place in range(0, len(names), BATCH):
             paths = [within(path, name) for name in names[place:place + BATCH]]
             replies = yield [ask("LSTAT", one) for one in paths]
             yield from self.clear([(one, found) for one, found in zip(paths, replies) if found.attributes is not None])
 
+    def listing(self, handle):
+        """The names in a directory. What is no name of an entry in it is left out."""
+        names, idle = {}, 0
+        while idle <= bounds.IDLE:
+            (reply,) = yield [ask("READDIR", handle)]
+            if not reply.names:
+                break
+            fresh = [name for name in reply.names if is_name(name) and name not in names]
+            names.update(dict.fromkeys(fresh))
+            idle = 0 if fresh else idle + 1
+            self.count(len(fresh))
+        return list(names)
 
-def listing(handle):
-    """The names in a directory. What is no name of an entry in it is left out."""
-    names = {}
-    while True:
-        (reply,) = yield [ask("READDIR", handle)]
-        if not reply.names or len(names) > bounds.ENTRIES:
-            return list(names)
-        names.update((name, None) for name in reply.names if name not in (b"", b".", b"..") and b"/" not in name)
+    def count(self, fresh):
+        self.entries += fresh
+        if self.entries > ENTRIES:
+            raise bounds.Misbehaves(f"it has more than {ENTRIES:,} entries")
+        if time.monotonic() > self.deadline:
+            raise bounds.Misbehaves(f"to remove it takes more than {SECONDS} seconds")
+
+
+def is_name(name):
+    """Whether it names an entry of the directory that is listed, also where a byte of 0 ends a name."""
+    return 0 < len(name) <= bounds.NAME and name not in (b".", b"..") and b"/" not in name and b"\0" not in name

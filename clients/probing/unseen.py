@@ -29,7 +29,7 @@ class Place:
             raise bounds.Misbehaves(f"{bounds.shown(place)} is no directory: {found.why()}")
         self.path = b"" if place == b"/" else place
         made = self.new()
-        (reply,) = yield [ask("MKDIR", made, {})]
+        (reply,) = yield [ask("MKDIR", made, below.PRIVATE)]
         if reply.code != 0:
             raise bounds.Misbehaves(f"{bounds.shown(made)} cannot be made: {reply.why()}")
         yield [ask("RMDIR", made)]
@@ -51,7 +51,7 @@ class Worker(workers.Worker):
         try:
             session = sessions.play(self.server, "", base.steps(steps), in_flight, timeout or self.timeout, stop)
         finally:
-            left = clearing.Clearing(base.path).run(self.server, self.timeout)
+            left = clearing.Clearing(base.own).run(self.server, self.timeout)
             for line in left.split("\n") if left else ():
                 program.say(f"probe: {line}", sys.stderr)
         self.infer(session, {step.number for step in base.looking})

@@ -4,14 +4,24 @@ import random
 import subprocess
 import sys
 
-from probing import below, planner, starting
+from probing import below, clearing, planner, servers, starting
 from probing.program import TOP, program
 from sftp3 import trees
-from walk_trials.walks import POSIX, SFTP_SERVER, run
+from walk_trials.walks import HOSTILE, POSIX, SFTP_SERVER, run
 
 PROBE = os.path.join(TOP, "clients", "probe")
 MISBEHAVING = [sys.executable, os.path.join(TOP, "clients", "probing", "misbehaving.py")]
-BASE = b"/live/base"
+OWN, BASE = b"/live/base", b"/live/base/plan"
+
+# Servers of hostile.py in which a directory is to be removed, and what is said of it.
+ENDLESS = [
+    ("deep", "more than 128 directories within each other"),
+    ("endless_listing", "it has more than 200,000 entries"),
+    ("repeating_listing", '"/live/f" is left'),
+    ("idle_listing", '"/live" is left'),
+    ("long_names", '"/live" is left'),
+    ("ends_above", '"/live/f" is left'),
+]
 
 PARTS = [b"..", b".", b"", b"a", b"to-d", b"..\0", b"..\0x", b"a\0b", b"\0..", b"...", b"n" * 255]
 
@@ -29,7 +39,7 @@ def is_below(path):
 
 def try_paths(steps):
     """No request of a plan names a place that is not below the directory, whatever its paths are."""
-    draw, base, wrong = random.Random(1), below.Below(BASE, starting.few()), []
+    draw, base, wrong = random.Random(1), below.Below(OWN, starting.few()), []
     for _ in range(20000):
         path, other = (b"/".join(draw.choices(PARTS, k=draw.randint(1, 6))) for _ in range(2))
         found = [base.at(path), base.target(path, other)]
@@ -43,7 +53,34 @@ def try_paths(steps):
             wrong += [step.name for path in paths if not is_below(path) and not is_look]
             wrong += [step.name] if is_look and step.name not in ("REALPATH", "LSTAT", "MKDIR") else []
             wrong += [step.name] if step.name == "EXTENDED" else []
+    made = [step.fields for step in base.looking if step.name == "MKDIR"]
+    steps.check("only the server's user can enter the directory", made == [[OWN, {"permissions": 0o700}], [BASE, {}]],
+                made)
     steps.check("29 plans: all paths are below the directory, but those that look at the way to it", not wrong, wrong)
+
+
+class Asked(clearing.Clearing):
+    """Keeps the paths that it asks about."""
+
+    def steps(self):
+        self.asked, steps, replies = [], super().steps(), None
+        while True:
+            try:
+                wanted = steps.send(replies)
+            except StopIteration:
+                return
+            self.asked += [it.fields[0] for it in wanted if it.name not in ("READDIR", "CLOSE")]
+            replies = yield wanted
+
+
+def try_clearing(steps):
+    """What a session made is removed, or said to be left, whatever the server lists."""
+    for kind, wanted in ENDLESS:
+        work = Asked(b"/live")
+        said = work.run(servers.Server([*HOSTILE, kind]), 1)
+        above = [path for path in work.asked if not path.startswith(b"/live") or b".." in path]
+        steps.check(f"to remove a directory of a server, {kind.replace('_', ' ')}: {wanted}",
+                    said and wanted in said and not above, f"{said}: {above[:3]}")
 
 
 def picture(folder):

@@ -67,8 +67,9 @@ class Right:
         return names((b"../f", {}))
 
     def opendir(self, path):
-        self.left[path] = [(name, self.attributes(found)) for name, found in self.entries(path)]
-        return sftp3.HANDLE, sftp3.string(path)
+        handle = path[-200:]
+        self.left[handle] = [(name, self.attributes(found)) for name, found in self.entries(path)]
+        return sftp3.HANDLE, sftp3.string(handle)
 
     def readdir(self, handle):
         found, self.left[handle] = self.left.get(handle), []
@@ -105,17 +106,49 @@ class endless_listing(Right):
 
     count = 0
 
+    def permissions(self, path):
+        return DIRECTORY if path in (b"/", b"/live") else FILE
+
     def readdir(self, handle):
         endless_listing.count += 2000
         return names(*((b"%0200d" % number, {}) for number in range(self.count, self.count + 1000)))
 
 
+class long_names(Right):
+    """A listing of names that no directory has."""
+
+    count = 0
+
+    def permissions(self, path):
+        return DIRECTORY if path.count(b"/") == 1 else FILE
+
+    def readdir(self, handle):
+        long_names.count += 1
+        return names((b"%09d" % self.count + b"n" * 200_000, {}))
+
+
+class ends_above(Right):
+    """The names of a directory lead above it where a byte of 0 ends them."""
+
+    def entries(self, path):
+        return [(b"..\0x", DIRECTORY), (b"f", FILE)]
+
+    def permissions(self, path):
+        return DIRECTORY if path.count(b"/") == 1 or b"\0" in path else FILE
+
+
 class repeating_listing(Right):
+    def permissions(self, path):
+        return FILE if path.endswith(b"f") else DIRECTORY
+
     def readdir(self, handle):
         return names((b"f", self.attributes(FILE)))
 
 
 class idle_listing(Right):
+    def permissions(self, path):
+        return DIRECTORY
+
     def readdir(self, handle):
         return names()
 
@@ -160,6 +193,26 @@ class short_reads(Right):
 class empty_reads(Right):
     def read(self, handle, offset, length):
         return data(b"")
+
+
+class long_handle(Right):
+    """Each request through it has as many bytes."""
+
+    def opendir(self, path):
+        return sftp3.HANDLE, sftp3.string(b"h" * 200_000)
+
+
+class long_lines(Right):
+    """A listing with a name in each reply, and much to show of it."""
+
+    count = 0
+
+    def permissions(self, path):
+        return FILE if path.rpartition(b"/")[2].isdigit() else DIRECTORY
+
+    def readdir(self, handle):
+        long_lines.count += 1
+        return sftp3.NAME, sftp3.names([(b"%d" % self.count, b"-" * 260_000, {})])
 
 
 class too_much(Right):

@@ -24,6 +24,8 @@ ENDED = [
     ("long_name", 'the listing of "/" has the name "nnn'),
     ("endless_listing", "there are more than 1,048,576 entries, as many as a tree file has"),
     ("repeating_listing", 'the listing of "/" goes on without names that are new'),
+    ("long_handle", "a handle of the server has 200,000 bytes"),
+    ("long_lines", "the replies of the server have more than 538,870,912 bytes"),
     ("idle_listing", 'the listing of "/" goes on without names that are new'),
     ("short_reads", 'READ of "/f" gives few bytes at a time'),
     ("relative_realpath", r'REALPATH of "." gave "\x1b[1mhome", which is no absolute path'),
@@ -105,7 +107,7 @@ def try_records(steps, folder):
     steps.check("a record that is there is kept", status == 0 and os.path.exists(session + ".2"), said)
     name = os.path.join(folder, "hostile.transcript")
     for kind, wanted in ENDED:
-        status, said = walk(folder, ["--timeout", "1", "--session", name], [*HOSTILE, kind])
+        status, said = walk(folder, ["--timeout", "1", "--max-bytes", "2000000", "--session", name], [*HOSTILE, kind])
         steps.check(f"{kind.replace('_', ' ')}, recorded: {wanted}", status == 3 and wanted in said and is_clean(said),
                     f"{status}: {said[:600]}")
 

@@ -7,6 +7,9 @@ ENTRIES, LARGEST, NAME, DEPTH = 1_048_576, 67_108_864, 255, 64
 # The most bytes that all names together may have, since they are held until they are looked at.
 NAMES = 1 << 28
 
+# The most bytes of all replies together, without those of files; and of a handle, by the draft.
+REPLIES, HANDLE = 1 << 29, 256
+
 # How many replies to READDIR without a new name, and how many READs of fewer than LITTLE bytes that are not the end of
 # a file, there may be in a directory or a file.
 IDLE, SHORT, LITTLE = 100, 100, 256

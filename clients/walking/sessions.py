@@ -4,6 +4,7 @@ from collections import deque
 
 import sftp3
 from probing import servers, streams
+from walking import bounds
 from walking.bounds import Misbehaves
 from walking.replies import Reply
 
@@ -35,13 +36,15 @@ class Task:
 
 class Session:
     """A session with a server that runs. `record` gets its packets, as recording.sinks.FileSink does; `timeout` is how
-    many seconds it waits for a reply."""
+    many seconds it waits for a reply; `most` is how many bytes all replies may have together, since a record keeps
+    them."""
 
-    def __init__(self, running, record, timeout, in_flight):
+    def __init__(self, running, record, timeout, in_flight, most=bounds.REPLIES):
         self.running, self.record, self.in_flight = running, record, in_flight
         self.streams = streams.Streams(running)
         self.waiting, self.unanswered = deque(), {}
-        self.asked = self.unwanted = self.tasks = 0
+        self.asked = self.unwanted = self.tasks = self.told = 0
+        self.most = most
         self.ended = False
         self.timeout, self.patience, self.heard = timeout, timeout * OPENING, time.monotonic()
         record.begin(sftp3.OPENING)
@@ -65,6 +68,9 @@ class Session:
         while packet is not None:
             found.append(packet)
             packet = self.streams.next_packet()
+        self.told += sum(map(len, found))
+        if self.told > self.most:
+            raise Misbehaves(f"the replies of the server have more than {self.most:,} bytes")
         if found:
             self.record.put_packets(b"S", found)
         elif self.streams.wrong:
@@ -139,6 +145,8 @@ class Session:
             reply = Reply(packet)
         except sftp3.Malformed as error:
             raise Misbehaves(f"a reply of the server is malformed: {error}") from None
+        if reply.handle is not None and len(reply.handle) > bounds.HANDLE:
+            raise Misbehaves(f"a handle of the server has {len(reply.handle):,} bytes")
         task, place = self.unanswered.pop(reply.number, (None, 0))
         if task is None:
             self.unwanted += 1
