@@ -15,7 +15,7 @@ MANUAL = "packaging/sftpv3.1.in"
 DATED = ("docs/measurements/", "CHANGELOG.md")
 # Files that no person writes line by line, and `crates.txt`, in which a crate is a line.
 UNBROKEN = re.compile(
-    r"\.(cases|edit|tree|transcript)$|/proofs/|(^|/)(crates|list|edits)\.txt$|^LICENSE$")
+    r"\.(cases|edit|sessions|tree|transcript)$|/proofs/|(^|/)(crates|list|edits)\.txt$|^LICENSE$")
 # Sources with longer lines, and how many each may have: code that was proved before the check was there.
 LONGER = TOP / ".ci" / "longer"
 
