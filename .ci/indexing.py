@@ -1,5 +1,5 @@
 """The index of the crates, crates/README.md, which is made of what the sources say of themselves; and what is checked
-of docs/PROMISES.md: that each function and each clause that a table of it names is there."""
+of docs/PROMISES.md: that each function and each clause that a list of it names is there."""
 import re
 import textwrap
 
@@ -18,7 +18,6 @@ on those before it. `.ci/pages --write` makes this page, and `.ci/pages` compare
 [PROMISES.md](../docs/PROMISES.md) what the promises come to.
 """
 COLUMNS = 120
-KINDS = ("function", "law")
 
 
 def crates_here():
@@ -80,36 +79,38 @@ def wrong_index():
         yield f"{INDEX.relative_to(TOP)}: not as `.ci/pages --write` makes it"
 
 
-def rows_of_tables(page):
-    """Yields the rows of tables of functions or laws: the number of each line, the crates of the heading above it, and
-    its cells."""
-    crates, kind = [], ""
-    for number, line in enumerate(page.splitlines(), 1):
-        cells = [it.strip() for it in re.split(r"(?<!\\)\|", line)[1:-1]]
+def items_of_lists(page):
+    """Yields the items of the lists below a heading that names crates: the number of the first line, the crates, and
+    the text. An item begins with the names of functions or laws, up to a colon; the names of their clauses follow in
+    brackets."""
+    crates, first, words = [], 0, []
+    for number, line in enumerate([*page.splitlines(), ""], 1):
+        if words and not line.startswith("  "):
+            yield first, crates, " ".join(words)
+            words = []
         if line.startswith("## "):
             crates = re.findall(r"`(sftp\w*)`", line)
-        elif not cells:
-            kind = ""
-        elif not kind:
-            kind = cells[0]
-        elif kind in KINDS and crates and not cells[0].startswith("---"):
-            yield number, crates, cells
+        elif crates and re.match(r"- [^:]*`[^:]*(::[^:]*)*: ", line):
+            first, words = number, [line[2:]]
+        elif words:
+            words.append(line.strip())
 
 
 def wrong_promises():
-    """Finds functions and clauses in tables of docs/PROMISES.md that no source of the crate has."""
+    """Finds functions and clauses in lists of docs/PROMISES.md that no source of the crate has."""
     functions = {name: [it for file in files_of(folder) if file.suffix == ".rt" for it in functions_of(file)]
                  for name, folder in crates_here().items()}
-    here = []
-    for number, crates, cells in rows_of_tables(PROMISES.read_text()):
-        names = {it.split("::")[-1] for it in re.findall(r"`([\w:]+)`", cells[0])}
-        crates = re.findall(r"\(`(sftp\w+)`\)", cells[0]) or crates
+    for number, crates, item in items_of_lists(PROMISES.read_text()):
+        head, _, said = item.partition(": ")
+        names = {it.split("::")[-1] for it in re.findall(r"`([\w:]+)`", head)}
+        if not any(it[0].islower() for it in names) and "[" not in said:
+            continue    # a list of variants
+        crates = re.findall(r"\(`(sftp\w+)`\)", head) or crates
         known = [it for crate in crates for it in functions.get(crate, ())]
-        if cells[0]:
-            here = [it for it in known if {it.name, it.owner} & names] or known
         for name in sorted(names - {word for it in known for word in (it.name, it.owner)} - set(crates)):
             yield f"docs/PROMISES.md:{number}: {' and '.join(crates)} has no function {name}"
+        here = [it for it in known if {it.name, it.owner} & names] or known
         clauses = {word for it in here for word in (it.name, *it.named_clauses())}
-        for name in re.findall(r"`(\w+)`", cells[1] if len(cells) == 3 else ""):
+        for name in re.findall(r"\w+", " ".join(re.findall(r"\[([\w, ]+)\](?!\()", said))):
             if name not in clauses:
-                yield f"docs/PROMISES.md:{number}: no clause {name} of {cells[0] or 'the function above'}"
+                yield f"docs/PROMISES.md:{number}: no clause {name} of {head}"

@@ -90,16 +90,15 @@ class Index(unittest.TestCase):
 
     def test_names_that_no_source_has_are_found(self):
         page = "\n".join([
-            "## `sftp_wire`", "", "| function | clause | meaning |", "|---|---|---|",
-            "| `front` | `exact`, `exacter` | x |", "| | `only` | x |", "| `fronts` | | x |", "",
-            "| ended | what |", "|---|---|", "| `Nothing` | x |", ""])
+            "## `sftp_wire`", "", "- `front`: [exact, exacter] x;", "  [only] x [a link](there)", "- `fronts`: x", "",
+            "- `Nothing`: x", "- words, and `front`", ""])
         with tempfile.TemporaryDirectory() as room:
             file = Path(room, "PROMISES.md")
             file.write_text(page)
             with mock.patch.object(indexing, "PROMISES", file):
                 found = list(indexing.wrong_promises())
-        self.assertEqual(found, ["docs/PROMISES.md:5: no clause exacter of `front`",
-                                 "docs/PROMISES.md:7: sftp_wire has no function fronts"])
+        self.assertEqual(found, ["docs/PROMISES.md:3: no clause exacter of `front`",
+                                 "docs/PROMISES.md:5: sftp_wire has no function fronts"])
 
 
 class Cases(unittest.TestCase):
