@@ -61,6 +61,23 @@ def notes(text):
     return [it for it, after in zip(lines, [*lines[1:], ""]) if it != ".Pp" or not after.startswith((".Bd", ".Pp"))]
 
 
+def sections(text):
+    """Returns the lines of sections: a heading in capitals, paragraphs, and items behind `- `, each a list's."""
+    lines, is_list = [], False
+    for part in re.split(r"\n{2,}|\n(?=- )", text.strip("\n")):
+        words, is_item = " ".join(part.split()), part.startswith("- ")
+        if is_item != is_list:
+            lines.append(".Bl -bullet" if is_item else ".El")
+        is_list = is_item
+        if is_item:
+            lines += [".It", *filled(words[2:])]
+        elif words.isupper():
+            lines.append(f".Sh {words}")
+        else:
+            lines += [*([".Pp"] if not lines[-1].startswith(".Sh") else []), *filled(words)]
+    return [*lines, *([".El"] if is_list else [])]
+
+
 def quoted(text):
     """Returns a text inside an argument of zsh's _arguments, which is in single quotes."""
     text = re.sub(r"([\\\[\]:])", r"\\\1", text)

@@ -22,5 +22,13 @@ class Dates(unittest.TestCase):
             self.assertEqual(mdoc.page_date(), changed.strftime("%B %-d, %Y"))
 
 
+class Sections(unittest.TestCase):
+    def test_headings_paragraphs_and_items(self):
+        text = "NOTES\n\nIt runs. It\nends.\n\nMore.\n\n- one\n  word\n- 'two'\n\nBehind.\n\nCAVEATS\n\n- three\n"
+        self.assertEqual(mdoc.sections(text), [
+            ".Sh NOTES", "It runs.", "It ends.", ".Pp", "More.", ".Bl -bullet", ".It", "one word", ".It",
+            "\\&\\(aqtwo\\(aq", ".El", ".Pp", "Behind.", ".Sh CAVEATS", ".Bl -bullet", ".It", "three", ".El"])
+
+
 if __name__ == "__main__":
     unittest.main()
