@@ -175,7 +175,7 @@ class Night:
             return False
         now, found = looked
         if not os.path.exists(self.tree):
-            for line in found.lines()[:-1] if found.count <= MOST_LINES else found.lines():
+            for line in found.lines(found.count - 1):
                 self.say(line)
             self.say(f"the tree of the start has {found.last.rpartition(': ')[2].partition(',')[0]}")
         else:

@@ -63,10 +63,11 @@ class Told:
     def starts(self, text: str) -> bool:
         return bool(self.first) and self.first[0].startswith(text)
 
-    def lines(self, start: int = 0) -> List[str]:
-        """The lines from this one on, and how many more there are than are held."""
-        left_out = self.count - len(self.first)
-        return self.first[start:] + ([f"and {left_out} more"] if left_out else [])
+    def lines(self, count: Optional[int] = None) -> List[str]:
+        """Of the first `count` lines, or of all, those that are held, and how many are not."""
+        count = self.count if count is None else count
+        held = self.first[:count]
+        return held + ([f"and {count - len(held)} more"] if count > len(held) else [])
 
 
 def within(most: int) -> None:
