@@ -1,18 +1,19 @@
 """One run for one user: audits what was recorded, and compares the folders with what that leaves."""
 import fcntl
 import os
-import resource
 import subprocess
 import sys
 import time
 
+from nights import told
 from nights.keeping import Copy
 from nights.records import Failed, Spool
 from paging import packets
 from probing import program
 
 TREE = os.path.join(program.CLIENTS, "tree")
-MOST_LINES = 20
+# How many lines are printed of a comparison or of what a folder has that no tree holds, and how many of a refusal.
+MOST_LINES, MOST_REASONS = 20, 100
 # An audit has the tree file, the tree, and at its end the file of the last tree.
 SHARE = 3
 # The least that an address space is bounded by: the program itself has to be loaded.
@@ -70,42 +71,45 @@ class Night:
         print(packets.line(f"{self.given.user}: {text}"), flush=True)
         self.status = max(self.status, status)
 
-    def run_program(self, *words, **options):
-        """Runs the program with no more memory and time than an audit may take. Returns how that ended."""
-        most = (max(4 * self.given.memory, LEAST_SPACE),) * 2
-        return subprocess.run([self.program, *words], stdin=subprocess.DEVNULL, stdout=subprocess.PIPE,
-                              stderr=subprocess.STDOUT, check=False, timeout=self.given.audit_seconds,
-                              preexec_fn=lambda: resource.setrlimit(resource.RLIMIT_AS, most), **options)
+    def run_program(self, most, *words, **options):
+        """Runs the program with no more memory and time than an audit may take. Returns what it told, at most so many
+        lines."""
+        return told.run([self.program, *words], most, self.given.audit_seconds,
+                        space=max(4 * self.given.memory, LEAST_SPACE), **options)
+
+    def say_lines(self, lines):
+        """Prints lines that belong to the one before them."""
+        for line in lines:
+            self.say(f"  {line}")
 
     def audit(self, copy, name, note):
         """Audits a session, and makes its last tree the one of the next. Returns whether it is accepted."""
         after = f"{self.tree}.after"
         try:
-            ran = self.run_program("audit", *self.options, "--explain", "--tree", self.tree, "--transcript",
-                                   f"/proc/self/fd/{copy.file}", "--out", after, pass_fds=[copy.file])
+            found = self.run_program(MOST_REASONS, "audit", *self.options, "--explain", "--tree", self.tree,
+                                     "--transcript", f"/proc/self/fd/{copy.file}", "--out", after,
+                                     pass_fds=[copy.file])
         except subprocess.TimeoutExpired:
             return self.give_up(copy, name, f": the audit did not end within {self.given.audit_seconds:g} seconds "
                                 f"(--audit-seconds){note}")
         # the record is named below, and not by its descriptor
-        said = ran.stdout.decode(errors="replace").replace(f"sftpv3: file: /proc/self/fd/{copy.file}\n", "")
-        first, _, more = said.partition("\n")
-        if ran.returncode == 0:
+        first, *more = [it for it in found.lines() if it != f"sftpv3: file: /proc/self/fd/{copy.file}"] or [""]
+        if found.status == 0:
             copy.keep("accepted")
             os.replace(after, self.tree)
             self.accepted += 1
             self.cut += " unanswered" in first
             self.say(f"{name}: {first}{note}")
             return True
-        if ran.returncode == 3 and first.startswith("sftpv3: out of memory"):
+        if found.status == 3 and first.startswith("sftpv3: out of memory"):
             return self.give_up(copy, name, f": the audit needs more than {self.given.memory} bytes of memory "
                                 f"(--memory){note}")
-        if ran.returncode != 1 and not first.startswith("sftpv3: transcript: "):
-            raise Failed(f"{name}: the audit ended with status {ran.returncode}: {said.strip()}")
+        if found.status != 1 and not first.startswith("sftpv3: transcript: "):
+            raise Failed(f"{name}: the audit ended with status {found.status}: {' '.join([first, *more]).strip()}")
         with open(f"{copy.keep('refused')}.verdict", "w", encoding="utf-8") as file:
-            file.write(said)
+            file.writelines(f"{line}\n" for line in [first, *more])
         self.say(f"{name}: {first}{note}", 1)
-        for line in more.splitlines():
-            self.say(f"  {line}")
+        self.say_lines(more)
         return False
 
     def give_up(self, copy, name, why):
@@ -145,33 +149,35 @@ class Night:
             self.tidy()
 
     def look(self):
-        """The tree of the folders as they are now, or None if a session ran meanwhile."""
+        """The tree of the folders as they are now, and what is said of them; None if a session ran meanwhile."""
         now = f"{self.tree}.now"
         words = [sys.executable, "-I", TREE, "--out", now, "--most", str(self.given.memory // SHARE),
                  "--limits", "raised", "--user", self.given.user]
         for name in ("home", "group"):
             words += [f"--{name}", getattr(self.given, name)] if getattr(self.given, name) else []
         words += [f"--{it.replace('_', '-')}" for it in ("chroot", "without_mounts") if getattr(self.given, it)]
-        ran = subprocess.run([*words, "--", *self.given.folders], stdout=subprocess.PIPE, stderr=subprocess.STDOUT,
-                             check=False)
-        said = ran.stdout.decode(errors="replace").strip()
-        if ran.returncode:
-            hint = f" (the files may have a third of --memory, {self.given.memory} bytes)" if "--most" in said else ""
-            raise Failed(f"{said}{hint}")
-        return None if self.spool.records() else (now, said)
+        try:
+            found = told.run([*words, "--", *self.given.folders], MOST_LINES, self.given.audit_seconds)
+        except subprocess.TimeoutExpired:
+            raise Failed(f"the folders were not read within {self.given.audit_seconds:g} seconds (--audit-seconds)"
+                         ) from None
+        if found.status:
+            hint = f" (the files may have a third of --memory, {self.given.memory} bytes)" \
+                if "--most" in found.last else ""
+            raise Failed(f"{found.last}{hint}")
+        return None if self.spool.records() else (now, found)
 
     def compare(self):
         """Compares the last tree with the folders, and starts anew from what they have. Returns whether that could be
         done: no session ran meanwhile."""
-        found = self.look()
-        if found is None:
+        looked = self.look()
+        if looked is None:
             return False
-        now, said = found
+        now, found = looked
         if not os.path.exists(self.tree):
-            *left_out, last = said.splitlines()
-            for line in left_out:
+            for line in found.lines(found.count - 1):
                 self.say(line)
-            self.say(f"the tree of the start has {last.rpartition(': ')[2].partition(',')[0]}")
+            self.say(f"the tree of the start has {found.last.rpartition(': ')[2].partition(',')[0]}")
         else:
             self.tell_difference(now)
         os.replace(now, self.tree)
@@ -195,25 +201,21 @@ class Night:
 
     def tell_difference(self, now):
         try:
-            ran = self.run_program("diff", self.tree, now)
+            found = self.run_program(MOST_LINES, "diff", self.tree, now)
         except subprocess.TimeoutExpired:
             self.say(f"{self.counted()}; what changed cannot be told within {self.given.audit_seconds:g} seconds", 1)
             return
-        lines = ran.stdout.decode(errors="replace").splitlines()
-        if ran.returncode == 3 and lines[:1] and lines[0].startswith("sftpv3: out of memory"):
+        if found.status == 3 and found.starts("sftpv3: out of memory"):
             self.say(f"{self.counted()}; what changed cannot be told with {self.given.memory} bytes (--memory)", 1)
             return
-        if ran.returncode not in (0, 1):
-            raise Failed(f"sftpv3 diff ended with status {ran.returncode}: {' '.join(lines)}")
-        if ran.returncode == 0:
+        if found.status not in (0, 1):
+            raise Failed(f"sftpv3 diff ended with status {found.status}: {' '.join(found.lines())}")
+        if found.status == 0:
             self.say(f"{self.counted()}; the folder is as they left it")
             return
         unjudged = ", or requests of theirs that were not judged" if self.cut else ""
         self.say(f"{self.counted()}; something else changed the folder{unjudged}:", 1)
-        for line in lines[:MOST_LINES]:
-            self.say(f"  {line}")
-        if len(lines) > MOST_LINES:
-            self.say(f"  and {len(lines) - MOST_LINES} more")
+        self.say_lines(found.lines())
 
     def reach_verdict(self):
         """Audits and compares, again if a session came and went meanwhile. Returns whether all was compared."""

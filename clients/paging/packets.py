@@ -51,6 +51,8 @@ def clean(text):
 
 def line(text):
     """The same as one line of a terminal: without line feeds and tabs, too."""
+    if text.isprintable():
+        return text
     return "".join(sign if sign.isprintable() else escaped(sign) for sign in text)
 
 

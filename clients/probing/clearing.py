@@ -2,7 +2,7 @@
 server that lists what no session made."""
 import time
 
-from probing import servers
+from probing import limits, servers
 from walking import bounds, sessions
 from walking.looking import ask, parts_of, within
 from walking.replies import DIRECTORY, kind_of
@@ -12,6 +12,9 @@ BATCH = 32
 
 # How many names deep it goes, how many entries it removes, and for how many seconds: sessions leave far fewer.
 DEEPEST, ENTRIES, SECONDS = 2 * bounds.DEPTH, 200_000, 600
+
+# For how many seconds it goes on once the run is to end: a server that replies at once has done all by then.
+GRACE = 5
 
 
 class NoRecord:
@@ -34,10 +37,11 @@ class Work:
         return self.steps.pop() if self.steps else None
 
 
-def hold(server, steps, timeout):
+def hold(server, steps, timeout, stop=None):
     """A session with the server, which asks what these steps ask, and is not recorded. Raises NotStarted or
-    Misbehaves."""
-    session = sessions.Session(server.start(""), NoRecord(), timeout, sessions.WINDOW // 2)
+    Misbehaves; and Stopped a while after `stop` is set."""
+    late = limits.Late(stop, GRACE) if stop else None
+    session = sessions.Session(server.start(""), NoRecord(), timeout, sessions.WINDOW // 2, stop=late)
     try:
         session.open()
         session.play(Work(steps))
@@ -57,10 +61,12 @@ class Clearing:
         self.path, self.left = path, []
         self.entries, self.deadline = 0, time.monotonic() + SECONDS
 
-    def run(self, server, timeout):
+    def run(self, server, timeout, stop=None):
         """Gives why something is left, or None."""
         try:
-            hold(server, self.steps(), timeout)
+            hold(server, self.steps(), timeout, stop)
+        except servers.Stopped:
+            return f"{bounds.shown(self.path)} is left: the run was ended while it was removed"
         except (bounds.Misbehaves, servers.NotStarted) as error:
             return f"{bounds.shown(self.path)} is left: {error}"
         return f"{bounds.shown(self.left[0])} is left" if self.left else None

@@ -24,6 +24,18 @@ class Halt:
             signal.signal(number, lambda which, _: self.set(signal.Signals(which).name))
 
 
+class Late:
+    """Set so many seconds after another limit is first seen to be set: what is begun can still be put in order."""
+
+    def __init__(self, other, seconds):
+        self.other, self.seconds, self.deadline = other, seconds, None
+
+    def is_set(self):
+        if self.deadline is None and self.other.is_set():
+            self.deadline = time.monotonic() + self.seconds
+        return self.deadline is not None and time.monotonic() >= self.deadline
+
+
 class Until:
     """Set when another limit is, or when so many seconds are over. None is no limit."""
 

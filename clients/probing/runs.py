@@ -134,7 +134,7 @@ class Run:
         folders = [self.place(folder, number) for number in range(options.jobs(self.given))]
         if self.given.look_first is None:
             return [workers.Worker(one, server, auditor, self.given.timeout) for one in folders]
-        place = unseen.Place(server, self.given.look_first, self.given.timeout)
+        place = unseen.Place(server, self.given.look_first, self.given.timeout, self.halt)
         return [unseen.Worker(one, server, auditor, self.given.timeout, place) for one in folders]
 
     def place(self, folder, number):

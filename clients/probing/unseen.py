@@ -2,6 +2,7 @@
 and is judged by the tree that was seen while it was made. Behind the session the directory is removed."""
 import os
 import sys
+from contextlib import suppress
 
 import sftp3
 from probing import below, clearing, program, sessions, verdicts, workers
@@ -11,13 +12,15 @@ from walking.replies import DIRECTORY, kind_of
 
 
 class Place:
-    """Where sessions make their directories: an absolute path, as REALPATH tells it, of a directory."""
+    """Where sessions make their directories: an absolute path, as REALPATH tells it, of a directory. It is not known
+    if `stop` was set by then; so no session is played."""
 
-    def __init__(self, server, path, timeout):
+    def __init__(self, server, path, timeout, stop):
         if not inferring.can_infer(program.program()):
             raise inferring.NotInferred("the program sftpv3 has no `infer`, which --look-first needs")
         self.path = None
-        clearing.hold(server, self.steps(path), timeout)
+        with suppress(sessions.Stopped):
+            clearing.hold(server, self.steps(path), timeout, stop)
 
     def steps(self, path):
         (real,) = yield [ask("REALPATH", path)]
@@ -51,17 +54,18 @@ class Worker(workers.Worker):
         try:
             session = sessions.play(self.server, "", base.steps(steps), in_flight, timeout or self.timeout, stop)
         finally:
-            left = clearing.Clearing(base.own).run(self.server, self.timeout)
+            left = clearing.Clearing(base.own).run(self.server, self.timeout, stop)
             for line in left.split("\n") if left else ():
                 program.say(f"probe: {line}", sys.stderr)
-        self.infer(session, {step.number for step in base.looking})
+        self.infer(session, {step.number for step in base.looking}, stop)
         return session, verdicts.judge(self.auditor, self.kept_tree, session, seed, stop)
 
-    def infer(self, session, numbers):
+    def infer(self, session, numbers, stop):
         """Has the tree made that the requests with these numbers saw, and keeps it with the session."""
         with open(self.seen, "wb") as file:
             file.write(sftp3.put_records(of_numbers(session.records, numbers)))
-        is_there, said, why = inferring.infer(self.auditor.program, self.seen, self.kept_tree, self.auditor.options)
+        is_there, said, why = inferring.infer(self.auditor.program, self.seen, self.kept_tree, self.auditor.options,
+                                              program.MEMORY, stop)
         if not is_there:
             raise verdicts.Trouble("\n".join(["no tree is what the session saw at its start: " + said, why]), 1)
         with open(self.kept_tree, "rb") as file:

@@ -1,14 +1,17 @@
 """Asks `sftpv3 audit` for its verdict on a session, and goes on after a difference."""
 import os
 import re
+import resource
 import signal
 import subprocess
+from contextlib import suppress
 from dataclasses import dataclass
 from typing import Dict, List, Optional, Tuple
 
 import sftp3
 from probing import groups, servers
 from probing.sessions import Session, Stopped
+from recording import ending
 
 # The options of a profile, which are passed on if the program has them.
 PROFILE_OPTIONS = ["--profile", "--umask", "--new-owner", "--allow", "--except", "--symlink"]
@@ -54,19 +57,32 @@ def of_audit(done):
     return Verdict(accepted, said or why, *((int(found[1]), found[2]) if found else (None, None)), lines)
 
 
-def run(words, stop):
-    """Runs a command to its end; raises Stopped, and ends it, once `stop` is set."""
+def run(words, stop, space=None):
+    """Runs a command to its end, in an address space of at most so many bytes; raises Stopped, and ends it, once `stop`
+    is set."""
     # in a session of its own, so that a terminal's SIGINT does not end it
-    with subprocess.Popen(words, stdin=subprocess.DEVNULL, stdout=subprocess.PIPE, stderr=subprocess.PIPE,
-                          start_new_session=True) as running:
-        while not (stop and stop.is_set()):
-            try:
-                said, why = running.communicate(timeout=GLANCE)
-                return subprocess.CompletedProcess(words, running.returncode, said, why)
-            except subprocess.TimeoutExpired:
-                pass
-        os.killpg(running.pid, signal.SIGKILL)
-    raise Stopped()
+    with ending.put_off() as go_on, subprocess.Popen(words, stdin=subprocess.DEVNULL, stdout=subprocess.PIPE,
+                                                     stderr=subprocess.PIPE, start_new_session=True) as running:
+        try:
+            go_on()
+            bound(running.pid, space)
+            while not (stop and stop.is_set()):
+                with suppress(subprocess.TimeoutExpired):
+                    said, why = running.communicate(timeout=GLANCE)
+                    return subprocess.CompletedProcess(words, running.returncode, said, why)
+            raise Stopped()
+        except BaseException:
+            os.killpg(running.pid, signal.SIGKILL)
+            raise
+
+
+def bound(process, space):
+    """Bounds the address space of a process that runs, as far as the system has no lower bound. None is no bound."""
+    if space is not None:
+        with suppress(ProcessLookupError):
+            hard = resource.prlimit(process, resource.RLIMIT_AS)[1]
+            soft = space if hard == resource.RLIM_INFINITY else min(space, hard)
+            resource.prlimit(process, resource.RLIMIT_AS, (soft, hard))
 
 
 class Auditor:

@@ -18,5 +18,6 @@ shares    what each user has of a spool
 keeping   the daemon that keeps records in a spool
 options   the commands
 complaints  about command lines
+ending      signals that end other scripts in order
 parsers   their options, with help and complaints
 """

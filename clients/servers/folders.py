@@ -106,17 +106,17 @@ class Builder:
 
 def fill(builder, tree_file):
     """Makes all that the tree file has."""
-    words = [program.program(), "export", tree_file]
+    words = [program.program(), "export", "--", tree_file]
     with subprocess.Popen(words, stdin=subprocess.DEVNULL, stdout=subprocess.PIPE, stderr=subprocess.PIPE) as exported:
         source = {"fileobj": exported.stdout, "encoding": "utf-8", "errors": "surrogateescape"}
         try:
             with tarfile.open(mode="r|", **source) as members:
                 directories = put_all(builder, members)
         except tarfile.ReadError:
-            directories = []
+            directories = None
         said = exported.stderr.read().decode(errors="replace").strip()
-    if exported.returncode != 0:
-        raise Bad(said)
+    if exported.returncode != 0 or directories is None:
+        raise Bad(said or "what the program made of it is no archive")
     for member in reversed(directories):
         builder.own_directory(member)
 

@@ -36,16 +36,24 @@ LONGEST = 1 << 18
 ASIDE = ".sftpv3-start"
 
 
-def fail(text):
+def fail(text, status=3):
     print(f"{os.path.basename(sys.argv[0])}: {printable(text)}", file=sys.stderr)
-    sys.exit(3)
+    sys.exit(status)
+
+
+def read_words(about, least=1):
+    """Ends the script if its words ask for help, which its text `about` has, or are fewer than it needs."""
+    open_standard_files()
+    what, usage, more = (it.strip() for it in about.split("\n\n", 2))
+    if sys.argv[1:2] in (["-h"], ["--help"]):
+        print(f"usage: {usage}\n\n{what}\n\n{more}")
+        sys.exit(0)
+    if len(sys.argv) <= least:
+        fail(f"usage: {usage}", 2)
 
 
 def folder_of(arguments, package, program):
     """The folder of the tree that the first word names, if all that is needed is there."""
-    open_standard_files()
-    if len(arguments) < 2:
-        fail("usage: clients/servers/" + os.path.basename(arguments[0]) + " TREE [ARGUMENT ...]")
     if os.geteuid() != 0:
         fail("needs root, to change its root folder and the owners of files")
     if not os.path.exists(program):
@@ -264,7 +272,7 @@ def end(status):
 
 
 def serve(program, package, fixed=()):
-    """The whole of a script: `SCRIPT TREE [ARGUMENT ...]`."""
+    """The whole of a script behind `read_words`: `SCRIPT TREE [ARGUMENT ...]`."""
     with folder_of(sys.argv, package, program) as folder:
         status = run(folder, program, list(fixed) + sys.argv[2:])
     end(status)

@@ -4,6 +4,8 @@ import re
 import stat
 from typing import FrozenSet, Iterator, List, NamedTuple, Optional, Tuple
 
+from sftp3.trees import HIGHEST
+
 # What is mounted where, in the fifth word of each line; spaces and the like are written as octal numbers.
 MOUNTS = "/proc/self/mountinfo"
 
@@ -45,26 +47,49 @@ def mount_points() -> List[Place]:
     return [names(re.sub(rb"\\([0-7]{3})", lambda found: bytes([int(found[1], 8)]), path)) for path in paths]
 
 
-def below(directory: int, place: Place, mounts: FrozenSet[Place] = frozenset()) -> Iterator[Entry]:
-    """All below a directory, in the order of tree files, without what is below one of these mounts."""
-    with os.scandir(directory) as found:
-        listed = sorted(os.fsencode(entry.name) for entry in found)
-    for name in listed:
-        state = os.stat(name, dir_fd=directory, follow_symlinks=False)
-        entry = Entry(place + (name,), state, directory, name, place + (name,) in mounts)
-        if len(entry.place) > DEEPEST:
-            raise Trouble(f"{shown(entry.place)}: more than {DEEPEST} names below the root")
-        yield entry
-        if stat.S_ISDIR(state.st_mode) and not entry.is_mount:
-            yield from below_entry(entry, mounts)
+class Look:
+    """One look at what folders have, without what is below these mounts. The names of a directory are held as long as
+    its entries are looked at; so those of all entries together may have no more than `most` bytes, as paths, and there
+    may be as many entries as any tree has."""
 
+    def __init__(self, mounts: FrozenSet[Place] = frozenset(), most: int = 1 << 34):
+        self.mounts, self.most, self.entries, self.bytes = mounts, most, 0, 0
 
-def below_entry(entry: Entry, mounts: FrozenSet[Place] = frozenset()) -> Iterator[Entry]:
-    held = os.open(entry.name, DIRECTORY, dir_fd=entry.directory)
-    try:
-        yield from below(held, entry.place, mounts)
-    finally:
-        os.close(held)
+    def names_in(self, directory: int, place: Place) -> List[bytes]:
+        """The names in a directory, in the order of tree files."""
+        found, above = [], sum(map(len, place)) + len(place) + 1
+        with os.scandir(directory) as entries:
+            for entry in entries:
+                name = os.fsencode(entry.name)
+                self.count(above + len(name))
+                found.append(name)
+        return sorted(found)
+
+    def count(self, path: int) -> None:
+        """Counts an entry whose path has so many bytes."""
+        self.entries, self.bytes = self.entries + 1, self.bytes + path
+        if self.entries > HIGHEST[0]:
+            raise Trouble(f"more than {HIGHEST[0]} entries, as many as a tree has")
+        if self.bytes > self.most:
+            raise Trouble(f"the names of the entries have more than the {self.most} bytes that --most allows")
+
+    def below(self, directory: int, place: Place) -> Iterator[Entry]:
+        """All below a directory, in the order of tree files."""
+        for name in self.names_in(directory, place):
+            state = os.stat(name, dir_fd=directory, follow_symlinks=False)
+            entry = Entry(place + (name,), state, directory, name, place + (name,) in self.mounts)
+            if len(entry.place) > DEEPEST:
+                raise Trouble(f"{shown(entry.place)}: more than {DEEPEST} names below the root")
+            yield entry
+            if stat.S_ISDIR(state.st_mode) and not entry.is_mount:
+                yield from self.below_entry(entry)
+
+    def below_entry(self, entry: Entry) -> Iterator[Entry]:
+        held = os.open(entry.name, DIRECTORY, dir_fd=entry.directory)
+        try:
+            yield from self.below(held, entry.place)
+        finally:
+            os.close(held)
 
 
 SPECIAL = {stat.S_IFSOCK: "a socket", stat.S_IFIFO: "a FIFO", stat.S_IFCHR: "a device", stat.S_IFBLK: "a device"}

@@ -5,7 +5,7 @@ import stat
 from contextlib import ExitStack
 from typing import Dict, Iterator, List
 
-from snapshot.looking import DIRECTORY, Entry, Place, Trouble, below, mount_points, names
+from snapshot.looking import DIRECTORY, Entry, Look, Place, Trouble, mount_points, names
 
 # docs/TREE.md: the most links on one walk.
 MOST_LINKS = 40
@@ -13,10 +13,11 @@ MOST_LINKS = 40
 
 class View:
     """What clients see: these folders, below the root `/` or, where the server changes its root, the one folder as the
-    root; without mounts, not what is mounted below them."""
+    root; without mounts, not what is mounted below them. A look at it holds at most so many bytes of paths."""
 
-    def __init__(self, folders: List[str], is_root: bool, stack: ExitStack, with_mounts: bool = True):
-        self.is_root = is_root
+    def __init__(self, folders: List[str], is_root: bool, stack: ExitStack, with_mounts: bool = True,
+                 most: int = 1 << 34):
+        self.is_root, self.most = is_root, most
         above = names(os.fsencode(os.path.realpath(folders[0]))) if is_root else ()
         self.mounts = frozenset() if with_mounts else frozenset(
             it[len(above):] for it in mount_points() if it[:len(above)] == above)
@@ -69,19 +70,17 @@ class View:
         path = b"/" + b"/".join(place)
         return Entry(place, os.lstat(path), None, path)
 
-    def below(self, held: int, place: Place) -> Iterator[Entry]:
-        return below(held, place, self.mounts)
-
     def root_state(self) -> os.stat_result:
         return os.fstat(self.root)
 
     def entries(self) -> Iterator[Entry]:
         """All entries in the order of tree files, each once."""
+        look = Look(self.mounts, self.most)
         if self.is_root:
-            yield from self.below(self.root, ())
+            yield from look.below(self.root, ())
             return
         parts = [iter(sorted(self.above.values(), key=lambda entry: entry.place))]
-        parts += [self.below(self.folders[place], place) for place in self.tops]
+        parts += [look.below(self.folders[place], place) for place in self.tops]
         last = None
         for entry in heapq.merge(*parts, key=lambda entry: entry.place):
             if entry.place != last:

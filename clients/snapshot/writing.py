@@ -26,8 +26,8 @@ class Owner(NamedTuple):
 
 
 class Wanted(NamedTuple):
-    """What is asked of a tree: its limits by name, the most bytes of its files together, and what becomes of sockets,
-    FIFOs and devices."""
+    """What is asked of a tree: its limits by name, the most bytes of its file, and what becomes of sockets, FIFOs and
+    devices."""
     limits: str
     most: int
     special: str = "file"
@@ -45,41 +45,64 @@ def tell_of(entry: Entry, wanted: Wanted, tell: Callable[[str], None]) -> None:
         tell(f"{shown(entry.place)}: {kind(entry)}, which no tree holds: {BECAME[wanted.special]}")
 
 
+class FirstNames:
+    """The files, and the numbers of the entries by which they were named first. What is mounted at two places has two
+    names, too, which its count of links does not say."""
+
+    def __init__(self) -> None:
+        self.first: Dict[int, int] = {}
+
+    def of(self, entry: Entry, number: int) -> int:
+        """The number of the first name of the entry's file, which is this one if it had none before."""
+        return self.first.setdefault(entry.state.st_dev << 64 | entry.state.st_ino, number)
+
+
 class Needs:
-    """What a view needs of a tree's limits: how many entries, and the largest file; and what is left out."""
+    """What a view needs: how many entries, the bytes of the largest file, and those of the tree file behind its head;
+    and what is left out."""
 
     def __init__(self, view: View, wanted: Wanted, tell: Callable[[str], None]):
         self.entries = self.largest = self.left_out = self.bytes = refused = 0
-        counted = set()
+        named = FirstNames()
         for entry in view.entries():
             tell_of(entry, wanted, tell)
             refused += wanted.special == "refuse" and bool(kind(entry)) and not entry.is_mount
             if wanted.leaves_out(entry):
                 self.left_out += 1
-                continue
-            self.left_out += entry.is_mount
-            self.entries += 1
-            if stat.S_ISREG(entry.state.st_mode):
-                self.largest = max(self.largest, entry.state.st_size)
-                if (entry.state.st_dev, entry.state.st_ino) not in counted:
-                    counted.add((entry.state.st_dev, entry.state.st_ino))
-                    self.bytes += entry.state.st_size
-                if entry.state.st_size > HIGHEST[1]:
-                    raise Trouble(f"{shown(entry.place)}: {entry.state.st_size} bytes; a file of a tree has at most "
-                                  f"{HIGHEST[1]}")
+            else:
+                self.left_out += entry.is_mount
+                self.take(entry, named)
         if refused:
             raise Trouble(f"{refused} sockets, FIFOs or devices, which no tree holds")
         if self.entries > HIGHEST[0]:
             raise Trouble(f"{self.entries} entries; a tree has at most {HIGHEST[0]}")
 
-    def check_room(self, file: BinaryIO, most: int) -> None:
+    def take(self, entry: Entry, named: FirstNames) -> None:
+        """Counts an entry, and the bytes that it has in a tree file."""
+        self.entries += 1
+        path, size = text_of(entry.place), entry.state.st_size
+        if stat.S_ISDIR(entry.state.st_mode):
+            self.bytes += len(trees.directory(path, (0, 0, 0)))
+        elif stat.S_ISLNK(entry.state.st_mode):
+            self.bytes += len(trees.link(path, target_of(entry)))
+        elif named.of(entry, self.entries) != self.entries:
+            self.bytes += len(trees.further(path, 0))
+        elif kind(entry):
+            self.bytes += len(trees.file_of(path, (0, 0, 0), 0))
+        elif size > HIGHEST[1]:
+            raise Trouble(f"{shown(entry.place)}: {size} bytes; a file of a tree has at most {HIGHEST[1]}")
+        else:
+            self.largest = max(self.largest, size)
+            self.bytes += len(trees.file_of(path, (0, 0, 0), 0)) + size
+
+    def check_room(self, file: BinaryIO, head: int, most: int) -> None:
         """Refuses what a sparse file may pretend to have, before anything is written."""
-        found = os.fstatvfs(file.fileno())
+        found, wanted = os.fstatvfs(file.fileno()), head + self.bytes
         free = found.f_bavail * found.f_frsize
-        if self.bytes > most:
-            raise Trouble(f"the files have {self.bytes} bytes, and --most allows {most}")
-        if self.bytes > free:
-            raise Trouble(f"the files have {self.bytes} bytes, and where the tree file is to be, {free} are free")
+        if wanted > most:
+            raise Trouble(f"the tree file would have {wanted} bytes, and --most allows {most}")
+        if wanted > free:
+            raise Trouble(f"the tree file would have {wanted} bytes, and where it is to be, {free} are free")
 
     def limits(self, wanted: str) -> Tuple[int, ...]:
         """The limits by name: usual, raised, or fit, the lowest that are enough."""
@@ -94,44 +117,50 @@ def owner_of(state: os.stat_result) -> Tuple[int, int, int]:
 
 
 class Writer:
-    """Writes the entries of one tree file."""
+    """Writes the entries of one tree file, which has at most these bytes and entries: those that were counted before,
+    when nothing was written."""
 
-    def __init__(self, file: BinaryIO):
-        self.file, self.count, self.bytes, self.left_out = file, 0, 0, 0
-        self.first: Dict[Tuple[int, int], int] = {}
+    def __init__(self, file: BinaryIO, entries: int, most: int):
+        self.file, self.entries, self.room = file, entries, most
+        self.count = self.bytes = self.left_out = 0
+        self.named = FirstNames()
 
-    def head(self, view: View, owner: Owner, limits: Tuple[int, ...], count: int) -> None:
-        made_by = owner.user, owner.group
-        self.file.write(trees.head(owner.home, made_by, limits, count, owner_of(view.root_state())))
+    def write(self, data: bytes) -> None:
+        self.room -= len(data)
+        if self.room < 0:
+            raise Trouble("the folder changed while it was read")
+        self.file.write(data)
 
     def put(self, entry: Entry) -> None:
         self.count += 1
+        if self.count > self.entries:
+            raise Trouble("the folder changed while it was read")
         path = text_of(entry.place)
         if stat.S_ISDIR(entry.state.st_mode):
-            self.file.write(trees.directory(path, owner_of(entry.state)))
+            self.write(trees.directory(path, owner_of(entry.state)))
         elif stat.S_ISLNK(entry.state.st_mode):
-            self.file.write(trees.link(path, target_of(entry)))
+            self.write(trees.link(path, target_of(entry)))
         elif not self.is_further_name(entry, path):
             self.put_file(entry, path)
 
     def is_further_name(self, entry: Entry, path: bytes) -> bool:
         """Whether the file has a name already; this one is then written as a further name."""
-        number = self.first.setdefault((entry.state.st_dev, entry.state.st_ino), self.count)
+        number = self.named.of(entry, self.count)
         if number != self.count:
-            self.file.write(trees.further(path, number))
+            self.write(trees.further(path, number))
         return number != self.count
 
     def put_file(self, entry: Entry, path: bytes) -> None:
         """A file; in the place of a socket, a FIFO or a device, which is not opened, an empty one."""
         if kind(entry):
-            self.file.write(trees.file_of(path, owner_of(entry.state), 0))
+            self.write(trees.file_of(path, owner_of(entry.state), 0))
             return
         held = os.open(entry.name, os.O_RDONLY | os.O_NOFOLLOW | os.O_NONBLOCK, dir_fd=entry.directory)
         with open(held, "rb", buffering=0) as source:
             state = os.fstat(held)
             if not stat.S_ISREG(state.st_mode) or state.st_size != entry.state.st_size:
                 raise changed(entry)
-            self.file.write(trees.file_of(path, owner_of(state), state.st_size))
+            self.write(trees.file_of(path, owner_of(state), state.st_size))
             self.copy(source, entry)
 
     def copy(self, source, entry: Entry) -> None:
@@ -141,7 +170,7 @@ class Writer:
             if not piece:
                 raise changed(entry)
             left -= len(piece)
-            self.file.write(piece)
+            self.write(piece)
         self.bytes += entry.state.st_size
 
 
@@ -162,9 +191,11 @@ def changed(entry: Entry) -> Trouble:
 def write(view: View, owner: Owner, wanted: Wanted, file: BinaryIO, tell: Callable[[str], None]) -> Writer:
     """Writes the tree file, and gives what was counted. What changes meanwhile is Trouble."""
     needs = Needs(view, wanted, tell)
-    needs.check_room(file, wanted.most)
-    limits, writer = needs.limits(wanted.limits), Writer(file)
-    writer.head(view, owner, limits, needs.entries)
+    limits = needs.limits(wanted.limits)
+    head = trees.head(owner.home, (owner.user, owner.group), limits, needs.entries, owner_of(view.root_state()))
+    needs.check_room(file, len(head), wanted.most)
+    writer = Writer(file, needs.entries, len(head) + needs.bytes)
+    writer.write(head)
     for entry in view.entries():
         if not wanted.leaves_out(entry):
             if entry.state.st_size > limits[1] and stat.S_ISREG(entry.state.st_mode):

@@ -1,13 +1,16 @@
 """`clients/probe --look-first`: sessions that keep to a directory of their own, on a server with other files."""
 import os
 import random
+import signal
 import subprocess
 import sys
+import threading
+import time
 
 from probing import below, clearing, planner, servers, starting
 from probing.program import TOP, program
 from sftp3 import trees
-from walk_trials.walks import HOSTILE, POSIX, SFTP_SERVER, run
+from walk_trials.walks import HOSTILE, POSIX, SFTP_SERVER, run, signalled
 
 PROBE = os.path.join(TOP, "clients", "probe")
 MISBEHAVING = [sys.executable, os.path.join(TOP, "clients", "probing", "misbehaving.py")]
@@ -81,6 +84,29 @@ def try_clearing(steps):
         above = [path for path in work.asked if not path.startswith(b"/live") or b".." in path]
         steps.check(f"to remove a directory of a server, {kind.replace('_', ' ')}: {wanted}",
                     said and wanted in said and not above, f"{said}: {above[:3]}")
+
+
+def try_signals(steps, folder):
+    """What is asked of a server behind a session ends soon after a signal, and says what is left."""
+    os.environ["MARK"] = os.path.join(folder, "mark")
+    stop, start = threading.Event(), time.monotonic()
+    threading.Timer(1, stop.set).start()
+    said = clearing.Clearing(b"/live").run(servers.Server([*HOSTILE, "hangs_at_removal"]), 600, stop)
+    steps.check("what hangs while it is removed is left once the run is to end", said == '"/live" is left: the run was '
+                "ended while it was removed" and time.monotonic() - start < 30, f"{said}: {time.monotonic() - start}")
+    stop, asked = threading.Event(), Asked(b"/d")
+    stop.set()
+    said = asked.run(servers.Server([*HOSTILE, "removes"]), 600, stop)
+    steps.check("behind a signal, what can be removed at once is", said is None and asked.asked[-1] == b"/d", said)
+    words = [PROBE, "--timeout", "600", "--look-first", "/", "--seeds", "1", "--requests", "2", "--skip", "crowds",
+             "--keep", "kept", "--"]
+    for what, server in (("clears", "hangs_at_removal"), ("looks where sessions can be", "marks_and_hangs_at_start")):
+        for number in (signal.SIGINT, signal.SIGTERM):
+            start = time.monotonic()
+            status, text, left, running = signalled(folder, [*words, *HOSTILE, server], number, {})
+            steps.check(f"{number.name} ends a probe soon that {what}", status in (3, 4) and not left and not running
+                        and "Traceback" not in text, f"{status} in {time.monotonic() - start:.0f} s: {text[-600:]} "
+                        f"{left} {running}")
 
 
 def picture(folder):

@@ -272,6 +272,51 @@ class hang(Right):
         time.sleep(600)
 
 
+class marks_and_hangs(Right):
+    """When it hangs, the file of $MARK is there."""
+
+    def opendir(self, path):
+        with open(os.environ["MARK"], "wb"):
+            time.sleep(600)
+
+
+class marks_and_hangs_at_start(Right):
+    def realpath(self, path):
+        with open(os.environ["MARK"], "wb"):
+            time.sleep(600)
+
+
+class removes(Right):
+    """What is asked to be removed is."""
+
+    def rmdir(self, path):
+        return status(sftp3.OK)
+
+    remove = rmdir
+
+
+class hangs_at_removal(Right):
+    """Each directory is there, and the removal of one that was listed does not end. Then the file of $MARK is there."""
+
+    listed = False
+
+    def permissions(self, path):
+        return DIRECTORY
+
+    def mkdir(self, path, given):
+        return status(sftp3.OK)
+
+    def opendir(self, path):
+        self.listed = True
+        return super().opendir(path)
+
+    def rmdir(self, path):
+        if self.listed:
+            with open(os.environ["MARK"], "wb"):
+                time.sleep(600)
+        return status(sftp3.OK)
+
+
 class ends(Right):
     def opendir(self, path):
         sys.stderr.write("\x1b[1mout of order\n")

@@ -1,9 +1,13 @@
 """Walks through servers that mean harm, and through right ones."""
 import os
 import resource
+import shutil
+import signal
 import subprocess
 import sys
 import tempfile
+import time
+from contextlib import suppress
 
 from probing import starting
 from probing.program import TOP, program
@@ -16,6 +20,19 @@ POSIX = ["--profile", "posix"]
 
 # Seconds after which a walk is said not to end, and the most bytes of memory that one may take.
 ENDLESS, MEMORY = 300, 1 << 30
+
+# Seconds after which a signal is said not to end a script.
+PROMPT = 60
+
+# A program `sftpv3` whose `infer` hangs, in which another process is started first, or needs more memory than it gets.
+HANGING = """#!/bin/sh
+[ "$*" = "help infer" ] || { echo $$ >"$MARK"; sleep 600; }
+"""
+GREEDY = """#!/bin/sh
+[ "$*" = "help infer" ] && exit
+sleep 1
+dd if=/dev/zero of=/dev/null bs=400000000 count=1 2>/dev/null || { echo "sftpv3: out of memory" >&2; exit 3; }
+"""
 
 # Servers of hostile.py at which the walk ends, and what it says.
 ENDED = [
@@ -154,6 +171,92 @@ def try_posix(steps, folder):
 
 def entries_below(name, place):
     return [line for line in show(name).splitlines() if f'"{place}'.encode() in line.split(b" ", 2)[1]]
+
+
+def executable(name, text):
+    with open(name, "w", encoding="ascii") as file:
+        file.write(text)
+    os.chmod(name, 0o755)
+    return name
+
+
+def processes_of(mark):
+    """The processes that have this in their command line or their environment."""
+    found = []
+    for name in filter(str.isdigit, os.listdir("/proc")):
+        try:
+            for what in ("cmdline", "environ"):
+                with open(f"/proc/{name}/{what}", "rb") as file:
+                    found += [int(name)] if os.fsencode(mark) in file.read() else []
+        except OSError:
+            pass
+    return found
+
+
+def wait_until(holds):
+    """Waits until this holds, or too long."""
+    until = time.monotonic() + PROMPT
+    while not holds() and time.monotonic() < until:
+        time.sleep(0.05)
+
+
+def signalled(folder, words, number, environment, ignored=()):
+    """Starts a command, and sends it a signal once the file `mark` is there. Gives its status, or None if it did not
+    end in time, what it printed, what it left in its temporary folder, and its processes that are left."""
+    room = tempfile.mkdtemp(dir=folder)
+    mark, temporary = os.path.join(room, "mark"), os.path.join(room, "tmp")
+    os.mkdir(temporary)
+    environment = {**os.environ, "TMPDIR": temporary, "MARK": mark, **environment}
+
+    def ignore():
+        for it in (signal.SIGHUP, signal.SIGINT, signal.SIGTERM):
+            signal.signal(it, signal.SIG_IGN if it in ignored else signal.SIG_DFL)
+    with subprocess.Popen(words, cwd=room, env=environment, stdin=subprocess.DEVNULL, stdout=subprocess.PIPE,
+                          stderr=subprocess.STDOUT, preexec_fn=ignore, start_new_session=True) as running:
+        wait_until(lambda: os.path.exists(mark) or running.poll() is not None)
+        for it in (*ignored, number):
+            running.send_signal(it)
+            time.sleep(0.2)
+        try:
+            said = running.communicate(timeout=PROMPT)[0].decode(errors="replace")
+            status = running.returncode
+        except subprocess.TimeoutExpired:
+            status, said = None, ""
+        left = os.listdir(temporary), processes_of(mark)
+        for it in {running.pid, *left[1]} if running.poll() is None or left[1] else ():
+            with suppress(ProcessLookupError):
+                os.kill(it, signal.SIGKILL)
+    shutil.rmtree(room)
+    return status, said, *left
+
+
+def try_signals(steps, folder):
+    """A signal ends a walk in order, be it in the session, or while the tree is made."""
+    hanging = {"SFTPV3": executable(os.path.join(folder, "hanging"), HANGING)}
+    for what, server, environment in (("in the session", "marks_and_hangs", {}), ("in infer", "Right", hanging)):
+        for number in (signal.SIGTERM, signal.SIGHUP, signal.SIGINT):
+            words = [WALK, "--timeout", "600", "--to", "seen.tree", "--", *HOSTILE, server]
+            status, said, left, running = signalled(folder, words, number, environment)
+            steps.check(f"{what}, {number.name} ends a walk with status {128 + number}, and leaves nothing",
+                        status == 128 + number and said == f"walk: {number.name} came; no tree is written\n" and
+                        not left and not running, f"{status}: {said} {left} {running}")
+    words[-1] = "marks_and_hangs"
+    status, said, left, running = signalled(folder, words, signal.SIGTERM, {}, ignored=[signal.SIGHUP])
+    steps.check("a signal that was ignored at the start is ignored", status == 143 and "SIGTERM" in said,
+                f"{status}: {said}")
+
+
+def try_memory(steps, folder):
+    """`infer` gets no more memory than --memory says."""
+    greedy = {"env": {**os.environ, "SFTPV3": executable(os.path.join(folder, "greedy"), GREEDY)}}
+    for options, most in ((["--memory", "100000000"], 100_000_000), (["--memory", "1"], 1)):
+        status, said = run([WALK, *options, "--to", "x", "--", *HOSTILE, "Right"], folder, **greedy)
+        steps.check(f"{' '.join(options)}: more than that infer does not get", status == 3 and is_clean(said) and
+                    f"`sftpv3 infer` needs more than {most:,} bytes of memory (--memory)" in said, f"{status}: {said}")
+        status, said = walk(folder, [*options, "--to", "seen.tree"], [*HOSTILE, "Right"])
+        steps.check(f"{' '.join(options)}: that is enough, or is said to be too little",
+                    status == 0 if most > 1 else status == 3 and f"needs more than {most:,} bytes of memory" in said,
+                    f"{status}: {said}")
 
 
 def try_usage(steps, folder):

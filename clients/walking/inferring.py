@@ -1,7 +1,13 @@
 """Asks `sftpv3 infer` for the tree that a session saw."""
 import subprocess
 
-from probing import servers
+from probing import servers, verdicts
+
+# The most memory of `infer`, unless it is told otherwise: it takes four times the bytes of a record with files.
+MEMORY = 1 << 32
+
+# The least that its address space is bounded by: the program has to be loaded, and then says by itself what it lacks.
+LEAST_SPACE = 1 << 26
 
 
 class NotInferred(Exception):
@@ -14,12 +20,14 @@ def can_infer(program):
                           check=False).returncode == 0
 
 
-def infer(program, transcript, tree, words=()):
+def infer(program, transcript, tree, words=(), memory=MEMORY, stop=None):
     """Has the tree written that explains the session. Gives whether there is one, and what was said of it, on standard
-    output and on standard error."""
-    done = subprocess.run([program, "infer", "--explain", *words, "--transcript", transcript, tree],
-                          stdin=subprocess.DEVNULL, capture_output=True, check=False)
+    output and on standard error. Raises Stopped, and ends it, once `stop` is set."""
+    done = verdicts.run([program, "infer", "--explain", "--memory", str(memory), *words, "--transcript", transcript,
+                         tree], stop, max(memory, LEAST_SPACE))
     said, why = (stream.decode(errors="replace").rstrip("\n") for stream in (done.stdout, done.stderr))
+    if done.returncode == 3 and why.startswith("sftpv3: out of memory"):
+        raise NotInferred(f"`sftpv3 infer` needs more than {memory:,} bytes of memory (--memory)")
     if done.returncode not in (0, 1):
         raise NotInferred(f"`sftpv3 infer` ended {servers.ending(done.returncode)}: {said} {why}".rstrip())
     return done.returncode == 0, said, why

@@ -6,7 +6,7 @@ import sys
 from probing import program, sessions, verdicts
 from probing.options import flying, seconds
 from recording.complaints import Parser
-from walking import bounds
+from walking import bounds, inferring
 
 # The exit statuses: the tree was written; no tree explains what the server told; wrong usage; it was not written.
 WRITTEN, NO_TREE, BAD_USAGE, NOT_WRITTEN = range(4)
@@ -33,7 +33,8 @@ def parser(about):
     add("--max-bytes", metavar="N", type=count, default=bounds.READ,
         help=f"the most bytes of files to read, all together; a line names each file that is left ({bounds.READ})")
     add("--session", metavar="FILE", help="keep the transcript of the session, which is made anew")
-    add("--memory", metavar="BYTES", type=count, help="the most memory of `sftpv3 infer` (no limit)")
+    add("--memory", metavar="BYTES", type=count, default=inferring.MEMORY,
+        help=f"the most memory of `sftpv3 infer`, which takes four times that of the record ({inferring.MEMORY})")
     add("--in-flight", metavar="N", type=flying, default=IN_FLIGHT,
         help=f"the most requests without a reply ({IN_FLIGHT})")
     add("--timeout", metavar="S", type=seconds, default=sessions.TIMEOUT,
@@ -51,7 +52,7 @@ def options(about):
     if given.to is None and given.session is None and sys.stdout.isatty():
         found.error("--to or --session is needed, or a standard output that is no terminal")
     given.below = given.below or [b"."]
-    given.infer_words = profile_words(given) + (["--memory", str(given.memory)] if given.memory else [])
+    given.infer_words = profile_words(given)
     return given
 
 

@@ -14,6 +14,9 @@ TASKS, UNWANTED = 16, 100
 # How many times as long as for a reply it waits for VERSION.
 OPENING = 12
 
+# Seconds from a look at what may stop a session to the next.
+GLANCE = 0.2
+
 # How many requests there may be from the oldest unanswered one on, so that an audit judges the session.
 WINDOW = 1000
 
@@ -37,10 +40,10 @@ class Task:
 class Session:
     """A session with a server that runs. `record` gets its packets, as recording.sinks.FileSink does; `timeout` is how
     many seconds it waits for a reply; `most` is how many bytes all replies may have together, since a record keeps
-    them."""
+    them. Once `stop` is set, it raises servers.Stopped."""
 
-    def __init__(self, running, record, timeout, in_flight, most=bounds.REPLIES):
-        self.running, self.record, self.in_flight = running, record, in_flight
+    def __init__(self, running, record, timeout, in_flight, most=bounds.REPLIES, stop=None):
+        self.running, self.record, self.in_flight, self.stop = running, record, in_flight, stop
         self.streams = streams.Streams(running)
         self.waiting, self.unanswered = deque(), {}
         self.asked = self.unwanted = self.tasks = self.told = 0
@@ -56,7 +59,9 @@ class Session:
 
     def exchange(self):
         left = self.heard + self.patience - time.monotonic()
-        came = self.streams.exchange(left)
+        came = self.streams.exchange(min(left, GLANCE) if self.stop else left)
+        if self.stop and self.stop.is_set():
+            raise servers.Stopped()
         if came is None:
             self.ended = True
         elif not came and left <= 0:

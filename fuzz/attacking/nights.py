@@ -53,6 +53,7 @@ class Nights:
     def __init__(self, field, user, *options):
         self.field, self.user, self.options = field, user, options
         self.home, self.spool, self.state = (field.path(it) for it in ("home", "spool", "state"))
+        self.peak = 0
         for name, owner, mode in ((self.home, user.pw_uid, 0o755), (self.spool, 0, 0o1777)):
             os.mkdir(name)
             os.chown(name, owner, owner)
@@ -60,7 +61,8 @@ class Nights:
         self.run()
 
     def run(self, *options):
-        """Runs it. Returns its status, what it printed, and the greatest memory of what it started."""
+        """Runs it. Returns its status, what it printed, and the greatest memory of what it started; `peak` is its own.
+        """
         words = [self.field.script("nightly"), "--records", self.spool, "--state", self.state, "--home", self.home,
                  *self.options, *options, self.user.pw_name, self.home]
         with open(self.field.path("said"), "wb+") as said:
@@ -73,6 +75,7 @@ class Nights:
                     break
                 if time.monotonic() > end:
                     os.killpg(started.pid, 9)
+                self.peak = max(self.peak, peak_of(started.pid))
                 time.sleep(0.02)
             started.returncode = os.waitstatus_to_exitcode(status)
             said.seek(0)
@@ -106,6 +109,12 @@ class Nights:
         path = os.path.join(self.home, "unrecorded")
         os.mkdir(path, 0o755)
         os.chown(path, self.user.pw_uid, self.user.pw_gid)
+
+
+def peak_of(process):
+    """The greatest memory that a process had by now, in bytes; 0 once it has ended."""
+    with open(f"/proc/{process}/status", encoding="ascii") as file:
+        return next((int(line.split()[1]) * 1024 for line in file if line.startswith("VmHWM:")), 0)
 
 
 def record_name(user, date="20261127T101500Z"):
@@ -305,6 +314,40 @@ def a_name_reaches_the_terminal(field):
             nights.put(f"{'x' * 244}.transcript", session()[:-1], field.user.pw_uid)
     os.close(held)
     yield from wrong(nights.run(), 1)
+
+
+def deep_pipes(home, user, depth, count):
+    """Makes directories in each other, and FIFOs in the last, all with the longest names, of which no byte is UTF-8."""
+    held = os.open(home, os.O_RDONLY)
+    for _ in range(depth):
+        os.mkdir(b"\xff" * 255, dir_fd=held)
+        os.chown(b"\xff" * 255, user.pw_uid, user.pw_gid, dir_fd=held)
+        above, held = held, os.open(b"\xff" * 255, os.O_RDONLY, dir_fd=held)
+        os.close(above)
+    for number in range(count):
+        name = b"%d" % number + b"\xff" * 250
+        os.mkfifo(name, dir_fd=held)
+        os.chown(name, user.pw_uid, user.pw_gid, dir_fd=held)
+    os.close(held)
+
+
+@attack("user")
+def what_is_printed_of_names_takes_all_memory(field):
+    """Pipes of a user, and names that appear, whose lines have tens of MB together, are not held by root's run."""
+    nights = Nights(field, field.user)
+    deep_pipes(nights.home, field.user, 30, 600)
+    for turn in ("they appear", "they are special at the start"):
+        nights.peak = 0
+        found = nights.run()
+        if nights.peak > 40 * MEBI:
+            yield f"{turn}: {nights.peak // MEBI} MiB"
+        if len(found[1]) > MEBI:
+            yield f"{turn}: it printed {len(found[1])} bytes"
+        if turn == "they appear":
+            yield from wrong(found, 1, "something else changed the folder", " more\n")
+            os.remove(os.path.join(nights.state, field.user.pw_name, "tree"))
+        else:
+            yield from wrong(found, 0, "and 580 more\n", "the tree of the start has ")
 
 
 @contextmanager
