@@ -1,5 +1,5 @@
-"""The index of the crates, crates/README.md, which is made of what the sources say of themselves; and what is checked
-of docs/PROMISES.md: that each function and each clause that a list of it names is there."""
+"""The index of the crates, crates/README.md, which is made of what the sources say of themselves and of the words on
+clauses in crates/promises.txt; and what is checked of these: that each function and each clause is there."""
 import re
 import textwrap
 
@@ -7,13 +7,14 @@ from contracts import functions_of, head_of
 from crates import Crates
 from texts import TOP
 
-INDEX, PROMISES = TOP / "crates/README.md", TOP / "docs/PROMISES.md"
+INDEX, PROMISES = TOP / "crates/README.md", TOP / "crates/promises.txt"
 HEAD = """# The files of the crates
 
 Each file with the first sentence of its own comment, and its public functions that have a contract, with the names of
-their clauses; a function without names in brackets has one clause. The files of `specs` come in the order of
-`specs/Lib.antt`, and the subjects of the proofs, which are files and folders, in that of `proofs/Lib.antt`: each builds
-on those before it. `.ci/pages --write` makes this page, and `.ci/pages` compares it.
+their clauses; a function without names in brackets has one clause. Below a file stands what clauses say where the
+comment of the function does not, behind their names in square brackets (`crates/promises.txt`). The files of `specs`
+come in the order of `specs/Lib.antt`, and the subjects of the proofs, which are files and folders, in that of
+`proofs/Lib.antt`: each builds on those before it. `.ci/pages --write` makes this page, and `.ci/pages` compares it.
 [ARCHITECTURE.md](../docs/ARCHITECTURE.md) says how the crates stand on each other, and
 [PROMISES.md](../docs/PROMISES.md) what the promises come to.
 """
@@ -37,13 +38,55 @@ def shown(functions):
     return f" {', '.join(words)}." if words else ""
 
 
-def entry(file, folder):
-    """Returns the lines of a file."""
-    promises = shown(functions_of(file)) if file.suffix == ".rt" else ""
+def wrapped(text, depth=0):
+    return textwrap.wrap(text, COLUMNS, initial_indent=f"{'  ' * depth}- ", subsequent_indent="  " * (depth + 1),
+                         break_long_words=False, break_on_hyphens=False)
+
+
+def entry(file, folder, items=()):
+    """Returns the lines of a file, and below it of the words on clauses of its functions."""
+    functions = functions_of(file) if file.suffix == ".rt" else []
     head = head_of(file) or ", ".join(f"`{it}`" for it in modules_of(file))
-    text = f"`{file.relative_to(folder)}`: {head}.{promises}"
-    return textwrap.wrap(text, COLUMNS, initial_indent="- ", subsequent_indent="  ", break_long_words=False,
-                         break_on_hyphens=False)
+    lines = wrapped(f"`{file.relative_to(folder)}`: {head}.{shown(functions)}")
+    for it in items:
+        if it.is_in(file, functions):
+            lines += wrapped(it.text, 1)
+    return lines
+
+
+class Item:
+    """Words on the clauses of some functions: the line where they begin, the crate, and the text, which begins with the
+    names of the functions, up to a colon; the names of clauses are in brackets."""
+
+    def __init__(self, number, crate, text):
+        self.number, self.crate, self.text = number, crate, text
+        head, _, said = text.partition(": ")
+        self.names = re.findall(r"`([\w:]+)`", head)
+        self.clauses = re.findall(r"\w+", " ".join(re.findall(r"\[([\w, ]+)\](?!\()", said)))
+
+    def is_of(self, name, file, function):
+        """Returns whether a name is that of the function: alone, or behind that of its type or its module."""
+        owner, _, last = name.rpartition("::")
+        return last in (function.name, function.owner) and owner in ("", function.owner or "", file.stem)
+
+    def is_in(self, file, functions):
+        """Returns whether the first function is in the file, below which the words then stand."""
+        return any(self.is_of(self.names[0], file, it) for it in functions)
+
+
+def items_of(text):
+    """Yields the items of a text, in which a line without a space or a mark in front names the crate."""
+    crate, first, words = "", 0, []
+    for number, line in enumerate([*text.splitlines(), ""], 1):
+        if words and not line.startswith("  "):
+            yield Item(first, crate, " ".join(words))
+            words = []
+        if line.startswith("- "):
+            first, words = number, [line[2:]]
+        elif words:
+            words.append(line.strip())
+        elif line and not line.startswith("#"):
+            crate = line
 
 
 def modules_of(file):
@@ -61,11 +104,11 @@ def files_of(folder):
 
 
 def made_index():
-    lines = HEAD.splitlines()
+    lines, items = HEAD.splitlines(), list(items_of(PROMISES.read_text()))
     for name, folder in crates_here().items():
         lines += ["", f"## {name}", ""]
         for file in files_of(folder):
-            lines += entry(file, folder)
+            lines += entry(file, folder, [it for it in items if it.crate == name])
     return "\n".join(lines) + "\n"
 
 
@@ -79,38 +122,18 @@ def wrong_index():
         yield f"{INDEX.relative_to(TOP)}: not as `.ci/pages --write` makes it"
 
 
-def items_of_lists(page):
-    """Yields the items of the lists below a heading that names crates: the number of the first line, the crates, and
-    the text. An item begins with the names of functions or laws, up to a colon; the names of their clauses follow in
-    brackets."""
-    crates, first, words = [], 0, []
-    for number, line in enumerate([*page.splitlines(), ""], 1):
-        if words and not line.startswith("  "):
-            yield first, crates, " ".join(words)
-            words = []
-        if line.startswith("## "):
-            crates = re.findall(r"`(sftp\w*)`", line)
-        elif crates and re.match(r"- [^:]*`[^:]*(::[^:]*)*: ", line):
-            first, words = number, [line[2:]]
-        elif words:
-            words.append(line.strip())
-
-
 def wrong_promises():
-    """Finds functions and clauses in lists of docs/PROMISES.md that no source of the crate has."""
-    functions = {name: [it for file in files_of(folder) if file.suffix == ".rt" for it in functions_of(file)]
+    """Finds functions and clauses in crates/promises.txt that no source of the crate has."""
+    functions = {name: [(file, it) for file in files_of(folder) if file.suffix == ".rt" for it in functions_of(file)]
                  for name, folder in crates_here().items()}
-    for number, crates, item in items_of_lists(PROMISES.read_text()):
-        head, _, said = item.partition(": ")
-        names = {it.split("::")[-1] for it in re.findall(r"`([\w:]+)`", head)}
-        if not any(it[0].islower() for it in names) and "[" not in said:
-            continue    # a list of variants
-        crates = re.findall(r"\(`(sftp\w+)`\)", head) or crates
-        known = [it for crate in crates for it in functions.get(crate, ())]
-        for name in sorted(names - {word for it in known for word in (it.name, it.owner)} - set(crates)):
-            yield f"docs/PROMISES.md:{number}: {' and '.join(crates)} has no function {name}"
-        here = [it for it in known if {it.name, it.owner} & names] or known
+    for item in items_of(PROMISES.read_text()):
+        place, here = f"crates/promises.txt:{item.number}", []
+        for name in item.names:
+            found = [it for file, it in functions.get(item.crate, ()) if item.is_of(name, file, it)]
+            here += found
+            if not found:
+                yield f"{place}: {item.crate} has no function {name}"
         clauses = {word for it in here for word in (it.name, *it.named_clauses())}
-        for name in re.findall(r"\w+", " ".join(re.findall(r"\[([\w, ]+)\](?!\()", said))):
+        for name in item.clauses:
             if name not in clauses:
-                yield f"docs/PROMISES.md:{number}: no clause {name} of {head}"
+                yield f"{place}: no clause {name} of {', '.join(item.names)}"

@@ -71,6 +71,12 @@ class Sources(unittest.TestCase):
                                  ("Files::len", True, [""]), ("Files::hidden", False, ["kept"]),
                                  ("read", True, ["found", "none"])])
 
+    def test_words_stand_below_the_file_of_their_first_function(self):
+        items = list(indexing.items_of("a_crate\n- `Counts::count`, `read`: [counted] how\n  many\n- `Files`: x\n"
+                                       "- `gone`: y\n"))
+        self.assertEqual(indexing.entry(self.file, self.file.parent, items)[1:],
+                         ["  - `Counts::count`, `read`: [counted] how many", "  - `Files`: x"])
+
     def test_entry_names_public_functions_alone(self):
         self.assertEqual(indexing.entry(self.file, self.file.parent),
                          ["- `counts.rt`: Files that are counted, and no more. `Counts::count` (`counted`), "
@@ -89,16 +95,15 @@ class Index(unittest.TestCase):
             self.assertEqual(len(list(indexing.wrong_index())), 1)
 
     def test_names_that_no_source_has_are_found(self):
-        page = "\n".join([
-            "## `sftp_wire`", "", "- `front`: [exact, exacter] x;", "  [only] x [a link](there)", "- `fronts`: x", "",
-            "- `Nothing`: x", "- words, and `front`", ""])
+        page = "\n".join(["# words", "", "sftp_wire", "- `front`: [exact, exacter] x;", "  [only] x [a link](there)",
+                          "- `fronts`: x", ""])
         with tempfile.TemporaryDirectory() as room:
-            file = Path(room, "PROMISES.md")
+            file = Path(room, "promises.txt")
             file.write_text(page)
             with mock.patch.object(indexing, "PROMISES", file):
                 found = list(indexing.wrong_promises())
-        self.assertEqual(found, ["docs/PROMISES.md:3: no clause exacter of `front`",
-                                 "docs/PROMISES.md:5: sftp_wire has no function fronts"])
+        self.assertEqual(found, ["crates/promises.txt:4: no clause exacter of front",
+                                 "crates/promises.txt:6: sftp_wire has no function fronts"])
 
 
 class Cases(unittest.TestCase):
