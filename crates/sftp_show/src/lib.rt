@@ -11,8 +11,5 @@ mod trees;
 pub use errors::ShowError;
 pub use quoted::Quoted;
 pub use records::{RecordLine, show_transcript};
-pub use refusals::{
-    ExplainError, Found, Record, explain_reply, find_record, last_of_id, number_of_request,
-    put_record,
-};
+pub use refusals::{ExplainError, Record, explain_reply, find_record, last_of_id, put_record};
 pub use trees::show_tree;

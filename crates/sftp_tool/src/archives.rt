@@ -8,6 +8,7 @@ ghost use Rattle.sftp_tool.specs.declared.messages.Failure.TheVariants as failur
 
 use crate::gathering::Gathered;
 use crate::importing::ImportOptions;
+use crate::memory::Meter;
 use crate::messages::{Ending, Failure, STANDARD_INPUT, STANDARD_OUTPUT, write_flushed};
 use crate::saving::write_last;
 use crate::subcommands::read;
@@ -33,11 +34,12 @@ pub(crate) fn import<'a, R: System, I: Read, E: Write>(
 ) -> Result<Ending, Failure<'a>>
     ensures { IfOk result (λ ending. ending ≡ endings.Done) }
 {
+    let mut meter = Meter::new(rt, options.memory)?;
     let most = options.memory.map_or(u64::MAX, |bytes| bytes / SHARE);
     let longest = bounds(options.taking.limits).file_bytes;
     let mut archive = Gathered::new(rt.alloc(), most, longest);
     match archive.gather(input) {
-        Ok(()) => import_from(rt, options, archive.into_bytes(), errors),
+        Ok(()) => import_from(rt, options, &mut meter, archive.into_bytes(), errors),
         Err(error) => {
             let failure = unread(archive.is_over(), &error);
             drop(archive);
@@ -59,12 +61,13 @@ fn unread<'a>(is_over: bool, error: &io::Error) -> Failure<'a> {
 fn import_from<'a, R: System, E: Write>(
     rt: &R,
     options: &ImportOptions<'a>,
+    meter: &mut Meter,
     archive: Vec<u8>,
     errors: &mut E,
 ) -> Result<Ending, Failure<'a>>
     ensures { IfOk result (λ ending. ending ≡ endings.Done) }
 {
-    let tree = tree_of(rt.alloc(), options.taking, archive, errors)?;
+    let tree = tree_of(rt.alloc(), options.taking, meter, archive, errors)?;
     write_last(rt, options.file, options.keeping, tree)
 }
 
@@ -72,27 +75,39 @@ fn import_from<'a, R: System, E: Write>(
 fn tree_of<'a, E: Write>(
     alloc: Global,
     taking: Taking,
+    meter: &mut Meter,
     archive: Vec<u8>,
     errors: &mut E,
 ) -> Result<Vec<u8>, Failure<'a>> {
-    let taken = taken(alloc, taking, archive.as_slice(), errors);
+    let taken = taken(alloc, taking, meter, archive.as_slice(), errors);
     drop(archive);
     let file = taken?;
-    let tree = write_rows(alloc, &file);
+    let tree = written(alloc, meter, &file);
     drop(file);
-    Ok(tree?)
+    tree
+}
+
+/// The bytes of a tree file, which are no more than those that are held of it.
+fn written<'a>(alloc: Global, meter: &mut Meter, file: &TreeFile) -> Result<Vec<u8>, Failure<'a>>
+    requires { IsTreeFile file.now }
+{
+    if !meter.may_double() {
+        return Err(Failure::OverLimit(STANDARD_INPUT));
+    }
+    Ok(write_rows(alloc, file)?)
 }
 
 /// What the tree file of an archive says. Standard error names what no tree holds.
 fn taken<'a, E: Write>(
     alloc: Global,
     taking: Taking,
+    meter: &mut Meter,
     archive: &[u8],
     errors: &mut E,
 ) -> Result<TreeFile, Failure<'a>>
     ensures { IfOk result (λ file. IsTreeFile file) }
 {
-    match sftp_tar::import(alloc, taking, archive) {
+    match sftp_tar::import(alloc, taking, meter, archive) {
         Ok(file) => match name_specials(alloc, taking.special, archive, errors) {
             Ok(()) => Ok(file),
             Err(error) => {
@@ -101,7 +116,7 @@ fn taken<'a, E: Write>(
             }
         },
         Err(error) => {
-            let failure = archive_failure(alloc, &error);
+            let failure = unimported(alloc, meter, &error);
             drop(error);
             Err(failure)
         }
@@ -151,6 +166,15 @@ fn name_each<E: Write>(
         rest = behind;
     }
     Ok(())
+}
+
+/// The failure of a run whose import ended in this error: the process had more memory than it may, or the error's own.
+fn unimported<'a>(alloc: Global, meter: &Meter, error: &ImportError) -> Failure<'a> {
+    if meter.is_over() {
+        Failure::OverLimit(STANDARD_INPUT)
+    } else {
+        archive_failure(alloc, error)
+    }
 }
 
 /// The failure of a run whose import ended in this error.
