@@ -1,4 +1,1 @@
-mod CutLaws
 mod VerdictLaws
-mod ProfileLaws
-mod OptionLaws

@@ -15,9 +15,9 @@ use Rattle.sftp_audit.specs.declared.errors.AuditError.TheVariants as audit_erro
 use Rattle.sftp_audit.specs.Audit.{IsNoJudgement, IsNew, request_count}
 use Rattle.sftp_audit.specs.Cuts.{unanswered_count, unsettled_count}
 use Rattle.sftp_audit.specs.Exchanges.{recorded_exchanges}
-use Rattle.sftp_tool.specs.declared.messages.Ending.{Ending}
-use Rattle.sftp_tool.specs.declared.messages.Ending.TheVariants as endings
-use Rattle.sftp_tool.specs.declared.messages.Failure.{Failure}
+use Rattle.sftp_files.specs.declared.messages.Ending.{Ending}
+use Rattle.sftp_files.specs.declared.messages.Ending.TheVariants as endings
+use Rattle.sftp_files.specs.declared.messages.Failure.{Failure}
 use Rattle.sftp_tool.specs.Verdicts.{AccountOf, FaultOf, ResultOf, HasNoRun, HasEnd, HasCutEnd, IsAudit, IsVerdict}
 use Rattle.sftp_tool.specs.Verdicts.{IsReportOf}
 use Rattle.sftp_tool.specs.Verdicts.{IsStrictVerdict, IsVerdictUnder, IsStrictCutVerdict, IsCutVerdictUnder}

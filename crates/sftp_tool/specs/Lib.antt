@@ -1,10 +1,3 @@
-pub mod Cuts
-pub mod Failures
-pub mod Status
-pub mod Profiles
+pub mod Outcomes
 pub mod Verdicts
-pub mod Options
-pub mod Requests
-pub mod Imports
-pub mod Going
 pub mod Inferences

@@ -14,9 +14,9 @@ use Rattle.sftp_audit.specs.declared.errors.AuditError.{AuditError}
 use Rattle.sftp_audit.specs.Exchanges.{recorded_exchanges}
 use Rattle.sftp_audit.specs.Audit.{Accounts, AccountsBy, IsFirstFault, IsFirstFaultBy, IsNoJudgement, request_count}
 use Rattle.sftp_audit.specs.Cuts.{AccountsCut, AccountsCutBy, unanswered_count, unsettled_count}
-use Rattle.sftp_tool.specs.declared.messages.Ending.{Ending}
-use Rattle.sftp_tool.specs.declared.messages.Ending.TheVariants as endings
-use Rattle.sftp_tool.specs.declared.messages.Failure.{Failure}
+use Rattle.sftp_files.specs.declared.messages.Ending.{Ending}
+use Rattle.sftp_files.specs.declared.messages.Ending.TheVariants as endings
+use Rattle.sftp_files.specs.declared.messages.Failure.{Failure}
 
 -- which start, events and end a tree file and a transcript account for
 abbrev pub AccountOf : Type 1

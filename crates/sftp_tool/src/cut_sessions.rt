@@ -1,18 +1,17 @@
 //! `audit --cut`: audits of sessions whose connection may have been cut.
 ghost use Rattle.std.specs.Prelude.{◌≡◌, ◌-◌, None, Some, IfOk, IfErr};
 ghost use Rattle.sftp_profile.specs.declared.profiles.Profile.{Profile as profile};
-ghost use Rattle.sftp_tool.specs.declared.messages.Ending.TheVariants as endings;
-ghost use Rattle.sftp_tool.specs.Failures.{IsUnwritten};
-ghost use Rattle.sftp_tool.specs.Status.{IsAuditStatus};
+ghost use Rattle.sftp_files.specs.declared.messages.Ending.TheVariants as endings;
+ghost use Rattle.sftp_files.specs.Failures.{IsUnwritten};
+ghost use Rattle.sftp_tool.specs.Outcomes.{IsAuditStatus};
 ghost use Rattle.sftp_tool.specs.Verdicts.{IsStrictCutAudit, IsCutAuditUnder, IsReportOf};
 ghost use Rattle.sftp_tool.specs.Verdicts.{IsStrictCutVerdict, IsCutVerdictUnder};
 
-use crate::command_line::AuditOptions;
-use crate::messages::{Ending, Failure, print};
-use crate::objects::print_accepted;
 use crate::subcommands::{keep_end, report_error};
-use crate::system::System;
+use crate::verdict_objects::print_accepted;
 use sftp_audit::{AcceptedCut, AuditError};
+use sftp_files::{Ending, Failure, System, print};
+use sftp_options::AuditOptions;
 use sftp_profile::{Judge, Profile};
 use sftp_transcript::{Reader, Tally};
 use std::alloc::Global;

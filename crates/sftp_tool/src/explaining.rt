@@ -1,9 +1,9 @@
 //! `audit --explain`: why a session is refused, as lines of text.
-use crate::command_line::AuditOptions;
-use crate::leaving_out::{LeftOut, feed_rest};
-use crate::messages::{Failure, write_flushed};
-use crate::subcommands::open;
+use crate::feeding::feed_rest;
 use sftp_audit::{AuditError, Auditor, Refusal};
+use sftp_commands::LeftOut;
+use sftp_files::{Failure, open, write_flushed};
+use sftp_options::AuditOptions;
 use sftp_path::good_path;
 use sftp_profile::{Judge, NAMES, Profile};
 use sftp_show::{

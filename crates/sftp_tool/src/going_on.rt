@@ -1,19 +1,19 @@
 //! `audit --keep-going`: all that an audit finds wrong in a session, one finding after the other.
 ghost use Rattle.std.specs.Prelude.{◌≡◌, IfOk, IfErr};
-ghost use Rattle.sftp_tool.specs.declared.messages.Ending.TheVariants as endings;
-ghost use Rattle.sftp_tool.specs.Failures.{IsUnwritten};
+ghost use Rattle.sftp_files.specs.declared.messages.Ending.TheVariants as endings;
+ghost use Rattle.sftp_files.specs.Failures.{IsUnwritten};
 
-use crate::bearings::{Bearing, Outcome, is_harmless};
-use crate::command_line::AuditOptions;
 use crate::cut_sessions::Counts;
 use crate::explaining::{numbered, record_of};
-use crate::leaving_out::{Asked, LeftOut, Replied, feed_rest, find_reply, last_asked};
-use crate::memory::{Bounded, Meter};
-use crate::messages::{Ending, Failure};
-use crate::subcommands::{Finding, open, report_finding};
-use crate::system::System;
+use crate::feeding::feed_rest;
+use crate::subcommands::{Finding, report_finding};
 use crate::totals::{End, Reason, Total, print_total};
 use sftp_audit::{AuditError, Auditor, Refusal};
+use sftp_commands::{
+    Asked, Bearing, LeftOut, Outcome, Replied, find_reply, is_harmless, last_asked,
+};
+use sftp_files::{Bounded, Ending, Failure, Meter, System, open};
+use sftp_options::AuditOptions;
 use sftp_profile::{Judge, Profile};
 use sftp_show::{Found, find_record};
 use sftp_transcript::{Reader, Source, Tally};

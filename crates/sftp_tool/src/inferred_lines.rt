@@ -1,8 +1,8 @@
 //! The lines about an inferred tree: what it assumes, and which records contradict each other.
-ghost use Rattle.sftp_tool.specs.Status.{IsAuditStatus};
+ghost use Rattle.sftp_tool.specs.Outcomes.{IsAuditStatus};
 
-use crate::messages::{Ending, Failure, print, write_flushed};
 use sftp_audit::Refusal;
+use sftp_files::{Ending, Failure, print, write_flushed};
 use sftp_infer::{Candidate, Clash, Fact, Says, Search, Sort, What};
 use sftp_show::{Quoted, find_record, put_record};
 use sftp_transcript::{Memory, Reader};

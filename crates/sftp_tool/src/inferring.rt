@@ -1,19 +1,13 @@
 //! `infer`, and `audit --tree unknown`: audits of sessions whose tree nobody knows.
-ghost use Rattle.sftp_tool.specs.Status.{IsAuditStatus};
+ghost use Rattle.sftp_tool.specs.Outcomes.{IsAuditStatus};
 
-use crate::command_line::{AuditOptions, keeping_of};
 use crate::inferences::{Found, Inferred, find};
 use crate::inferred_lines::{put_assumed, put_clash, put_refusal};
-use crate::messages::{Ending, Failure, STANDARD_OUTPUT, print};
-use crate::objects::{print_accepted, print_untold};
-use crate::profiles::{umask_of, with_umask};
-use crate::saving::{Keeping, write};
-use crate::subcommands::read_at_most;
-use crate::system::System;
-use crate::viewing::misused;
-use crate::{profiles, subcommands};
-use clap::ArgMatches;
+use crate::subcommands;
+use crate::verdict_objects::{print_accepted, print_untold};
+use sftp_files::{Ending, Failure, System, print, read_at_most, write};
 use sftp_infer::{Search, Settings};
+use sftp_options::{AuditOptions, InferOptions, umask_of, with_umask};
 use sftp_profile::Profile;
 use std::io::Write;
 
@@ -26,49 +20,6 @@ const NEEDS_TREE: &str =
 
 /// The passes of a search, without an option.
 const PASSES: u32 = 300;
-
-/// The options of `infer`, and those of `audit` that go with them.
-#[derive(Clone, Copy)]
-pub(crate) struct InferOptions<'a> {
-    /// The recorded bytes of the session.
-    pub(crate) transcript: &'a str,
-    /// The file to write the tree at the start to.
-    pub(crate) tree: Option<&'a str>,
-    /// The file to write the tree of the pass that came furthest to.
-    pub(crate) best: Option<&'a str>,
-    /// The file to write the final tree to.
-    pub(crate) out: Option<&'a str>,
-    pub(crate) keeping: Keeping,
-    pub(crate) memory: Option<u64>,
-    pub(crate) explains: bool,
-    pub(crate) is_json: bool,
-    pub(crate) profile: Option<Profile>,
-    pub(crate) umask: Option<&'a str>,
-    /// Where relative paths begin.
-    pub(crate) home: Option<&'a str>,
-    pub(crate) is_raised: bool,
-    /// The most passes.
-    pub(crate) passes: Option<u64>,
-}
-
-/// The options that the command line gives, if it names the files.
-pub(crate) fn options_of<'a>(given: &ArgMatches<'a>) -> Option<InferOptions<'a>> {
-    Some(InferOptions {
-        transcript: given.get_str("transcript")?,
-        tree: Some(given.get_str("tree")?),
-        best: given.get_str("best"),
-        out: given.get_str("out"),
-        keeping: keeping_of(given),
-        memory: given.get_one("memory"),
-        explains: given.get_flag("explain"),
-        is_json: given.get_flag("json"),
-        profile: profiles::profile_of(given),
-        umask: given.get_str("umask"),
-        home: given.get_str("home"),
-        is_raised: given.get_str("limits").unwrap_or("fit") == "raised",
-        passes: given.get_one("passes"),
-    })
-}
 
 /// The options of an audit without a tree.
 fn options_of_audit<'a>(files: &AuditOptions<'a>) -> InferOptions<'a> {
@@ -102,7 +53,7 @@ pub(crate) fn audit<'a, R: System, O: Write, E: Write>(
         return subcommands::audit(rt, files, output, errors);
     }
     if files.cuts || files.keeps_going || files.most.is_some() {
-        return Err(misused(rt.alloc(), NEEDS_TREE));
+        return Err(Failure::of_misuse(rt.alloc(), NEEDS_TREE));
     }
     infer(rt, &options_of_audit(files), output, errors)
 }

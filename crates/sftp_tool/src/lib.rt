@@ -4,51 +4,27 @@
 
 ghost use Rattle.std.specs.Prelude.{◌≤◌};
 
-mod archives;
-mod arguments;
-mod bearings;
-mod command_line;
 mod cut_sessions;
-mod cuts;
-mod diffing;
 mod explaining;
-mod faulty;
-mod gathering;
+mod feeding;
 mod going_on;
-mod help;
-mod importing;
 mod inferences;
 mod inferred_lines;
 mod inferring;
-mod leaving_out;
-mod memory;
-mod messages;
-mod names;
-mod objects;
-mod profiles;
-mod recording;
-mod saving;
-mod selecting;
 mod serving;
-mod showing;
-mod spotting;
 mod subcommands;
 mod summaries;
-mod system;
-mod texts;
 mod totals;
-mod viewing;
-mod watching;
-mod words;
+mod verdict_objects;
 
-use command_line::{Request, ShowOptions};
-use faulty::Faulty;
-use messages::{Ending, Failure};
+use serving::Unserved;
+use sftp_commands::{Faulty, ReadFiles};
 use sftp_faults::Spot;
-use spotting::spot_of;
+pub use sftp_files::System;
+use sftp_files::{Ending, Failure, ServeOptions, report, write_flushed};
+use sftp_options::{Request, parse};
 use std::fs::Files;
 use std::io::{Read, Write};
-pub use system::System;
 
 /// The version of the program.
 pub const VERSION: &str = "0.2.0";
@@ -102,7 +78,7 @@ where
         Ok(ending) => ending.status(),
         Err(failure) => {
             let status = failure.status();
-            messages::report(errors, &failure);
+            report(errors, &failure);
             drop(failure);
             status
         }
@@ -117,7 +93,7 @@ fn perform<'a, R: System, I: Read, O: Write, E: Write>(
     output: &mut O,
     errors: &mut E,
 ) -> Result<Ending, Failure<'a>> {
-    let request = command_line::parse(rt.alloc(), version, words)?;
+    let request = parse(rt.alloc(), version, words)?;
     let ending = perform_request(rt, &request, input, output, errors);
     let explained = explained(rt, &request, ending, output, errors);
     drop(request);
@@ -136,10 +112,10 @@ fn explained<'a, R: Files + AllocGlobal, O: Write, E: Write>(
     match ending {
         Ok(ending) => Ok(ending),
         Err(failure) => {
-            let file = Faulty::of(rt, request, &failure);
+            let file = Faulty::of(rt, files_of(request), &failure);
             let spot = spot_of_request(rt, request, &failure);
-            if is_for_machines(request) && !objects::is_of_output(&failure) {
-                objects::print_failed(rt.alloc(), &failure, file, spot, output);
+            if request.is_for_machines() && !sftp_commands::is_of_output(&failure) {
+                sftp_commands::print_failed(rt.alloc(), &failure, file, spot, output);
             }
             said(failure, file, spot, errors)
         }
@@ -155,11 +131,11 @@ fn said<'a, E: Write>(
 ) -> Result<Ending, Failure<'a>> {
     match file {
         Some(file) => {
-            messages::report(errors, &failure);
+            report(errors, &failure);
             drop(failure);
             file.put(errors);
             if let Some(spot) = spot {
-                let _ = messages::write_flushed(errors, format_args!("fault: {spot}\n"));
+                let _ = write_flushed(errors, format_args!("fault: {spot}\n"));
             }
             Ok(Ending::Explained)
         }
@@ -167,14 +143,12 @@ fn said<'a, E: Write>(
     }
 }
 
-/// Whether a request wants JSON.
-fn is_for_machines(request: &Request<'_>) -> bool {
-    match request {
-        Request::Audit(files) => files.is_json,
-        Request::Infer(options) => options.is_json,
-        Request::Show(options) => options.is_json,
-        Request::Diff { is_json, .. } => *is_json,
-        _ => false,
+/// The files that a request reads.
+fn files_of<'a>(request: &Request<'a>) -> ReadFiles<'a> {
+    ReadFiles {
+        tree: request.tree(),
+        transcript: request.transcript(),
+        either: request.shown(),
     }
 }
 
@@ -184,36 +158,9 @@ fn spot_of_request<R: Files + AllocGlobal>(
     request: &Request<'_>,
     failure: &Failure<'_>,
 ) -> Option<Spot> {
-    match explained_files(request) {
-        Some((tree, transcript)) => spot_of(rt, tree, transcript, failure),
+    match request.explained_files() {
+        Some((tree, transcript)) => sftp_commands::spot_of(rt, tree, transcript, failure),
         None => None,
-    }
-}
-
-/// The tree file and the transcript whose faults the request wants explained.
-fn explained_files<'a>(request: &Request<'a>) -> Option<(&'a str, &'a str)> {
-    match request {
-        Request::Audit(files) if files.explains => Some((files.tree, files.transcript)),
-        Request::Show(options) if options.explains => Some((options.file, options.file)),
-        _ => None,
-    }
-}
-
-/// Shows every field of a file, a line for each record or entry that sums it up, or what was selected.
-fn show<'a, R: Files + AllocGlobal, O: Write>(
-    rt: &R,
-    options: &ShowOptions<'a>,
-    output: &mut O,
-) -> Result<Ending, Failure<'a>> {
-    if let Some(message) = viewing::misuse(options) {
-        return Err(viewing::misused(rt.alloc(), message));
-    }
-    if viewing::is_viewed(options) {
-        viewing::view(rt, options, output)
-    } else if options.is_full {
-        texts::show_full(rt, options, output)
-    } else {
-        showing::show(rt, options.file, output)
     }
 }
 
@@ -226,7 +173,7 @@ fn perform_request<'a, R: System, I: Read, O: Write, E: Write>(
     errors: &mut E,
 ) -> Result<Ending, Failure<'a>> {
     match request {
-        Request::Serve(options) => serving::serve(rt, options, input, output, errors),
+        Request::Serve(options) => serve(rt, options, input, output, errors),
         Request::Audit(files) => inferring::audit(rt, files, output, errors),
         Request::Infer(options) => inferring::infer(rt, options, output, errors),
         Request::Blank { file, keeping } => subcommands::blank(rt, file, *keeping),
@@ -234,17 +181,35 @@ fn perform_request<'a, R: System, I: Read, O: Write, E: Write>(
             tree,
             file,
             keeping,
-        } => subcommands::raise(rt, tree, file, *keeping),
-        Request::Show(options) => show(rt, options, output),
-        Request::Make { file, keeping } => texts::make(rt, file, *keeping, input),
+        } => sftp_commands::raise(rt, tree, file, *keeping),
+        Request::Show(options) => sftp_commands::show(rt, options, output),
+        Request::Make { file, keeping } => sftp_commands::make(rt, file, *keeping, input),
         Request::Diff {
             old,
             new,
             memory,
             is_json,
-        } => diffing::diff(rt, (old, new), *memory, *is_json, output),
-        Request::Import(options) => archives::import(rt, options, input, errors),
-        Request::Export { file } => archives::export(rt, file, output),
+        } => sftp_commands::diff(rt, (old, new), *memory, *is_json, output),
+        Request::Import(options) => sftp_commands::import(rt, options, input, errors),
+        Request::Export { file } => sftp_commands::export(rt, file, output),
         Request::Help(text) => subcommands::help(text.as_str(), output),
+    }
+}
+
+/// Serves a session. If its client broke the protocol, `errors` now says how.
+fn serve<'a, R: System, I: Read, O: Write, E: Write>(
+    rt: &R,
+    options: &ServeOptions<'a>,
+    input: &mut I,
+    output: &mut O,
+    errors: &mut E,
+) -> Result<Ending, Failure<'a>> {
+    match serving::serve(rt, options, input, output, errors) {
+        Ok(ending) => Ok(ending),
+        Err(Unserved::Failed(failure)) => Err(failure),
+        Err(Unserved::Fault(fault)) => {
+            let _ = write_flushed(errors, format_args!("sftpv3: session fault: {fault}\n"));
+            Ok(Ending::Broken)
+        }
     }
 }

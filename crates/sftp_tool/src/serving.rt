@@ -1,24 +1,41 @@
 //! The subcommand `serve`: the session of one client over a pair of streams.
 ghost use Rattle.std.specs.Prelude.{◌≡◌, IfOk};
 ghost use Rattle.sftp_server.specs.Served.{IsUnused};
-ghost use Rattle.sftp_tool.specs.declared.messages.Ending.TheVariants as endings;
+ghost use Rattle.sftp_files.specs.declared.messages.Ending.TheVariants as endings;
+ghost use Rattle.sftp_tool.specs.declared.serving.Unserved.TheVariants as unserveds;
 
-use crate::command_line::ServeOptions;
-use crate::memory::{Bounded, Meter};
-use crate::messages::{Ending, Failure, STANDARD_INPUT, STANDARD_OUTPUT, report, write_flushed};
-use crate::recording::{Record, Recording};
-use crate::saving::{Keeping, require_fit, write};
-use crate::subcommands::read_at_most;
 use crate::summaries::{Close, Summary, Traffic};
-use crate::system::System;
-use crate::watching::{Announcing, Watched};
-use sftp_server::{Ended, InOrder, Schedule, SessionEnd, Shuffle, Stream, serve_keeping_tree};
+use sftp_files::{
+    Announcing, Bounded, Ending, Failure, Keeping, Meter, Record, Recording, STANDARD_INPUT,
+    STANDARD_OUTPUT, ServeOptions, System, Watched, read_at_most, report, require_fit, write,
+    write_flushed,
+};
+use sftp_server::{
+    Ended, InOrder, Schedule, SessionEnd, SessionFault, Shuffle, Stream, serve_keeping_tree,
+};
 use sftp_transcript::{Tally, Writer};
 use sftp_tree::Tree;
 use sftp_treefile::TreeLimits;
 use sftp_wire::{take_number, take_string};
 use std::fs::Files;
 use std::io::{Read, Write};
+
+/// Why a session was not served to the end of its input.
+#[derive(Drop)]
+pub(crate) enum Unserved<'a> {
+    /// The client broke the protocol.
+    Fault(SessionFault),
+    /// The run failed.
+    Failed(Failure<'a>),
+}
+
+impl<'a> From<Failure<'a>> for Unserved<'a> {
+    ghost from_gives = { λ failure unserved. unserved ≡ unserveds.Failed failure };
+
+    fn from(failure: Failure<'a>) -> Unserved<'a> {
+        Unserved::Failed(failure)
+    }
+}
 
 /// Serves a session. The tree file is read and judged before the file of the record is made.
 // Slow to prove: it owns the tree while the record's file is made, and then both.
@@ -28,7 +45,7 @@ pub(crate) fn serve<'a, R: System, I: Read, O: Write, E: Write>(
     input: &mut I,
     output: &mut O,
     errors: &mut E,
-) -> Result<Ending, Failure<'a>>
+) -> Result<Ending, Unserved<'a>>
     ensures { IfOk result (λ ending. ending ≡ endings.Done) }
 {
     require_place(rt, options.save)?;
@@ -44,7 +61,7 @@ pub(crate) fn serve<'a, R: System, I: Read, O: Write, E: Write>(
         }
         Err(failure) => {
             drop(tree);
-            Err(failure)
+            Err(Unserved::Failed(failure))
         }
     }
 }
@@ -120,7 +137,7 @@ fn conclude<'a, R: System, E: Write>(
     traffic: Traffic,
     options: &ServeOptions<'a>,
     errors: &mut E,
-) -> Result<Ending, Failure<'a>>
+) -> Result<Ending, Unserved<'a>>
     ensures { IfOk result (λ ending. ending ≡ endings.Done) }
 {
     let (tree, close) = parts(end, traffic.is_over);
@@ -185,7 +202,7 @@ fn outcome<'a, E: Write>(
     traffic: Traffic,
     options: &ServeOptions<'a>,
     errors: &mut E,
-) -> Result<Ending, Failure<'a>>
+) -> Result<Ending, Unserved<'a>>
     ensures { IfOk result (λ ending. ending ≡ endings.Done) }
 {
     match saved {
@@ -199,14 +216,14 @@ fn ended<'a>(
     close: Close,
     traffic: Traffic,
     options: &ServeOptions<'a>,
-) -> Result<Ending, Failure<'a>>
+) -> Result<Ending, Unserved<'a>>
     ensures { IfOk result (λ ending. ending ≡ endings.Done) }
 {
     match close {
         Close::Finished => Ok(Ending::Done),
-        Close::Fault(fault) => Err(Failure::Session(fault)),
-        Close::Io(stream) => Err(stream_failure(stream, traffic, options)),
-        Close::NoMemory => Err(Failure::OutOfMemory),
+        Close::Fault(fault) => Err(Unserved::Fault(fault)),
+        Close::Io(stream) => Err(Unserved::Failed(stream_failure(stream, traffic, options))),
+        Close::NoMemory => Err(Unserved::Failed(Failure::OutOfMemory)),
     }
 }
 
@@ -217,11 +234,11 @@ fn unsaved<'a, E: Write>(
     traffic: Traffic,
     options: &ServeOptions<'a>,
     errors: &mut E,
-) -> Result<Ending, Failure<'a>>
+) -> Result<Ending, Unserved<'a>>
     ensures { IfOk result (λ ending. ending ≡ endings.Done) }
 {
     match close {
-        Close::Finished | Close::Fault(_) => Err(failure),
+        Close::Finished | Close::Fault(_) => Err(Unserved::Failed(failure)),
         Close::Io(_) | Close::NoMemory => {
             report_unsaved(errors, close, &failure);
             drop(failure);

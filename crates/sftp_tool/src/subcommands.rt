@@ -1,33 +1,26 @@
 //! The subcommands.
-ghost use Rattle.std.specs.Prelude.{◌≡◌, ◌≤◌, None, Some, IfOk, IfErr, MatchResult};
-ghost use Rattle.sftp_tree.specs.Tree.{Tree as tree, raised};
-ghost use Rattle.sftp_tree.specs.Picture.{IsStart, picture};
-ghost use Rattle.sftp_tool.specs.declared.messages.Ending.TheVariants as endings;
-ghost use Rattle.sftp_tool.specs.declared.messages.Failure.TheVariants as failures;
+ghost use Rattle.std.specs.Prelude.{◌≡◌, ◌≤◌, None, Some, IfOk, IfErr};
+ghost use Rattle.sftp_files.specs.declared.messages.Ending.TheVariants as endings;
 ghost use Rattle.sftp_profile.specs.declared.profiles.Profile.{Profile as profile};
-ghost use Rattle.sftp_tool.specs.Failures.{IsOutcome, IsUnread, IsUnwritten};
-ghost use Rattle.sftp_tool.specs.Status.{IsAuditStatus, failure_status};
+ghost use Rattle.sftp_files.specs.Failures.{IsUnwritten};
+ghost use Rattle.sftp_files.specs.Status.{failure_status};
+ghost use Rattle.sftp_tool.specs.Outcomes.{IsAuditStatus, IsOutcome};
 ghost use Rattle.sftp_tool.specs.Verdicts.{IsStrictAudit, IsAuditUnder, IsReportOf, IsReportOfError};
 ghost use Rattle.sftp_tool.specs.Verdicts.{IsStrictVerdict, IsVerdictUnder, IsVerdictAsked};
 
-use crate::command_line::AuditOptions;
 use crate::cut_sessions::judge_cut_and_report;
 use crate::explaining::explain;
 use crate::going_on::report_findings;
-use crate::leaving_out::LeftOut;
-use crate::memory::{Bounded, Meter};
-use crate::messages::{Ending, Failure, print};
-use crate::objects::{print_accepted, print_refused};
-use crate::profiles::{umask_of, with_umask};
-use crate::saving::{Keeping, write, write_last};
-use crate::system::System;
-use crate::viewing::misused;
+use crate::verdict_objects::{print_accepted, print_refused};
 use sftp_audit::{Accepted, AuditError, Refusal};
+use sftp_commands::LeftOut;
+use sftp_files::{
+    Bounded, Ending, Failure, Keeping, Meter, System, open, print, read_at_most, write, write_last,
+};
+use sftp_options::{AuditOptions, umask_of, with_umask};
 use sftp_profile::{Judge, Profile};
 use sftp_transcript::{Reader, Tally};
-use sftp_tree::Tree;
 use std::alloc::Global;
-use std::fs;
 use std::fs::Files;
 use std::io::{Read, Write};
 
@@ -46,7 +39,7 @@ pub(crate) fn audit<'a, R: System, O: Write, E: Write>(
     ensures { IsAuditStatus result }
 {
     if files.most.is_some() && !files.keeps_going {
-        return Err(misused(rt.alloc(), LACKS_KEEP_GOING));
+        return Err(Failure::of_misuse(rt.alloc(), LACKS_KEEP_GOING));
     }
     let umask = umask_of(rt.alloc(), files.umask)?;
     let mut options = *files;
@@ -353,33 +346,6 @@ pub(crate) fn blank<'a, R: System>(
     }
 }
 
-/// Writes the tree of the tree file `tree`, with the highest limits, to the file `name`.
-pub(crate) fn raise<'a, R: System>(
-    rt: &R,
-    tree: &'a str,
-    name: &'a str,
-    keeping: Keeping,
-) -> Result<Ending, Failure<'a>>
-    ensures ok { IfOk result (λ ending. ending ≡ endings.Done) }
-{
-    let bytes = read(rt, tree)?;
-    let raised = raised_file(rt.alloc(), bytes.as_slice());
-    drop(bytes);
-    write_last(rt, name, keeping, raised?)
-}
-
-/// The file of this one's tree, with the highest limits.
-fn raised_file<'a>(alloc: Global, bytes: &[u8]) -> Result<Vec<u8>, Failure<'a>>
-    ensures { (t : tree) → IsStart t bytes.now →
-        MatchResult result (λ made. made.items ≡ picture (raised t)) (λ failure. failure ≡ failures.OutOfMemory) }
-{
-    let tree = Tree::read(alloc, bytes)?;
-    let tree = tree.raise();
-    let made = tree.write();
-    drop(tree);
-    Ok(made?)
-}
-
 /// Prints help or the version.
 pub(crate) fn help<'a, O: Write>(text: &str, output: &mut O) -> Result<Ending, Failure<'a>>
     ensures ok { IfOk result (λ ending. ending ≡ endings.Done) }
@@ -453,64 +419,5 @@ fn refusal_or_failure<'a>(error: AuditError, transcript: &'a str) -> Result<Refu
         AuditError::Refused(refusal) => Ok(refusal),
         AuditError::Tree(error) => Err(Failure::from(error)),
         AuditError::Transcript(error) => Err(Failure::of_transcript(error, transcript)),
-    }
-}
-
-/// Opens the file `name` to read it.
-pub(crate) fn open<'a, R: Files>(rt: &R, name: &'a str) -> Result<R::File, Failure<'a>>
-    ensures { IfErr result IsUnread }
-{
-    match fs::open(rt, name) {
-        Ok(file) => Ok(file),
-        Err(error) => Err(Failure::reading(name, &error)),
-    }
-}
-
-/// The bytes of the file `name`, if there are at most as many as a limit says.
-pub(crate) fn read_at_most<'a, R: Files + AllocGlobal>(
-    rt: &R,
-    name: &'a str,
-    most: Option<u64>,
-) -> Result<Vec<u8>, Failure<'a>>
-    ensures { IfErr result (λ failure. failure_status failure ≡ 3) }
-{
-    match most {
-        Some(most) => read_some(rt, name, most),
-        None => read(rt, name),
-    }
-}
-
-fn read_some<'a, R: Files + AllocGlobal>(
-    rt: &R,
-    name: &'a str,
-    most: u64,
-) -> Result<Vec<u8>, Failure<'a>>
-    ensures { IfErr result (λ failure. failure_status failure ≡ 3) }
-{
-    let file = open(rt, name)?;
-    let mut bytes = Vec::new(rt.alloc());
-    match file.take(most.saturating_add(1)).read_to_end(&mut bytes) {
-        Ok(_) if bytes.len() as u64 <= most => Ok(bytes),
-        Ok(_) => {
-            drop(bytes);
-            Err(Failure::OverLimit(name))
-        }
-        Err(error) => {
-            drop(bytes);
-            Err(Failure::reading(name, &error))
-        }
-    }
-}
-
-/// The bytes of the file `name`.
-pub(crate) fn read<'a, R: Files + AllocGlobal>(
-    rt: &R,
-    name: &'a str,
-) -> Result<Vec<u8>, Failure<'a>>
-    ensures { IfErr result IsUnread }
-{
-    match fs::read(rt, name) {
-        Ok(bytes) => Ok(bytes),
-        Err(error) => Err(Failure::reading(name, &error)),
     }
 }

@@ -1,5 +1,5 @@
 //! What `serve --verbose` says of the end of a session.
-use crate::watching::Flow;
+use sftp_files::Flow;
 use sftp_server::{SessionFault, Stream};
 use std::fmt;
 

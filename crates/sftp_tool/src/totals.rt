@@ -1,13 +1,13 @@
 //! `audit --keep-going`: the line at the end, which says how many findings there are and where the audit ended.
 ghost use Rattle.std.specs.Prelude.{◌≡◌, IfOk, IfErr};
-ghost use Rattle.sftp_tool.specs.declared.messages.Ending.TheVariants as endings;
-ghost use Rattle.sftp_tool.specs.Failures.{IsUnwritten};
+ghost use Rattle.sftp_files.specs.declared.messages.Ending.TheVariants as endings;
+ghost use Rattle.sftp_files.specs.Failures.{IsUnwritten};
 
 use crate::cut_sessions::Counts;
-use crate::messages::{Ending, Failure, print};
-use crate::objects::{ended, record_of_fault};
-use sftp_audit::TranscriptError;
+use sftp_commands::{ended, record_of_fault};
+use sftp_files::{Ending, Failure, print};
 use sftp_json::JsonLines;
+use sftp_transcript::TranscriptError;
 use std::alloc::AllocError;
 use std::fmt;
 use std::io::Write;

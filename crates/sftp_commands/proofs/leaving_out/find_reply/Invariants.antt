@@ -1,0 +1,5 @@
+use Rattle.sftp_transcript.specs.Ahead.{size_of}
+use Rattle.sftp_commands.proofs.leaving_out.find_reply.Given as goal
+
+abbrev pub decreases-events : goal.decreases-events
+decreases-events g l = size_of l.records.ahead

@@ -1,0 +1,240 @@
+//! What is known of a malformed file beside its fault: its name, and whether it is a file of another kind.
+
+use sftp_files::{Failure, Named, write_flushed};
+use sftp_transcript::TranscriptError;
+use sftp_treefile::TreeError;
+use std::fs::Files;
+use std::io::{Read, Write};
+use std::{fmt, fs};
+
+/// How many bytes of a file say of which kind it is: those of the first block of an archive.
+const START: u64 = 512;
+
+/// Where the first block of an archive has its mark.
+const MARK_PLACE: usize = 257;
+
+/// The mark of an archive.
+const MARK: &[u8] = b"ustar";
+
+/// What a subcommand takes a file for.
+#[derive(Clone, Copy)]
+enum Role {
+    Tree,
+    Transcript,
+    Either,
+}
+
+impl Role {
+    /// What a file of another kind is not.
+    fn lack(self) -> &'static str {
+        match self {
+            Role::Tree => ", not a tree file",
+            Role::Transcript => ", not a transcript",
+            Role::Either => ", neither a transcript nor a tree file",
+        }
+    }
+}
+
+/// What a file is, by its first bytes.
+#[derive(Clone, Copy)]
+pub(crate) enum Kind {
+    Empty,
+    Transcript,
+    Tree,
+    Archive,
+    Gzip,
+    Xz,
+    Zstd,
+    Bzip2,
+}
+
+impl Kind {
+    /// The word for it in a JSON object.
+    pub(crate) fn word(self) -> &'static str {
+        match self {
+            Kind::Empty => "empty",
+            Kind::Transcript => "transcript",
+            Kind::Tree => "tree",
+            Kind::Archive => "archive",
+            Kind::Gzip => "gzip",
+            Kind::Xz => "xz",
+            Kind::Zstd => "zstd",
+            Kind::Bzip2 => "bzip2",
+        }
+    }
+
+    /// What a message says that the file is.
+    fn text(self) -> &'static str {
+        match self {
+            Kind::Empty => "empty",
+            Kind::Transcript => "a transcript",
+            Kind::Tree => "a tree file",
+            Kind::Archive => "an archive",
+            Kind::Gzip => "compressed by gzip",
+            Kind::Xz => "compressed by xz",
+            Kind::Zstd => "compressed by zstd",
+            Kind::Bzip2 => "compressed by bzip2",
+        }
+    }
+}
+
+/// The files that a run reads, by what it takes them for.
+#[derive(Clone, Copy)]
+pub struct ReadFiles<'a> {
+    /// The tree file, if the run reads no other one.
+    pub tree: Option<&'a str>,
+    pub transcript: Option<&'a str>,
+    /// The file that may be of either kind.
+    pub either: Option<&'a str>,
+}
+
+/// The malformed file of a run that failed.
+#[derive(Clone, Copy)]
+pub struct Faulty<'a> {
+    pub(crate) name: &'a str,
+    /// What it is, if it is of another kind than what it is taken for.
+    pub(crate) kind: Option<Kind>,
+    taken_for: Role,
+    /// Whether the line of the failure has its name.
+    is_named: bool,
+}
+
+impl<'a> Faulty<'a> {
+    /// The file of a run that failed because it is malformed. If its first bytes are at fault, they say what it is.
+    pub fn of<R: Files + AllocGlobal>(
+        rt: &R,
+        files: ReadFiles<'a>,
+        failure: &Failure<'a>,
+    ) -> Option<Faulty<'a>> {
+        let mut faulty = faulty_of(files, failure)?;
+        if is_at_opening(failure) {
+            faulty.kind = kind_of_file(rt, faulty.name);
+        }
+        Some(faulty)
+    }
+
+    /// Writes the line about the file, if it says more than the line of the failure.
+    pub fn put<E: Write>(&self, errors: &mut E) {
+        if self.kind.is_some() || !self.is_named {
+            let _ = write_flushed(errors, format_args!("sftpv3: {self}\n"));
+        }
+    }
+}
+
+impl fmt::Display for Faulty<'_> {
+    fn fmt<W: fmt::Write>(&self, f: &mut fmt::Formatter<W>) -> fmt::Result {
+        match self.kind {
+            Some(kind) => {
+                let name = Named(self.name);
+                let text = kind.text();
+                write!(f, "{name} is {text}")?;
+                f.write_str(advice(kind, self.taken_for))
+            }
+            None => {
+                let name = Named(self.name);
+                write!(f, "file: {name}")
+            }
+        }
+    }
+}
+
+/// What a message adds about a file that is of another kind.
+fn advice(kind: Kind, taken_for: Role) -> &'static str {
+    match (kind, taken_for) {
+        (Kind::Empty, _) => "",
+        (Kind::Archive, Role::Tree) => ", not a tree file; 'sftpv3 import' makes one of it",
+        _ => taken_for.lack(),
+    }
+}
+
+/// The file of a run that failed because it is malformed, without a look at it.
+fn faulty_of<'a>(files: ReadFiles<'a>, failure: &Failure<'a>) -> Option<Faulty<'a>> {
+    match failure {
+        Failure::Tree(_) => Some(unseen(files.tree?, Role::Tree)),
+        Failure::Transcript(_) => Some(unseen(files.transcript?, Role::Transcript)),
+        Failure::UnknownFile => Some(unseen(files.either?, Role::Either)),
+        Failure::TreeOf(name, _) => Some(Faulty {
+            is_named: true,
+            ..unseen(*name, Role::Tree)
+        }),
+        _ => None,
+    }
+}
+
+fn unseen<'a>(name: &'a str, taken_for: Role) -> Faulty<'a> {
+    Faulty {
+        name,
+        kind: None,
+        taken_for,
+        is_named: false,
+    }
+}
+
+/// Whether a file is malformed in its first bytes.
+fn is_at_opening(failure: &Failure<'_>) -> bool {
+    match failure {
+        Failure::Tree(TreeError::Magic { .. }) => true,
+        Failure::TreeOf(_, TreeError::Magic { .. }) => true,
+        Failure::Transcript(TranscriptError::Magic { .. }) => true,
+        Failure::UnknownFile => true,
+        _ => false,
+    }
+}
+
+/// What a file is, if that is known and the file can be read again. A pipe cannot.
+fn kind_of_file<R: Files + AllocGlobal>(rt: &R, name: &str) -> Option<Kind> {
+    let mut start = Vec::new(rt.alloc());
+    let is_read = is_regular(rt, name) && is_start_read(rt, name, &mut start);
+    let kind = if is_read {
+        kind_of(start.as_slice())
+    } else {
+        None
+    };
+    drop(start);
+    kind
+}
+
+fn is_regular<R: Files>(rt: &R, name: &str) -> bool {
+    match fs::metadata(rt, name) {
+        Ok(found) => found.is_file(),
+        Err(_) => false,
+    }
+}
+
+/// Appends the first bytes of a file. Returns whether they could be read.
+fn is_start_read<R: Files>(rt: &R, name: &str, start: &mut Vec<u8>) -> bool {
+    match fs::open(rt, name) {
+        Ok(file) => file.take(START).read_to_end(start).is_ok(),
+        Err(_) => false,
+    }
+}
+
+/// What a file with these first bytes is, if that is known.
+fn kind_of(start: &[u8]) -> Option<Kind> {
+    if start.is_empty() {
+        Some(Kind::Empty)
+    } else if start.starts_with(b"SFTPTR01") {
+        Some(Kind::Transcript)
+    } else if start.starts_with(b"SFTREE01") || start.starts_with(b"SFTREE02") {
+        Some(Kind::Tree)
+    } else if start.get(MARK_PLACE..).unwrap_or(&[]).starts_with(MARK) {
+        Some(Kind::Archive)
+    } else {
+        compression_of(start)
+    }
+}
+
+/// By which program a file with these first bytes is compressed, if it is by a usual one.
+fn compression_of(start: &[u8]) -> Option<Kind> {
+    if start.starts_with(b"\x1f\x8b") {
+        Some(Kind::Gzip)
+    } else if start.starts_with(b"\xfd7zXZ\0") {
+        Some(Kind::Xz)
+    } else if start.starts_with(b"\x28\xb5\x2f\xfd") {
+        Some(Kind::Zstd)
+    } else if start.starts_with(b"BZh") {
+        Some(Kind::Bzip2)
+    } else {
+        None
+    }
+}

@@ -1,0 +1,131 @@
+//! The subcommand `show`: what a transcript or a tree file holds, as lines of text.
+ghost use Rattle.std.specs.Prelude.{◌≡◌, IfOk};
+ghost use Rattle.sftp_files.specs.declared.messages.Ending.TheVariants as endings;
+
+use sftp_files::{Ending, Failure, STANDARD_OUTPUT, open};
+use sftp_show::{ShowError, show_transcript, show_tree};
+use sftp_transcript::{OPENING, Reader, Tally};
+use sftp_treefile::{TreeError, TreeFile, read_rows};
+use std::alloc::Global;
+use std::fs::Files;
+use std::io;
+use std::io::{Read, Write};
+
+/// Shows a file. Its first bytes say which kind it is; a transcript is then read as a stream.
+pub(crate) fn show<'a, R: Files + AllocGlobal, O: Write>(
+    rt: &R,
+    name: &'a str,
+    output: &mut O,
+) -> Result<Ending, Failure<'a>>
+    ensures { IfOk result (λ ending. ending ≡ endings.Done) }
+{
+    let mut file = open(rt, name)?;
+    let shown = show_file(rt.alloc(), name, &mut file, output);
+    drop(file);
+    outcome(shown, flush(output))
+}
+
+/// The outcome of a run by how a file was shown and printed. A failure to print comes before one to show.
+pub(crate) fn outcome<'a>(
+    shown: Result<(), Failure<'a>>,
+    printed: Result<(), Failure<'a>>,
+) -> Result<Ending, Failure<'a>>
+    ensures { IfOk result (λ ending. ending ≡ endings.Done) }
+{
+    match printed {
+        Ok(()) => {
+            shown?;
+            Ok(Ending::Done)
+        }
+        Err(failure) => {
+            drop(shown);
+            Err(failure)
+        }
+    }
+}
+
+fn flush<'a, O: Write>(output: &mut O) -> Result<(), Failure<'a>> {
+    match output.flush() {
+        Ok(()) => Ok(()),
+        Err(error) => Err(Failure::writing(STANDARD_OUTPUT, &error)),
+    }
+}
+
+fn show_file<'a, F: Read, O: Write>(
+    alloc: Global,
+    name: &'a str,
+    file: &mut F,
+    output: &mut O,
+) -> Result<(), Failure<'a>> {
+    let mut bytes = Vec::new(alloc);
+    let shown = show_by_opening(alloc, name, file, &mut bytes, output);
+    drop(bytes);
+    shown
+}
+
+/// Shows a file whose bytes go into an empty buffer: the opening of a transcript, and the whole of any other file.
+// Slow to prove: two reads may fail, and a transcript is read from a reader made of two.
+fn show_by_opening<'a, F: Read, O: Write>(
+    alloc: Global,
+    name: &'a str,
+    file: &mut F,
+    bytes: &mut Vec<u8>,
+    output: &mut O,
+) -> Result<(), Failure<'a>> {
+    append(name, &mut file.by_ref().take(OPENING.len() as u64), bytes)?;
+    if bytes.as_slice() == OPENING.as_slice() {
+        show_records(alloc, name, bytes.as_slice().chain(file), output)
+    } else {
+        append(name, file, bytes)?;
+        show_rows(alloc, bytes.as_slice(), output)
+    }
+}
+
+/// Appends the rest of the file `name` to the bytes.
+pub(crate) fn append<'a, F: Read>(
+    name: &'a str,
+    file: &mut F,
+    bytes: &mut Vec<u8>,
+) -> Result<(), Failure<'a>> {
+    match file.read_to_end(bytes) {
+        Ok(_) => Ok(()),
+        Err(error) => Err(Failure::reading(name, &error)),
+    }
+}
+
+fn show_records<'a, F: Read + Drop, O: Write>(
+    alloc: Global,
+    name: &'a str,
+    file: F,
+    output: &mut O,
+) -> Result<(), Failure<'a>> {
+    match Reader::new(alloc, Tally::new(file)) {
+        Ok(mut records) => {
+            let shown = show_transcript(&mut records, output);
+            drop(records);
+            shown_or_failure(shown, name)
+        }
+        Err(error) => Err(Failure::of_transcript(error, name)),
+    }
+}
+
+/// How the transcript `name` was shown, as a failure of the run if it is one.
+fn shown_or_failure<'a>(shown: Result<(), ShowError>, name: &'a str) -> Result<(), Failure<'a>> {
+    match shown {
+        Ok(()) => Ok(()),
+        Err(ShowError::Transcript(error)) => Err(Failure::of_transcript(error, name)),
+        Err(ShowError::Output(error)) => Err(Failure::writing(STANDARD_OUTPUT, &error)),
+    }
+}
+
+fn show_rows<'a, O: Write>(alloc: Global, bytes: &[u8], output: &mut O) -> Result<(), Failure<'a>> {
+    match read_rows(alloc, bytes) {
+        Ok(file) => {
+            let shown = show_tree(&file, output);
+            drop(file);
+            shown.map_err(|error| Failure::writing(STANDARD_OUTPUT, &error))
+        }
+        Err(TreeError::Magic { .. }) => Err(Failure::UnknownFile),
+        Err(error) => Err(Failure::from(error)),
+    }
+}

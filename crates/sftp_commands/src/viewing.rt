@@ -1,0 +1,220 @@
+//! The subcommand `show` with times, with a selection of records, or as JSON.
+ghost use Rattle.std.specs.Prelude.{◌≡◌, IfOk};
+ghost use Rattle.sftp_files.specs.declared.messages.Ending.TheVariants as endings;
+
+use crate::cuts::limit_of;
+use crate::selecting::{Wanted, read_wanted};
+use crate::showing::{append, outcome};
+use sftp_files::{Ending, Failure, Named, STANDARD_OUTPUT, ShowOptions, open};
+use sftp_transcript::{OPENING, Reader, Tally};
+use sftp_treefile::{TreeError, TreeFile, read_rows};
+use sftp_views::{Clock, Form, View, ViewError, put_tree, show_records};
+use std::alloc::Global;
+use std::fs::Files;
+use std::io::{BufReader, Read, Write};
+
+/// Whether options ask for more than a line for each record or entry.
+pub(crate) fn is_viewed(options: &ShowOptions<'_>) -> bool {
+    options.is_json || picks_records(options)
+}
+
+/// Whether an option is only for transcripts.
+fn picks_records(options: &ShowOptions<'_>) -> bool {
+    options.times.is_some()
+        || options.id.is_some()
+        || options.path.is_some()
+        || options.handle.is_some()
+        || options.records.is_some()
+        || options.in_pairs
+        || options.marks
+}
+
+/// Why options cannot be used together, if they cannot.
+pub(crate) fn misuse(options: &ShowOptions<'_>) -> Option<&'static str> {
+    if options.is_full && !options.is_json && picks_records(options) {
+        return Some(
+            "'--full' cannot be used with '--times' or with a selection; '--json' has the same fields",
+        );
+    }
+    if options.data.is_some() && !options.is_full && !options.is_json {
+        return Some("the following required arguments were not provided:\n  --full, or --json");
+    }
+    None
+}
+
+/// Shows what the options ask for. The first bytes of the file say which kind it is; a transcript is then read as a
+/// stream.
+pub(crate) fn view<'a, R: Files + AllocGlobal, O: Write>(
+    rt: &R,
+    options: &ShowOptions<'a>,
+    output: &mut O,
+) -> Result<Ending, Failure<'a>>
+    ensures { IfOk result (λ ending. ending ≡ endings.Done) }
+{
+    let limit = limit_of(rt.alloc(), options.data)?;
+    let wanted = read_wanted(rt.alloc(), options)?;
+    let shown = view_wanted(rt, options, &wanted, limit, output);
+    drop(wanted);
+    outcome(shown, Ok(()))
+}
+
+/// Shows what is wanted, with at most so many bytes of each text.
+fn view_wanted<'a, R: Files + AllocGlobal, O: Write>(
+    rt: &R,
+    options: &ShowOptions<'a>,
+    wanted: &Wanted,
+    limit: usize,
+    output: &mut O,
+) -> Result<(), Failure<'a>> {
+    let view = View {
+        selection: wanted.selection(),
+        in_pairs: options.in_pairs,
+        form: form_of(options, limit),
+    };
+    let mut file = open(rt, options.file)?;
+    let mut bytes = Vec::new(rt.alloc());
+    let shown = view_by_opening(rt, options, &view, &mut file, &mut bytes, output);
+    drop(bytes);
+    drop(file);
+    shown
+}
+
+fn form_of(options: &ShowOptions<'_>, limit: usize) -> Form {
+    if options.is_json {
+        Form::Json(limit)
+    } else {
+        Form::Text
+    }
+}
+
+/// Shows a file whose bytes go into an empty buffer: the opening of a transcript, and the whole of any other file.
+fn view_by_opening<'a, F: Read, R: Files + AllocGlobal, O: Write>(
+    rt: &R,
+    options: &ShowOptions<'a>,
+    view: &View<'_>,
+    file: &mut F,
+    bytes: &mut Vec<u8>,
+    output: &mut O,
+) -> Result<(), Failure<'a>> {
+    append(
+        options.file,
+        &mut file.by_ref().take(OPENING.len() as u64),
+        bytes,
+    )?;
+    if bytes.as_slice() == OPENING.as_slice() {
+        view_timed(rt, options, view, bytes.as_slice().chain(file), output)
+    } else {
+        append(options.file, file, bytes)?;
+        view_rows(rt.alloc(), options, view.form, bytes.as_slice(), output)
+    }
+}
+
+/// Shows a transcript, with its times if there are any.
+fn view_timed<'a, F: Read + Drop, R: Files + AllocGlobal, O: Write>(
+    rt: &R,
+    options: &ShowOptions<'a>,
+    view: &View<'_>,
+    file: F,
+    output: &mut O,
+) -> Result<(), Failure<'a>> {
+    match open_times(rt, options.times) {
+        Ok(times) => view_records(rt.alloc(), options, view, file, times, output),
+        Err(failure) => {
+            drop(file);
+            Err(failure)
+        }
+    }
+}
+
+/// Opens the file of times, if there is one, to be read piece by piece.
+fn open_times<'a, R: Files + AllocGlobal>(
+    rt: &R,
+    name: Option<&'a str>,
+) -> Result<Option<BufReader<R::File>>, Failure<'a>> {
+    let Some(name) = name else {
+        return Ok(None);
+    };
+    match BufReader::new(rt.alloc(), open(rt, name)?) {
+        Ok(file) => Ok(Some(file)),
+        Err(error) => Err(Failure::reading(name, &error)),
+    }
+}
+
+fn view_records<'a, F: Read + Drop, C: Read + Drop, O: Write>(
+    alloc: Global,
+    options: &ShowOptions<'a>,
+    view: &View<'_>,
+    file: F,
+    times: Option<C>,
+    output: &mut O,
+) -> Result<(), Failure<'a>> {
+    let mut clock = Clock::new(alloc, times);
+    let shown = match Reader::new(alloc, Tally::new(file)) {
+        Ok(mut records) => {
+            let shown = show_records(alloc, &mut records, &mut clock, view, output);
+            drop(records);
+            shown
+        }
+        Err(error) => Err(ViewError::Transcript(error)),
+    };
+    drop(clock);
+    match shown {
+        Ok(()) => Ok(()),
+        Err(error) => Err(failure_of(alloc, options, error)),
+    }
+}
+
+/// Why a transcript is not shown to its end, as a failure of the run.
+fn failure_of<'a>(alloc: Global, options: &ShowOptions<'a>, error: ViewError) -> Failure<'a> {
+    match error {
+        ViewError::Transcript(error) => Failure::of_transcript(error, options.file),
+        ViewError::Times(error) => Failure::of_text(format!(in alloc; "times: {error}")),
+        ViewError::Spare { entry } => {
+            Failure::of_text(format!(in alloc; "times: entry {entry}: Trailing"))
+        }
+        ViewError::Clock(error) => Failure::reading(options.times.unwrap_or(""), &error),
+        ViewError::Output(error) => Failure::writing(STANDARD_OUTPUT, &error),
+        ViewError::NoMemory => Failure::OutOfMemory,
+    }
+}
+
+/// Shows a file that is no transcript, as JSON.
+fn view_rows<'a, O: Write>(
+    alloc: Global,
+    options: &ShowOptions<'a>,
+    form: Form,
+    bytes: &[u8],
+    output: &mut O,
+) -> Result<(), Failure<'a>> {
+    match read_rows(alloc, bytes) {
+        Ok(file) => {
+            let shown = put_rows(alloc, options, form, &file, output);
+            drop(file);
+            shown
+        }
+        Err(TreeError::Magic { .. }) => Err(Failure::UnknownFile),
+        Err(error) => Err(Failure::from(error)),
+    }
+}
+
+fn put_rows<'a, O: Write>(
+    alloc: Global,
+    options: &ShowOptions<'a>,
+    form: Form,
+    file: &TreeFile,
+    output: &mut O,
+) -> Result<(), Failure<'a>> {
+    match form {
+        Form::Json(limit) if !picks_records(options) => match put_tree(file, limit, output) {
+            Ok(()) => Ok(()),
+            Err(error) => Err(Failure::writing(STANDARD_OUTPUT, &error)),
+        },
+        _ => Err(no_transcript(alloc, options.file)),
+    }
+}
+
+/// The failure for options that select records of a file that has none.
+fn no_transcript<'a>(alloc: Global, name: &str) -> Failure<'a> {
+    let name = Named(name);
+    Failure::of_text(format!(in alloc; "{name} is a tree file, and has no records to select"))
+}

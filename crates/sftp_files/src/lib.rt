@@ -1,0 +1,25 @@
+//! What runs of the program share: the files that they read, replace and record in, limits on memory, how they end, and
+//! the messages that say why.
+#![tactic(auto)]
+
+mod memory;
+mod messages;
+mod names;
+mod options;
+mod reading;
+mod recording;
+mod saving;
+mod system;
+mod watching;
+
+pub use memory::{Bounded, Meter};
+pub use messages::{
+    Ending, Failure, MORE, STANDARD_INPUT, STANDARD_OUTPUT, print, report, write_flushed,
+};
+pub use names::Named;
+pub use options::{ImportOptions, ServeOptions, ShowOptions};
+pub use reading::{open, read, read_at_most};
+pub use recording::{Record, Recording};
+pub use saving::{Keeping, PRIVATE, require_fit, write, write_last};
+pub use system::System;
+pub use watching::{Announcing, Flow, Watched};

@@ -1,0 +1,65 @@
+//! Files that are read: opened, or whole.
+ghost use Rattle.std.specs.Prelude.{◌≡◌, IfErr};
+ghost use Rattle.sftp_files.specs.Failures.{IsUnread};
+ghost use Rattle.sftp_files.specs.Status.{failure_status};
+
+use crate::messages::Failure;
+use std::fs;
+use std::fs::Files;
+use std::io::Read;
+
+/// Opens the file `name` to read it.
+pub fn open<'a, R: Files>(rt: &R, name: &'a str) -> Result<R::File, Failure<'a>>
+    ensures { IfErr result IsUnread }
+{
+    match fs::open(rt, name) {
+        Ok(file) => Ok(file),
+        Err(error) => Err(Failure::reading(name, &error)),
+    }
+}
+
+/// The bytes of the file `name`, if there are at most as many as a limit says.
+pub fn read_at_most<'a, R: Files + AllocGlobal>(
+    rt: &R,
+    name: &'a str,
+    most: Option<u64>,
+) -> Result<Vec<u8>, Failure<'a>>
+    ensures { IfErr result (λ failure. failure_status failure ≡ 3) }
+{
+    match most {
+        Some(most) => read_some(rt, name, most),
+        None => read(rt, name),
+    }
+}
+
+fn read_some<'a, R: Files + AllocGlobal>(
+    rt: &R,
+    name: &'a str,
+    most: u64,
+) -> Result<Vec<u8>, Failure<'a>>
+    ensures { IfErr result (λ failure. failure_status failure ≡ 3) }
+{
+    let file = open(rt, name)?;
+    let mut bytes = Vec::new(rt.alloc());
+    match file.take(most.saturating_add(1)).read_to_end(&mut bytes) {
+        Ok(_) if bytes.len() as u64 <= most => Ok(bytes),
+        Ok(_) => {
+            drop(bytes);
+            Err(Failure::OverLimit(name))
+        }
+        Err(error) => {
+            drop(bytes);
+            Err(Failure::reading(name, &error))
+        }
+    }
+}
+
+/// The bytes of the file `name`.
+pub fn read<'a, R: Files + AllocGlobal>(rt: &R, name: &'a str) -> Result<Vec<u8>, Failure<'a>>
+    ensures { IfErr result IsUnread }
+{
+    match fs::read(rt, name) {
+        Ok(bytes) => Ok(bytes),
+        Err(error) => Err(Failure::reading(name, &error)),
+    }
+}

@@ -1,0 +1,264 @@
+//! Where the record of a session goes.
+use crate::messages::{Failure, MORE};
+use crate::options::ServeOptions;
+use crate::saving::{Keeping, is_file_of, is_own, new_file, sync_folder};
+use crate::system::System;
+use crate::watching::{Flow, Watched};
+use std::alloc::{AllocError, Global};
+use std::fs::{File, Files, Metadata, OpenOptions, TryLockError};
+use std::io::{BufWriter, ErrorKind, Write};
+use std::os::unix::fs::FileTypeExt;
+use std::{fs, io};
+
+/// What precedes a packet of the client in a transcript. The record of a session is written in pieces, and this is one
+/// of them.
+const CLIENT: &[u8] = b"C";
+
+/// Why a session cannot be recorded in a file.
+const TAKEN: &str = "another session records into it";
+
+/// Why a session is not recorded in a file.
+const ANOTHERS: &str = "it belongs to another user";
+
+/// The file that a session is recorded in.
+#[derive(Drop)]
+struct Opened {
+    file: File,
+    /// Whether there was none of its name.
+    is_new: bool,
+}
+
+/// Where the record of a session goes.
+#[derive(Drop)]
+pub enum Recording {
+    /// To this file, and at the end of the session to the disk.
+    Synced(BufWriter<File>),
+    /// To this file.
+    File(BufWriter<File>),
+    /// Nowhere.
+    Nowhere,
+}
+
+impl Recording {
+    /// To the file that the options name, or nowhere if they name none. A file that is there is emptied.
+    pub fn new<'a, R: System>(
+        rt: &R,
+        options: &ServeOptions<'a>,
+    ) -> Result<Recording, Failure<'a>> {
+        match options.record {
+            Some(name) => record_in(rt, name, options),
+            None => Ok(Recording::Nowhere),
+        }
+    }
+}
+
+fn record_in<'a, R: System>(
+    rt: &R,
+    name: &'a str,
+    options: &ServeOptions<'a>,
+) -> Result<Recording, Failure<'a>> {
+    match open(rt, name, options.keeping) {
+        Ok(opened) => {
+            let Opened { file, is_new } = opened;
+            match claim(rt, name, &file, options) {
+                Ok(()) => recording_to(rt, name, file, is_new, options.keeping),
+                Err(failure) => {
+                    drop(file);
+                    remove_new(rt, name, is_new);
+                    Err(failure)
+                }
+            }
+        }
+        Err(error) => Err(Failure::writing(name, &error)),
+    }
+}
+
+/// Removes a file that was made in vain.
+fn remove_new<R: Files>(rt: &R, name: &str, is_new: bool) {
+    if is_new {
+        let _ = fs::remove_file(rt, name);
+    }
+}
+
+/// Opens the file of this name, which is made if there is none, and unchanged otherwise.
+fn open<R: System>(rt: &R, name: &str, keeping: Keeping) -> io::Result<Opened> {
+    match new_file(rt, name, keeping.mode) {
+        Ok(file) => Ok(Opened { file, is_new: true }),
+        Err(error) => match error.kind() {
+            ErrorKind::AlreadyExists => open_old(rt, name),
+            _ => Err(error),
+        },
+    }
+}
+
+fn open_old<R: System>(rt: &R, name: &str) -> io::Result<Opened> {
+    match OpenOptions::new().write(true).open(rt, name) {
+        Ok(file) => Ok(Opened {
+            file,
+            is_new: false,
+        }),
+        Err(error) => Err(error),
+    }
+}
+
+/// Takes an open file for this session alone, unless it is another file of the session or of another session.
+fn claim<'a, R: System>(
+    rt: &R,
+    name: &'a str,
+    file: &File,
+    options: &ServeOptions<'a>,
+) -> Result<(), Failure<'a>> {
+    match file.metadata() {
+        Ok(found) => {
+            if is_named_twice(rt, &found, options) {
+                return Err(Failure::of_usage(named_twice(rt.alloc())));
+            }
+            if is_of_another(&found, file) {
+                return Err(Failure::Unfit(name, ANOTHERS));
+            }
+            lock(name, file)
+        }
+        Err(error) => Err(Failure::writing(name, &error)),
+    }
+}
+
+/// Whether an open file or pipe is another user's, who says who reads it. A device is nobody's.
+fn is_of_another(found: &Metadata, file: &File) -> bool {
+    let keeps = found.is_file() || found.file_type().is_fifo();
+    keeps && !is_own(file)
+}
+
+/// Whether the file is also that of the tree, or the one to save it to.
+fn is_named_twice<R: Files>(rt: &R, file: &Metadata, options: &ServeOptions<'_>) -> bool {
+    if is_file_of(rt, options.tree, file) {
+        return true;
+    }
+    match options.save {
+        Some(save) => file.is_file() && is_file_of(rt, save, file),
+        None => false,
+    }
+}
+
+/// The message for a record that is another file of the session.
+fn named_twice(alloc: Global) -> Result<String, AllocError> {
+    format!(in alloc; "error: '--record' names the file of '--tree' or '--save'\n{MORE}")
+}
+
+/// Locks an open file, until it is closed. A file system that has no locks has no part in this.
+fn lock<'a>(name: &'a str, file: &File) -> Result<(), Failure<'a>> {
+    match file.try_lock() {
+        Ok(()) => Ok(()),
+        Err(TryLockError::WouldBlock) => Err(Failure::Unfit(name, TAKEN)),
+        Err(TryLockError::Error(_)) => Ok(()),
+    }
+}
+
+/// The record goes to this open file, which is emptied.
+fn recording_to<'a, R: System>(
+    rt: &R,
+    name: &'a str,
+    file: File,
+    is_new: bool,
+    keeping: Keeping,
+) -> Result<Recording, Failure<'a>> {
+    let is_file = is_regular(&file);
+    match prepare(rt, name, &file, is_file, is_new, keeping) {
+        Ok(()) => match BufWriter::new(rt.alloc(), file) {
+            Ok(writer) if keeping.is_synced && is_file => Ok(Recording::Synced(writer)),
+            Ok(writer) => Ok(Recording::File(writer)),
+            Err(error) => Err(Failure::writing(name, &error)),
+        },
+        Err(error) => {
+            drop(file);
+            Err(Failure::writing(name, &error))
+        }
+    }
+}
+
+fn is_regular(file: &File) -> bool {
+    match file.metadata() {
+        Ok(found) => found.is_file(),
+        Err(_) => false,
+    }
+}
+
+/// Empties a regular file, and has the name of a new one on the disk.
+fn prepare<R: System>(
+    rt: &R,
+    name: &str,
+    file: &File,
+    is_file: bool,
+    is_new: bool,
+    keeping: Keeping,
+) -> io::Result<()> {
+    if is_file {
+        file.set_len(0)?;
+    }
+    if is_new {
+        sync_folder(rt, name, keeping)
+    } else {
+        Ok(())
+    }
+}
+
+impl Write for Recording {
+    fn write(&mut self, bytes: &[u8]) -> io::Result<usize> {
+        match self {
+            Recording::Synced(writer) => writer.write(bytes),
+            Recording::File(writer) => writer.write(bytes),
+            Recording::Nowhere => Ok(bytes.len()),
+        }
+    }
+
+    // A session flushes its record once, when it ends.
+    fn flush(&mut self) -> io::Result<()> {
+        match self {
+            Recording::Synced(writer) => {
+                writer.flush()?;
+                writer.get_ref().sync_data()
+            }
+            Recording::File(writer) => writer.flush(),
+            Recording::Nowhere => Ok(()),
+        }
+    }
+}
+
+/// The record of a session, and how many packets of the client are in it.
+#[derive(Drop)]
+pub struct Record {
+    place: Watched<Recording>,
+    sent: u64,
+}
+
+impl Record {
+    /// Nothing is recorded yet.
+    pub fn new(place: Recording) -> Record {
+        Record {
+            place: Watched::new(place),
+            sent: 0,
+        }
+    }
+
+    /// How many requests are recorded. The client's first packet is its INIT.
+    pub fn request_count(&self) -> u64 {
+        self.sent.saturating_sub(1)
+    }
+
+    /// What was written.
+    pub fn flow(&self) -> Flow {
+        self.place.flow()
+    }
+}
+
+impl Write for Record {
+    fn write(&mut self, bytes: &[u8]) -> io::Result<usize> {
+        if bytes == CLIENT {
+            self.sent = self.sent.saturating_add(1);
+        }
+        self.place.write(bytes)
+    }
+
+    fn flush(&mut self) -> io::Result<()> {
+        self.place.flush()
+    }
+}

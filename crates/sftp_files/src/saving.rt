@@ -1,0 +1,394 @@
+//! Files that are replaced whole: the bytes go into a new file beside the old one, which then takes its name. Until
+//! then the old file is unchanged.
+ghost use Rattle.std.specs.Prelude.{◌≡◌, ◌≢◌, IfOk, IfErr};
+ghost use Rattle.std.specs.Int.RustNames.{bit_and};
+ghost use Rattle.sftp_files.specs.declared.messages.Ending.TheVariants as endings;
+ghost use Rattle.sftp_files.specs.Failures.{IsUnwritten};
+
+use crate::messages::{Ending, Failure};
+use crate::system::System;
+use std::fs::{File, Files, Metadata, OpenOptions, Permissions};
+use std::io::{ErrorKind, Write};
+use std::os::fd::AsFd;
+use std::os::unix::fs::{MetadataExt, OpenOptionsExt, PermissionsExt, fchown};
+use std::path::PathBuf;
+use std::{fs, io};
+
+/// The permissions of a file that is made, without an option, and of every new file until it is complete.
+pub const PRIVATE: u32 = 0o600;
+
+/// What is kept of the permissions of a file whose group the new one does not get.
+const WITHOUT_GROUP: u32 = 0o707;
+
+/// The permissions of a file that can be kept: those to read, write and run it.
+const PERMISSIONS: u32 = 0o777;
+
+/// All permissions of a file, with the set-id bits.
+const ALL_PERMISSIONS: u32 = 0o7777;
+
+/// Why nothing is written to a file.
+const UNFIT: &str = "neither a regular file nor standard output";
+
+/// The name of standard output, which is open already.
+const OUTPUT: &str = "/dev/stdout";
+
+/// How files are written.
+#[derive(Clone, Copy)]
+pub struct Keeping {
+    /// The permissions of a file that is made. One that is replaced keeps its own.
+    pub mode: u32,
+    /// Whether the bytes and the name have to be on the disk before the run ends.
+    pub is_synced: bool,
+}
+
+/// Where bytes for a name go.
+#[derive(Clone, Copy)]
+enum Place {
+    /// To a regular file, which is replaced or made.
+    File,
+    /// To standard output, which is no regular file.
+    Output,
+    /// Nowhere.
+    Unfit,
+}
+
+/// Writes these bytes to the file `name`, which is made or replaced. If that fails, the file is unchanged.
+///
+/// A link is followed, and stays. What is no regular file is written to only if it is standard output.
+pub fn write<'a, R: System>(
+    rt: &R,
+    name: &'a str,
+    keeping: Keeping,
+    bytes: &[u8],
+) -> Result<(), Failure<'a>>
+    ensures { IfErr result IsUnwritten }
+{
+    match place_of(rt, name) {
+        Place::File => write_file(rt, name, keeping, bytes),
+        Place::Output => match write_output(rt, bytes) {
+            Ok(()) => Ok(()),
+            Err(error) => Err(Failure::writing(name, &error)),
+        },
+        Place::Unfit => Err(Failure::Unfit(name, UNFIT)),
+    }
+}
+
+/// Writes these bytes to the file `name`, which is made or replaced, as the last step of a run.
+pub fn write_last<'a, R: System>(
+    rt: &R,
+    name: &'a str,
+    keeping: Keeping,
+    bytes: Vec<u8>,
+) -> Result<Ending, Failure<'a>>
+    ensures ok { IfOk result (λ ending. ending ≡ endings.Done) }
+    ensures err { IfErr result IsUnwritten }
+{
+    let written = write(rt, name, keeping, bytes.as_slice());
+    drop(bytes);
+    match written {
+        Ok(()) => Ok(Ending::Done),
+        Err(failure) => Err(failure),
+    }
+}
+
+/// Fails if the name is that of something that is never written to.
+pub fn require_fit<'a, R: Files>(rt: &R, name: &'a str) -> Result<(), Failure<'a>>
+    ensures { IfErr result IsUnwritten }
+{
+    match place_of(rt, name) {
+        Place::File => Ok(()),
+        Place::Output => Ok(()),
+        Place::Unfit => Err(Failure::Unfit(name, UNFIT)),
+    }
+}
+
+/// Where bytes for this name go. A link to no file is not followed, so nothing is made where another user says.
+fn place_of<R: Files>(rt: &R, name: &str) -> Place {
+    match fs::metadata(rt, name) {
+        Ok(found) => place_of_file(rt, &found),
+        Err(_) => {
+            if is_link(rt, name) {
+                Place::Unfit
+            } else {
+                Place::File
+            }
+        }
+    }
+}
+
+fn place_of_file<R: Files>(rt: &R, found: &Metadata) -> Place {
+    if found.is_file() {
+        Place::File
+    } else if is_file_of(rt, OUTPUT, found) {
+        Place::Output
+    } else {
+        Place::Unfit
+    }
+}
+
+/// Whether the name leads to this file.
+pub(crate) fn is_file_of<R: Files>(rt: &R, name: &str, file: &Metadata) -> bool {
+    match fs::metadata(rt, name) {
+        Ok(found) => found.dev() == file.dev() && found.ino() == file.ino(),
+        Err(_) => false,
+    }
+}
+
+fn is_link<R: Files>(rt: &R, name: &str) -> bool {
+    match fs::symlink_metadata(rt, name) {
+        Ok(metadata) => metadata.is_symlink(),
+        Err(_) => false,
+    }
+}
+
+fn write_output<R: Files<File = File>>(rt: &R, bytes: &[u8]) -> io::Result<()> {
+    let mut file = OpenOptions::new().write(true).open(rt, OUTPUT)?;
+    let written = file.write_all(bytes);
+    drop(file);
+    written
+}
+
+/// Replaces the file to which the name leads, or makes it.
+fn write_file<'a, R: System>(
+    rt: &R,
+    name: &'a str,
+    keeping: Keeping,
+    bytes: &[u8],
+) -> Result<(), Failure<'a>>
+    ensures { IfErr result IsUnwritten }
+{
+    match path_of(rt, name) {
+        Ok(path) => {
+            let written = write_at(rt, name, path.as_str(), keeping, bytes);
+            drop(path);
+            written
+        }
+        Err(error) => Err(Failure::replacing(name, &error)),
+    }
+}
+
+/// The path to which the name leads. That of a link is looked up once.
+fn path_of<R: System>(rt: &R, name: &str) -> io::Result<PathBuf> {
+    if is_link(rt, name) {
+        fs::canonicalize(rt, name)
+    } else {
+        Ok(PathBuf::from_str(rt.alloc(), name)?)
+    }
+}
+
+/// Replaces the file at the path to which the name leads, or makes it. Then the folder is on the disk, too.
+fn write_at<'a, R: System>(
+    rt: &R,
+    name: &'a str,
+    path: &str,
+    keeping: Keeping,
+    bytes: &[u8],
+) -> Result<(), Failure<'a>>
+    ensures { IfErr result IsUnwritten }
+{
+    if let Err(error) = replace(rt, path, keeping, bytes) {
+        return Err(Failure::replacing(name, &error));
+    }
+    match sync_folder(rt, path, keeping) {
+        Ok(()) => Ok(()),
+        Err(error) => Err(Failure::writing(name, &error)),
+    }
+}
+
+/// Replaces the file at this path, which is no link, or makes it.
+fn replace<R: System>(rt: &R, path: &str, keeping: Keeping, bytes: &[u8]) -> io::Result<()> {
+    let fresh = fresh_path(rt, path)?;
+    let replaced = replace_by(rt, path, fresh.as_str(), keeping, bytes);
+    drop(fresh);
+    replaced
+}
+
+/// The path of a new file beside the one at this path, which nobody can foresee.
+fn fresh_path<R: System>(rt: &R, path: &str) -> io::Result<String> {
+    let mut bytes = [0; 8];
+    rt.fill_bytes(&mut bytes)?;
+    let number = u64::from_le_bytes(bytes);
+    Ok(format!(in rt.alloc(); "{path}.new-{number:016x}")?)
+}
+
+/// Makes a new file at the path `fresh`, and gives it this path.
+fn replace_by<R: System>(
+    rt: &R,
+    path: &str,
+    fresh: &str,
+    keeping: Keeping,
+    bytes: &[u8],
+) -> io::Result<()> {
+    let file = new_file(rt, fresh, PRIVATE)?;
+    let replaced = match fill(rt, path, file, keeping, bytes) {
+        Ok(()) => fs::rename(rt, fresh, path),
+        Err(error) => Err(error),
+    };
+    if replaced.is_err() {
+        let _ = fs::remove_file(rt, fresh);
+    }
+    replaced
+}
+
+/// Makes a file with these permissions. There must be none of that name, nor a link.
+pub(crate) fn new_file<R: Files>(rt: &R, name: &str, mode: u32) -> io::Result<R::File> {
+    OpenOptions::new()
+        .write(true)
+        .create_new(true)
+        .mode(mode)
+        .open(rt, name)
+}
+
+/// Fills the new file that is to take this path, and gives it its owner and permissions.
+fn fill<R: Files<File = File>>(
+    rt: &R,
+    path: &str,
+    mut file: File,
+    keeping: Keeping,
+    bytes: &[u8],
+) -> io::Result<()> {
+    let filled = fill_open(rt, path, &mut file, keeping, bytes);
+    drop(file);
+    filled
+}
+
+fn fill_open<R: Files<File = File>>(
+    rt: &R,
+    path: &str,
+    file: &mut File,
+    keeping: Keeping,
+    bytes: &[u8],
+) -> io::Result<()> {
+    file.write_all(bytes)?;
+    let mode = mode_of(rt, path, file, keeping.mode);
+    let _ = file.set_permissions(Permissions::from_mode(mode));
+    if keeping.is_synced {
+        file.sync_all()
+    } else {
+        Ok(())
+    }
+}
+
+/// The permissions that the file at this path has or is to have. If it is there, the new one takes its owner.
+fn mode_of<R: Files>(rt: &R, path: &str, file: &File, mode: u32) -> u32 {
+    match fs::symlink_metadata(rt, path) {
+        Ok(old) => {
+            if old.is_file() {
+                take_owner(&old, file, mode)
+            } else {
+                mode
+            }
+        }
+        Err(_) => mode,
+    }
+}
+
+/// Gives the new file the owner and the group of the old one, as far as the system allows that, and returns the
+/// permissions that it may have then. It keeps the group only with the owner.
+fn take_owner(old: &Metadata, file: &File, mode: u32) -> u32 {
+    let _ = fchown(file.as_fd(), Some(old.uid()), None);
+    if !is_owned_as(old, file) {
+        return mode;
+    }
+    let _ = fchown(file.as_fd(), None, Some(old.gid()));
+    match file.metadata() {
+        Ok(new) => kept_mode(owner_of(old), owner_of(&new), mode),
+        Err(_) => mode,
+    }
+}
+
+/// Whether the new file has the owner of the old one.
+fn is_owned_as(old: &Metadata, file: &File) -> bool {
+    match file.metadata() {
+        Ok(new) => new.uid() == old.uid(),
+        Err(_) => false,
+    }
+}
+
+/// Whose a file is, and its permissions.
+#[derive(Clone, Copy)]
+struct Owned {
+    uid: u32,
+    gid: u32,
+    permissions: u32,
+}
+
+fn owner_of(file: &Metadata) -> Owned {
+    Owned {
+        uid: file.uid(),
+        gid: file.gid(),
+        permissions: file.mode(),
+    }
+}
+
+/// The permissions of a new file that replaces an old one: those of the old one if both are of one user, but for the
+/// group's if they are not of one group; and `made`, those of a file that is made, if the old one is another user's.
+/// That user said who reads the old one, and has no say in who reads the new one.
+fn kept_mode(old: Owned, new: Owned, made: u32) -> u32
+    ensures kept { old.uid ≡ new.uid → old.gid ≡ new.gid → result ≡ bit_and old.permissions 0o777 }
+    ensures regrouped { old.uid ≡ new.uid → old.gid ≢ new.gid → result ≡ bit_and old.permissions 0o707 }
+    ensures another { old.uid ≢ new.uid → result ≡ made }
+{
+    if old.uid != new.uid {
+        made
+    } else if old.gid != new.gid {
+        old.permissions & WITHOUT_GROUP
+    } else {
+        old.permissions & PERMISSIONS
+    }
+}
+
+/// Whether the user of this run says who reads an open file: it is their own, or they are root. Its permissions are set
+/// to what they are.
+pub(crate) fn is_own(file: &File) -> bool {
+    match file.metadata() {
+        Ok(found) => {
+            let mode = found.mode() & ALL_PERMISSIONS;
+            match file.set_permissions(Permissions::from_mode(mode)) {
+                Ok(()) => true,
+                Err(error) => error.kind() != ErrorKind::PermissionDenied,
+            }
+        }
+        Err(_) => false,
+    }
+}
+
+/// Has the names in the folder of this path on the disk, unless that is not wanted. A folder that cannot be opened, or
+/// whose file system knows nothing of it, is passed by.
+pub(crate) fn sync_folder<R: Files<File = File>>(
+    rt: &R,
+    path: &str,
+    keeping: Keeping,
+) -> io::Result<()> {
+    if !keeping.is_synced {
+        return Ok(());
+    }
+    match fs::open(rt, folder_of(path)) {
+        Ok(folder) => {
+            let synced = folder.sync_all();
+            drop(folder);
+            unless_unknown(synced)
+        }
+        Err(_) => Ok(()),
+    }
+}
+
+/// How a call ended, where it is no failure that the file system does not know it.
+fn unless_unknown(done: io::Result<()>) -> io::Result<()> {
+    match done {
+        Ok(()) => Ok(()),
+        Err(error) => match error.kind() {
+            ErrorKind::InvalidInput | ErrorKind::Unsupported => Ok(()),
+            _ => Err(error),
+        },
+    }
+}
+
+/// The folder of the file at this path.
+fn folder_of(path: &str) -> &str {
+    match path.rsplit_once('/') {
+        Some(("", _)) => "/",
+        Some((folder, _)) => folder,
+        None => ".",
+    }
+}

@@ -1,0 +1,2 @@
+mod OptionLaws
+mod ProfileLaws

@@ -1,0 +1,4 @@
+pub mod Options
+pub mod Profiles
+pub mod Requests
+pub mod Imports

@@ -1,0 +1,475 @@
+//! The command line: the parser, made from the tables of arguments, and what a command line asks for.
+ghost use Rattle.std.specs.Prelude.{◌≡◌, ℕ, List, None, Some, MatchOption, codes};
+ghost use Rattle.std.specs.Option.{option_map};
+ghost use Rattle.std.specs.Str.Parse.{digits_value};
+ghost use Rattle.clap.specs.Matches.{found_of};
+ghost use Rattle.clap.specs.Simple.{subcommand_rows_of};
+ghost use Rattle.clap.specs.Walk.{Row, rows_of};
+ghost use Rattle.sftp_options.specs.Options.{IsPermissions, value_in, is_given};
+ghost use Rattle.sftp_options.specs.Requests.{IsAuditAsked, IsAuditRequest, LacksFile};
+
+use crate::arguments::{
+    AUDIT, Argument, BLANK, DIFF, EXPORT, Form, IMPORT, INFER, MAKE, RAISE, SERVE, SHOW,
+};
+use crate::inferring::InferOptions;
+use crate::{help, importing, inferring, profiles};
+use clap::error::ErrorKind;
+use clap::{Arg, ArgAction, ArgMatches, Command, Error, value_parser};
+use sftp_files::{Failure, ImportOptions, Keeping, MORE, PRIVATE, ServeOptions, ShowOptions};
+use sftp_profile::Profile;
+use std::alloc::{AllocError, Global};
+
+/// What a command line asks for.
+#[derive(Drop)]
+pub enum Request<'a> {
+    /// Serve a session.
+    Serve(ServeOptions<'a>),
+    /// Audit a session.
+    Audit(AuditOptions<'a>),
+    /// Infer a tree from a session, and audit the session with it.
+    Infer(InferOptions<'a>),
+    /// Write the blank tree to a file.
+    Blank {
+        file: &'a str,
+        keeping: Keeping,
+    },
+    /// Write the tree of a tree file, with the highest limits, to another file.
+    Raise {
+        tree: &'a str,
+        file: &'a str,
+        keeping: Keeping,
+    },
+    /// Show what a transcript or a tree file holds.
+    Show(ShowOptions<'a>),
+    /// Make a transcript or a tree file from its text.
+    Make {
+        file: &'a str,
+        keeping: Keeping,
+    },
+    /// Show how two tree files differ.
+    Diff {
+        old: &'a str,
+        new: &'a str,
+        memory: Option<u64>,
+        /// Whether the lines are JSON objects.
+        is_json: bool,
+    },
+    /// Make a tree file from an archive.
+    Import(ImportOptions<'a>),
+    /// Make an archive from a tree file.
+    Export {
+        file: &'a str,
+    },
+    /// Print this text: help or the version.
+    Help(String),
+}
+
+/// The options of `audit`.
+#[derive(Clone, Copy)]
+pub struct AuditOptions<'a> {
+    /// The tree file that the session starts from.
+    pub tree: &'a str,
+    /// The recorded bytes of the session.
+    pub transcript: &'a str,
+    /// The file to write the final tree to.
+    pub out: Option<&'a str>,
+    /// How that file is written.
+    pub keeping: Keeping,
+    /// The most bytes of memory that the process may have.
+    pub memory: Option<u64>,
+    /// Whether standard error explains a refusal, or where a file is malformed.
+    pub explains: bool,
+    /// Whether the verdict is a JSON object.
+    pub is_json: bool,
+    /// Whether a session that was cut is accepted if what comes before its oldest unanswered request is right.
+    pub cuts: bool,
+    /// Whether the audit goes on behind wrong replies that changed nothing.
+    pub keeps_going: bool,
+    /// The most findings of such an audit.
+    pub most: Option<u64>,
+    /// Which departures from the strict reading are accepted; none where the session is judged strictly.
+    pub profile: Option<Profile>,
+    /// The permissions that are taken from whatever is made, as octal digits.
+    pub umask: Option<&'a str>,
+}
+
+/// Parses the command line of the program in this version. The first word is the program's name. To ask for help or the
+/// version is not an error.
+pub fn parse<'a>(
+    alloc: Global,
+    version: &'a str,
+    words: &'a [String],
+) -> Result<Request<'a>, Failure<'a>> {
+    match matched(alloc, version, words) {
+        Ok(request) => Ok(request),
+        Err(error) => {
+            let request = help_or_usage(alloc, &error, words);
+            drop(error);
+            request
+        }
+    }
+}
+
+/// What an error of the parser means: memory ran out, help or the version was asked for, or usage is bad. The parser's
+/// message may have words of the command line as they are.
+fn help_or_usage<'a>(
+    alloc: Global,
+    error: &Error,
+    words: &[String],
+) -> Result<Request<'a>, Failure<'a>> {
+    if error.kind() == ErrorKind::OutOfMemory {
+        return Err(Failure::OutOfMemory);
+    }
+    let text = format!(in alloc; "{error}")?;
+    if error.use_stderr() {
+        Err(usage_failure(alloc, text, words))
+    } else {
+        Ok(Request::Help(text))
+    }
+}
+
+/// Bad usage with the parser's message, or with another one if a word could pass for lines of it.
+fn usage_failure<'a>(alloc: Global, text: String, words: &[String]) -> Failure<'a> {
+    if !has_control(words) {
+        return Failure::Usage(text);
+    }
+    drop(text);
+    Failure::of_usage(format!(in alloc;
+        "error: bad usage, and a word of the command line has a control character\n{MORE}"
+    ))
+}
+
+/// Whether one of the words has a control character.
+fn has_control(words: &[String]) -> bool {
+    for word in words {
+        if has_control_character(word.as_str()) {
+            return true;
+        }
+    }
+    false
+}
+
+fn has_control_character(word: &str) -> bool {
+    for character in word.chars() {
+        if character.is_control() {
+            return true;
+        }
+    }
+    false
+}
+
+fn matched<'a>(alloc: Global, version: &'a str, words: &'a [String]) -> Result<Request<'a>, Error> {
+    let mut command = command(alloc, version)?;
+    let request = matched_by(&mut command, words);
+    drop(command);
+    request
+}
+
+fn matched_by<'a>(command: &mut Command<'a>, words: &'a [String]) -> Result<Request<'a>, Error> {
+    let matches = command.try_get_matches_from_mut(words)?;
+    let request = requested(&matches);
+    drop(matches);
+    match request {
+        Some(request) => Ok(request),
+        None => Err(command.error(ErrorKind::MissingSubcommand, "a subcommand is required")?),
+    }
+}
+
+// Slow to prove: six calls each of which may give no request.
+fn requested<'a>(matches: &ArgMatches<'a>) -> Option<Request<'a>>
+    ensures { (rows : List Row) → subcommand_rows_of matches.now ≡ Some (codes "audit", rows)
+        → MatchOption result (LacksFile rows) (IsAuditRequest rows) }
+{
+    let (name, given) = matches.subcommand()?;
+    match name {
+        "serve" => serve_options(given).map(Request::Serve),
+        "audit" => audit_options(given).map(Request::Audit),
+        "show" => show_options(given).map(Request::Show),
+        "raise" => raise_request(given),
+        "diff" => diff_request(given),
+        "infer" => inferring::options_of(given).map(Request::Infer),
+        "import" => importing::options_of(given).map(Request::Import),
+        _ => file_request(name, given.get_str("file")?, keeping_of(given)),
+    }
+}
+
+/// The request of a subcommand that takes nothing but a file.
+fn file_request<'a>(name: &str, file: &'a str, keeping: Keeping) -> Option<Request<'a>> {
+    Some(match name {
+        "make" => Request::Make { file, keeping },
+        "export" => Request::Export { file },
+        _ => Request::Blank { file, keeping },
+    })
+}
+
+fn show_options<'a>(given: &ArgMatches<'a>) -> Option<ShowOptions<'a>> {
+    Some(ShowOptions {
+        file: given.get_str("file")?,
+        is_full: given.get_flag("full"),
+        data: given.get_str("data"),
+        memory: given.get_one("memory"),
+        explains: given.get_flag("explain"),
+        times: given.get_str("times"),
+        id: given.get_one("id"),
+        path: given.get_str("path"),
+        handle: given.get_str("handle"),
+        records: given.get_str("records"),
+        in_pairs: given.get_flag("pairs"),
+        marks: given.get_flag("overtaken"),
+        is_json: given.get_flag("json"),
+    })
+}
+
+fn diff_request<'a>(given: &ArgMatches<'a>) -> Option<Request<'a>> {
+    let old = given.get_str("old")?;
+    let new = given.get_str("new")?;
+    let memory = given.get_one("memory");
+    let is_json = given.get_flag("json");
+    Some(Request::Diff {
+        old,
+        new,
+        memory,
+        is_json,
+    })
+}
+
+fn raise_request<'a>(given: &ArgMatches<'a>) -> Option<Request<'a>> {
+    let tree = given.get_str("tree")?;
+    let file = given.get_str("file")?;
+    let keeping = keeping_of(given);
+    Some(Request::Raise {
+        tree,
+        file,
+        keeping,
+    })
+}
+
+/// How the options say that files are written.
+pub(crate) fn keeping_of(given: &ArgMatches<'_>) -> Keeping {
+    Keeping {
+        mode: mode_of(given.get_str("mode")),
+        is_synced: !given.get_flag("no-sync"),
+    }
+}
+
+/// The permissions of this text, or those without the option.
+fn mode_of(text: Option<&str>) -> u32
+    ensures given { (digits : List ℕ) → option_map (λ mode. mode.now) text.entry ≡ Some digits
+        → IsPermissions digits → result ≡ digits_value 8 digits }
+    ensures usual { option_map (λ mode. mode.now) text.entry ≡ None → result ≡ PRIVATE }
+{
+    match text {
+        Some(text) => profiles::octal(text).unwrap_or(PRIVATE),
+        None => PRIVATE,
+    }
+}
+
+fn serve_options<'a>(given: &ArgMatches<'a>) -> Option<ServeOptions<'a>> {
+    Some(ServeOptions {
+        tree: given.get_str("tree")?,
+        save: given.get_str("save"),
+        record: given.get_str("record"),
+        shuffle: given.get_one("shuffle"),
+        is_verbose: given.get_flag("verbose"),
+        memory: given.get_one("memory"),
+        keeping: keeping_of(given),
+    })
+}
+
+fn audit_options<'a>(given: &ArgMatches<'a>) -> Option<AuditOptions<'a>>
+    ensures { let rows = rows_of (found_of given.now) in MatchOption result (LacksFile rows) (IsAuditAsked rows) }
+{
+    Some(AuditOptions {
+        tree: value(given, "tree")?,
+        transcript: value(given, "transcript")?,
+        out: value(given, "out"),
+        memory: given.get_one("memory"),
+        keeping: keeping_of(given),
+        explains: given.get_flag("explain"),
+        is_json: given.get_flag("json"),
+        cuts: flag(given, "cut"),
+        keeps_going: flag(given, "keep-going"),
+        most: given.get_one("most"),
+        profile: profiles::profile_of(given),
+        umask: value(given, "umask"),
+    })
+}
+
+/// The value that the command line gives for the option of this name.
+pub(crate) fn value<'a>(given: &ArgMatches<'a>, name: &str) -> Option<&'a str>
+    ensures { option_map (λ text. text.now) result ≡ value_in (rows_of (found_of given.now)) name.now }
+{
+    given.get_str(name)
+}
+
+/// Whether the command line gives the flag of this name.
+fn flag(given: &ArgMatches<'_>, name: &str) -> bool
+    ensures { result ≡ is_given (value_in (rows_of (found_of given.now)) name.now) }
+{
+    value(given, name).unwrap_or("") == "true"
+}
+
+fn command<'a>(alloc: Global, version: &'a str) -> Result<Command<'a>, AllocError> {
+    let command = Command::new(alloc, "sftpv3")
+        .version(version)
+        .about(help::ABOUT)
+        .after_help(help::STATUSES)
+        .subcommand_required(true);
+    let command = with_subcommand(command, serve_command(alloc))?;
+    let command = with_subcommand(command, audit_command(alloc))?;
+    let command = with_subcommand(command, show_command(alloc))?;
+    let command = with_subcommand(command, make_command(alloc))?;
+    with_tree_commands(alloc, command)
+}
+
+/// The command with the subcommands that compare or make trees.
+fn with_tree_commands<'a>(alloc: Global, command: Command<'a>) -> Result<Command<'a>, AllocError> {
+    let command = with_subcommand(command, diff_command(alloc))?;
+    let command = with_subcommand(command, infer_command(alloc))?;
+    let command = with_subcommand(command, import_command(alloc))?;
+    let command = with_subcommand(command, export_command(alloc))?;
+    let command = with_subcommand(command, raise_command(alloc))?;
+    with_subcommand(command, blank_command(alloc))
+}
+
+/// The command with a further subcommand.
+fn with_subcommand<'a>(
+    command: Command<'a>,
+    subcommand: Result<Command<'a>, AllocError>,
+) -> Result<Command<'a>, AllocError> {
+    match subcommand {
+        Ok(subcommand) => command.subcommand(subcommand),
+        Err(error) => {
+            drop(command);
+            Err(error)
+        }
+    }
+}
+
+fn serve_command<'a>(alloc: Global) -> Result<Command<'a>, AllocError> {
+    let command = Command::new(alloc, "serve")
+        .about(help::ABOUT_SERVE)
+        .after_help(help::AFTER_SERVE);
+    with_arguments(alloc, command, SERVE)
+}
+
+fn audit_command<'a>(alloc: Global) -> Result<Command<'a>, AllocError> {
+    let command = Command::new(alloc, "audit")
+        .about(help::ABOUT_AUDIT)
+        .after_help(help::AFTER_AUDIT);
+    with_arguments(alloc, command, AUDIT)
+}
+
+fn show_command<'a>(alloc: Global) -> Result<Command<'a>, AllocError> {
+    let command = Command::new(alloc, "show")
+        .about(help::ABOUT_SHOW)
+        .after_help(help::AFTER_SHOW);
+    with_arguments(alloc, command, SHOW)
+}
+
+fn make_command<'a>(alloc: Global) -> Result<Command<'a>, AllocError> {
+    let command = Command::new(alloc, "make")
+        .about(help::ABOUT_MAKE)
+        .after_help(help::AFTER_MAKE);
+    with_arguments(alloc, command, MAKE)
+}
+
+fn diff_command<'a>(alloc: Global) -> Result<Command<'a>, AllocError> {
+    let command = Command::new(alloc, "diff")
+        .about(help::ABOUT_DIFF)
+        .after_help(help::AFTER_DIFF);
+    with_arguments(alloc, command, DIFF)
+}
+
+fn infer_command<'a>(alloc: Global) -> Result<Command<'a>, AllocError> {
+    let command = Command::new(alloc, "infer")
+        .about(help::ABOUT_INFER)
+        .after_help(help::AFTER_INFER);
+    with_arguments(alloc, command, INFER)
+}
+
+fn import_command<'a>(alloc: Global) -> Result<Command<'a>, AllocError> {
+    let command = Command::new(alloc, "import")
+        .about(help::ABOUT_IMPORT)
+        .after_help(help::AFTER_IMPORT);
+    with_arguments(alloc, command, IMPORT)
+}
+
+fn export_command<'a>(alloc: Global) -> Result<Command<'a>, AllocError> {
+    let command = Command::new(alloc, "export")
+        .about(help::ABOUT_EXPORT)
+        .after_help(help::AFTER_EXPORT);
+    with_arguments(alloc, command, EXPORT)
+}
+
+fn raise_command<'a>(alloc: Global) -> Result<Command<'a>, AllocError> {
+    let command = Command::new(alloc, "raise")
+        .about(help::ABOUT_RAISE)
+        .after_help(help::AFTER_RAISE);
+    with_arguments(alloc, command, RAISE)
+}
+
+fn blank_command<'a>(alloc: Global) -> Result<Command<'a>, AllocError> {
+    let command = Command::new(alloc, "blank").about(help::ABOUT_BLANK);
+    with_arguments(alloc, command, BLANK)
+}
+
+/// The command with further arguments.
+fn with_arguments<'a>(
+    alloc: Global,
+    command: Command<'a>,
+    arguments: &'a [Argument<'a>],
+) -> Result<Command<'a>, AllocError> {
+    let mut command = command;
+    for (name, form, help) in arguments {
+        command = with_argument(command, new_argument(alloc, name, *form, help))?;
+    }
+    Ok(command)
+}
+
+/// The command with a further argument.
+fn with_argument<'a>(
+    command: Command<'a>,
+    argument: Result<Arg<'a>, AllocError>,
+) -> Result<Command<'a>, AllocError> {
+    match argument {
+        Ok(argument) => command.arg(argument),
+        Err(error) => {
+            drop(command);
+            Err(error)
+        }
+    }
+}
+
+fn new_argument<'a>(
+    alloc: Global,
+    name: &'a str,
+    form: Form<'a>,
+    help: &'a str,
+) -> Result<Arg<'a>, AllocError> {
+    let arg = Arg::new(alloc, name).help(help);
+    match form {
+        Form::Flag => Ok(arg.long(name).action(ArgAction::SetTrue)),
+        Form::Place(label) => Ok(valued(arg, label).required(true)),
+        Form::Required(label) => Ok(valued(arg.long(name), label).required(true)),
+        Form::Optional(label) => Ok(valued(arg.long(name), label)),
+        Form::Number(label) => {
+            Ok(valued(arg.long(name), label).value_parser(value_parser!(u64)))
+        }
+        Form::OneOf(label, values) => Ok(valued(arg.long(name), label).value_parser(values)),
+        Form::SomeOf(label, values) => Ok(listed(arg.long(name), label, values)),
+    }
+}
+
+/// The argument with a value, which help calls by this label.
+fn valued<'a>(arg: Arg<'a>, label: &'a str) -> Arg<'a> {
+    arg.value_name(label).action(ArgAction::Set)
+}
+
+/// The argument with some of these values, with commas between them.
+fn listed<'a>(arg: Arg<'a>, label: &'a str, values: &'a [&'a str]) -> Arg<'a> {
+    arg.value_name(label)
+        .value_delimiter(',')
+        .value_parser(values)
+        .action(ArgAction::Append)
+}

@@ -1,5 +1,0 @@
-use Rattle.sftp_transcript.specs.Ahead.{size_of}
-use Rattle.sftp_tool.proofs.leaving_out.LeftOut.find.Given as goal
-
-abbrev pub decreases-events : goal.decreases-events
-decreases-events g l = size_of l.records.ahead

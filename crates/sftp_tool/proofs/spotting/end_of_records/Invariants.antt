@@ -1,6 +1,0 @@
-use Rattle.std.proofs.Common.{ℕ}
-use Rattle.sftp_transcript.specs.Ahead.{size_of}
-use Rattle.sftp_tool.proofs.spotting.end_of_records.Given as goal
-
-abbrev pub decreases-records : goal.decreases-records
-decreases-records g l = size_of l.records.ahead
