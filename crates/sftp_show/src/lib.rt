@@ -11,5 +11,7 @@ mod trees;
 pub use errors::ShowError;
 pub use quoted::Quoted;
 pub use records::{RecordLine, show_transcript};
-pub use refusals::{ExplainError, Record, explain_reply, find_record, last_of_id, put_record};
+pub use refusals::{
+    ExplainError, Record, explain_causes, explain_reply, find_record, last_of_id, put_record,
+};
 pub use trees::show_tree;
