@@ -1,5 +1,7 @@
 """Attacks on memory: short sessions and files that unfold."""
+import io
 import os
+import tarfile
 
 from attacking import sessions
 from attacking.ground import attack
@@ -79,3 +81,33 @@ def files_that_are_too_long(field):
         said = f": {named} needs more than '--memory' allows"
         yield from wrong_end(run(field, [*words, "--memory", str(8 * MEBI)], asked), said, 40 * MEBI)
     os.remove(long)
+
+
+def archive_of(paths):
+    """An archive of empty files at these paths, which names no directory."""
+    made = io.BytesIO()
+    with tarfile.open(fileobj=made, mode="w", format=tarfile.GNU_FORMAT) as archive:
+        for path in paths:
+            archive.addfile(tarfile.TarInfo(path))
+    return made.getvalue()
+
+
+def below(count, name):
+    """As many paths of 64 names, each of which is the only one in its first directory."""
+    return ("/".join([f"{number:05}", *[name] * 62, "f"]) for number in range(count))
+
+
+@attack(is_small=True)
+def an_archive_does_not_name_directories(field):
+    """The directories of an archive that it does not name are made within the limit, or not: it is told by its name."""
+    said = ": standard input needs more than '--memory' allows"
+    words = ["import", "made.tree", "--memory"]
+    for archive, limit in ((archive_of(below(100, "d" * 250)), 16 * MEBI), (archive_of(below(1_000, "d")), 8 * MEBI)):
+        yield from wrong_end(run(field, [*words, str(limit)], archive), said, limit + 8 * MEBI)
+        if os.path.exists(field.path("made.tree")):
+            yield "a tree is left"
+    status, errors, used = run(field, [*words, str(32 * MEBI)], archive_of(below(100, "d")))
+    if status != 0 or errors:
+        yield f"an archive that needs little ends with status {status}: {errors!r}"
+    if used > 16 * MEBI:
+        yield f"{used // MEBI} MiB"

@@ -21,7 +21,8 @@ pub struct AcceptedCut {
     pub tree: Vec<u8>,
     /// How many requests there were, up to 2^64 - 1.
     pub requests: u64,
-    /// How many of them are not judged: those from the oldest unanswered one on, at most 1,024.
+    /// How many of them are not settled, since a reply that is still to come may be the one to a request before them:
+    /// those from the oldest unanswered one on, at most 1,024.
     pub unsettled: usize,
     /// How many of them have no reply.
     pub unanswered: usize,

@@ -8,8 +8,8 @@ ghost use Rattle.sftp_files.specs.declared.messages.Failure.TheVariants as failu
 
 use crate::gathering::Gathered;
 use sftp_files::{
-    Ending, Failure, ImportOptions, STANDARD_INPUT, STANDARD_OUTPUT, System, read, write_flushed,
-    write_last,
+    Ending, Failure, ImportOptions, Meter, STANDARD_INPUT, STANDARD_OUTPUT, System, read,
+    write_flushed, write_last,
 };
 use sftp_show::Quoted;
 use sftp_tar::{ImportError, Refusal, SpecialChoice, Taking, bounds, next_special};
@@ -32,11 +32,12 @@ pub fn import<'a, R: System, I: Read, E: Write>(
 ) -> Result<Ending, Failure<'a>>
     ensures { IfOk result (λ ending. ending ≡ endings.Done) }
 {
+    let mut meter = Meter::new(rt, options.memory)?;
     let most = options.memory.map_or(u64::MAX, |bytes| bytes / SHARE);
     let longest = bounds(options.taking.limits).file_bytes;
     let mut archive = Gathered::new(rt.alloc(), most, longest);
     match archive.gather(input) {
-        Ok(()) => import_from(rt, options, archive.into_bytes(), errors),
+        Ok(()) => import_from(rt, options, &mut meter, archive.into_bytes(), errors),
         Err(error) => {
             let failure = unread(archive.is_over(), &error);
             drop(archive);
@@ -58,12 +59,13 @@ fn unread<'a>(is_over: bool, error: &io::Error) -> Failure<'a> {
 fn import_from<'a, R: System, E: Write>(
     rt: &R,
     options: &ImportOptions<'a>,
+    meter: &mut Meter,
     archive: Vec<u8>,
     errors: &mut E,
 ) -> Result<Ending, Failure<'a>>
     ensures { IfOk result (λ ending. ending ≡ endings.Done) }
 {
-    let tree = tree_of(rt.alloc(), options.taking, archive, errors)?;
+    let tree = tree_of(rt.alloc(), options.taking, meter, archive, errors)?;
     write_last(rt, options.file, options.keeping, tree)
 }
 
@@ -71,27 +73,39 @@ fn import_from<'a, R: System, E: Write>(
 fn tree_of<'a, E: Write>(
     alloc: Global,
     taking: Taking,
+    meter: &mut Meter,
     archive: Vec<u8>,
     errors: &mut E,
 ) -> Result<Vec<u8>, Failure<'a>> {
-    let taken = taken(alloc, taking, archive.as_slice(), errors);
+    let taken = taken(alloc, taking, meter, archive.as_slice(), errors);
     drop(archive);
     let file = taken?;
-    let tree = write_rows(alloc, &file);
+    let tree = written(alloc, meter, &file);
     drop(file);
-    Ok(tree?)
+    tree
+}
+
+/// The bytes of a tree file, which are no more than those that are held of it.
+fn written<'a>(alloc: Global, meter: &mut Meter, file: &TreeFile) -> Result<Vec<u8>, Failure<'a>>
+    requires { IsTreeFile file.now }
+{
+    if !meter.may_double() {
+        return Err(Failure::OverLimit(STANDARD_INPUT));
+    }
+    Ok(write_rows(alloc, file)?)
 }
 
 /// What the tree file of an archive says. Standard error names what no tree holds.
 fn taken<'a, E: Write>(
     alloc: Global,
     taking: Taking,
+    meter: &mut Meter,
     archive: &[u8],
     errors: &mut E,
 ) -> Result<TreeFile, Failure<'a>>
     ensures { IfOk result (λ file. IsTreeFile file) }
 {
-    match sftp_tar::import(alloc, taking, archive) {
+    match sftp_tar::import(alloc, taking, meter, archive) {
         Ok(file) => match name_specials(alloc, taking.special, archive, errors) {
             Ok(()) => Ok(file),
             Err(error) => {
@@ -100,7 +114,7 @@ fn taken<'a, E: Write>(
             }
         },
         Err(error) => {
-            let failure = archive_failure(alloc, &error);
+            let failure = unimported(alloc, meter, &error);
             drop(error);
             Err(failure)
         }
@@ -150,6 +164,15 @@ fn name_each<E: Write>(
         rest = behind;
     }
     Ok(())
+}
+
+/// The failure of a run whose import ended in this error: the process had more memory than it may, or the error's own.
+fn unimported<'a>(alloc: Global, meter: &Meter, error: &ImportError) -> Failure<'a> {
+    if meter.is_over() {
+        Failure::OverLimit(STANDARD_INPUT)
+    } else {
+        archive_failure(alloc, error)
+    }
 }
 
 /// The failure of a run whose import ended in this error.

@@ -4,6 +4,7 @@ ghost use Rattle.sftp_files.specs.Failures.{IsUnread};
 
 use crate::messages::Failure;
 use crate::system::System;
+use sftp_tar::Gauge;
 use std::fs::File;
 use std::io::{ErrorKind, Read, Seek, SeekFrom, Write};
 use std::{fs, io, str};
@@ -71,6 +72,23 @@ impl Meter {
                 }
             }
         }
+    }
+
+    /// Whether the process may have twice as many bytes as it has.
+    pub fn may_double(&mut self) -> bool {
+        match self.room() {
+            Ok(room) => {
+                self.is_over = self.limit.saturating_sub(room) > room;
+                !self.is_over
+            }
+            Err(_) => false,
+        }
+    }
+}
+
+impl Gauge for Meter {
+    fn is_full(&mut self) -> bool {
+        self.room().is_err()
     }
 }
 

@@ -172,7 +172,11 @@ pub(crate) const INFER: &[Argument] = &[
     profiles::UMASK,
     profiles::NEW_OWNER,
     profiles::SYMLINK,
-    MEMORY,
+    (
+        "memory",
+        Form::Number("BYTES"),
+        "Read no transcript of more than these bytes; what else is taken is not bounded",
+    ),
     MODE,
     NO_SYNC,
     (

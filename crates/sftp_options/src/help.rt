@@ -58,6 +58,8 @@ If no tree is found, the exit status is 1, and the two records are named that co
 This is no proof that there is none. With --explain, standard error has both records, what each told, and how many
 passes were tried. A pass begins anew with what an earlier one learned.
 
+With --memory, no transcript of more than BYTES is read. What the inference and the audit take besides is not bounded.
+
 'sftpv3 audit --tree unknown' does the same, and writes no tree at the start. A tree file of that name is './unknown'.";
 
 pub(crate) const ABOUT_SHOW: &str =
@@ -159,8 +161,11 @@ and its path if it can be read:
 
 Refused are, among others, a wrong checksum, a path with '..', a device, a FIFO, a sparse file, a hard link to a name
 that does not come before it, a directory that is also a file or a link, a name of more than 255 bytes, a path of more
-than 64 names, and what the limits have no room for; and a compressed archive, by the name of what compressed it. With
---memory, an archive of more than a quarter of BYTES is not taken; zeros at its end do not count.
+than 64 names, and what the limits have no room for; and a compressed archive, by the name of what compressed it.
+
+With --memory, an archive of more than a quarter of BYTES is not taken; zeros at its end do not count. Nor is one whose
+entries, with the directories that it does not name, take more than BYTES, or more than half of BYTES once it is read,
+since the tree file is made beside them. The memory is looked at before each entry, and one entry may go beyond.
 
 --limits usual    65,536 entries, and files of 16,777,216 bytes, as without the option
 --limits raised   1,048,576 entries, and files of 67,108,864 bytes: the highest limits, which 'sftpv3 raise' sets

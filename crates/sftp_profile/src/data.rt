@@ -7,7 +7,7 @@ ghost use Rattle.sftp_profile.specs.Settings.{setstat_in};
 use bytes::Buf;
 use sftp_packets::{Fault, ReadError, read_fields};
 use sftp_tree::NoMemory;
-use sftp_wire::{Ask, ByteString, Packet, Side};
+use sftp_wire::{Ask, ByteString, Packet, Request, Side};
 use std::alloc::Global;
 
 /// The type of SETSTAT (draft, section 6.9).
@@ -37,13 +37,11 @@ fn ask_in(packet: Packet, is_whole: bool) -> Option<Ask>
     ensures { result ≡ ask_in packet is_whole }
 {
     match packet {
-        Packet::Request(request) => {
-            if is_whole {
-                return Some(request.ask);
-            }
+        Packet::Request(Request { ask, .. }) if is_whole => Some(ask),
+        other => {
+            drop(other);
             None
         }
-        _ => None,
     }
 }
 

@@ -1,5 +1,7 @@
 //! What a profile lets pass by the request and its answer alone.
-ghost use Rattle.std.specs.Prelude.{◌≡◌, IfOk};
+ghost use Rattle.std.specs.Prelude.{◌≡◌, IfOk, is_some};
+ghost use Rattle.sftp_profile.specs.Copies.{copying_of as copying_asked};
+ghost use Rattle.sftp_profile.specs.Settings.{setstat_of as setstat_asked};
 ghost use Rattle.sftp_profile.specs.Departures as spec;
 
 use crate::copies::copying_of;
@@ -118,10 +120,41 @@ pub(crate) fn is_modelled(
 fn has_fields(alloc: Global, profile: Profile, ask: &Ask) -> Result<bool, NoMemory>
     ensures { IfOk result (λ ok. ok ≡ spec.has_fields profile ask.now) }
 {
-    if profile.lsetstat && setstat_of(alloc, ask)?.is_some() {
+    if profile.lsetstat && has_setstat(alloc, ask)? {
         return Ok(true);
     }
-    Ok(profile.copy_data && copying_of(alloc, ask)?.is_some())
+    if profile.copy_data {
+        return has_copying(alloc, ask);
+    }
+    Ok(false)
+}
+
+/// Whether the request is an lsetstat of a path and attributes.
+///
+/// # Errors
+///
+/// `NoMemory` if memory runs out.
+fn has_setstat(alloc: Global, ask: &Ask) -> Result<bool, NoMemory>
+    ensures { IfOk result (λ ok. ok ≡ is_some (setstat_asked ask.now)) }
+{
+    let setstat = setstat_of(alloc, ask)?;
+    let is_one = setstat.is_some();
+    drop(setstat);
+    Ok(is_one)
+}
+
+/// Whether the request is a copy-data of two handles, two offsets and a length.
+///
+/// # Errors
+///
+/// `NoMemory` if memory runs out.
+fn has_copying(alloc: Global, ask: &Ask) -> Result<bool, NoMemory>
+    ensures { IfOk result (λ ok. ok ≡ is_some (copying_asked ask.now)) }
+{
+    let copying = copying_of(alloc, ask)?;
+    let is_one = copying.is_some();
+    drop(copying);
+    Ok(is_one)
 }
 
 /// Whether an extension that is not known is neither refused nor at an end.

@@ -2,6 +2,7 @@
 ghost use Rattle.std.specs.Prelude.{◌≡◌, [], false, IsTrue, IfOk, OnOk, OnErr};
 ghost use Rattle.sftp_tree.specs.Tree.{trim};
 ghost use Rattle.sftp_profile.specs.State.{State, begun};
+ghost use Rattle.sftp_profile.specs.Readings.{asked};
 ghost use Rattle.sftp_profile.specs.Replaced.{put, replaced};
 ghost use Rattle.sftp_profile.specs.Departures.{is_forgiven, passes_in, passes_codes, passes_dots};
 ghost use Rattle.sftp_profile.specs.Permitted.{Permitted, follows_in};
@@ -137,6 +138,18 @@ impl Judge {
         ensures { IfOk result (λ other. other ≡ replaced self.now.profile self.now.session ask.now) }
     {
         replaced(self.profile, &self.session, ask)
+    }
+
+    /// The request that the profile takes this one for, where it is not allowed itself; `None` if it takes it for no
+    /// other.
+    ///
+    /// # Errors
+    ///
+    /// `NoMemory` if memory runs out.
+    pub fn asked(&self, ask: &Ask) -> Result<Option<Ask>, NoMemory>
+        ensures { IfOk result (λ other. other ≡ asked self.now.profile self.now.session ask.now) }
+    {
+        asked(self.profile, &self.session, ask)
     }
 
     /// The answer as it would be strictly, where the profile leaves a part of it free; `None` if it leaves none free.
@@ -306,7 +319,7 @@ impl Judge {
         ensures ok { IfOk result (λ ok. IsTaken self.old ask.now reply.now.answer ok self.new) }
         ensures err { OnErr result (self.new ≡ self.old) }
     {
-        let Some(ask) = asked(self.profile, &self.session, ask)? else {
+        let Some(ask) = self.asked(ask)? else {
             return Ok(false);
         };
         let request = Request { id: reply.id, ask };

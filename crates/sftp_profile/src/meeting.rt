@@ -117,8 +117,8 @@ impl Judge {
         self.judge_directory(request, reply)
     }
 
-    /// Whether the request is READDIR through the handle of OPEN.
-    fn is_barred(&self, ask: &Ask) -> bool
+    /// Whether the request is READDIR through the handle of OPEN, which has to be refused.
+    pub fn is_barred(&self, ask: &Ask) -> bool
         ensures { result ≡ through.is_barred (through.directory_of self.now.directories ask.now) ask.now }
     {
         is_barred(directory_of(self.directories.as_slice(), ask), ask)
@@ -192,12 +192,13 @@ impl Judge {
         permitted
     }
 
-    /// The request that is judged in place of one on a directory.
+    /// The request that `open-dir` judges in place of one on a directory; `None` if there is none, or the answer refuses
+    /// it.
     ///
     /// # Errors
     ///
     /// `NoMemory` if memory runs out.
-    fn standing(&self, ask: &Ask, answer: &Answer) -> Result<Option<Ask>, NoMemory>
+    pub fn standing(&self, ask: &Ask, answer: &Answer) -> Result<Option<Ask>, NoMemory>
         ensures { IfOk result (λ other. other ≡ standing_for self.now.profile self.now.session
             (through.directory_of self.now.directories ask.now) ask.now answer.now) }
     {

@@ -82,7 +82,10 @@ fn set_unlinked(
 {
     match ask {
         Ask::Setstat { path, attrs } => set_at(profile, session, path, attrs),
-        _ => Ok(None),
+        other => {
+            drop(other);
+            Ok(None)
+        }
     }
 }
 

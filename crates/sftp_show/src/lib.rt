@@ -12,7 +12,6 @@ pub use errors::ShowError;
 pub use quoted::Quoted;
 pub use records::{RecordLine, show_transcript};
 pub use refusals::{
-    ExplainError, Found, Record, explain_reply, find_record, last_of_id, number_of_request,
-    put_record,
+    ExplainError, Record, explain_causes, explain_reply, find_record, last_of_id, put_record,
 };
 pub use trees::show_tree;

@@ -10,5 +10,5 @@ mod searches;
 
 pub use errors::ExplainError;
 pub use records::{Record, put_record};
-pub use replies::explain_reply;
-pub use searches::{Found, find_record, last_of_id, number_of_request};
+pub use replies::{explain_causes, explain_reply};
+pub use searches::{find_record, last_of_id};

@@ -1,5 +1,6 @@
 //! `audit --explain`: why a session is refused, as lines of text.
 use crate::feeding::feed_rest;
+use crate::readings::{taken_for, undue, wrong_piece};
 use sftp_audit::{AuditError, Auditor, Refusal};
 use sftp_commands::LeftOut;
 use sftp_files::{Failure, open, write_flushed};
@@ -7,11 +8,12 @@ use sftp_options::AuditOptions;
 use sftp_path::good_path;
 use sftp_profile::{Judge, NAMES, Profile};
 use sftp_show::{
-    ExplainError, Found, Quoted, Record, explain_reply, find_record, last_of_id, put_record,
+    ExplainError, Quoted, Record, explain_causes, explain_reply, find_record, last_of_id,
+    put_record,
 };
 use sftp_transcript::{Reader, Tally, TranscriptError, WINDOW};
-use sftp_tree::{NoMemory, Tree};
-use sftp_wire::{Answer, Ask, NameItem, Names, Side};
+use sftp_tree::{Cause, Causes, Tree};
+use sftp_wire::{Answer, Ask, Side};
 use std::alloc::Global;
 use std::fs::Files;
 use std::io;
@@ -124,7 +126,7 @@ impl<R: Files + AllocGlobal, E: Write> Explanation<'_, '_, R, E> {
     }
 
     /// Writes the lines of the refusal, if the record that it names was found.
-    fn put_refusal(&mut self, found: &Option<Found>) -> bool {
+    fn put_refusal(&mut self, found: &Option<Record>) -> bool {
         match found {
             Some(found) => self.put_reason(found),
             None => false,
@@ -132,14 +134,14 @@ impl<R: Files + AllocGlobal, E: Write> Explanation<'_, '_, R, E> {
     }
 
     /// Writes the lines of the refusal, which names this record.
-    fn put_reason(&mut self, found: &Found) -> bool {
+    fn put_reason(&mut self, found: &Record) -> bool {
         match self.refusal {
-            Refusal::UnknownReply { .. } => self.put_unknown_reply(&found.record),
-            Refusal::IdInUse { .. } => self.put_used_id(&found.record),
-            Refusal::Window { .. } => self.put_late_request(&found.record),
-            Refusal::NotAllowed { .. } => self.put_unallowed(&found.record),
-            Refusal::Unanswered { .. } => self.put_unanswered(&found.record),
-            Refusal::NoMemory => self.put_line("request", &found.record),
+            Refusal::UnknownReply { .. } => self.put_unknown_reply(found),
+            Refusal::IdInUse { .. } => self.put_used_id(found),
+            Refusal::Window { .. } => self.put_late_request(found),
+            Refusal::NotAllowed { .. } => self.put_unallowed(found),
+            Refusal::Unanswered { .. } => self.put_unanswered(found),
+            Refusal::NoMemory => self.put_line("request", found),
         }
     }
 
@@ -238,7 +240,7 @@ impl<R: Files + AllocGlobal, E: Write> Explanation<'_, '_, R, E> {
     }
 
     /// The request, if it was found, and its reply.
-    fn put_exchange(&mut self, found: &Option<Found>, reply: &Record) -> bool {
+    fn put_exchange(&mut self, found: &Option<Record>, reply: &Record) -> bool {
         self.put_found("request", found)
             && self.put_line("reply", reply)
             && self.put_judgement(ask_of(found), reply.answer())
@@ -280,12 +282,37 @@ impl<R: Files + AllocGlobal, E: Write> Explanation<'_, '_, R, E> {
     fn put_allowed(&mut self, auditor: &Auditor<Judge>, ask: &Ask, answer: &Answer) -> bool {
         match auditor.judge().replaced(ask) {
             Ok(Some(other)) => {
+                let put = self.put_taken(auditor, &other, answer);
+                drop(other);
+                put
+            }
+            Ok(None) => self.put_taken(auditor, ask, answer),
+            Err(_) => self.stop(Unexplained::OutOfMemory),
+        }
+    }
+
+    /// What it allows in place of an answer to the request that the profile takes this one for.
+    fn put_taken(&mut self, auditor: &Auditor<Judge>, ask: &Ask, answer: &Answer) -> bool {
+        if auditor.judge().is_barred(ask) {
+            return self.put_barred();
+        }
+        match taken_for(auditor.judge(), ask, answer) {
+            Ok(Some(other)) => {
                 let put = self.put_told(auditor, &other, answer);
                 drop(other);
                 put
             }
             Ok(None) => self.put_told(auditor, ask, answer),
             Err(_) => self.stop(Unexplained::OutOfMemory),
+        }
+    }
+
+    /// READDIR through the handle of OPEN, which the session itself takes for that of OPENDIR.
+    fn put_barred(&mut self) -> bool {
+        let causes = Causes::none().when(Cause::WrongKind, true);
+        match explain_causes(causes, self.errors) {
+            Ok(()) => !self.profile().codes || self.put_codes(),
+            Err(error) => self.stop(Unexplained::from(error)),
         }
     }
 
@@ -310,18 +337,52 @@ impl<R: Files + AllocGlobal, E: Write> Explanation<'_, '_, R, E> {
                 drop(undue);
                 put
             }
+            Ok(None) => self.put_piece(auditor, ask, answer),
+            Err(_) => self.stop(Unexplained::OutOfMemory),
+        }
+    }
+
+    /// What it allows in place of an answer, but for the bytes beyond the limit of one READ that the profile permits:
+    /// where they are wrong, what it allows for the READ of those alone.
+    fn put_piece(&mut self, auditor: &Auditor<Judge>, ask: &Ask, answer: &Answer) -> bool {
+        match wrong_piece(self.rt.alloc(), auditor.judge(), ask, answer) {
+            Ok(Some(piece)) => {
+                let put = self.put_strict(auditor, &piece.ask, &piece.answer);
+                drop(piece);
+                put
+            }
             Ok(None) => self.put_strict(auditor, ask, answer),
             Err(_) => self.stop(Unexplained::OutOfMemory),
         }
     }
 
-    /// What the session allows strictly in place of an answer.
+    /// What the session allows strictly in place of an answer, and with which other codes the profile lets it be
+    /// refused.
     fn put_strict(&mut self, auditor: &Auditor<Judge>, ask: &Ask, answer: &Answer) -> bool {
         let session = auditor.judge().session();
         match explain_reply(self.rt.alloc(), session, ask, answer, self.errors) {
-            Ok(()) => true,
+            Ok(()) => self.put_other_codes(auditor, ask),
             Err(error) => self.stop(Unexplained::from(error)),
         }
+    }
+
+    /// With which other codes a request may be refused that a cause refuses, if the profile has `codes`.
+    fn put_other_codes(&mut self, auditor: &Auditor<Judge>, ask: &Ask) -> bool {
+        if !self.profile().codes {
+            return true;
+        }
+        match auditor.judge().session().causes(ask) {
+            Ok(causes) => !causes.has_any() || self.put_codes(),
+            Err(_) => self.stop(Unexplained::OutOfMemory),
+        }
+    }
+
+    fn put_codes(&mut self) -> bool {
+        let written = writeln!(
+            self.errors,
+            "also by codes: STATUS with code 2, 3, 4, 5 or 8"
+        );
+        self.is_written(written)
     }
 
     /// The profile by which the session was judged. Where that was done strictly, the strict one permits the same.
@@ -444,9 +505,9 @@ impl<R: Files + AllocGlobal, E: Write> Explanation<'_, '_, R, E> {
     }
 
     /// Writes the line of the record found, if it was found.
-    fn put_found(&mut self, label: &str, found: &Option<Found>) -> bool {
+    fn put_found(&mut self, label: &str, found: &Option<Record>) -> bool {
         match found {
-            Some(found) => self.put_line(label, &found.record),
+            Some(found) => self.put_line(label, found),
             None => false,
         }
     }
@@ -460,7 +521,7 @@ impl<R: Files + AllocGlobal, E: Write> Explanation<'_, '_, R, E> {
     }
 
     /// The record with this number. If there are fewer, the explanation stops.
-    fn found(&mut self, number: u64) -> Option<Found> {
+    fn found(&mut self, number: u64) -> Option<Record> {
         let mut records = self.records()?;
         let found = find_record(&mut records, number);
         drop(records);
@@ -468,7 +529,7 @@ impl<R: Files + AllocGlobal, E: Write> Explanation<'_, '_, R, E> {
     }
 
     /// The record that a search found. If it found none, the explanation stops.
-    fn found_by(&mut self, found: Result<Option<Found>, TranscriptError>) -> Option<Found> {
+    fn found_by(&mut self, found: Result<Option<Record>, TranscriptError>) -> Option<Record> {
         match found {
             Ok(Some(found)) => Some(found),
             Ok(None) => {
@@ -562,73 +623,6 @@ impl<R: Files + AllocGlobal, E: Write> Explanation<'_, '_, R, E> {
     }
 }
 
-/// An answer to READDIR with those of its names alone that the profile does not let a listing give; `None` if there are
-/// none, or the profile goes by what was listed at first.
-///
-/// # Errors
-///
-/// `NoMemory` if memory runs out.
-fn undue(
-    alloc: Global,
-    judge: &Judge,
-    ask: &Ask,
-    answer: &Answer,
-) -> Result<Option<Answer>, NoMemory> {
-    let Answer::Name(names) = answer else {
-        return Ok(None);
-    };
-    if !judge.profile().listing {
-        return Ok(None);
-    }
-    let mut undue = Vec::new(alloc);
-    for item in names.as_slice() {
-        put_undue(&mut undue, alloc, judge, ask, item)?;
-    }
-    if undue.is_empty() {
-        return Ok(None);
-    }
-    Ok(Some(Answer::Name(Names::new(undue))))
-}
-
-/// Adds an item of an answer to READDIR that the profile does not let a listing give.
-///
-/// # Errors
-///
-/// `NoMemory` if memory runs out.
-fn put_undue(
-    undue: &mut Vec<NameItem>,
-    alloc: Global,
-    judge: &Judge,
-    ask: &Ask,
-    item: &NameItem,
-) -> Result<(), NoMemory> {
-    let mut only = Vec::new(alloc);
-    only.push(copy_of(item)?)?;
-    let answer = Answer::Name(Names::new(only));
-    let due = judge.due(ask, &answer);
-    drop(answer);
-    if due?.is_none() {
-        undue.push(copy_of(item)?)?;
-    }
-    Ok(())
-}
-
-/// An item as this one.
-///
-/// # Errors
-///
-/// `NoMemory` if memory runs out.
-fn copy_of(item: &NameItem) -> Result<NameItem, NoMemory> {
-    let filename = item.filename.clone()?;
-    let longname = item.longname.clone()?;
-    let attrs = item.attrs.clone()?;
-    Ok(NameItem {
-        filename,
-        longname,
-        attrs,
-    })
-}
-
 /// Whether the departure of this name judges other requests than those that were sent.
 fn replaces_requests(name: &str) -> bool {
     name == "made" || name == "keep-owner"
@@ -667,9 +661,9 @@ fn unopened(failure: &Failure<'_>) -> Unexplained {
 }
 
 /// What the request found asks for.
-fn ask_of(found: &Option<Found>) -> Option<&Ask> {
+fn ask_of(found: &Option<Record>) -> Option<&Ask> {
     match found {
-        Some(found) => found.record.ask(),
+        Some(found) => found.ask(),
         None => None,
     }
 }

@@ -15,7 +15,7 @@ use sftp_commands::{
 use sftp_files::{Bounded, Ending, Failure, Meter, System, open};
 use sftp_options::AuditOptions;
 use sftp_profile::{Judge, Profile};
-use sftp_show::{Found, find_record};
+use sftp_show::{Record, find_record};
 use sftp_transcript::{Reader, Source, Tally};
 use sftp_tree::Tree;
 use sftp_wire::{Answer, asked_handle};
@@ -181,8 +181,8 @@ fn leave_handle_of<R: Files + AllocGlobal>(
 }
 
 /// The handle that a request names or a reply gives.
-fn handle_of(found: &Found) -> Option<&[u8]> {
-    match (found.record.ask(), found.record.answer()) {
+fn handle_of(found: &Record) -> Option<&[u8]> {
+    match (found.ask(), found.answer()) {
         (Some(ask), _) => asked_handle(ask),
         (None, Some(Answer::Handle(handle))) => Some(handle.as_slice()),
         _ => None,
@@ -218,7 +218,7 @@ fn record_at<R: Files + AllocGlobal>(
     rt: &R,
     files: &AuditOptions<'_>,
     number: u64,
-) -> Result<Found, End> {
+) -> Result<Record, End> {
     let mut records = records_of(rt, files)?;
     let found = find_record(&mut records, number);
     drop(records);

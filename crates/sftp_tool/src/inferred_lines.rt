@@ -172,7 +172,7 @@ fn put_line<E: Write>(alloc: Global, session: &[u8], label: &str, number: u64, e
     }
     if let Ok(mut reader) = Reader::new(alloc, Memory::new(session)) {
         if let Ok(Some(found)) = find_record(&mut reader, number) {
-            let _ = put_record(label, &found.record, errors);
+            let _ = put_record(label, &found, errors);
             drop(found);
         }
         drop(reader);

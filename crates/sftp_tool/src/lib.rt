@@ -11,6 +11,7 @@ mod going_on;
 mod inferences;
 mod inferred_lines;
 mod inferring;
+mod readings;
 mod serving;
 mod subcommands;
 mod summaries;

@@ -73,11 +73,3 @@ pub(crate) fn id_of(packet: &Packet) -> Option<u32> {
         Packet::Init { .. } | Packet::Version { .. } => None,
     }
 }
-
-/// Whether a packet is a request.
-pub(crate) fn is_request(packet: &Packet) -> bool {
-    match packet {
-        Packet::Request(_) => true,
-        Packet::Reply(_) | Packet::Init { .. } | Packet::Version { .. } => false,
-    }
-}

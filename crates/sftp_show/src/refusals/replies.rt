@@ -27,14 +27,19 @@ pub fn explain_reply<T: HandleTable, O: Write>(
 ) -> Result<(), ExplainError> {
     let causes = session.causes(ask)?;
     if causes.has_any() {
-        put_refusal(causes, output)
+        explain_causes(causes, output)
     } else {
         writeln!(output, "causes: none")?;
         put_allowed(alloc, session, ask, answer, output)
     }
 }
 
-fn put_refusal<O: Write>(causes: Causes, output: &mut O) -> Result<(), ExplainError> {
+/// Writes the causes that refuse a request, and the status codes that they allow: two lines, each with a line feed.
+///
+/// # Errors
+///
+/// `Output` if a line cannot be written.
+pub fn explain_causes<O: Write>(causes: Causes, output: &mut O) -> Result<(), ExplainError> {
     let list = CauseList(causes);
     let codes = AllowedCodes(causes);
     writeln!(output, "causes: {list}")?;

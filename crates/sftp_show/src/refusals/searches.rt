@@ -1,22 +1,14 @@
 //! Searches for the records of a transcript that a refusal concerns. Each takes a reader that has read nothing yet.
 
-use crate::refusals::records::{Record, id_of, is_request};
+use crate::refusals::records::{Record, id_of};
 use sftp_transcript::{Reader, Source, TranscriptError};
 use sftp_wire::{Packet, Side};
-
-/// A record, and how many requests come before it.
-#[derive(Drop)]
-pub struct Found {
-    pub record: Record,
-    pub requests: u64,
-}
 
 /// What a search has to know of a record.
 #[derive(Clone, Copy)]
 struct Head {
     side: Side,
     id: Option<u32>,
-    is_request: bool,
 }
 
 /// The record with this number, or `None` if there are fewer.
@@ -27,40 +19,32 @@ struct Head {
 pub fn find_record<R: Source>(
     records: &mut Reader<R>,
     number: u64,
-) -> Result<Option<Found>, TranscriptError> {
-    let requests = requests_before(records, number)?;
+) -> Result<Option<Record>, TranscriptError> {
+    pass_over(records, number)?;
     match records.next_record() {
-        Ok(Some((side, packet, length))) => Ok(Some(Found {
-            record: Record {
-                number,
-                side,
-                packet,
-                length,
-            },
-            requests,
+        Ok(Some((side, packet, length))) => Ok(Some(Record {
+            number,
+            side,
+            packet,
+            length,
         })),
         Ok(None) => Ok(None),
         Err(error) => Err(error),
     }
 }
 
-/// How many requests come before the record with this number.
+/// Passes over the records before the one with this number, as far as there are any.
 ///
 /// # Errors
 ///
 /// The first fault of the transcript before that record, and `NoMemory` if memory runs out.
-fn requests_before<R: Source>(
-    records: &mut Reader<R>,
-    number: u64,
-) -> Result<u64, TranscriptError> {
-    let mut requests: u64 = 0;
+fn pass_over<R: Source>(records: &mut Reader<R>, number: u64) -> Result<(), TranscriptError> {
     for _ in 1..number {
-        match next_head(records)? {
-            Some(head) => requests = requests.saturating_add(u64::from(head.is_request)),
-            None => return Ok(requests),
+        if next_head(records)?.is_none() {
+            break;
         }
     }
-    Ok(requests)
+    Ok(())
 }
 
 /// The number of the last record of a side with this id, before the record with this number.
@@ -88,29 +72,6 @@ pub fn last_of_id<R: Source>(
     Ok(last)
 }
 
-/// The number of the request with `requests` requests before it, if that comes before the record with this number.
-///
-/// # Errors
-///
-/// The first fault of the transcript before it, and `NoMemory` if memory runs out.
-pub fn number_of_request<R: Source>(
-    records: &mut Reader<R>,
-    requests: u64,
-    number: u64,
-) -> Result<Option<u64>, TranscriptError> {
-    let mut left = requests;
-    for place in 1..number {
-        let Some(head) = next_head(records)? else {
-            return Ok(None);
-        };
-        if head.is_request && left == 0 {
-            return Ok(Some(place));
-        }
-        left = left.saturating_sub(u64::from(head.is_request));
-    }
-    Ok(None)
-}
-
 /// What a search has to know of the next record.
 ///
 /// # Errors
@@ -131,7 +92,6 @@ fn head_of(
         Ok(Some((side, packet, _))) => Ok(Some(Head {
             side: *side,
             id: id_of(packet),
-            is_request: is_request(packet),
         })),
         Ok(None) => Ok(None),
         Err(error) => Err(*error),

@@ -1,0 +1,234 @@
+//! What a profile takes a request and its answer for, where the refusal of the answer is explained.
+use sftp_profile::Judge;
+use sftp_tree::NoMemory;
+use sftp_wire::{Answer, Ask, ByteString, NameItem, Names};
+use std::alloc::Global;
+
+/// The request by which an answer to this one is explained: the one that the profile takes it for; `None` if that is the
+/// request itself.
+///
+/// # Errors
+///
+/// `NoMemory` if memory runs out.
+pub(crate) fn taken_for(
+    judge: &Judge,
+    ask: &Ask,
+    answer: &Answer,
+) -> Result<Option<Ask>, NoMemory> {
+    match standing(judge, ask, answer)? {
+        Some(other) => Ok(Some(other)),
+        None => better(judge, ask, judge.asked(ask)?),
+    }
+}
+
+/// The request that stands for one on a directory that is open, if the profile has `open-dir`.
+///
+/// # Errors
+///
+/// `NoMemory` if memory runs out.
+fn standing(judge: &Judge, ask: &Ask, answer: &Answer) -> Result<Option<Ask>, NoMemory> {
+    if !judge.profile().open_dir {
+        return Ok(None);
+    }
+    better(judge, ask, judge.standing(ask, answer)?)
+}
+
+/// Another request, if there is one, unless it is refused and the one that was sent is not.
+///
+/// # Errors
+///
+/// `NoMemory` if memory runs out.
+fn better(judge: &Judge, ask: &Ask, other: Option<Ask>) -> Result<Option<Ask>, NoMemory> {
+    let Some(other) = other else {
+        return Ok(None);
+    };
+    match is_better(judge, ask, &other) {
+        Ok(true) => Ok(Some(other)),
+        Ok(false) => {
+            drop(other);
+            Ok(None)
+        }
+        Err(error) => {
+            drop(other);
+            Err(error)
+        }
+    }
+}
+
+/// Whether another request is not refused, or the one that was sent is, too.
+///
+/// # Errors
+///
+/// `NoMemory` if memory runs out.
+fn is_better(judge: &Judge, ask: &Ask, other: &Ask) -> Result<bool, NoMemory> {
+    let session = judge.session();
+    if !session.causes(other)?.has_any() {
+        return Ok(true);
+    }
+    Ok(session.causes(ask)?.has_any())
+}
+
+/// A READ of a part of what was asked for, and the part of the answer that it would have.
+#[derive(Drop)]
+pub(crate) struct Piece {
+    pub(crate) ask: Ask,
+    pub(crate) answer: Answer,
+}
+
+/// Of the answer to a READ that has more bytes than the limit of one, which the profile permits, the first piece up to
+/// the limit that the file does not have; `None` if it has all of them, or the profile does not permit more.
+///
+/// # Errors
+///
+/// `NoMemory` if memory runs out.
+pub(crate) fn wrong_piece(
+    alloc: Global,
+    judge: &Judge,
+    ask: &Ask,
+    answer: &Answer,
+) -> Result<Option<Piece>, NoMemory> {
+    if !judge.profile().read {
+        return Ok(None);
+    }
+    match (ask, answer) {
+        (
+            Ask::Read {
+                handle,
+                offset,
+                len,
+            },
+            Answer::Data(given),
+        ) => wrong_part(alloc, judge, handle, *offset, *len, given.as_slice()),
+        _ => Ok(None),
+    }
+}
+
+/// The first piece of these bytes that a file does not have from the offset on, if they are more than one READ gives.
+///
+/// # Errors
+///
+/// `NoMemory` if memory runs out.
+fn wrong_part(
+    alloc: Global,
+    judge: &Judge,
+    handle: &ByteString,
+    offset: u64,
+    len: u32,
+    given: &[u8],
+) -> Result<Option<Piece>, NoMemory> {
+    let most = judge.session().tree().tree_limits().read_bytes.max(1);
+    if given.len() <= most as usize {
+        return Ok(None);
+    }
+    let mut at = offset;
+    let mut left = len;
+    for part in given.chunks(most as usize) {
+        let count = left.min(part.len() as u32);
+        if !has_part(judge, handle.as_slice(), at, count, part) {
+            return Ok(Some(piece(alloc, handle, at, count, part)?));
+        }
+        at = at.saturating_add(u64::from(count));
+        left = left.saturating_sub(count);
+    }
+    Ok(None)
+}
+
+/// Whether a READ of this many bytes gives exactly these.
+fn has_part(judge: &Judge, handle: &[u8], offset: u64, count: u32, part: &[u8]) -> bool {
+    match judge.session().read_open(handle, offset, count) {
+        Ok(Some(bytes)) => bytes == part,
+        Ok(None) => false,
+        Err(_) => false,
+    }
+}
+
+/// A READ of this many bytes, with this answer.
+///
+/// # Errors
+///
+/// `NoMemory` if memory runs out.
+fn piece(
+    alloc: Global,
+    handle: &ByteString,
+    offset: u64,
+    len: u32,
+    part: &[u8],
+) -> Result<Piece, NoMemory> {
+    let handle = handle.clone()?;
+    let given = ByteString::from_slice(alloc, part)?;
+    Ok(Piece {
+        ask: Ask::Read {
+            handle,
+            offset,
+            len,
+        },
+        answer: Answer::Data(given),
+    })
+}
+
+/// An answer to READDIR with those of its names alone that the profile does not let a listing give; `None` if there are
+/// none, or the profile goes by what was listed at first.
+///
+/// # Errors
+///
+/// `NoMemory` if memory runs out.
+pub(crate) fn undue(
+    alloc: Global,
+    judge: &Judge,
+    ask: &Ask,
+    answer: &Answer,
+) -> Result<Option<Answer>, NoMemory> {
+    let Answer::Name(names) = answer else {
+        return Ok(None);
+    };
+    if !judge.profile().listing {
+        return Ok(None);
+    }
+    let mut undue = Vec::new(alloc);
+    for item in names.as_slice() {
+        put_undue(&mut undue, alloc, judge, ask, item)?;
+    }
+    if undue.is_empty() {
+        return Ok(None);
+    }
+    Ok(Some(Answer::Name(Names::new(undue))))
+}
+
+/// Adds an item of an answer to READDIR that the profile does not let a listing give.
+///
+/// # Errors
+///
+/// `NoMemory` if memory runs out.
+fn put_undue(
+    undue: &mut Vec<NameItem>,
+    alloc: Global,
+    judge: &Judge,
+    ask: &Ask,
+    item: &NameItem,
+) -> Result<(), NoMemory> {
+    let mut only = Vec::new(alloc);
+    only.push(copy_of(item)?)?;
+    let answer = Answer::Name(Names::new(only));
+    let due = judge.due(ask, &answer);
+    drop(answer);
+    if due?.is_none() {
+        undue.push(copy_of(item)?)?;
+    }
+    Ok(())
+}
+
+/// An item as this one.
+///
+/// # Errors
+///
+/// `NoMemory` if memory runs out.
+fn copy_of(item: &NameItem) -> Result<NameItem, NoMemory> {
+    let filename = item.filename.clone()?;
+    let longname = item.longname.clone()?;
+    let attrs = item.attrs.clone()?;
+    Ok(NameItem {
+        filename,
+        longname,
+        attrs,
+    })
+}
