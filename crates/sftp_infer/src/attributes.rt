@@ -161,11 +161,27 @@ impl<'a> World<'a> {
             }
             None => {
                 self.owner = Some(owner);
+                self.owner_by = at;
                 Ok(())
             }
             Some(known) if known == owner || !self.settings.is_strict => Ok(()),
-            Some(known) => self.mismatch(at, What::Owner(known, owner)),
+            Some(known) => {
+                let is_of_new = rights.owner.is_none() && !self.is_old(at);
+                if is_of_new && self.revive_owner()? {
+                    return Ok(());
+                }
+                self.mismatch(at, What::Owner(known, owner))
+            }
         }
+    }
+
+    /// Takes the entry that showed who owns what is made for one of the start, if it is only taken for new.
+    fn revive_owner(&mut self) -> Result<bool, Stop> {
+        if self.revive(self.owner_by)? {
+            self.owner = None;
+            return Err(Stop::Again);
+        }
+        Ok(false)
     }
 
     fn tell_permissions(&mut self, at: usize, permissions: u32) -> Result<(), Stop> {
@@ -190,6 +206,7 @@ impl<'a> World<'a> {
             return Ok(());
         }
         let told = self.rights(at).told;
+        self.propose_same(at, None)?;
         Err(self.clash_at(at, told, what))
     }
 
@@ -201,6 +218,10 @@ impl<'a> World<'a> {
             rights.permissions = Some(permissions & PERMISSIONS);
         }
         if attrs.owner.is_some() || attrs.permissions.is_some() {
+            rights.last = self.asked;
+            if rights.first == 0 {
+                rights.first = self.asked;
+            }
             self.set_rights(at, rights);
         }
         match attrs.size {

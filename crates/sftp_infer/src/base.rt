@@ -78,6 +78,8 @@ impl<'a> World<'a> {
         if let Some(entry) = self.entry_mut(at) {
             entry.file.least = size;
             entry.file.most = size;
+            entry.file.is_guessed = true;
+            entry.file.unguessed = (size, size);
         }
         Ok(())
     }

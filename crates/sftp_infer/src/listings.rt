@@ -4,7 +4,7 @@ use crate::attributes::sort_of;
 use crate::clashes::What;
 use crate::errors::Stop;
 use crate::handles::Opened;
-use crate::nodes::{Held, Slot};
+use crate::nodes::{Held, Slot, Sort};
 use crate::world::World;
 use sftp_path::{is_dot, is_dot_dot, is_name};
 use sftp_wire::{NameItem, Names};
@@ -52,7 +52,7 @@ impl<'a> World<'a> {
     /// Takes what a listing shows of an entry, unless a request may have changed it since the listing was opened.
     fn list_entry(&mut self, listing: Opened, at: usize, item: &NameItem) -> Result<(), Stop> {
         if self.changed(at) > listing.asked {
-            return Ok(());
+            return self.list_changed(listing, at, item);
         }
         self.tell_attrs(at, &item.attrs)
     }
@@ -60,11 +60,24 @@ impl<'a> World<'a> {
     /// The last request that changed an entry's attributes.
     fn changed(&self, at: usize) -> u64 {
         match self.entry(at) {
-            Some(entry) => {
-                let file = entry.file.written_by.max(entry.file.sized);
-                file.max(entry.rights.told)
-            }
+            Some(entry) => entry.file.last.max(entry.rights.last),
             None => 0,
+        }
+    }
+
+    /// Takes what a listing shows of an entry that was changed since the listing was opened: what it was at the start,
+    /// if it was changed only then.
+    fn list_changed(&mut self, listing: Opened, at: usize, item: &NameItem) -> Result<(), Stop> {
+        self.tell_sort(at, sort_of(&item.attrs), item.attrs.size)?;
+        let (first, is_old) = match self.entry(at) {
+            Some(entry) => (entry.file.first, entry.is_old),
+            None => (0, false),
+        };
+        match item.attrs.size {
+            Some(size) if is_old && first > listing.asked && self.sort(at) == Sort::File => {
+                self.tell_start_size(at, size)
+            }
+            _ => Ok(()),
         }
     }
 

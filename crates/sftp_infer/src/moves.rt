@@ -228,6 +228,9 @@ impl<'a> World<'a> {
     /// A file got a further name.
     pub(crate) fn hardlink(&mut self, old: &[u8], new: &[u8]) -> Result<(), Stop> {
         let at = self.reach_entry(old, false, Sort::File)?;
+        if self.settings.is_strict {
+            self.tell_sort(at, Sort::File, None)?;
+        }
         let to = self.reach_free(new)?;
         let done = self.change(to.parent, to.name.as_slice(), Held::Entry(at));
         drop(to);

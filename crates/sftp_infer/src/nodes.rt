@@ -64,6 +64,9 @@ pub(crate) struct Rights {
     pub(crate) permissions: Option<u32>,
     /// The record that told or set them last.
     pub(crate) told: u64,
+    /// The first request that set them, and the last one; 0 if none did.
+    pub(crate) first: u64,
+    pub(crate) last: u64,
 }
 
 impl Rights {
@@ -74,6 +77,8 @@ impl Rights {
             owner: None,
             permissions: None,
             told: 0,
+            first: 0,
+            last: 0,
         }
     }
 }

@@ -70,11 +70,14 @@ impl<'a> World<'a> {
             return Ok(());
         }
         let end = offset.saturating_add(piece.len);
-        if piece.len > 0 {
-            self.read_bytes(at, offset, piece)?;
+        if asked == 0 && self.settings.is_strict {
+            return self.tell_least(at, end.saturating_add(1));
         }
         if piece.len < asked && piece.len < READ_LIMIT {
-            return self.tell_size(at, end);
+            self.tell_size(at, end)?;
+        }
+        if piece.len > 0 {
+            self.read_bytes(at, offset, piece)?;
         }
         Ok(())
     }
@@ -159,24 +162,24 @@ impl<'a> World<'a> {
             Some(place) => {
                 let left = one.get(place).copied().unwrap_or(0);
                 let right = other.get(place).copied().unwrap_or(0);
+                self.revive(at)?;
+                if self.is_guessed(at) {
+                    self.propose_sizes(at, offset, piece)?;
+                    self.propose_of(at, Says::Size(end))?;
+                }
                 let offset = offset.saturating_add(place as u64);
-                self.propose_larger(at, end)?;
-                self.propose_same(at)?;
+                self.propose_same(at, Some((offset, right)))?;
                 Err(self.clash_at(at, known.told, What::Byte(offset, left, right)))
             }
         }
     }
 
-    /// Proposes a larger size at the start where it was only assumed.
-    fn propose_larger(&mut self, at: usize, size: u64) -> Result<(), Stop> {
-        let is_guessed = match self.entry(at) {
+    /// Whether the size of a file at the start is assumed.
+    fn is_guessed(&self, at: usize) -> bool {
+        match self.entry(at) {
             Some(entry) => entry.file.is_guessed,
             None => false,
-        };
-        if is_guessed {
-            self.propose_of(at, Says::Size(size))?;
         }
-        Ok(())
     }
 
     fn compare_zeros(
@@ -197,7 +200,7 @@ impl<'a> World<'a> {
                     Some(entry) => entry.file.sized,
                     None => 0,
                 };
-                self.propose_same(at)?;
+                self.propose_same(at, Some((offset, byte)))?;
                 Err(self.clash_at(at, told, What::Byte(offset, 0, byte)))
             }
         }

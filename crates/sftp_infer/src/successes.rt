@@ -36,7 +36,7 @@ impl<'a> World<'a> {
                 handle,
                 offset,
                 len,
-            } if code == status::EOF && *len > 0 => {
+            } if code == status::EOF && (*len > 0 || self.settings.is_strict) => {
                 match self.handle(handle) {
                     Some(opened) if !opened.is_listing => self.read_end(opened.entry, *offset),
                     _ => Ok(()),

@@ -2,9 +2,14 @@
 
 use crate::errors::Stop;
 use crate::facts::{Fact, Says};
+use crate::files::File;
 use crate::nodes::{Held, Node, Sort};
+use crate::pieces::Known;
 use crate::world::World;
 use sftp_path::NoMemory;
+
+/// How many files are proposed as the one that another name leads to.
+const SAME: u32 = 4;
 
 /// How many fresh names are tried.
 const TRIES: u32 = 100_000;
@@ -46,33 +51,61 @@ impl<'a> World<'a> {
         }
     }
 
-    /// Proposes that a file of the start is the file that the session changed last, under another name.
-    pub(crate) fn propose_same(&mut self, at: usize) -> Result<(), NoMemory> {
-        match self.changed_last(at) {
-            Some(other) => match self.old_text(other)? {
-                Some(place) => self.propose_of(at, Says::SameFile(place)),
-                None => Ok(()),
-            },
-            None => Ok(()),
+    /// Proposes that a file of the start is one that the session changed under another name: those first that were
+    /// changed last. If an offset and a byte are given, the session wrote that byte there.
+    pub(crate) fn propose_same(
+        &mut self,
+        at: usize,
+        wrote: Option<(u64, u8)>,
+    ) -> Result<(), NoMemory> {
+        let mut before = u64::MAX;
+        for _ in 0..SAME {
+            match self.changed_before(at, before, wrote) {
+                Some((other, changed)) => {
+                    before = changed;
+                    if let Some(place) = self.old_text(other)? {
+                        self.propose_of(at, Says::SameFile(place))?;
+                    }
+                }
+                None => return Ok(()),
+            }
         }
+        Ok(())
     }
 
-    /// The file of the start that the session changed last, but for this one.
-    fn changed_last(&self, at: usize) -> Option<usize> {
-        let mut last: Option<usize> = None;
+    /// The file of the start that the session changed last before a request, but for this one.
+    fn changed_before(
+        &self,
+        at: usize,
+        before: u64,
+        wrote: Option<(u64, u8)>,
+    ) -> Option<(usize, u64)> {
+        let mut last: Option<(usize, u64)> = None;
         let mut latest: u64 = 0;
         for (other, entry) in self.nodes.iter().enumerate() {
-            let changed = entry.file.written_by.max(entry.file.sized);
-            if other != at && entry.is_old && entry.sort == Sort::File && changed > latest {
-                last = Some(other);
+            let changed = entry.file.last.max(entry.rights.last);
+            let is_file = entry.is_old && entry.sort == Sort::File && other != at;
+            if is_file && changed > latest && changed < before && self.wrote(&entry.file, wrote) {
+                last = Some((other, changed));
                 latest = changed;
             }
         }
         last
     }
 
-    /// A target for a link of the start, of this length if it is told, that leads to a name beside it that nothing
-    /// mentions.
+    /// Whether the session wrote this byte to a file at this offset, if they are given.
+    fn wrote(&self, file: &File, wrote: Option<(u64, u8)>) -> bool {
+        match wrote {
+            Some((offset, byte)) => match file.written.known(offset) {
+                Known::Bytes(piece) => self.session.get(piece.from) == Some(&byte),
+                Known::Gap(_) => byte == 0 && offset >= file.zeros,
+            },
+            None => true,
+        }
+    }
+
+    /// The target to assume for a link of the start whose target no reply told: a name beside it that nothing mentions,
+    /// of the told length.
     pub(crate) fn invented(&self, at: usize, length: Option<u64>) -> Result<Vec<u8>, NoMemory> {
         let parent = match self.entry(at) {
             Some(link) => link.parent,

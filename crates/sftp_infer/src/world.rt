@@ -4,6 +4,8 @@ use crate::clashes::Clash;
 use crate::facts::{Fact, Says};
 use crate::handles::Opened;
 use crate::nodes::{Held, Node, Slot, Sort};
+use crate::refusals::Guess;
+use crate::search::Take;
 use crate::settings::Settings;
 use sftp_path::NoMemory;
 use std::alloc::Global;
@@ -29,6 +31,19 @@ pub(crate) struct World<'a> {
     pub(crate) learned: Vec<Fact>,
     /// What is made up, since a reply asks for something that nothing tells.
     pub(crate) invented: Vec<Fact>,
+    /// Whether refusals are taken, and whether one was passed over.
+    pub(crate) hears: bool,
+    pub(crate) skipped: bool,
+    /// The refusals for which a reason was taken that nothing tells.
+    pub(crate) guesses: Vec<Guess>,
+    /// The reasons that the search wants.
+    pub(crate) takes: Vec<Take>,
+    /// The numbers of entries that are there no more.
+    pub(crate) spare: Vec<usize>,
+    /// How many passes were made.
+    pub(crate) passes: u32,
+    /// The entry that showed who owns what is made.
+    pub(crate) owner_by: usize,
     /// Whether a path was relative.
     pub(crate) needs_home: bool,
     /// The contradiction that ends the pass, and what might resolve it.
@@ -66,6 +81,13 @@ impl<'a> World<'a> {
             most_handles: 0,
             learned: Vec::new(alloc),
             invented: Vec::new(alloc),
+            hears: false,
+            skipped: false,
+            guesses: Vec::new(alloc),
+            takes: Vec::new(alloc),
+            spare: Vec::new(alloc),
+            passes: 0,
+            owner_by: 0,
             needs_home: false,
             clash: None,
             proposals: Vec::new(alloc),
@@ -147,7 +169,6 @@ impl<'a> World<'a> {
         parent: usize,
         name: &[u8],
     ) -> Result<usize, NoMemory> {
-        let at = self.nodes.len();
         let mut entry = entry;
         match Vec::from_slice(self.alloc, name) {
             Ok(name) => entry.name = name,
@@ -157,6 +178,19 @@ impl<'a> World<'a> {
             }
         }
         entry.parent = parent;
+        self.store(entry)
+    }
+
+    /// Stores an entry, and returns its number.
+    fn store(&mut self, entry: Node) -> Result<usize, NoMemory> {
+        if let Some(at) = self.spare.pop() {
+            match self.nodes.get_mut(at) {
+                Some(place) => *place = entry,
+                None => drop(entry),
+            }
+            return Ok(at);
+        }
+        let at = self.nodes.len();
         self.nodes.push(entry)?;
         Ok(at)
     }
