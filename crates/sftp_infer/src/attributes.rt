@@ -110,7 +110,7 @@ impl<'a> World<'a> {
         }
     }
 
-    fn tell_rights(&mut self, at: usize, attrs: &Attrs) -> Result<(), Stop> {
+    pub(crate) fn tell_rights(&mut self, at: usize, attrs: &Attrs) -> Result<(), Stop> {
         // first, so that a contradiction still has the record that told the permissions
         if let Some(permissions) = attrs.permissions {
             self.tell_permissions(at, permissions & PERMISSIONS)?;
@@ -137,7 +137,7 @@ impl<'a> World<'a> {
         }
     }
 
-    fn is_old(&self, at: usize) -> bool {
+    pub(crate) fn is_old(&self, at: usize) -> bool {
         match self.entry(at) {
             Some(entry) => entry.is_old,
             None => false,
@@ -167,21 +167,12 @@ impl<'a> World<'a> {
             Some(known) if known == owner || !self.settings.is_strict => Ok(()),
             Some(known) => {
                 let is_of_new = rights.owner.is_none() && !self.is_old(at);
-                if is_of_new && self.revive_owner()? {
-                    return Ok(());
+                if is_of_new {
+                    self.revive(self.owner_by)?;
                 }
                 self.mismatch(at, What::Owner(known, owner))
             }
         }
-    }
-
-    /// Takes the entry that showed who owns what is made for one of the start, if it is only taken for new.
-    fn revive_owner(&mut self) -> Result<bool, Stop> {
-        if self.revive(self.owner_by)? {
-            self.owner = None;
-            return Err(Stop::Again);
-        }
-        Ok(false)
     }
 
     fn tell_permissions(&mut self, at: usize, permissions: u32) -> Result<(), Stop> {

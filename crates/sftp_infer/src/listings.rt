@@ -1,6 +1,6 @@
 //! What READDIR tells.
 
-use crate::attributes::sort_of;
+use crate::attributes::{PERMISSIONS, sort_of};
 use crate::clashes::What;
 use crate::errors::Stop;
 use crate::handles::Opened;
@@ -69,6 +69,7 @@ impl<'a> World<'a> {
     /// if it was changed only then.
     fn list_changed(&mut self, listing: Opened, at: usize, item: &NameItem) -> Result<(), Stop> {
         self.tell_sort(at, sort_of(&item.attrs), item.attrs.size)?;
+        self.list_changed_rights(listing, at, item)?;
         let (first, is_old) = match self.entry(at) {
             Some(entry) => (entry.file.first, entry.is_old),
             None => (0, false),
@@ -81,13 +82,35 @@ impl<'a> World<'a> {
         }
     }
 
+    /// The same of owners and permissions.
+    fn list_changed_rights(
+        &mut self,
+        listing: Opened,
+        at: usize,
+        item: &NameItem,
+    ) -> Result<(), Stop> {
+        let mut rights = self.rights(at);
+        if rights.last <= listing.asked {
+            return self.tell_rights(at, &item.attrs);
+        }
+        if rights.first > listing.asked && self.is_old(at) {
+            rights.start_owner = rights.start_owner.or(item.attrs.owner);
+            if let Some(permissions) = item.attrs.permissions {
+                let permissions = Some(permissions & PERMISSIONS);
+                rights.start_permissions = rights.start_permissions.or(permissions);
+            }
+            self.set_rights(at, rights);
+        }
+        Ok(())
+    }
+
     fn list_absent(&mut self, listing: Opened, item: &NameItem, told: u64) -> Result<(), Stop> {
         let name = item.filename.as_slice();
         if told > listing.told && !self.slot(listing.entry, name).is_assumed {
             return Ok(());
         }
-        if self.retract(listing.entry, name)? {
-            return self.list_unknown(listing, item);
+        if let Some(at) = self.retract(listing.entry, name)? {
+            return self.tell_attrs(at, &item.attrs);
         }
         Err(self.clash_name(listing.entry, name, told, What::There))
     }

@@ -50,15 +50,18 @@ impl<'a> World<'a> {
                 Ok(())
             }
             Look::Blind(at) => self.invent_target(at),
-            Look::NoEntry(told) => self.require(parent, name, told),
+            Look::NoEntry(told) => {
+                self.require(parent, name, told)?;
+                Ok(())
+            }
             _ => Ok(()),
         }
     }
 
     /// Something is at a name of which this record told that nothing is.
-    fn require(&mut self, parent: usize, name: &[u8], told: u64) -> Result<(), Stop> {
-        if self.retract(parent, name)? {
-            return Ok(());
+    fn require(&mut self, parent: usize, name: &[u8], told: u64) -> Result<usize, Stop> {
+        if let Some(at) = self.retract(parent, name)? {
+            return Ok(at);
         }
         Err(self.clash_name(parent, name, told, What::There))
     }
@@ -86,8 +89,9 @@ impl<'a> World<'a> {
             }
             Look::Unknown => Ok(self.tell(parent, name, sort)?),
             Look::Nothing(told) => {
-                self.require(parent, name, told)?;
-                Ok(self.tell(parent, name, sort)?)
+                let at = self.require(parent, name, told)?;
+                self.set_sort(at, sort);
+                Ok(at)
             }
             _ => Err(self.clash_name(parent, name, 0, What::Place)),
         }

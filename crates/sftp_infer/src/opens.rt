@@ -80,8 +80,9 @@ impl<'a> World<'a> {
             }
             Look::Unknown => Ok(self.tell(parent, name, Sort::File)?),
             Look::Nothing(told) => {
-                if self.retract(parent, name)? {
-                    return Ok(self.tell(parent, name, Sort::File)?);
+                if let Some(at) = self.retract(parent, name)? {
+                    self.set_sort(at, Sort::File);
+                    return Ok(at);
                 }
                 Err(self.clash_name(parent, name, told, What::There))
             }

@@ -69,6 +69,8 @@ impl<'a> World<'a> {
         self.asked = 0;
         self.replied = 0;
         self.taken = 0;
+        self.owner = None;
+        self.owner_by = 0;
         self.skipped = false;
         self.spare.clear();
         for at in 0..self.nodes.len() {

@@ -195,6 +195,10 @@ impl<'a> World<'a> {
         done?;
         learned?;
         self.age(at);
+        if self.owner_by == at && self.owner.is_some() {
+            self.owner = None;
+            return Err(Stop::Again);
+        }
         if self.is_appended(at) {
             return Err(Stop::Again);
         }
