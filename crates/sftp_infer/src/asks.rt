@@ -25,6 +25,8 @@ pub(crate) enum Asks {
     Lost,
     /// Something on the way is no directory.
     Blocked,
+    /// A link that leads to where no directory is.
+    Astray,
 }
 
 /// What it costs to take back that nothing is somewhere, where that was only assumed.
@@ -47,6 +49,7 @@ impl Asks {
         match self {
             Asks::Directory | Asks::Full | Asks::NoFile => Sort::Directory,
             Asks::NoDirectory | Asks::NoLink => Sort::File,
+            Asks::Astray => Sort::Link,
             _ => Sort::Unknown,
         }
     }
@@ -59,7 +62,7 @@ impl Asks {
             Asks::NoDirectory => sort != Sort::Directory,
             Asks::NoFile => sort != Sort::File,
             Asks::NoLink => sort != Sort::Link,
-            Asks::Nothing | Asks::Lost | Asks::Blocked => return None,
+            Asks::Nothing | Asks::Lost | Asks::Blocked | Asks::Astray => return None,
         };
         if sort == Sort::Unknown {
             return Some(1);
@@ -89,13 +92,14 @@ impl<'a> World<'a> {
             Look::Nothing(_) => cost_of_nothing(asks, is_assumed),
             Look::Unknown if asks.is_of_way() => None,
             Look::Unknown if asks == Asks::Place => Some(0),
+            Look::Unknown if asks == Asks::Astray => Some(WAY),
             Look::Unknown => Some(1),
-            Look::NoEntry(_) if asks == Asks::Lost => Some(0),
+            Look::NoEntry(_) if asks == Asks::Lost || asks == Asks::Astray => Some(0),
             Look::NoEntry(_) if is_assumed => Some(RETRACTED),
             Look::NoEntry(_) => None,
             Look::NotDir(_) | Look::Loop | Look::Bad if asks == Asks::Blocked => Some(0),
             Look::NotDir(_) | Look::Loop | Look::Bad => None,
-            Look::UnknownWay if asks.is_of_way() => Some(1),
+            Look::UnknownWay if asks.is_of_way() || asks == Asks::Astray => Some(1),
             Look::UnknownWay => Some(WAY),
             Look::Unsure(_) if asks == Asks::Blocked => Some(1),
             Look::Unsure(_) if asks == Asks::Lost => None,
@@ -121,7 +125,7 @@ impl<'a> World<'a> {
 fn cost_of_nothing(asks: Asks, is_assumed: bool) -> Option<u32> {
     match asks {
         Asks::Nothing | Asks::Place => Some(0),
-        Asks::Lost | Asks::Blocked => None,
+        Asks::Lost | Asks::Blocked | Asks::Astray => None,
         _ if is_assumed => Some(RETRACTED),
         _ => None,
     }

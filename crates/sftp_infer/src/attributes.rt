@@ -65,8 +65,10 @@ impl<'a> World<'a> {
         }
         if known == Sort::Unknown || known == sort {
             self.set_sort(at, sort);
+            let follows = self.follows;
             if let Some(entry) = self.entry_mut(at) {
                 entry.is_shown = true;
+                entry.is_itself = entry.is_itself || !follows;
             }
             return Ok(());
         }
@@ -77,15 +79,33 @@ impl<'a> World<'a> {
 
     /// Proposes that an entry of the start, whose kind no reply showed, is of this kind.
     fn propose_sort(&mut self, at: usize, sort: Sort, size: Option<u64>) -> Result<(), Stop> {
-        if self.is_shown(at) {
+        if sort == Sort::Link {
+            return self.propose_link_of(at, size);
+        }
+        if self.is_shown(at) && !self.is_chosen(at) {
             return Ok(());
         }
-        let says = match sort {
-            Sort::Directory => Says::Directory,
-            Sort::File => Says::File,
-            _ => Says::Link(self.invented(at, size)?),
+        let says = if sort == Sort::Directory {
+            Says::Directory
+        } else {
+            Says::File
         };
         self.propose_of(at, says)?;
+        Ok(())
+    }
+
+    /// Proposes that an entry is a link of this length, to something else that is of its kind, or to nothing.
+    fn propose_link_of(&mut self, at: usize, length: Option<u64>) -> Result<(), Stop> {
+        let is_itself = match self.entry(at) {
+            Some(entry) => entry.is_itself,
+            None => true,
+        };
+        if is_itself && !self.is_chosen(at) {
+            return Ok(());
+        }
+        self.propose_ends(at, length)?;
+        let target = self.invented(at, length)?;
+        self.propose_of(at, Says::Link(target))?;
         Ok(())
     }
 
@@ -94,6 +114,14 @@ impl<'a> World<'a> {
         match self.entry(at) {
             Some(entry) => entry.is_shown || !entry.is_old,
             None => true,
+        }
+    }
+
+    /// Whether an entry is taken for new where it may as well be old.
+    fn is_chosen(&self, at: usize) -> bool {
+        match self.entry(at) {
+            Some(entry) => entry.is_chosen,
+            None => false,
         }
     }
 

@@ -67,6 +67,11 @@ impl File {
         self.zeros = 0;
     }
 
+    /// From here on bytes that the session did not write are zeros, since the start has no byte there.
+    pub(crate) fn hole(&self) -> u64 {
+        self.zeros.min(self.most)
+    }
+
     /// Notes that a request changes it.
     pub(crate) fn change(&mut self, asked: u64) {
         if self.first == 0 {

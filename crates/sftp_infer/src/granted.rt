@@ -35,9 +35,13 @@ impl<'a> World<'a> {
             Look::Entry(at) => self.grant_of_entry(at, asks),
             Look::Unknown if asks == Asks::Nothing => Ok(self.tell_nothing(parent, name, true)?),
             Look::Unknown => {
-                self.tell(parent, name, asks.sort())?;
+                let at = self.tell(parent, name, asks.sort())?;
+                if asks == Asks::Astray {
+                    return self.lead_astray(at);
+                }
                 Ok(())
             }
+            Look::Blind(at) if asks == Asks::Astray => self.lead_astray(at),
             Look::UnknownWay => self.grant_way(parent, name, asks),
             Look::Unsure(at) => {
                 let sort = if asks == Asks::Blocked {
@@ -60,7 +64,7 @@ impl<'a> World<'a> {
     /// Nothing is known of a name on the way.
     fn grant_way(&mut self, parent: usize, name: &[u8], asks: Asks) -> Result<(), Stop> {
         match asks {
-            Asks::Lost => Ok(self.tell_nothing(parent, name, true)?),
+            Asks::Lost | Asks::Astray => Ok(self.tell_nothing(parent, name, true)?),
             Asks::Blocked => {
                 self.tell(parent, name, Sort::File)?;
                 Ok(())

@@ -34,6 +34,7 @@ mod settings;
 mod sizes;
 mod successes;
 mod targets;
+mod ways;
 mod world;
 
 pub use candidates::Candidate;

@@ -70,6 +70,7 @@ const OPEN_MAKING: &[Reason] = &[
     Reason(Some(Asks::Directory), None, Codes::Failure),
     Reason(Some(Asks::Lost), None, Codes::NoSuchFile),
     Reason(Some(Asks::Blocked), None, Codes::Either),
+    Reason(Some(Asks::Astray), None, Codes::NoSuchFile),
 ];
 
 const MAKE: &[Reason] = &[

@@ -413,8 +413,9 @@ impl<'a> Search<'a> {
     /// may have other reasons.
     pub fn refuse(&mut self, found: u64) {
         let guesses = std::mem::replace(&mut self.guesses, Vec::new(self.alloc));
-        let cost = self.cost(self.last);
-        let _ = self.guess_otherwise(self.last, cost, guesses.as_slice(), found, false);
+        let last = self.last;
+        let cost = self.cost(last);
+        let _ = self.guess_otherwise(last, cost, guesses.as_slice(), found, false);
         drop(guesses);
         if found > self.furthest {
             self.furthest = found;

@@ -11,12 +11,22 @@ use crate::pieces::Piece;
 use crate::world::World;
 use sftp_wire::{Answer, Ask, Attrs, ByteString, Names, status};
 
+/// Whether a request follows a last link, or goes by a handle.
+fn follows(ask: &Ask) -> bool {
+    match ask {
+        Ask::Stat { .. } | Ask::Opendir { .. } | Ask::Open { .. } | Ask::Setstat { .. } => true,
+        Ask::Realpath { .. } | Ask::Fstat { .. } | Ask::Fsetstat { .. } => true,
+        _ => false,
+    }
+}
+
 impl<'a> World<'a> {
     /// Takes an exchange.
     pub(crate) fn take(&mut self, exchange: &Exchange, reply: &Reply) -> Result<(), Stop> {
         self.asked = exchange.number;
         self.replied = reply.number;
         self.work = self.work.saturating_add(1);
+        self.follows = follows(&exchange.ask);
         match &reply.answer {
             Answer::Status { code, .. } => self.take_status(exchange, *code),
             Answer::Handle(handle) => self.take_handle(&exchange.ask, handle),

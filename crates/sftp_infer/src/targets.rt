@@ -43,7 +43,7 @@ impl<'a> World<'a> {
     /// Where an entry was at the start.
     pub(crate) fn old_text(&self, at: usize) -> Result<Option<Vec<u8>>, NoMemory> {
         match self.entry(at) {
-            Some(entry) if entry.is_old && at != 0 => Ok(Some(self.old_place(
+            Some(entry) if (entry.is_old || entry.is_chosen) && at != 0 => Ok(Some(self.old_place(
                 entry.old_parent,
                 entry.old_name.as_slice(),
             )?)),
@@ -63,6 +63,7 @@ impl<'a> World<'a> {
             match self.changed_before(at, before, wrote) {
                 Some((other, changed)) => {
                     before = changed;
+                    self.propose_way(at, other)?;
                     if let Some(place) = self.old_text(other)? {
                         self.propose_of(at, Says::SameFile(place))?;
                     }
@@ -84,7 +85,8 @@ impl<'a> World<'a> {
         let mut latest: u64 = 0;
         for (other, entry) in self.nodes.iter().enumerate() {
             let changed = entry.file.last.max(entry.rights.last);
-            let is_file = entry.is_old && entry.sort == Sort::File && other != at;
+            let is_start = entry.is_old || entry.is_chosen;
+            let is_file = is_start && entry.sort == Sort::File && other != at;
             if is_file && changed > latest && changed < before && self.wrote(&entry.file, wrote) {
                 last = Some((other, changed));
                 latest = changed;
@@ -138,11 +140,34 @@ impl<'a> World<'a> {
         let place = self.place_now(at)?;
         let says = Says::Link(Vec::from_slice(self.alloc, target.as_slice())?);
         self.invented.push(Fact { place, says, told })?;
-        if let Some(link) = self.entry_mut(at) {
-            link.target = Some(target);
-        } else {
-            drop(target);
+        self.lead(at, target);
+        Ok(())
+    }
+
+    /// Gives a link a target that is made up.
+    fn lead(&mut self, at: usize, target: Vec<u8>) {
+        match self.entry_mut(at) {
+            Some(link) => {
+                link.target = Some(target);
+                link.is_invented = true;
+            }
+            None => drop(target),
         }
+    }
+
+    /// Has a link lead to where no directory is.
+    pub(crate) fn lead_astray(&mut self, at: usize) -> Result<(), Stop> {
+        let length = match self.entry(at) {
+            Some(link) => link.length.unwrap_or(10),
+            None => 10,
+        };
+        let mut target = self.invented(at, Some(length.saturating_sub(2)))?;
+        target.extend_from_slice(b"/x")?;
+        let place = self.place_now(at)?;
+        let says = Says::Link(Vec::from_slice(self.alloc, target.as_slice())?);
+        let told = self.replied;
+        self.invented.push(Fact { place, says, told })?;
+        self.lead(at, target);
         Ok(())
     }
 

@@ -31,6 +31,8 @@ pub(crate) struct World<'a> {
     pub(crate) learned: Vec<Fact>,
     /// What is made up, since a reply asks for something that nothing tells.
     pub(crate) invented: Vec<Fact>,
+    /// Whether the request at hand follows a last link.
+    pub(crate) follows: bool,
     /// Whether refusals are taken, and whether one was passed over.
     pub(crate) hears: bool,
     pub(crate) skipped: bool,
@@ -81,6 +83,7 @@ impl<'a> World<'a> {
             most_handles: 0,
             learned: Vec::new(alloc),
             invented: Vec::new(alloc),
+            follows: false,
             hears: false,
             skipped: false,
             guesses: Vec::new(alloc),
