@@ -7,6 +7,7 @@ use crate::world::World;
 
 /// How many bytes of a READ are looked at, and how many of those that were appended.
 const SHOWN: usize = 256;
+
 const APPENDED: usize = 16_384;
 
 /// How many bytes have to be the same.

@@ -128,9 +128,17 @@ const RENAME_INSIDE: &[Reason] = &[
 
 const REPLACE: &[Reason] = &[
     Reason(Some(Asks::Nothing), None, Codes::NoSuchFile),
-    Reason(Some(Asks::NoDirectory), Some(Asks::Directory), Codes::Failure),
+    Reason(
+        Some(Asks::NoDirectory),
+        Some(Asks::Directory),
+        Codes::Failure,
+    ),
     Reason(Some(Asks::Directory), Some(Asks::Full), Codes::Failure),
-    Reason(Some(Asks::Directory), Some(Asks::NoDirectory), Codes::Either),
+    Reason(
+        Some(Asks::Directory),
+        Some(Asks::NoDirectory),
+        Codes::Either,
+    ),
     Reason(Some(Asks::Lost), None, Codes::NoSuchFile),
     Reason(None, Some(Asks::Lost), Codes::NoSuchFile),
     Reason(Some(Asks::Blocked), None, Codes::Either),
@@ -140,7 +148,11 @@ const REPLACE: &[Reason] = &[
 const REPLACE_INSIDE: &[Reason] = &[
     Reason(Some(Asks::Nothing), None, Codes::NoSuchFile),
     Reason(Some(Asks::Directory), Some(Asks::Place), Codes::Failure),
-    Reason(Some(Asks::Directory), Some(Asks::NoDirectory), Codes::Either),
+    Reason(
+        Some(Asks::Directory),
+        Some(Asks::NoDirectory),
+        Codes::Either,
+    ),
     Reason(Some(Asks::Lost), None, Codes::NoSuchFile),
     Reason(None, Some(Asks::Lost), Codes::NoSuchFile),
     Reason(Some(Asks::Blocked), None, Codes::Either),

@@ -254,7 +254,11 @@ impl<'a> World<'a> {
     /// Takes back that nothing was at a name at the start, if it was only assumed and still matters. The pass goes on,
     /// and a further one begins with what is learned.
     /// Returns the entry that is there.
-    pub(crate) fn retract(&mut self, parent: usize, name: &[u8]) -> Result<Option<usize>, NoMemory> {
+    pub(crate) fn retract(
+        &mut self,
+        parent: usize,
+        name: &[u8],
+    ) -> Result<Option<usize>, NoMemory> {
         let mut slot = self.slot(parent, name);
         if !slot.is_assumed || slot.now.is_some() {
             return Ok(None);
