@@ -71,23 +71,28 @@ impl Asks {
     }
 }
 
+/// Where a path leads, and whether it is only assumed that nothing is there.
+#[derive(Clone, Copy)]
+pub(crate) struct Seen {
+    look: Look,
+    is_assumed: bool,
+}
+
 impl<'a> World<'a> {
-    /// What it costs to take for granted what is asked of a path: 0 if it is known, `None` if it is not so.
-    pub(crate) fn cost_of(
-        &self,
-        path: &[u8],
-        follows: bool,
-        asks: Asks,
-    ) -> Result<Option<u32>, Stop> {
+    /// Where a path leads, for what is asked of it.
+    pub(crate) fn see(&mut self, path: &[u8], follows: bool) -> Result<Seen, Stop> {
         let found = self.look(path, follows)?;
         let is_assumed = self.slot(found.parent, found.name.as_slice()).is_assumed;
-        let look = found.look;
+        let (look, steps) = (found.look, found.steps);
         drop(found);
-        Ok(self.cost_at(look, asks, is_assumed))
+        self.count_steps(steps);
+        Ok(Seen { look, is_assumed })
     }
 
-    fn cost_at(&self, look: Look, asks: Asks, is_assumed: bool) -> Option<u32> {
-        match look {
+    /// What it costs to take for granted what is asked of a path: 0 if it is known, `None` if it is not so.
+    pub(crate) fn cost_at(&self, seen: Seen, asks: Asks) -> Option<u32> {
+        let is_assumed = seen.is_assumed;
+        match seen.look {
             Look::Entry(at) => self.cost_of_entry(at, asks),
             Look::Nothing(_) => cost_of_nothing(asks, is_assumed),
             Look::Unknown if asks.is_of_way() => None,

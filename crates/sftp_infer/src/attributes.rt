@@ -158,7 +158,7 @@ impl<'a> World<'a> {
     }
 
     pub(crate) fn set_rights(&mut self, at: usize, rights: Rights) {
-        let told = self.replied;
+        let told = self.teller;
         if let Some(entry) = self.entry_mut(at) {
             entry.rights = rights;
             entry.rights.told = told;
@@ -256,7 +256,7 @@ impl<'a> World<'a> {
     /// profile where a umask counts.
     pub(crate) fn made_rights(&self, attrs: &Attrs, strict: u32, profile: u32) -> Rights {
         let mut rights = Rights::unknown();
-        rights.told = self.replied;
+        rights.told = self.teller;
         match self.settings.umask {
             None => {
                 rights.owner = attrs.owner;

@@ -13,7 +13,8 @@ impl<'a> World<'a> {
     /// Has what is asked of a path be so, where that can be.
     pub(crate) fn grant(&mut self, path: &[u8], follows: bool, asks: Asks) -> Result<(), Stop> {
         for _ in 0..WALKS {
-            match self.cost_of(path, follows, asks)? {
+            let seen = self.see(path, follows)?;
+            match self.cost_at(seen, asks) {
                 Some(0) => return Ok(()),
                 Some(_) => self.grant_step(path, follows, asks)?,
                 None => return Ok(()),

@@ -15,6 +15,7 @@ impl<'a> World<'a> {
     pub(crate) fn reach(&mut self, path: &[u8], follows: bool) -> Result<Found, Stop> {
         for _ in 0..WALKS {
             let found = self.look(path, follows)?;
+            self.count_steps(found.steps);
             match found.look {
                 Look::UnknownWay | Look::Unsure(_) | Look::Blind(_) | Look::NoEntry(_) => {
                     self.open_way(found)?;
@@ -125,7 +126,7 @@ impl<'a> World<'a> {
     /// A directory was made.
     pub(crate) fn mkdir(&mut self, path: &[u8], attrs: &Attrs) -> Result<(), Stop> {
         let found = self.reach_free(path)?;
-        let mut made = Node::new(self.alloc, Sort::Directory, self.replied);
+        let mut made = Node::new(self.alloc, Sort::Directory, self.teller);
         made.rights = self.made_rights(attrs, 0o755, 0o777);
         let done = self.make(made, found.parent, found.name.as_slice());
         drop(found);
@@ -137,7 +138,7 @@ impl<'a> World<'a> {
     pub(crate) fn symlink(&mut self, target: &[u8], path: &[u8]) -> Result<(), Stop> {
         let found = self.reach_free(path)?;
         let text = Vec::from_slice(self.alloc, target)?;
-        let mut made = Node::new(self.alloc, Sort::Link, self.replied);
+        let mut made = Node::new(self.alloc, Sort::Link, self.teller);
         made.target = Some(text);
         let done = self.make(made, found.parent, found.name.as_slice());
         drop(found);
@@ -182,7 +183,7 @@ impl<'a> World<'a> {
 
     /// Tells that a directory has no names but those that are known.
     pub(crate) fn complete(&mut self, at: usize) {
-        let told = self.replied;
+        let told = self.teller;
         if let Some(directory) = self.entry_mut(at) {
             if directory.complete.is_none() {
                 directory.complete = Some(told);

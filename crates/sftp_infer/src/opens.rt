@@ -92,7 +92,7 @@ impl<'a> World<'a> {
 
     /// Makes a file; `is_chosen` says whether it may as well have been there.
     fn make_file(&mut self, found: &Found, attrs: &Attrs, is_chosen: bool) -> Result<usize, Stop> {
-        let mut made = Node::new(self.alloc, Sort::File, self.replied);
+        let mut made = Node::new(self.alloc, Sort::File, self.teller);
         made.rights = self.made_rights(attrs, 0o644, 0o666);
         made.is_chosen = is_chosen;
         Ok(self.make(made, found.parent, found.name.as_slice())?)

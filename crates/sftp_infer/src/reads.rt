@@ -243,7 +243,7 @@ impl<'a> World<'a> {
         let end = offset.saturating_add(len);
         let fresh = Piece { len, ..piece };
         self.tell_least(at, end)?;
-        let told = self.replied;
+        let told = self.teller;
         self.taken = self.taken.saturating_add(1);
         if let Some(entry) = self.entry_mut(at) {
             entry.file.shown.put(offset, fresh)?;

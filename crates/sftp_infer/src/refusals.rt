@@ -1,5 +1,6 @@
 //! What a refusal may mean: all reasons that could hold, and of those that nothing tells the cheapest one.
 
+use crate::asks::Seen;
 use crate::clashes::What;
 use crate::errors::Stop;
 use crate::facts::Says;
@@ -14,9 +15,8 @@ const DEPTH: u32 = 128;
 /// A refusal for which a reason was taken that nothing tells.
 #[derive(Clone, Copy)]
 pub(crate) struct Guess {
-    /// The number of the request's record, and of the reply's.
+    /// The number of the request's record.
     pub(crate) asked: u64,
-    pub(crate) replied: u64,
     /// The reasons that it may have as well: a bit each, the first one the lowest.
     pub(crate) others: u32,
 }
@@ -181,12 +181,8 @@ impl<'a> World<'a> {
             Some(chosen) => {
                 let others = choice.possible & !chosen.bit;
                 if others != 0 {
-                    let (asked, replied) = (self.asked, self.replied);
-                    self.guesses.push(Guess {
-                        asked,
-                        replied,
-                        others,
-                    })?;
+                    let asked = self.asked;
+                    self.guesses.push(Guess { asked, others })?;
                 }
                 self.take_reason(case, chosen.reason)
             }
@@ -195,7 +191,12 @@ impl<'a> World<'a> {
     }
 
     /// The reason to take, and those that could hold.
-    fn choose(&self, case: &Case<'_>, code: u32) -> Result<Choice, Stop> {
+    fn choose(&mut self, case: &Case<'_>, code: u32) -> Result<Choice, Stop> {
+        let old = self.see(case.old, case.follows)?;
+        let new = match case.new {
+            Some(new) => self.see(new, false)?,
+            None => old,
+        };
         let forced = self.forced();
         let mut choice = Choice {
             chosen: None,
@@ -204,7 +205,7 @@ impl<'a> World<'a> {
         };
         let mut bit: u32 = 1;
         for reason in case.reasons {
-            if let Some(cost) = self.cost_of_reason(case, *reason, code)? {
+            if let Some(cost) = self.cost_of_reason(old, new, *reason, code) {
                 choice.add(*reason, cost, bit, forced);
             }
             bit = bit.saturating_mul(2);
@@ -224,32 +225,24 @@ impl<'a> World<'a> {
     }
 
     /// What it costs to take this reason for granted, if it could hold.
-    fn cost_of_reason(
-        &self,
-        case: &Case<'_>,
-        reason: Reason,
-        code: u32,
-    ) -> Result<Option<u32>, Stop> {
+    fn cost_of_reason(&self, old: Seen, new: Seen, reason: Reason, code: u32) -> Option<u32> {
         let has_code = reason.has(code);
         if !has_code && !self.settings.any_code {
-            return Ok(None);
+            return None;
         }
         let old = match reason.0 {
-            Some(asks) => self.cost_of(case.old, case.follows, asks)?,
-            None => Some(0),
+            Some(asks) => self.cost_at(old, asks)?,
+            None => 0,
         };
-        let new = match (reason.1, case.new) {
-            (Some(asks), Some(new)) => self.cost_of(new, false, asks)?,
-            _ => Some(0),
+        let new = match reason.1 {
+            Some(asks) => self.cost_at(new, asks)?,
+            None => 0,
         };
-        Ok(match (old, new) {
-            (Some(0), Some(0)) => Some(0),
-            (Some(old), Some(new)) => {
-                let sum = old.saturating_add(new);
-                Some(if has_code { sum } else { sum.saturating_add(1) })
-            }
-            _ => None,
-        })
+        let sum = old.saturating_add(new);
+        if sum == 0 || has_code {
+            return Some(sum);
+        }
+        Some(sum.saturating_add(1))
     }
 
     fn take_reason(&mut self, case: &Case<'_>, reason: Reason) -> Result<(), Stop> {

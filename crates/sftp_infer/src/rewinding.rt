@@ -68,6 +68,7 @@ impl<'a> World<'a> {
         self.handles = BTreeMap::new(self.alloc);
         self.asked = 0;
         self.replied = 0;
+        self.teller = 0;
         self.taken = 0;
         self.owner = None;
         self.owner_by = 0;

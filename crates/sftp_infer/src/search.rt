@@ -342,8 +342,8 @@ impl<'a> Search<'a> {
         Ok(())
     }
 
-    /// Adds choices in which refusals have other reasons: that one whose reply this record is, or the last ones before
-    /// this record. Returns the cost of the next one.
+    /// Adds choices in which refusals have other reasons: that of the request with this number, or of the last ones
+    /// before it. Returns the cost of the next one.
     fn guess_otherwise(
         &mut self,
         base: usize,
@@ -356,7 +356,7 @@ impl<'a> Search<'a> {
         let mut left = GUESSES;
         for guess in guesses.iter().rev() {
             let fits = if is_exact {
-                guess.replied == number
+                guess.asked == number
             } else {
                 guess.asked < number
             };

@@ -56,7 +56,7 @@ impl<'a> World<'a> {
 
     /// Takes a size, which the file may have, for what it says of the start.
     fn tell_size_of_old(&mut self, at: usize, size: u64) -> Result<(), Stop> {
-        let told = self.replied;
+        let told = self.teller;
         if let Some(entry) = self.entry_mut(at) {
             let file = &mut entry.file;
             if file.size.is_some() || file.is_blurred {
@@ -82,7 +82,7 @@ impl<'a> World<'a> {
             self.propose_same(at, None)?;
             return Err(self.clash_size(at, 0, most, size));
         }
-        let told = self.replied;
+        let told = self.teller;
         if let Some(entry) = self.entry_mut(at) {
             let file = &mut entry.file;
             if file.size.is_none() && size > file.furthest && size > file.least {
@@ -100,7 +100,7 @@ impl<'a> World<'a> {
             self.propose_same(at, None)?;
             return Err(self.clash_size(at, least, least, size));
         }
-        let told = self.replied;
+        let told = self.teller;
         if let Some(entry) = self.entry_mut(at) {
             let file = &mut entry.file;
             if file.size.is_none() && size < file.most {
@@ -114,7 +114,7 @@ impl<'a> World<'a> {
     /// Sets the size of a file.
     pub(crate) fn cut(&mut self, at: usize, size: u64) -> Result<(), Stop> {
         self.most_bytes = self.most_bytes.max(size);
-        let (told, asked) = (self.replied, self.asked);
+        let (told, asked) = (self.teller, self.asked);
         if let Some(entry) = self.entry_mut(at) {
             let file = &mut entry.file;
             file.change(asked);
@@ -140,7 +140,7 @@ impl<'a> World<'a> {
         let offset = if appends { self.end_now(at) } else { offset };
         let end = offset.saturating_add(piece.len);
         self.most_bytes = self.most_bytes.max(end);
-        let (told, asked) = (self.replied, self.asked);
+        let (told, asked) = (self.teller, self.asked);
         if let Some(entry) = self.entry_mut(at) {
             let file = &mut entry.file;
             file.change(asked);
@@ -162,7 +162,7 @@ impl<'a> World<'a> {
 
     /// The size of a file now. If it is not known, it is taken for the least that it may be.
     fn end_now(&mut self, at: usize) -> u64 {
-        let told = self.replied;
+        let told = self.teller;
         match self.entry_mut(at) {
             Some(entry) => {
                 let file = &mut entry.file;
@@ -215,7 +215,7 @@ impl<'a> World<'a> {
 
     /// Tells that a file had this size at the start.
     pub(crate) fn tell_start_size(&mut self, at: usize, size: u64) -> Result<(), Stop> {
-        let told = self.replied;
+        let told = self.teller;
         let (least, most, is_guessed) = match self.entry(at) {
             Some(entry) => (entry.file.least, entry.file.most, entry.file.is_guessed),
             None => return Ok(()),

@@ -25,6 +25,10 @@ impl<'a> World<'a> {
     pub(crate) fn take(&mut self, exchange: &Exchange, reply: &Reply) -> Result<(), Stop> {
         self.asked = exchange.number;
         self.replied = reply.number;
+        self.teller = match &reply.answer {
+            Answer::Status { .. } | Answer::Handle(_) => exchange.number,
+            _ => reply.number,
+        };
         self.work = self.work.saturating_add(1);
         self.follows = follows(&exchange.ask);
         match &reply.answer {

@@ -8,6 +8,9 @@ use crate::pieces::Known;
 use crate::world::World;
 use sftp_path::NoMemory;
 
+/// How many names of a directory are looked at for whether it has entries.
+const LOOKED_AT: usize = 256;
+
 /// How many files are proposed as the one that another name leads to.
 const SAME: u32 = 4;
 
@@ -60,6 +63,7 @@ impl<'a> World<'a> {
     ) -> Result<(), NoMemory> {
         let mut before = u64::MAX;
         for _ in 0..SAME {
+            self.work = self.work.saturating_add(self.nodes.len() as u64);
             match self.changed_before(at, before, wrote) {
                 Some((other, changed)) => {
                     before = changed;
@@ -215,12 +219,12 @@ impl<'a> World<'a> {
         let Some(directory) = self.entry(at) else {
             return Some(false);
         };
-        for slot in directory.names.values() {
+        for slot in directory.names.values().take(LOOKED_AT) {
             if let Some(Held::Entry(_)) = slot.now.or(slot.start) {
                 return Some(true);
             }
         }
-        if directory.complete.is_some() {
+        if directory.complete.is_some() && directory.names.len() <= LOOKED_AT {
             Some(false)
         } else {
             None

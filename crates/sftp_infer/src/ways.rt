@@ -86,6 +86,7 @@ impl<'a> World<'a> {
             return Ok(());
         };
         let mut left = ENDS;
+        self.work = self.work.saturating_add(self.nodes.len() as u64);
         for other in 0..self.nodes.len() {
             if left > 0 && other != at && self.is_end(other, self.sort(at)) {
                 if self.propose_end(at, other, length)? {
@@ -133,6 +134,7 @@ impl<'a> World<'a> {
     /// the link.
     pub(crate) fn propose_targets(&mut self, text: &[u8]) -> Result<(), NoMemory> {
         let mut left = LINKS;
+        self.work = self.work.saturating_add(self.nodes.len() as u64);
         for at in 0..self.nodes.len() {
             if left > 0 && self.is_invented(at) {
                 left = left.saturating_sub(1);

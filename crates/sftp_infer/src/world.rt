@@ -11,6 +11,9 @@ use sftp_path::NoMemory;
 use std::alloc::Global;
 use std::collections::BTreeMap;
 
+/// How many components of a walk are as much work as a request.
+const FREE_STEPS: u64 = 64;
+
 /// What is known in the middle of a pass.
 #[derive(Drop)]
 pub(crate) struct World<'a> {
@@ -54,6 +57,8 @@ pub(crate) struct World<'a> {
     /// The records at hand: of the request, and of its reply.
     pub(crate) asked: u64,
     pub(crate) replied: u64,
+    /// The one of them that says what the exchange tells: the reply if it has more than a code or a handle.
+    pub(crate) teller: u64,
     /// The steps of the pass, and the bytes that its facts take.
     pub(crate) work: u64,
     pub(crate) taken: u64,
@@ -96,9 +101,15 @@ impl<'a> World<'a> {
             proposals: Vec::new(alloc),
             asked: 0,
             replied: 0,
+            teller: 0,
             work: 0,
             taken: 0,
         })
+    }
+
+    /// Adds the components that a walk looked at to the work of the pass. Those of usual paths are no work of their own.
+    pub(crate) fn count_steps(&mut self, steps: u64) {
+        self.work = self.work.saturating_add(steps / FREE_STEPS);
     }
 
     pub(crate) fn entry(&self, at: usize) -> Option<&Node> {
@@ -127,7 +138,7 @@ impl<'a> World<'a> {
 
     /// Sets the kind of an entry that was of no known kind.
     pub(crate) fn set_sort(&mut self, at: usize, sort: Sort) {
-        let told = self.replied;
+        let told = self.teller;
         if let Some(entry) = self.nodes.get_mut(at) {
             if entry.sort == Sort::Unknown {
                 entry.sort = sort;
@@ -205,7 +216,7 @@ impl<'a> World<'a> {
         name: &[u8],
         sort: Sort,
     ) -> Result<usize, NoMemory> {
-        let mut entry = Node::old(self.alloc, sort, self.replied);
+        let mut entry = Node::old(self.alloc, sort, self.teller);
         entry.old_parent = parent;
         match Vec::from_slice(self.alloc, name) {
             Ok(name) => entry.old_name = name,
@@ -217,7 +228,7 @@ impl<'a> World<'a> {
         let at = self.put(entry, parent, name)?;
         let mut slot = self.slot(parent, name);
         slot.start = Some(Held::Entry(at));
-        slot.told = self.replied;
+        slot.told = self.teller;
         self.set_slot(parent, name, slot)?;
         Ok(at)
     }
@@ -232,7 +243,7 @@ impl<'a> World<'a> {
         let mut slot = self.slot(parent, name);
         if slot.start.is_none() {
             slot.start = Some(Held::Nothing);
-            slot.told = self.replied;
+            slot.told = self.teller;
             slot.is_assumed = is_assumed;
         }
         self.set_slot(parent, name, slot)
