@@ -24,9 +24,9 @@ pub(crate) enum Passed {
 impl<'a> World<'a> {
     /// Goes through the session: first for what was done alone, until nothing new comes of it, and then for what was
     /// refused, too. So what a refusal may mean is judged with all that is known of the start. `most` is how many steps
-    /// all of it may take.
-    pub(crate) fn rounds(&mut self, most: u64) -> Result<Passed, NoMemory> {
-        for _ in 0..ROUNDS {
+    /// all of it may take, and `passes` how often it may go through.
+    pub(crate) fn rounds(&mut self, most: u64, passes: u32) -> Result<Passed, NoMemory> {
+        for _ in 0..ROUNDS.min(passes) {
             let mut exchanges = Exchanges::new(self.alloc, self.session)?;
             let passed = self.pass(&mut exchanges, most);
             drop(exchanges);

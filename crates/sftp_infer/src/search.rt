@@ -211,7 +211,8 @@ impl<'a> Search<'a> {
             Err(Stop::Again) => return Ok(Passed::Stuck),
             Err(Stop::NoMemory) => return Err(NoMemory),
         }
-        world.rounds(self.work_left())
+        let left = self.settings.passes.saturating_sub(self.passes);
+        world.rounds(self.work_left(), left)
     }
 
     /// Begins with the facts of a choice, and of those that it adds to.
