@@ -65,8 +65,10 @@ impl<'a> World<'a> {
         }
         if known == Sort::Unknown || known == sort {
             self.set_sort(at, sort);
+            let follows = self.follows;
             if let Some(entry) = self.entry_mut(at) {
                 entry.is_shown = true;
+                entry.is_itself = entry.is_itself || !follows;
             }
             return Ok(());
         }
@@ -77,15 +79,33 @@ impl<'a> World<'a> {
 
     /// Proposes that an entry of the start, whose kind no reply showed, is of this kind.
     fn propose_sort(&mut self, at: usize, sort: Sort, size: Option<u64>) -> Result<(), Stop> {
-        if self.is_shown(at) {
+        if sort == Sort::Link {
+            return self.propose_link_of(at, size);
+        }
+        if self.is_shown(at) && !self.is_chosen(at) {
             return Ok(());
         }
-        let says = match sort {
-            Sort::Directory => Says::Directory,
-            Sort::File => Says::File,
-            _ => Says::Link(self.invented(at, size)?),
+        let says = if sort == Sort::Directory {
+            Says::Directory
+        } else {
+            Says::File
         };
         self.propose_of(at, says)?;
+        Ok(())
+    }
+
+    /// Proposes that an entry is a link of this length, to something else that is of its kind, or to nothing.
+    fn propose_link_of(&mut self, at: usize, length: Option<u64>) -> Result<(), Stop> {
+        let is_itself = match self.entry(at) {
+            Some(entry) => entry.is_itself,
+            None => true,
+        };
+        if is_itself && !self.is_chosen(at) {
+            return Ok(());
+        }
+        self.propose_ends(at, length)?;
+        let target = self.invented(at, length)?;
+        self.propose_of(at, Says::Link(target))?;
         Ok(())
     }
 
@@ -94,6 +114,14 @@ impl<'a> World<'a> {
         match self.entry(at) {
             Some(entry) => entry.is_shown || !entry.is_old,
             None => true,
+        }
+    }
+
+    /// Whether an entry is taken for new where it may as well be old.
+    fn is_chosen(&self, at: usize) -> bool {
+        match self.entry(at) {
+            Some(entry) => entry.is_chosen,
+            None => false,
         }
     }
 
@@ -110,7 +138,7 @@ impl<'a> World<'a> {
         }
     }
 
-    fn tell_rights(&mut self, at: usize, attrs: &Attrs) -> Result<(), Stop> {
+    pub(crate) fn tell_rights(&mut self, at: usize, attrs: &Attrs) -> Result<(), Stop> {
         // first, so that a contradiction still has the record that told the permissions
         if let Some(permissions) = attrs.permissions {
             self.tell_permissions(at, permissions & PERMISSIONS)?;
@@ -130,14 +158,14 @@ impl<'a> World<'a> {
     }
 
     pub(crate) fn set_rights(&mut self, at: usize, rights: Rights) {
-        let told = self.replied;
+        let told = self.teller;
         if let Some(entry) = self.entry_mut(at) {
             entry.rights = rights;
             entry.rights.told = told;
         }
     }
 
-    fn is_old(&self, at: usize) -> bool {
+    pub(crate) fn is_old(&self, at: usize) -> bool {
         match self.entry(at) {
             Some(entry) => entry.is_old,
             None => false,
@@ -161,10 +189,17 @@ impl<'a> World<'a> {
             }
             None => {
                 self.owner = Some(owner);
+                self.owner_by = at;
                 Ok(())
             }
             Some(known) if known == owner || !self.settings.is_strict => Ok(()),
-            Some(known) => self.mismatch(at, What::Owner(known, owner)),
+            Some(known) => {
+                let is_of_new = rights.owner.is_none() && !self.is_old(at);
+                if is_of_new {
+                    self.revive(self.owner_by)?;
+                }
+                self.mismatch(at, What::Owner(known, owner))
+            }
         }
     }
 
@@ -190,6 +225,7 @@ impl<'a> World<'a> {
             return Ok(());
         }
         let told = self.rights(at).told;
+        self.propose_same(at, None)?;
         Err(self.clash_at(at, told, what))
     }
 
@@ -201,6 +237,10 @@ impl<'a> World<'a> {
             rights.permissions = Some(permissions & PERMISSIONS);
         }
         if attrs.owner.is_some() || attrs.permissions.is_some() {
+            rights.last = self.asked;
+            if rights.first == 0 {
+                rights.first = self.asked;
+            }
             self.set_rights(at, rights);
         }
         match attrs.size {
@@ -216,7 +256,7 @@ impl<'a> World<'a> {
     /// profile where a umask counts.
     pub(crate) fn made_rights(&self, attrs: &Attrs, strict: u32, profile: u32) -> Rights {
         let mut rights = Rights::unknown();
-        rights.told = self.replied;
+        rights.told = self.teller;
         match self.settings.umask {
             None => {
                 rights.owner = attrs.owner;

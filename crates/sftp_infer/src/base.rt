@@ -12,6 +12,7 @@ impl<'a> World<'a> {
     /// Begins with a fact about the start.
     pub(crate) fn begin_with(&mut self, fact: &Fact) -> Result<(), Stop> {
         self.replied = fact.told;
+        self.teller = fact.told;
         match &fact.says {
             Says::Home => {
                 self.home = Vec::from_slice(self.alloc, fact.place.as_slice())?;
@@ -78,6 +79,8 @@ impl<'a> World<'a> {
         if let Some(entry) = self.entry_mut(at) {
             entry.file.least = size;
             entry.file.most = size;
+            entry.file.is_guessed = true;
+            entry.file.unguessed = (size, size);
         }
         Ok(())
     }
@@ -91,7 +94,7 @@ impl<'a> World<'a> {
         let parent = self.begin_at(above, Sort::Directory)?;
         let mut slot = self.slot(parent, name);
         slot.start = Some(Held::Entry(first));
-        slot.told = self.replied;
+        slot.told = self.teller;
         Ok(self.set_slot(parent, name, slot)?)
     }
 }

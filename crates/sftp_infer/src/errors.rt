@@ -8,6 +8,8 @@ use std::alloc::{AllocError, AllocFailed};
 pub(crate) enum Stop {
     /// Two records contradict each other; the world says which.
     Clash,
+    /// What is known of the start changed, so that the pass is begun anew.
+    Again,
     /// Memory ran out.
     NoMemory,
 }

@@ -11,8 +11,14 @@ pub(crate) struct File {
     pub(crate) most: u64,
     pub(crate) least_told: u64,
     pub(crate) most_told: u64,
-    /// Whether its size at the start is assumed to be the least.
+    /// Whether its size at the start is assumed, and the fewest and the most bytes that it may have without that.
     pub(crate) is_guessed: bool,
+    pub(crate) unguessed: (u64, u64),
+    /// The first request that changed its size or its bytes, and the last one; 0 if none did.
+    pub(crate) first: u64,
+    pub(crate) last: u64,
+    /// Whether something was written at its end, wherever that was.
+    pub(crate) is_appended: bool,
     /// Its size now, once the session cut it or made it.
     pub(crate) size: Option<u64>,
     /// The request that set this size.
@@ -39,6 +45,10 @@ impl File {
             least_told: 0,
             most_told: 0,
             is_guessed: false,
+            unguessed: (0, u64::MAX),
+            first: 0,
+            last: 0,
+            is_appended: false,
             size: None,
             sized: 0,
             furthest: 0,
@@ -55,6 +65,19 @@ impl File {
         self.size = Some(0);
         self.sized = told;
         self.zeros = 0;
+    }
+
+    /// From here on bytes that the session did not write are zeros, since the start has no byte there.
+    pub(crate) fn hole(&self) -> u64 {
+        self.zeros.min(self.most)
+    }
+
+    /// Notes that a request changes it.
+    pub(crate) fn change(&mut self, asked: u64) {
+        if self.first == 0 {
+            self.first = asked;
+        }
+        self.last = asked;
     }
 
     /// The fewest bytes that it may have now.

@@ -65,6 +65,7 @@ impl<'a> World<'a> {
             }
             _ => 0,
         };
+        self.propose_targets(text)?;
         if path.first() != Some(&b'/') {
             self.propose_home(path, text)?;
         }

@@ -2,6 +2,8 @@
 //! has to judge: nothing is proved of it but that each call is safe, and that it returns.
 #![tactic(auto)]
 
+mod appended;
+mod asks;
 mod attributes;
 mod base;
 mod candidates;
@@ -11,12 +13,12 @@ mod exchanges;
 mod facts;
 mod files;
 mod first_look;
+mod granted;
 mod handles;
 mod homes;
 mod listings;
 mod look;
 mod moves;
-mod moves_refused;
 mod nodes;
 mod opens;
 mod pass;
@@ -25,12 +27,14 @@ mod places;
 mod reads;
 mod reasons;
 mod refusals;
+mod rewinding;
 mod rows;
 mod search;
 mod settings;
 mod sizes;
 mod successes;
 mod targets;
+mod ways;
 mod world;
 
 pub use candidates::Candidate;

@@ -1,10 +1,10 @@
 //! What READDIR tells.
 
-use crate::attributes::sort_of;
+use crate::attributes::{PERMISSIONS, sort_of};
 use crate::clashes::What;
 use crate::errors::Stop;
 use crate::handles::Opened;
-use crate::nodes::{Held, Slot};
+use crate::nodes::{Held, Slot, Sort};
 use crate::world::World;
 use sftp_path::{is_dot, is_dot_dot, is_name};
 use sftp_wire::{NameItem, Names};
@@ -52,7 +52,7 @@ impl<'a> World<'a> {
     /// Takes what a listing shows of an entry, unless a request may have changed it since the listing was opened.
     fn list_entry(&mut self, listing: Opened, at: usize, item: &NameItem) -> Result<(), Stop> {
         if self.changed(at) > listing.asked {
-            return Ok(());
+            return self.list_changed(listing, at, item);
         }
         self.tell_attrs(at, &item.attrs)
     }
@@ -60,12 +60,48 @@ impl<'a> World<'a> {
     /// The last request that changed an entry's attributes.
     fn changed(&self, at: usize) -> u64 {
         match self.entry(at) {
-            Some(entry) => {
-                let file = entry.file.written_by.max(entry.file.sized);
-                file.max(entry.rights.told)
-            }
+            Some(entry) => entry.file.last.max(entry.rights.last),
             None => 0,
         }
+    }
+
+    /// Takes what a listing shows of an entry that was changed since the listing was opened: what it was at the start,
+    /// if it was changed only then.
+    fn list_changed(&mut self, listing: Opened, at: usize, item: &NameItem) -> Result<(), Stop> {
+        self.tell_sort(at, sort_of(&item.attrs), item.attrs.size)?;
+        self.list_changed_rights(listing, at, item)?;
+        let (first, is_old) = match self.entry(at) {
+            Some(entry) => (entry.file.first, entry.is_old),
+            None => (0, false),
+        };
+        match item.attrs.size {
+            Some(size) if is_old && first > listing.asked && self.sort(at) == Sort::File => {
+                self.tell_start_size(at, size)
+            }
+            _ => Ok(()),
+        }
+    }
+
+    /// The same of owners and permissions.
+    fn list_changed_rights(
+        &mut self,
+        listing: Opened,
+        at: usize,
+        item: &NameItem,
+    ) -> Result<(), Stop> {
+        let mut rights = self.rights(at);
+        if rights.last <= listing.asked {
+            return self.tell_rights(at, &item.attrs);
+        }
+        if rights.first > listing.asked && self.is_old(at) {
+            rights.start_owner = rights.start_owner.or(item.attrs.owner);
+            if let Some(permissions) = item.attrs.permissions {
+                let permissions = Some(permissions & PERMISSIONS);
+                rights.start_permissions = rights.start_permissions.or(permissions);
+            }
+            self.set_rights(at, rights);
+        }
+        Ok(())
     }
 
     fn list_absent(&mut self, listing: Opened, item: &NameItem, told: u64) -> Result<(), Stop> {
@@ -73,8 +109,8 @@ impl<'a> World<'a> {
         if told > listing.told && !self.slot(listing.entry, name).is_assumed {
             return Ok(());
         }
-        if self.retract(listing.entry, name)? {
-            return self.list_unknown(listing, item);
+        if let Some(at) = self.retract(listing.entry, name)? {
+            return self.tell_attrs(at, &item.attrs);
         }
         Err(self.clash_name(listing.entry, name, told, What::There))
     }

@@ -5,7 +5,7 @@ use crate::world::World;
 use sftp_path::{NoMemory, good_path, is_dot, is_dot_dot};
 
 /// The most components that a walk looks at.
-const COMPONENT_LIMIT: usize = 90_000;
+const COMPONENT_LIMIT: u64 = 90_000;
 
 /// The most links that a walk follows.
 const LINK_LIMIT: u32 = 40;
@@ -41,6 +41,8 @@ pub(crate) struct Found {
     pub(crate) look: Look,
     pub(crate) parent: usize,
     pub(crate) name: Vec<u8>,
+    /// How many components the walk looked at.
+    pub(crate) steps: u64,
 }
 
 /// A walk that has not ended.
@@ -105,6 +107,7 @@ impl<'a> World<'a> {
                 look: Look::Bad,
                 parent: 0,
                 name: Vec::new(self.alloc),
+                steps: 0,
             });
         }
         let mut walk = Walk {
@@ -122,7 +125,7 @@ impl<'a> World<'a> {
 
     fn walk<'w>(&'w self, walk: Walk<'w>, follows: bool) -> Result<Found, NoMemory> {
         let mut walk = walk;
-        for _ in 0..COMPONENT_LIMIT {
+        for steps in 0..COMPONENT_LIMIT {
             match self.step(&mut walk, follows)? {
                 Step::On => {}
                 Step::End(look, name) => {
@@ -132,6 +135,7 @@ impl<'a> World<'a> {
                         look,
                         parent,
                         name: Vec::from_slice(self.alloc, name)?,
+                        steps,
                     });
                 }
             }
@@ -141,6 +145,7 @@ impl<'a> World<'a> {
             look: Look::Loop,
             parent: 0,
             name: Vec::new(self.alloc),
+            steps: COMPONENT_LIMIT,
         })
     }
 

@@ -15,6 +15,7 @@ impl<'a> World<'a> {
     pub(crate) fn reach(&mut self, path: &[u8], follows: bool) -> Result<Found, Stop> {
         for _ in 0..WALKS {
             let found = self.look(path, follows)?;
+            self.count_steps(found.steps);
             match found.look {
                 Look::UnknownWay | Look::Unsure(_) | Look::Blind(_) | Look::NoEntry(_) => {
                     self.open_way(found)?;
@@ -50,15 +51,18 @@ impl<'a> World<'a> {
                 Ok(())
             }
             Look::Blind(at) => self.invent_target(at),
-            Look::NoEntry(told) => self.require(parent, name, told),
+            Look::NoEntry(told) => {
+                self.require(parent, name, told)?;
+                Ok(())
+            }
             _ => Ok(()),
         }
     }
 
     /// Something is at a name of which this record told that nothing is.
-    fn require(&mut self, parent: usize, name: &[u8], told: u64) -> Result<(), Stop> {
-        if self.retract(parent, name)? {
-            return Ok(());
+    fn require(&mut self, parent: usize, name: &[u8], told: u64) -> Result<usize, Stop> {
+        if let Some(at) = self.retract(parent, name)? {
+            return Ok(at);
         }
         Err(self.clash_name(parent, name, told, What::There))
     }
@@ -86,8 +90,9 @@ impl<'a> World<'a> {
             }
             Look::Unknown => Ok(self.tell(parent, name, sort)?),
             Look::Nothing(told) => {
-                self.require(parent, name, told)?;
-                Ok(self.tell(parent, name, sort)?)
+                let at = self.require(parent, name, told)?;
+                self.set_sort(at, sort);
+                Ok(at)
             }
             _ => Err(self.clash_name(parent, name, 0, What::Place)),
         }
@@ -121,7 +126,7 @@ impl<'a> World<'a> {
     /// A directory was made.
     pub(crate) fn mkdir(&mut self, path: &[u8], attrs: &Attrs) -> Result<(), Stop> {
         let found = self.reach_free(path)?;
-        let mut made = Node::new(self.alloc, Sort::Directory, self.replied);
+        let mut made = Node::new(self.alloc, Sort::Directory, self.teller);
         made.rights = self.made_rights(attrs, 0o755, 0o777);
         let done = self.make(made, found.parent, found.name.as_slice());
         drop(found);
@@ -133,7 +138,7 @@ impl<'a> World<'a> {
     pub(crate) fn symlink(&mut self, target: &[u8], path: &[u8]) -> Result<(), Stop> {
         let found = self.reach_free(path)?;
         let text = Vec::from_slice(self.alloc, target)?;
-        let mut made = Node::new(self.alloc, Sort::Link, self.replied);
+        let mut made = Node::new(self.alloc, Sort::Link, self.teller);
         made.target = Some(text);
         let done = self.make(made, found.parent, found.name.as_slice());
         drop(found);
@@ -178,7 +183,7 @@ impl<'a> World<'a> {
 
     /// Tells that a directory has no names but those that are known.
     pub(crate) fn complete(&mut self, at: usize) {
-        let told = self.replied;
+        let told = self.teller;
         if let Some(directory) = self.entry_mut(at) {
             if directory.complete.is_none() {
                 directory.complete = Some(told);
@@ -228,6 +233,9 @@ impl<'a> World<'a> {
     /// A file got a further name.
     pub(crate) fn hardlink(&mut self, old: &[u8], new: &[u8]) -> Result<(), Stop> {
         let at = self.reach_entry(old, false, Sort::File)?;
+        if self.settings.is_strict {
+            self.tell_sort(at, Sort::File, None)?;
+        }
         let to = self.reach_free(new)?;
         let done = self.change(to.parent, to.name.as_slice(), Held::Entry(at));
         drop(to);

@@ -64,6 +64,9 @@ pub(crate) struct Rights {
     pub(crate) permissions: Option<u32>,
     /// The record that told or set them last.
     pub(crate) told: u64,
+    /// The first request that set them, and the last one; 0 if none did.
+    pub(crate) first: u64,
+    pub(crate) last: u64,
 }
 
 impl Rights {
@@ -74,6 +77,8 @@ impl Rights {
             owner: None,
             permissions: None,
             told: 0,
+            first: 0,
+            last: 0,
         }
     }
 }
@@ -86,6 +91,8 @@ pub(crate) struct Node {
     pub(crate) told: u64,
     /// Whether a reply showed the kind; if not, it follows from what a request did.
     pub(crate) is_shown: bool,
+    /// Whether a reply showed the kind of what is at its name, and not of what a link there leads to.
+    pub(crate) is_itself: bool,
     /// Whether the start has it.
     pub(crate) is_old: bool,
     /// Whether it is taken for new where it may as well be old.
@@ -104,6 +111,8 @@ pub(crate) struct Node {
     /// Of a link: its target, if it is known, and its length.
     pub(crate) target: Option<Vec<u8>>,
     pub(crate) length: Option<u64>,
+    /// Whether its target is made up.
+    pub(crate) is_invented: bool,
     /// Of a file: its size and its bytes.
     pub(crate) file: File,
 }
@@ -115,6 +124,7 @@ impl Node {
             sort,
             told,
             is_shown: false,
+            is_itself: false,
             is_old: true,
             is_chosen: false,
             parent: 0,
@@ -126,6 +136,7 @@ impl Node {
             complete: None,
             target: None,
             length: None,
+            is_invented: false,
             file: File::old(alloc),
         }
     }
@@ -135,6 +146,7 @@ impl Node {
         let mut made = Node::old(alloc, sort, told);
         made.is_old = false;
         made.is_shown = true;
+        made.is_itself = true;
         made.complete = Some(told);
         made.file.empty(told);
         made

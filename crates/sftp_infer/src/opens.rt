@@ -80,8 +80,9 @@ impl<'a> World<'a> {
             }
             Look::Unknown => Ok(self.tell(parent, name, Sort::File)?),
             Look::Nothing(told) => {
-                if self.retract(parent, name)? {
-                    return Ok(self.tell(parent, name, Sort::File)?);
+                if let Some(at) = self.retract(parent, name)? {
+                    self.set_sort(at, Sort::File);
+                    return Ok(at);
                 }
                 Err(self.clash_name(parent, name, told, What::There))
             }
@@ -91,7 +92,7 @@ impl<'a> World<'a> {
 
     /// Makes a file; `is_chosen` says whether it may as well have been there.
     fn make_file(&mut self, found: &Found, attrs: &Attrs, is_chosen: bool) -> Result<usize, Stop> {
-        let mut made = Node::new(self.alloc, Sort::File, self.replied);
+        let mut made = Node::new(self.alloc, Sort::File, self.teller);
         made.rights = self.made_rights(attrs, 0o644, 0o666);
         made.is_chosen = is_chosen;
         Ok(self.make(made, found.parent, found.name.as_slice())?)

@@ -5,6 +5,9 @@ use crate::exchanges::{Exchange, Exchanges};
 use crate::world::World;
 use sftp_path::NoMemory;
 
+/// How often a session is gone through at most with what was told of the start before.
+const ROUNDS: u32 = 12;
+
 /// What a pass comes to.
 #[derive(Clone, Copy, Debug, PartialEq, Eq)]
 pub(crate) enum Passed {
@@ -19,12 +22,32 @@ pub(crate) enum Passed {
 }
 
 impl<'a> World<'a> {
+    /// Goes through the session: first for what was done alone, until nothing new comes of it, and then for what was
+    /// refused, too. So what a refusal may mean is judged with all that is known of the start. `most` is how many steps
+    /// all of it may take, and `passes` how often it may go through.
+    pub(crate) fn rounds(&mut self, most: u64, passes: u32) -> Result<Passed, NoMemory> {
+        for _ in 0..ROUNDS.min(passes) {
+            let mut exchanges = Exchanges::new(self.alloc, self.session)?;
+            let passed = self.pass(&mut exchanges, most);
+            drop(exchanges);
+            self.passes = self.passes.saturating_add(1);
+            match passed? {
+                Passed::Clean if self.skipped => self.hears = true,
+                Passed::Dirty => {}
+                passed => return Ok(passed),
+            }
+            self.rewind()?;
+        }
+        Ok(Passed::Dirty)
+    }
+
     /// Takes each exchange of the session. `most` is how many steps it may take.
     pub(crate) fn pass(
         &mut self,
         exchanges: &mut Exchanges<'_>,
         most: u64,
     ) -> Result<Passed, NoMemory> {
+        let known = self.learned.len();
         for _ in 0..u64::MAX {
             match exchanges.next()? {
                 Some(exchange) => {
@@ -33,6 +56,7 @@ impl<'a> World<'a> {
                     match taken {
                         Ok(()) => {}
                         Err(Stop::Clash) => return Ok(Passed::Stuck),
+                        Err(Stop::Again) => return Ok(Passed::Dirty),
                         Err(Stop::NoMemory) => return Err(NoMemory),
                     }
                 }
@@ -42,7 +66,7 @@ impl<'a> World<'a> {
                 return Ok(Passed::Over);
             }
         }
-        if self.learned.is_empty() {
+        if self.learned.len() == known {
             Ok(Passed::Clean)
         } else {
             Ok(Passed::Dirty)

@@ -135,7 +135,13 @@ impl<'a> World<'a> {
     /// The contradiction at a name.
     pub(crate) fn clash_name(&mut self, parent: usize, name: &[u8], told: u64, what: What) -> Stop {
         match self.place(parent, name, false) {
-            Ok(place) => self.clash(place, told, what),
+            Ok(place) => {
+                if self.propose_targets(place.as_slice()).is_err() {
+                    drop(place);
+                    return Stop::NoMemory;
+                }
+                self.clash(place, told, what)
+            }
             Err(_) => Stop::NoMemory,
         }
     }

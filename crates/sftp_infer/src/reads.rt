@@ -47,6 +47,14 @@ fn first_set(bytes: &[u8]) -> Option<(usize, u8)> {
     None
 }
 
+/// How many bytes there are without the zeros at the end.
+fn without_zeros(bytes: &[u8]) -> u64 {
+    match bytes.iter().rposition(|byte| *byte != 0) {
+        Some(place) => (place as u64).saturating_add(1),
+        None => 0,
+    }
+}
+
 /// So many bytes from a place on.
 fn part(bytes: &[u8], from: usize, len: u64) -> &[u8] {
     let end = from.saturating_add(len as usize);
@@ -70,11 +78,14 @@ impl<'a> World<'a> {
             return Ok(());
         }
         let end = offset.saturating_add(piece.len);
-        if piece.len > 0 {
-            self.read_bytes(at, offset, piece)?;
+        if asked == 0 && self.settings.is_strict {
+            return self.tell_least(at, end.saturating_add(1));
         }
         if piece.len < asked && piece.len < READ_LIMIT {
-            return self.tell_size(at, end);
+            self.tell_size(at, end)?;
+        }
+        if piece.len > 0 {
+            self.read_bytes(at, offset, piece)?;
         }
         Ok(())
     }
@@ -131,9 +142,9 @@ impl<'a> World<'a> {
         let file = &entry.file;
         match file.written.known(offset) {
             Known::Bytes(piece) => Segment::Bytes(piece, piece.len.min(most)),
-            Known::Gap(gap) if offset >= file.zeros => Segment::Zeros(gap.min(most)),
+            Known::Gap(gap) if offset >= file.hole() => Segment::Zeros(gap.min(most)),
             Known::Gap(gap) => {
-                let most = gap.min(most).min(file.zeros.saturating_sub(offset));
+                let most = gap.min(most).min(file.hole().saturating_sub(offset));
                 match file.shown.known(offset) {
                     Known::Bytes(piece) => Segment::Bytes(piece, piece.len.min(most)),
                     Known::Gap(gap) => Segment::Fresh(gap.min(most)),
@@ -159,24 +170,24 @@ impl<'a> World<'a> {
             Some(place) => {
                 let left = one.get(place).copied().unwrap_or(0);
                 let right = other.get(place).copied().unwrap_or(0);
+                self.revive(at)?;
+                if self.is_guessed(at) {
+                    self.propose_sizes(at, offset, piece)?;
+                    self.propose_of(at, Says::Size(end))?;
+                }
                 let offset = offset.saturating_add(place as u64);
-                self.propose_larger(at, end)?;
-                self.propose_same(at)?;
+                self.propose_same(at, Some((offset, right)))?;
                 Err(self.clash_at(at, known.told, What::Byte(offset, left, right)))
             }
         }
     }
 
-    /// Proposes a larger size at the start where it was only assumed.
-    fn propose_larger(&mut self, at: usize, size: u64) -> Result<(), Stop> {
-        let is_guessed = match self.entry(at) {
+    /// Whether the size of a file at the start is assumed.
+    fn is_guessed(&self, at: usize) -> bool {
+        match self.entry(at) {
             Some(entry) => entry.file.is_guessed,
             None => false,
-        };
-        if is_guessed {
-            self.propose_of(at, Says::Size(size))?;
         }
-        Ok(())
     }
 
     fn compare_zeros(
@@ -192,12 +203,18 @@ impl<'a> World<'a> {
                 if self.revive(at)? && self.can_show(at, offset) {
                     return Ok(0);
                 }
+                if self.is_guessed(at) {
+                    let end = offset.saturating_add(piece.len);
+                    self.propose_sizes(at, offset, piece)?;
+                    self.propose_of(at, Says::Size(end))?;
+                }
                 let offset = offset.saturating_add(place as u64);
                 let told = match self.entry(at) {
+                    Some(entry) if entry.file.sized == 0 => entry.file.most_told,
                     Some(entry) => entry.file.sized,
                     None => 0,
                 };
-                self.propose_same(at)?;
+                self.propose_same(at, Some((offset, byte)))?;
                 Err(self.clash_at(at, told, What::Byte(offset, 0, byte)))
             }
         }
@@ -206,23 +223,27 @@ impl<'a> World<'a> {
     /// Whether a byte that the session did not write may be any.
     fn can_show(&self, at: usize, offset: u64) -> bool {
         match self.entry(at) {
-            Some(entry) => offset < entry.file.zeros,
+            Some(entry) => offset < entry.file.hole(),
             None => false,
         }
     }
 
     /// Takes bytes of the start of which nothing was known.
     fn show(&mut self, at: usize, offset: u64, piece: Piece, len: u64) -> Result<(), Stop> {
-        let end = offset.saturating_add(len);
-        let fresh = Piece { len, ..piece };
         let (least, _) = self.size_now(at);
-        let is_zero = first_set(part(self.session, piece.from, len)).is_none();
-        if is_zero && end <= least && end > self.old_least(at) {
-            // They may be behind the start's end, and then they are no bytes of it.
+        let mut len = len;
+        if offset.saturating_add(len) <= least {
+            // Zeros at the end may be behind the start's end, and then they are no bytes of it.
+            let known = self.old_least(at).saturating_sub(offset);
+            len = len.min(known.max(without_zeros(part(self.session, piece.from, len))));
+        }
+        if len == 0 {
             return Ok(());
         }
+        let end = offset.saturating_add(len);
+        let fresh = Piece { len, ..piece };
         self.tell_least(at, end)?;
-        let told = self.replied;
+        let told = self.teller;
         self.taken = self.taken.saturating_add(1);
         if let Some(entry) = self.entry_mut(at) {
             entry.file.shown.put(offset, fresh)?;

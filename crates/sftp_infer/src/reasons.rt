@@ -1,149 +1,271 @@
-//! The reasons to refuse a request that lie in the thing at the end of its path.
+//! The reasons to refuse each request, with what they ask of its paths.
 
+use crate::asks::Asks;
 use bitflags::Flags;
 use sftp_path::good_path;
-use sftp_wire::{Ask, OpenFlags};
+use sftp_wire::{Ask, OpenFlags, status};
 
 /// The most bytes of a file that a tree with the usual limits may have.
 const FILE_LIMIT: u64 = 16_777_216;
 
-/// Which things at the end of a path are reasons to refuse a request.
-#[derive(Clone, Copy)]
-pub(crate) struct Reasons {
-    pub(crate) nothing: bool,
-    pub(crate) anything: bool,
-    pub(crate) directory: bool,
-    /// A directory with entries.
-    pub(crate) entries: bool,
-    pub(crate) file: bool,
-    /// A file where a directory is needed, for which there are two codes.
-    pub(crate) no_directory: bool,
+/// The codes that a reason may have.
+#[derive(Clone, Copy, PartialEq, Eq)]
+pub(crate) enum Codes {
+    NoSuchFile,
+    Failure,
+    Either,
 }
 
-pub(crate) const NONE: Reasons = Reasons {
-    nothing: false,
-    anything: false,
-    directory: false,
-    entries: false,
-    file: false,
-    no_directory: false,
-};
+/// What a reason asks of the first path and of the second one, if it asks anything, and its codes.
+#[derive(Clone, Copy)]
+pub(crate) struct Reason(
+    pub(crate) Option<Asks>,
+    pub(crate) Option<Asks>,
+    pub(crate) Codes,
+);
 
-/// The reasons at the end of a request's first path, that path, and whether a last link is followed.
-pub(crate) fn reasons_of(ask: &Ask) -> Option<(&[u8], bool, Reasons)> {
-    match ask {
-        Ask::Open { path, pflags, .. } => {
-            let (follows, reasons) = reasons_of_open(*pflags);
-            Some((path.as_slice(), follows, reasons))
+impl Reason {
+    /// Whether a refusal by this reason has this code.
+    pub(crate) fn has(self, code: u32) -> bool {
+        match self.2 {
+            Codes::NoSuchFile => code == status::NO_SUCH_FILE,
+            Codes::Failure => code == status::FAILURE,
+            Codes::Either => code == status::NO_SUCH_FILE || code == status::FAILURE,
         }
-        Ask::Mkdir { path, .. } => Some((
-            path.as_slice(),
-            false,
-            Reasons {
-                anything: true,
-                ..NONE
-            },
-        )),
-        Ask::Symlink { linkpath, .. } => {
-            Some((
-                linkpath.as_slice(),
-                false,
-                Reasons {
-                    anything: true,
-                    ..NONE
-                },
-            ))
-        }
-        Ask::Rmdir { path } => Some((
-            path.as_slice(),
-            false,
-            Reasons {
-                nothing: true,
-                entries: true,
-                no_directory: true,
-                ..NONE
-            },
-        )),
-        Ask::Remove { path } => Some((
-            path.as_slice(),
-            false,
-            Reasons {
-                nothing: true,
-                directory: true,
-                ..NONE
-            },
-        )),
-        Ask::Opendir { path } => Some((
-            path.as_slice(),
-            true,
-            Reasons {
-                nothing: true,
-                no_directory: true,
-                ..NONE
-            },
-        )),
-        other => reasons_of_look(other),
     }
 }
 
-/// The same of requests that look, and of those that set attributes.
-fn reasons_of_look(ask: &Ask) -> Option<(&[u8], bool, Reasons)> {
-    let nothing = Reasons {
-        nothing: true,
-        ..NONE
-    };
+/// A refused request: its first path, whether a last link is followed there, its second path if it has one, and the
+/// reasons that it may have, the likely ones first.
+#[derive(Clone, Copy)]
+pub(crate) struct Case<'a> {
+    pub(crate) old: &'a [u8],
+    pub(crate) follows: bool,
+    pub(crate) new: Option<&'a [u8]>,
+    pub(crate) reasons: &'static [Reason],
+}
+
+const LOOK: &[Reason] = &[
+    Reason(Some(Asks::Nothing), None, Codes::NoSuchFile),
+    Reason(Some(Asks::Lost), None, Codes::NoSuchFile),
+    Reason(Some(Asks::Blocked), None, Codes::Either),
+];
+
+const SET_SIZE: &[Reason] = &[
+    Reason(Some(Asks::Nothing), None, Codes::NoSuchFile),
+    Reason(Some(Asks::Directory), None, Codes::Failure),
+    Reason(Some(Asks::Lost), None, Codes::NoSuchFile),
+    Reason(Some(Asks::Blocked), None, Codes::Either),
+];
+
+/// Of a size beyond the usual limit, which no file may have.
+const SET_LARGE: &[Reason] = &[
+    Reason(Some(Asks::Nothing), None, Codes::NoSuchFile),
+    Reason(Some(Asks::Something), None, Codes::Failure),
+    Reason(Some(Asks::Lost), None, Codes::NoSuchFile),
+    Reason(Some(Asks::Blocked), None, Codes::Either),
+];
+
+const OPEN_MAKING: &[Reason] = &[
+    Reason(Some(Asks::Directory), None, Codes::Failure),
+    Reason(Some(Asks::Lost), None, Codes::NoSuchFile),
+    Reason(Some(Asks::Blocked), None, Codes::Either),
+    Reason(Some(Asks::Astray), None, Codes::NoSuchFile),
+];
+
+const MAKE: &[Reason] = &[
+    Reason(Some(Asks::Something), None, Codes::Failure),
+    Reason(Some(Asks::Lost), None, Codes::NoSuchFile),
+    Reason(Some(Asks::Blocked), None, Codes::Either),
+];
+
+const OPENDIR: &[Reason] = &[
+    Reason(Some(Asks::Nothing), None, Codes::NoSuchFile),
+    Reason(Some(Asks::NoDirectory), None, Codes::Either),
+    Reason(Some(Asks::Lost), None, Codes::NoSuchFile),
+    Reason(Some(Asks::Blocked), None, Codes::Either),
+];
+
+const RMDIR: &[Reason] = &[
+    Reason(Some(Asks::Nothing), None, Codes::NoSuchFile),
+    Reason(Some(Asks::Full), None, Codes::Failure),
+    Reason(Some(Asks::NoDirectory), None, Codes::Either),
+    Reason(Some(Asks::Lost), None, Codes::NoSuchFile),
+    Reason(Some(Asks::Blocked), None, Codes::Either),
+];
+
+const REALPATH: &[Reason] = &[
+    Reason(Some(Asks::Lost), None, Codes::NoSuchFile),
+    Reason(Some(Asks::Blocked), None, Codes::Either),
+];
+
+const READLINK: &[Reason] = &[
+    Reason(Some(Asks::Nothing), None, Codes::NoSuchFile),
+    Reason(Some(Asks::NoLink), None, Codes::Failure),
+    Reason(Some(Asks::Lost), None, Codes::NoSuchFile),
+    Reason(Some(Asks::Blocked), None, Codes::Either),
+];
+
+const RENAME: &[Reason] = &[
+    Reason(Some(Asks::Nothing), None, Codes::NoSuchFile),
+    Reason(None, Some(Asks::Something), Codes::Failure),
+    Reason(Some(Asks::Lost), None, Codes::NoSuchFile),
+    Reason(None, Some(Asks::Lost), Codes::NoSuchFile),
+    Reason(Some(Asks::Blocked), None, Codes::Either),
+    Reason(None, Some(Asks::Blocked), Codes::Either),
+];
+
+/// Of a directory that would be moved into itself.
+const RENAME_INSIDE: &[Reason] = &[
+    Reason(Some(Asks::Nothing), None, Codes::NoSuchFile),
+    Reason(Some(Asks::Directory), Some(Asks::Place), Codes::Failure),
+    Reason(None, Some(Asks::Something), Codes::Failure),
+    Reason(Some(Asks::Lost), None, Codes::NoSuchFile),
+    Reason(None, Some(Asks::Lost), Codes::NoSuchFile),
+    Reason(Some(Asks::Blocked), None, Codes::Either),
+    Reason(None, Some(Asks::Blocked), Codes::Either),
+];
+
+const REPLACE: &[Reason] = &[
+    Reason(Some(Asks::Nothing), None, Codes::NoSuchFile),
+    Reason(
+        Some(Asks::NoDirectory),
+        Some(Asks::Directory),
+        Codes::Failure,
+    ),
+    Reason(Some(Asks::Directory), Some(Asks::Full), Codes::Failure),
+    Reason(
+        Some(Asks::Directory),
+        Some(Asks::NoDirectory),
+        Codes::Either,
+    ),
+    Reason(Some(Asks::Lost), None, Codes::NoSuchFile),
+    Reason(None, Some(Asks::Lost), Codes::NoSuchFile),
+    Reason(Some(Asks::Blocked), None, Codes::Either),
+    Reason(None, Some(Asks::Blocked), Codes::Either),
+];
+
+const REPLACE_INSIDE: &[Reason] = &[
+    Reason(Some(Asks::Nothing), None, Codes::NoSuchFile),
+    Reason(Some(Asks::Directory), Some(Asks::Place), Codes::Failure),
+    Reason(
+        Some(Asks::Directory),
+        Some(Asks::NoDirectory),
+        Codes::Either,
+    ),
+    Reason(Some(Asks::Lost), None, Codes::NoSuchFile),
+    Reason(None, Some(Asks::Lost), Codes::NoSuchFile),
+    Reason(Some(Asks::Blocked), None, Codes::Either),
+    Reason(None, Some(Asks::Blocked), Codes::Either),
+];
+
+const HARDLINK: &[Reason] = &[
+    Reason(Some(Asks::Nothing), None, Codes::NoSuchFile),
+    Reason(None, Some(Asks::Something), Codes::Failure),
+    Reason(Some(Asks::NoFile), None, Codes::Failure),
+    Reason(Some(Asks::Lost), None, Codes::NoSuchFile),
+    Reason(None, Some(Asks::Lost), Codes::NoSuchFile),
+    Reason(Some(Asks::Blocked), None, Codes::Either),
+    Reason(None, Some(Asks::Blocked), Codes::Either),
+];
+
+/// The paths of a request and the reasons to refuse it; `None` of a request without a path. `link_first` says which path
+/// of SYMLINK is that of the link.
+pub(crate) fn case_of(ask: &Ask, link_first: bool) -> Option<Case<'_>> {
     match ask {
-        Ask::Stat { path } => Some((path.as_slice(), true, nothing)),
-        Ask::Lstat { path } => Some((path.as_slice(), false, nothing)),
-        Ask::Setstat { path, attrs } => {
-            Some((path.as_slice(), true, reasons_of_setstat(attrs.size)))
+        Ask::Open { path, pflags, .. } => Some(case_of_open(path.as_slice(), *pflags)),
+        Ask::Opendir { path } => one(path.as_slice(), true, OPENDIR),
+        Ask::Mkdir { path, .. } => one(path.as_slice(), false, MAKE),
+        Ask::Symlink {
+            targetpath,
+            linkpath,
+        } => {
+            let path = if link_first { targetpath } else { linkpath };
+            one(path.as_slice(), false, MAKE)
         }
-        Ask::Realpath { path } => Some((path.as_slice(), true, NONE)),
-        Ask::Readlink { path } => Some((
-            path.as_slice(),
-            false,
-            Reasons {
-                nothing: true,
-                directory: true,
-                file: true,
-                ..NONE
-            },
-        )),
+        Ask::Rmdir { path } => one(path.as_slice(), false, RMDIR),
+        // SET_SIZE asks for a directory, too
+        Ask::Remove { path } => one(path.as_slice(), false, SET_SIZE),
+        Ask::Setstat { path, attrs } => one(path.as_slice(), true, reasons_of_setstat(attrs.size)),
+        Ask::Stat { path } => one(path.as_slice(), true, LOOK),
+        Ask::Lstat { path } => one(path.as_slice(), false, LOOK),
+        Ask::Realpath { path } => one(path.as_slice(), true, REALPATH),
+        Ask::Readlink { path } => one(path.as_slice(), false, READLINK),
+        other => case_of_two(other),
+    }
+}
+
+fn one<'a>(old: &'a [u8], follows: bool, reasons: &'static [Reason]) -> Option<Case<'a>> {
+    Some(Case {
+        old,
+        follows,
+        new: None,
+        reasons,
+    })
+}
+
+fn two<'a>(old: &'a [u8], new: &'a [u8], reasons: &'static [Reason]) -> Option<Case<'a>> {
+    Some(Case {
+        old,
+        follows: false,
+        new: Some(new),
+        reasons,
+    })
+}
+
+/// The same of requests with two paths.
+fn case_of_two(ask: &Ask) -> Option<Case<'_>> {
+    match ask {
+        Ask::Rename { oldpath, newpath } => {
+            let (old, new) = (oldpath.as_slice(), newpath.as_slice());
+            let reasons = if is_below(new, old) {
+                RENAME_INSIDE
+            } else {
+                RENAME
+            };
+            two(old, new, reasons)
+        }
+        Ask::PosixRename { oldpath, newpath } => {
+            let (old, new) = (oldpath.as_slice(), newpath.as_slice());
+            let reasons = if is_below(new, old) {
+                REPLACE_INSIDE
+            } else {
+                REPLACE
+            };
+            two(old, new, reasons)
+        }
+        Ask::Hardlink { oldpath, newpath } => {
+            two(oldpath.as_slice(), newpath.as_slice(), HARDLINK)
+        }
         _ => None,
     }
 }
 
-/// The reasons to refuse a SETSTAT: a directory gets no size, and a file none beyond the usual limit.
-fn reasons_of_setstat(size: Option<u64>) -> Reasons {
-    Reasons {
-        nothing: true,
-        directory: size.is_some(),
-        anything: size.unwrap_or(0) > FILE_LIMIT,
-        ..NONE
+fn reasons_of_setstat(size: Option<u64>) -> &'static [Reason] {
+    match size {
+        Some(size) if size > FILE_LIMIT => SET_LARGE,
+        Some(_) => SET_SIZE,
+        None => LOOK,
     }
 }
 
-/// Whether OPEN follows a last link, and the reasons to refuse it.
-fn reasons_of_open(flags: u32) -> (bool, Reasons) {
+fn case_of_open(path: &[u8], flags: u32) -> Case<'_> {
     let flags = OpenFlags::from_bits_retain(flags);
-    if flags.contains(OpenFlags::EXCL) {
-        return (
-            false,
-            Reasons {
-                anything: true,
-                ..NONE
-            },
-        );
+    let makes = flags.contains(OpenFlags::CREAT);
+    let is_new = makes && flags.contains(OpenFlags::EXCL);
+    let reasons = if is_new {
+        MAKE
+    } else if makes {
+        OPEN_MAKING
+    } else {
+        SET_SIZE
+    };
+    Case {
+        old: path,
+        follows: !is_new,
+        new: None,
+        reasons,
     }
-    let nothing = !flags.contains(OpenFlags::CREAT);
-    (
-        true,
-        Reasons {
-            nothing,
-            directory: true,
-            ..NONE
-        },
-    )
 }
 
 /// Whether the flags of OPEN are themselves a reason to refuse it.
@@ -169,4 +291,12 @@ pub(crate) fn has_loose_end(path: &[u8]) -> bool {
         Some(byte) => *byte == b'/' || *byte == b'.',
         None => true,
     }
+}
+
+/// Whether one path is another one with more behind it.
+fn is_below(path: &[u8], top: &[u8]) -> bool {
+    path.len() > top.len()
+        && path.get(..top.len()) == Some(top)
+        && path.get(top.len()) == Some(&b'/')
+        && top.last() != Some(&b'/')
 }

@@ -1,26 +1,60 @@
 //! What a refusal may mean: all reasons that could hold, and of those that nothing tells the cheapest one.
 
+use crate::asks::Seen;
 use crate::clashes::What;
 use crate::errors::Stop;
 use crate::facts::Says;
 use crate::look::{Found, Look};
-use crate::nodes::Sort;
-use crate::reasons::{NONE, Reasons, are_bad, has_loose_end, is_bad_target, reasons_of};
+use crate::reasons::{Case, Reason, are_bad, case_of, has_loose_end, is_bad_target};
 use crate::world::World;
 use sftp_wire::{Ask, status};
 
-/// How often a walk is begun anew.
-const WALKS: u32 = 8_192;
+/// How many directories are above an entry at most.
+const DEPTH: u32 = 128;
 
-/// What a look at a path says of a refusal.
+/// A refusal for which a reason was taken that nothing tells.
 #[derive(Clone, Copy)]
-pub(crate) enum Seen {
-    /// A reason holds.
-    Explained,
-    /// No reason holds; this record told of what is there.
-    Unexplained(u64, usize),
-    /// Something was told or assumed: look again.
-    Again,
+pub(crate) struct Guess {
+    /// The number of the request's record.
+    pub(crate) asked: u64,
+    /// The reasons that it may have as well: a bit each, the first one the lowest.
+    pub(crate) others: u32,
+}
+
+/// The reason that is taken for a refusal.
+#[derive(Clone, Copy)]
+struct Chosen {
+    reason: Reason,
+    cost: u32,
+    bit: u32,
+}
+
+/// What a look at all reasons found.
+#[derive(Clone, Copy)]
+struct Choice {
+    chosen: Option<Chosen>,
+    /// The reasons that could hold, a bit each.
+    possible: u32,
+    /// Whether the search says which one is to be taken.
+    is_forced: bool,
+}
+
+impl Choice {
+    /// Adds a reason that could hold.
+    fn add(&mut self, reason: Reason, cost: u32, bit: u32, forced: u32) {
+        self.possible |= bit;
+        let is_better = match self.chosen {
+            Some(chosen) => cost < chosen.cost,
+            None => true,
+        };
+        let is_forced = bit & forced != 0;
+        if is_forced || (is_better && !self.is_forced) {
+            self.chosen = Some(Chosen { reason, cost, bit });
+        }
+        if is_forced {
+            self.is_forced = true;
+        }
+    }
 }
 
 impl<'a> World<'a> {
@@ -29,22 +63,20 @@ impl<'a> World<'a> {
         if self.is_free(ask, code) {
             return Ok(());
         }
-        match ask {
-            Ask::Rename { oldpath, newpath } => {
-                self.refuse_move(oldpath.as_slice(), newpath.as_slice(), code, true)
-            }
-            Ask::PosixRename { oldpath, newpath } => {
-                self.refuse_move(oldpath.as_slice(), newpath.as_slice(), code, false)
-            }
-            Ask::Hardlink { oldpath, newpath } => {
-                self.refuse_hardlink(oldpath.as_slice(), newpath.as_slice(), code)
-            }
-            other => match reasons_of(other) {
-                Some((path, _, _)) if has_loose_end(path) && !self.settings.is_strict => Ok(()),
-                Some((path, follows, reasons)) => self.refuse_path(path, follows, code, reasons),
-                None => Ok(()),
-            },
+        let Some(case) = case_of(ask, self.settings.link_first) else {
+            return Ok(());
+        };
+        if has_loose_end(case.old) && !self.settings.is_strict {
+            return Ok(());
         }
+        if self.is_of_places(ask)? {
+            return Ok(());
+        }
+        if !self.hears {
+            self.skipped = true;
+            return Ok(());
+        }
+        self.explain(&case, code)
     }
 
     /// Whether the refusal needs no reason that the tree has.
@@ -56,10 +88,23 @@ impl<'a> World<'a> {
         if settings.may_be_full && code == status::FAILURE {
             return true;
         }
+        if !settings.any_code && code != status::NO_SUCH_FILE && code != status::FAILURE {
+            return true;
+        }
         match ask {
             Ask::Open { pflags, .. } => are_bad(*pflags) || self.is_crowded(),
             Ask::Opendir { .. } => self.is_crowded(),
-            Ask::Symlink { targetpath, .. } => is_bad_target(targetpath.as_slice()),
+            Ask::Symlink {
+                targetpath,
+                linkpath,
+            } => {
+                let target = if settings.link_first {
+                    linkpath
+                } else {
+                    targetpath
+                };
+                is_bad_target(target.as_slice())
+            }
             _ => false,
         }
     }
@@ -69,186 +114,169 @@ impl<'a> World<'a> {
         self.handles.len() >= 256
     }
 
-    /// Whether a reason with code 4 fits, and one with code 2.
-    fn fits(&self, code: u32, wanted: u32) -> bool {
-        self.settings.any_code || code == wanted
-    }
-
-    pub(crate) fn refuse_path(
-        &mut self,
-        path: &[u8],
-        follows: bool,
-        code: u32,
-        reasons: Reasons,
-    ) -> Result<(), Stop> {
-        for _ in 0..WALKS {
-            match self.look_refused(path, follows, code, reasons)? {
-                Seen::Explained => return Ok(()),
-                Seen::Unexplained(told, at) => {
-                    self.propose_absent(at)?;
-                    return Err(self.clash_at(at, told, What::Refused));
-                }
-                Seen::Again => {}
+    /// Whether the root would be moved, replaced or removed, or something moved into itself.
+    fn is_of_places(&self, ask: &Ask) -> Result<bool, Stop> {
+        match ask {
+            Ask::Rmdir { path } => self.is_root(path.as_slice()),
+            Ask::Rename { oldpath, newpath } => {
+                let (old, new) = (oldpath.as_slice(), newpath.as_slice());
+                Ok(self.is_root(old)? || self.is_moved_inside(old, new)?)
             }
+            Ask::PosixRename { oldpath, newpath } => {
+                let (old, new) = (oldpath.as_slice(), newpath.as_slice());
+                Ok(self.is_root(old)? || self.is_root(new)? || self.is_moved_inside(old, new)?)
+            }
+            _ => Ok(false),
         }
-        Ok(())
     }
 
-    /// Nothing can be proposed for an entry of the start that a reply showed.
-    fn propose_absent(&mut self, at: usize) -> Result<(), Stop> {
-        if !self.is_shown(at) {
-            let target = self.invented(at, None)?;
-            self.propose_of(at, Says::Link(target))?;
-        }
-        Ok(())
-    }
-
-    fn look_refused(
-        &mut self,
-        path: &[u8],
-        follows: bool,
-        code: u32,
-        reasons: Reasons,
-    ) -> Result<Seen, Stop> {
-        let found = self.look(path, follows)?;
-        let seen = self.judge(&found, code, reasons);
+    fn is_root(&self, path: &[u8]) -> Result<bool, Stop> {
+        let found = self.look(path, false)?;
+        let look = found.look;
         drop(found);
-        seen
+        Ok(match look {
+            Look::Entry(0) => true,
+            Look::Bad => true,
+            _ => false,
+        })
     }
 
-    pub(crate) fn judge(
-        &mut self,
-        found: &Found,
-        code: u32,
-        reasons: Reasons,
-    ) -> Result<Seen, Stop> {
+    /// Whether the old path leads to a directory on the way to the new one.
+    fn is_moved_inside(&self, old: &[u8], new: &[u8]) -> Result<bool, Stop> {
+        let from = self.look(old, false)?;
+        let look = from.look;
+        drop(from);
+        let to = self.look(new, false)?;
+        let (end, parent) = (to.look, to.parent);
+        drop(to);
+        let is_place = match end {
+            Look::Entry(_) | Look::Nothing(_) | Look::Unknown => true,
+            _ => false,
+        };
+        match look {
+            Look::Entry(moved) if is_place => Ok(self.is_above(moved, parent)),
+            _ => Ok(false),
+        }
+    }
+
+    /// Whether a directory is another one, or above it.
+    fn is_above(&self, above: usize, below: usize) -> bool {
+        let mut at = below;
+        for _ in 0..DEPTH {
+            if at == above {
+                return true;
+            }
+            at = match self.entry(at) {
+                Some(entry) => entry.parent,
+                None => 0,
+            };
+        }
+        false
+    }
+
+    fn explain(&mut self, case: &Case<'_>, code: u32) -> Result<(), Stop> {
+        let choice = self.choose(case, code)?;
+        match choice.chosen {
+            Some(chosen) if chosen.cost == 0 => Ok(()),
+            Some(chosen) => {
+                let others = choice.possible & !chosen.bit;
+                if others != 0 {
+                    let asked = self.asked;
+                    self.guesses.push(Guess { asked, others })?;
+                }
+                self.take_reason(case, chosen.reason)
+            }
+            None => self.leave_unexplained(case),
+        }
+    }
+
+    /// The reason to take, and those that could hold.
+    fn choose(&mut self, case: &Case<'_>, code: u32) -> Result<Choice, Stop> {
+        let old = self.see(case.old, case.follows)?;
+        let new = match case.new {
+            Some(new) => self.see(new, false)?,
+            None => old,
+        };
+        let forced = self.forced();
+        let mut choice = Choice {
+            chosen: None,
+            possible: 0,
+            is_forced: false,
+        };
+        let mut bit: u32 = 1;
+        for reason in case.reasons {
+            if let Some(cost) = self.cost_of_reason(old, new, *reason, code) {
+                choice.add(*reason, cost, bit, forced);
+            }
+            bit = bit.saturating_mul(2);
+        }
+        Ok(choice)
+    }
+
+    /// The reason that the search wants for the request at hand, as a bit.
+    fn forced(&self) -> u32 {
+        let mut forced = 0;
+        for take in self.takes.iter() {
+            if take.asked == self.asked {
+                forced = take.reason;
+            }
+        }
+        forced
+    }
+
+    /// What it costs to take this reason for granted, if it could hold.
+    fn cost_of_reason(&self, old: Seen, new: Seen, reason: Reason, code: u32) -> Option<u32> {
+        let has_code = reason.has(code);
+        if !has_code && !self.settings.any_code {
+            return None;
+        }
+        let old = match reason.0 {
+            Some(asks) => self.cost_at(old, asks)?,
+            None => 0,
+        };
+        let new = match reason.1 {
+            Some(asks) => self.cost_at(new, asks)?,
+            None => 0,
+        };
+        let sum = old.saturating_add(new);
+        if sum == 0 || has_code {
+            return Some(sum);
+        }
+        Some(sum.saturating_add(1))
+    }
+
+    fn take_reason(&mut self, case: &Case<'_>, reason: Reason) -> Result<(), Stop> {
+        if let Some(asks) = reason.0 {
+            self.grant(case.old, case.follows, asks)?;
+        }
+        match (reason.1, case.new) {
+            (Some(asks), Some(new)) => self.grant(new, false, asks),
+            _ => Ok(()),
+        }
+    }
+
+    /// No reason is left. What is at the end of the first path may be something else than it seems.
+    fn leave_unexplained(&mut self, case: &Case<'_>) -> Result<(), Stop> {
+        let found = self.look(case.old, case.follows)?;
+        let stop = self.unexplained(&found);
+        drop(found);
+        Err(stop?)
+    }
+
+    fn unexplained(&mut self, found: &Found) -> Result<Stop, Stop> {
         match found.look {
-            Look::Entry(at) => self.judge_entry(at, code, reasons),
-            Look::Nothing(told) => self.judge_nothing(found, code, reasons, told),
-            Look::Unknown => self.judge_unknown(found, code, reasons),
-            Look::UnknownWay => self.judge_way(found, code, reasons),
-            Look::Unsure(at) => {
-                self.set_sort(at, Sort::Directory);
-                Ok(Seen::Again)
+            Look::Entry(at) | Look::NotDir(at) | Look::Unsure(at) | Look::Blind(at) => {
+                if !self.is_shown(at) {
+                    let target = self.invented(at, None)?;
+                    self.propose_of(at, Says::Link(target))?;
+                }
+                let told = self.told(at);
+                Ok(self.clash_at(at, told, What::Refused))
             }
-            Look::Blind(at) => {
-                self.invent_target(at)?;
-                Ok(Seen::Again)
+            Look::Nothing(told) | Look::NoEntry(told) => {
+                Ok(self.clash_name(found.parent, found.name.as_slice(), told, What::Refused))
             }
-            Look::NoEntry(told) if !self.fits(code, status::NO_SUCH_FILE) => {
-                self.judge_nothing(found, code, NONE, told)
-            }
-            _ => Ok(Seen::Explained),
+            _ => Ok(self.clash_name(found.parent, found.name.as_slice(), 0, What::Refused)),
         }
-    }
-
-    /// An entry is at the end of the path.
-    fn judge_entry(&mut self, at: usize, code: u32, reasons: Reasons) -> Result<Seen, Stop> {
-        if reasons.anything || at == 0 {
-            return Ok(Seen::Explained);
-        }
-        let fails = self.fits(code, status::FAILURE);
-        match self.sort(at) {
-            Sort::Directory if reasons.directory && fails => Ok(Seen::Explained),
-            Sort::Directory if reasons.entries && fails => self.judge_entries(at),
-            Sort::File if reasons.no_directory || (reasons.file && fails) => Ok(Seen::Explained),
-            Sort::Link if reasons.no_directory => Ok(Seen::Explained),
-            Sort::Unknown => self.judge_unsure(at, reasons),
-            _ => Ok(Seen::Unexplained(self.told(at), at)),
-        }
-    }
-
-    /// A directory is at the end, which may have entries.
-    fn judge_entries(&mut self, at: usize) -> Result<Seen, Stop> {
-        match self.has_entries(at) {
-            Some(true) => Ok(Seen::Explained),
-            Some(false) => {
-                let told = match self.entry(at) {
-                    Some(directory) => directory.complete.unwrap_or(0),
-                    None => 0,
-                };
-                Ok(Seen::Unexplained(told, at))
-            }
-            None => {
-                self.invent_entry(at)?;
-                Ok(Seen::Explained)
-            }
-        }
-    }
-
-    /// Something of no known kind is at the end.
-    fn judge_unsure(&mut self, at: usize, reasons: Reasons) -> Result<Seen, Stop> {
-        if reasons.directory || reasons.entries {
-            self.set_sort(at, Sort::Directory);
-            return Ok(Seen::Again);
-        }
-        if reasons.no_directory || reasons.file {
-            self.set_sort(at, Sort::File);
-            return Ok(Seen::Again);
-        }
-        Ok(Seen::Unexplained(self.told(at), at))
-    }
-
-    /// Nothing is at the end, as this record told.
-    fn judge_nothing(
-        &mut self,
-        found: &Found,
-        code: u32,
-        reasons: Reasons,
-        told: u64,
-    ) -> Result<Seen, Stop> {
-        if reasons.nothing && self.fits(code, status::NO_SUCH_FILE) {
-            return Ok(Seen::Explained);
-        }
-        if self.retract(found.parent, found.name.as_slice())? {
-            return Ok(Seen::Again);
-        }
-        Err(self.clash_name(found.parent, found.name.as_slice(), told, What::Refused))
-    }
-
-    /// Nothing is known of the name at the end.
-    fn judge_unknown(&mut self, found: &Found, code: u32, reasons: Reasons) -> Result<Seen, Stop> {
-        let (parent, name) = (found.parent, found.name.as_slice());
-        if reasons.nothing && self.fits(code, status::NO_SUCH_FILE) && code != status::FAILURE {
-            self.tell_nothing(parent, name, true)?;
-            return Ok(Seen::Explained);
-        }
-        let sort = if reasons.directory || reasons.entries {
-            Sort::Directory
-        } else if reasons.file || reasons.no_directory {
-            Sort::File
-        } else if reasons.anything {
-            Sort::Unknown
-        } else {
-            return self.judge_parent(parent, code);
-        };
-        self.tell(parent, name, sort)?;
-        Ok(Seen::Again)
-    }
-
-    /// Only the directory above can explain the refusal: it is none.
-    fn judge_parent(&mut self, parent: usize, code: u32) -> Result<Seen, Stop> {
-        if code == status::FAILURE && !self.is_shown(parent) && parent != 0 {
-            self.propose_of(parent, Says::File)?;
-        }
-        let told = self.told(parent);
-        Ok(Seen::Unexplained(told, parent))
-    }
-
-    /// Nothing is known of a name on the way.
-    fn judge_way(&mut self, found: &Found, code: u32, reasons: Reasons) -> Result<Seen, Stop> {
-        let (parent, name) = (found.parent, found.name.as_slice());
-        if code == status::NO_SUCH_FILE || (self.settings.any_code && code != status::FAILURE) {
-            self.tell_nothing(parent, name, true)?;
-            return Ok(Seen::Explained);
-        }
-        let at_end = reasons.anything || reasons.directory || reasons.entries || reasons.file;
-        let sort = if at_end || reasons.no_directory {
-            Sort::Directory
-        } else {
-            Sort::File
-        };
-        self.tell(parent, name, sort)?;
-        Ok(Seen::Again)
     }
 }

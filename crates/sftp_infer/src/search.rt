@@ -3,9 +3,9 @@
 use crate::candidates::Candidate;
 use crate::clashes::{Clash, What};
 use crate::errors::Stop;
-use crate::exchanges::Exchanges;
 use crate::facts::Fact;
 use crate::pass::Passed;
+use crate::refusals::Guess;
 use crate::settings::Settings;
 use crate::world::World;
 use sftp_path::NoMemory;
@@ -17,12 +17,25 @@ const WORK: u64 = 64;
 /// The most proposals that a contradiction adds to the search.
 const PROPOSALS: usize = 8;
 
+/// The most refusals for which another reason is tried after a contradiction.
+const GUESSES: usize = 8;
+
+/// A reason to take for a refusal.
+#[derive(Clone, Copy)]
+pub(crate) struct Take {
+    /// The number of the request's record.
+    pub(crate) asked: u64,
+    /// The reason, as a bit.
+    pub(crate) reason: u32,
+}
+
 /// A set of facts to begin a pass with.
 #[derive(Drop)]
 pub(crate) struct Choice {
     /// The choice that this one adds to.
     pub(crate) parent: Option<usize>,
     pub(crate) facts: Vec<Fact>,
+    pub(crate) take: Option<Take>,
     /// How many proposals were passed over for it.
     pub(crate) cost: usize,
     pub(crate) is_waiting: bool,
@@ -56,6 +69,9 @@ pub struct Search<'a> {
     /// The tree of the pass that came furthest.
     pub(crate) best: Option<Vec<u8>>,
     pub(crate) furthest: u64,
+    /// The choice of the last tree, and its refusals for which a reason was taken that nothing tells.
+    pub(crate) last: usize,
+    pub(crate) guesses: Vec<Guess>,
 }
 
 impl<'a> Search<'a> {
@@ -73,6 +89,7 @@ impl<'a> Search<'a> {
         choices.push(Choice {
             parent: None,
             facts: Vec::new(alloc),
+            take: None,
             cost: 0,
             is_waiting: true,
         })?;
@@ -89,6 +106,8 @@ impl<'a> Search<'a> {
             clash: None,
             best: None,
             furthest: 0,
+            last: 0,
+            guesses: Vec::new(alloc),
         };
         match search.look_first() {
             Ok(()) => Ok(search),
@@ -162,9 +181,8 @@ impl<'a> Search<'a> {
         cheapest
     }
 
-    /// Makes a pass with a choice.
+    /// Goes through the session with a choice.
     fn try_choice(&mut self, choice: usize) -> Result<Option<Candidate>, NoMemory> {
-        self.passes = self.passes.saturating_add(1);
         if let Some(choice) = self.choices.get_mut(choice) {
             choice.is_waiting = false;
         }
@@ -175,13 +193,14 @@ impl<'a> Search<'a> {
             self.home.as_slice(),
         )?;
         let passed = self.pass(choice, &mut world);
-        let work = world.work;
+        let (work, passes) = (world.work, world.passes);
         let ended = match passed {
             Ok(passed) => self.end(choice, passed, &mut world),
             Err(error) => Err(error),
         };
         drop(world);
         self.work = self.work.saturating_add(work);
+        self.passes = self.passes.saturating_add(passes.max(1));
         ended
     }
 
@@ -189,12 +208,11 @@ impl<'a> Search<'a> {
         match self.begin(choice, world) {
             Ok(()) => {}
             Err(Stop::Clash) => return Ok(Passed::Stuck),
+            Err(Stop::Again) => return Ok(Passed::Stuck),
             Err(Stop::NoMemory) => return Err(NoMemory),
         }
-        let mut exchanges = Exchanges::new(self.alloc, self.session)?;
-        let passed = world.pass(&mut exchanges, self.work_left());
-        drop(exchanges);
-        passed
+        let left = self.settings.passes.saturating_sub(self.passes);
+        world.rounds(self.work_left(), left)
     }
 
     /// Begins with the facts of a choice, and of those that it adds to.
@@ -212,6 +230,9 @@ impl<'a> Search<'a> {
 
     fn begin_choice(&self, index: usize, world: &mut World<'a>) -> Result<(), Stop> {
         if let Some(choice) = self.choices.get(index) {
+            if let Some(take) = choice.take {
+                world.takes.push(take)?;
+            }
             for fact in choice.facts.iter() {
                 world.begin_with(fact)?;
             }
@@ -242,43 +263,46 @@ impl<'a> Search<'a> {
         }
     }
 
-    /// Takes what a pass comes to.
+    /// Takes what a choice comes to.
     fn end(
         &mut self,
         choice: usize,
         passed: Passed,
         world: &mut World<'a>,
     ) -> Result<Option<Candidate>, NoMemory> {
+        if passed == Passed::Over {
+            return Ok(None);
+        }
+        let base = self.learn(choice, world)?;
         match passed {
-            Passed::Clean => self.candidate(choice, world),
-            Passed::Dirty => {
-                self.learn(choice, world)?;
-                Ok(None)
+            Passed::Clean => {
+                self.last = base;
+                self.guesses = std::mem::replace(&mut world.guesses, Vec::new(self.alloc));
+                self.candidate(base, world)
             }
             Passed::Stuck => {
+                self.branch(base, world)?;
                 self.keep_best(world)?;
-                self.learn(choice, world)?;
-                self.branch(choice, world)?;
                 Ok(None)
             }
-            Passed::Over => Ok(None),
+            _ => Ok(None),
         }
     }
 
-    /// Has a choice wait again, with what its pass learned.
-    fn learn(&mut self, choice: usize, world: &mut World<'a>) -> Result<(), NoMemory> {
+    /// Keeps what a choice learned as facts of a choice that adds to it, and returns that one.
+    fn learn(&mut self, choice: usize, world: &mut World<'a>) -> Result<usize, NoMemory> {
         if world.learned.is_empty() {
-            return Ok(());
+            return Ok(choice);
         }
         let learned = std::mem::replace(&mut world.learned, Vec::new(self.alloc));
         let cost = self.cost(choice);
-        self.choices.push(Choice {
+        self.add(Choice {
             parent: Some(choice),
             facts: learned,
+            take: None,
             cost,
-            is_waiting: true,
-        })?;
-        Ok(())
+            is_waiting: false,
+        })
     }
 
     fn cost(&self, choice: usize) -> usize {
@@ -288,27 +312,84 @@ impl<'a> Search<'a> {
         }
     }
 
-    /// Adds a choice for each proposal of a contradiction.
-    fn branch(&mut self, choice: usize, world: &mut World<'a>) -> Result<(), NoMemory> {
-        let parent = if world.learned.is_empty() {
-            choice
-        } else {
-            self.choices.len().saturating_sub(1)
+    fn add(&mut self, choice: Choice) -> Result<usize, NoMemory> {
+        let index = self.choices.len();
+        self.choices.push(choice)?;
+        Ok(index)
+    }
+
+    /// Adds a choice for each proposal of a contradiction, and for the other reasons that refusals may have which led
+    /// to it.
+    fn branch(&mut self, base: usize, world: &mut World<'a>) -> Result<(), NoMemory> {
+        let (told, found) = match &world.clash {
+            Some(clash) => (clash.told, clash.found),
+            None => (0, 0),
         };
-        let cost = self.cost(choice);
-        for (index, fact) in world.proposals.iter().enumerate() {
-            if index < PROPOSALS {
-                let mut facts = Vec::new(self.alloc);
-                facts.push(fact.try_clone(self.alloc)?)?;
-                self.choices.push(Choice {
-                    parent: Some(parent),
-                    facts,
-                    cost: cost.saturating_add(index),
-                    is_waiting: true,
-                })?;
+        let mut cost = self.cost(base);
+        for fact in world.proposals.iter().take(PROPOSALS) {
+            let mut facts = Vec::new(self.alloc);
+            facts.push(fact.try_clone(self.alloc)?)?;
+            self.add(Choice {
+                parent: Some(base),
+                facts,
+                take: None,
+                cost,
+                is_waiting: true,
+            })?;
+            cost = cost.saturating_add(1);
+        }
+        let cost = self.guess_otherwise(base, cost, world.guesses.as_slice(), told, true)?;
+        self.guess_otherwise(base, cost, world.guesses.as_slice(), found, false)?;
+        Ok(())
+    }
+
+    /// Adds choices in which refusals have other reasons: that of the request with this number, or of the last ones
+    /// before it. Returns the cost of the next one.
+    fn guess_otherwise(
+        &mut self,
+        base: usize,
+        cost: usize,
+        guesses: &[Guess],
+        number: u64,
+        is_exact: bool,
+    ) -> Result<usize, NoMemory> {
+        let mut cost = cost;
+        let mut left = GUESSES;
+        for guess in guesses.iter().rev() {
+            let fits = if is_exact {
+                guess.asked == number
+            } else {
+                guess.asked < number
+            };
+            if fits && left > 0 {
+                left = left.saturating_sub(1);
+                cost = self.guess_each(base, cost, *guess)?;
             }
         }
-        Ok(())
+        Ok(cost)
+    }
+
+    /// Adds a choice for each other reason of a refusal.
+    fn guess_each(&mut self, base: usize, cost: usize, guess: Guess) -> Result<usize, NoMemory> {
+        let mut cost = cost;
+        let mut bit: u32 = 1;
+        for _ in 0..16 {
+            if guess.others & bit != 0 {
+                self.add(Choice {
+                    parent: Some(base),
+                    facts: Vec::new(self.alloc),
+                    take: Some(Take {
+                        asked: guess.asked,
+                        reason: bit,
+                    }),
+                    cost,
+                    is_waiting: true,
+                })?;
+                cost = cost.saturating_add(1);
+            }
+            bit = bit.saturating_mul(2);
+        }
+        Ok(cost)
     }
 
     /// Keeps the contradiction of a pass if it comes later in the session than those before.
@@ -329,8 +410,14 @@ impl<'a> Search<'a> {
         Ok(())
     }
 
-    /// Takes that an audit refused the last tree at this record, with no reason that a pass knows.
+    /// Takes that an audit refused the last tree at this record, with no reason that a pass knows: refusals before it
+    /// may have other reasons.
     pub fn refuse(&mut self, found: u64) {
+        let guesses = std::mem::replace(&mut self.guesses, Vec::new(self.alloc));
+        let last = self.last;
+        let cost = self.cost(last);
+        let _ = self.guess_otherwise(last, cost, guesses.as_slice(), found, false);
+        drop(guesses);
         if found > self.furthest {
             self.furthest = found;
             self.clash = Some(Clash {

@@ -17,6 +17,7 @@ impl<'a> World<'a> {
                 return self.tell_size_of_old(at, size);
             }
             self.propose_size(at, size)?;
+            self.propose_same(at, None)?;
             return Err(self.clash_size(at, least, most, size));
         }
         self.tell_size_of_old(at, size)
@@ -55,7 +56,7 @@ impl<'a> World<'a> {
 
     /// Takes a size, which the file may have, for what it says of the start.
     fn tell_size_of_old(&mut self, at: usize, size: u64) -> Result<(), Stop> {
-        let told = self.replied;
+        let told = self.teller;
         if let Some(entry) = self.entry_mut(at) {
             let file = &mut entry.file;
             if file.size.is_some() || file.is_blurred {
@@ -78,9 +79,10 @@ impl<'a> World<'a> {
         let (_, most) = self.size_now(at);
         if size > most && !self.revive(at)? {
             self.propose_size(at, size)?;
+            self.propose_same(at, None)?;
             return Err(self.clash_size(at, 0, most, size));
         }
-        let told = self.replied;
+        let told = self.teller;
         if let Some(entry) = self.entry_mut(at) {
             let file = &mut entry.file;
             if file.size.is_none() && size > file.furthest && size > file.least {
@@ -95,9 +97,10 @@ impl<'a> World<'a> {
     pub(crate) fn tell_most(&mut self, at: usize, size: u64) -> Result<(), Stop> {
         let (least, _) = self.size_now(at);
         if least > size {
+            self.propose_same(at, None)?;
             return Err(self.clash_size(at, least, least, size));
         }
-        let told = self.replied;
+        let told = self.teller;
         if let Some(entry) = self.entry_mut(at) {
             let file = &mut entry.file;
             if file.size.is_none() && size < file.most {
@@ -111,9 +114,10 @@ impl<'a> World<'a> {
     /// Sets the size of a file.
     pub(crate) fn cut(&mut self, at: usize, size: u64) -> Result<(), Stop> {
         self.most_bytes = self.most_bytes.max(size);
-        let told = self.replied;
+        let (told, asked) = (self.teller, self.asked);
         if let Some(entry) = self.entry_mut(at) {
             let file = &mut entry.file;
+            file.change(asked);
             file.size = Some(size);
             file.sized = told;
             file.zeros = file.zeros.min(size);
@@ -136,9 +140,11 @@ impl<'a> World<'a> {
         let offset = if appends { self.end_now(at) } else { offset };
         let end = offset.saturating_add(piece.len);
         self.most_bytes = self.most_bytes.max(end);
-        let told = self.replied;
+        let (told, asked) = (self.teller, self.asked);
         if let Some(entry) = self.entry_mut(at) {
             let file = &mut entry.file;
+            file.change(asked);
+            file.is_appended = file.is_appended || appends;
             let before = file.written.len();
             file.written.put(offset, piece)?;
             let more = file.written.len().saturating_sub(before);
@@ -156,13 +162,14 @@ impl<'a> World<'a> {
 
     /// The size of a file now. If it is not known, it is taken for the least that it may be.
     fn end_now(&mut self, at: usize) -> u64 {
-        let told = self.replied;
+        let told = self.teller;
         match self.entry_mut(at) {
             Some(entry) => {
                 let file = &mut entry.file;
                 let least = file.least_now();
                 if file.size.is_none() && file.most_now() > least {
                     file.is_guessed = true;
+                    file.unguessed = (file.least, file.most);
                     file.least = file.least.max(least);
                     file.most = file.least;
                     file.most_told = told;
@@ -188,7 +195,49 @@ impl<'a> World<'a> {
         done?;
         learned?;
         self.age(at);
+        if self.owner_by == at && self.owner.is_some() {
+            self.owner = None;
+            return Err(Stop::Again);
+        }
+        if self.is_appended(at) {
+            return Err(Stop::Again);
+        }
         Ok(true)
+    }
+
+    /// Whether something was written at the end of a file, wherever that was.
+    fn is_appended(&self, at: usize) -> bool {
+        match self.entry(at) {
+            Some(entry) => entry.file.is_appended,
+            None => false,
+        }
+    }
+
+    /// Tells that a file had this size at the start.
+    pub(crate) fn tell_start_size(&mut self, at: usize, size: u64) -> Result<(), Stop> {
+        let told = self.teller;
+        let (least, most, is_guessed) = match self.entry(at) {
+            Some(entry) => (entry.file.least, entry.file.most, entry.file.is_guessed),
+            None => return Ok(()),
+        };
+        if size >= least && size <= most {
+            if let Some(entry) = self.entry_mut(at) {
+                entry.file.least = size;
+                entry.file.most = size;
+                entry.file.least_told = told;
+                entry.file.most_told = told;
+            }
+            return Ok(());
+        }
+        if is_guessed {
+            self.propose_of(at, Says::Size(size))?;
+        }
+        let known = if size < least { least } else { most };
+        let told = match self.entry(at) {
+            Some(entry) => entry.file.least_told.max(entry.file.most_told),
+            None => 0,
+        };
+        Err(self.clash_at(at, told, What::Size(known, size)))
     }
 
     /// Where an entry is that was taken for new, where it may as well be old.

@@ -11,12 +11,26 @@ use crate::pieces::Piece;
 use crate::world::World;
 use sftp_wire::{Answer, Ask, Attrs, ByteString, Names, status};
 
+/// Whether a request follows a last link, or goes by a handle.
+fn follows(ask: &Ask) -> bool {
+    match ask {
+        Ask::Stat { .. } | Ask::Opendir { .. } | Ask::Open { .. } | Ask::Setstat { .. } => true,
+        Ask::Realpath { .. } | Ask::Fstat { .. } | Ask::Fsetstat { .. } => true,
+        _ => false,
+    }
+}
+
 impl<'a> World<'a> {
     /// Takes an exchange.
     pub(crate) fn take(&mut self, exchange: &Exchange, reply: &Reply) -> Result<(), Stop> {
         self.asked = exchange.number;
         self.replied = reply.number;
+        self.teller = match &reply.answer {
+            Answer::Status { .. } | Answer::Handle(_) => exchange.number,
+            _ => reply.number,
+        };
         self.work = self.work.saturating_add(1);
+        self.follows = follows(&exchange.ask);
         match &reply.answer {
             Answer::Status { code, .. } => self.take_status(exchange, *code),
             Answer::Handle(handle) => self.take_handle(&exchange.ask, handle),
@@ -36,7 +50,7 @@ impl<'a> World<'a> {
                 handle,
                 offset,
                 len,
-            } if code == status::EOF && *len > 0 => {
+            } if code == status::EOF && (*len > 0 || self.settings.is_strict) => {
                 match self.handle(handle) {
                     Some(opened) if !opened.is_listing => self.read_end(opened.entry, *offset),
                     _ => Ok(()),

@@ -2,9 +2,17 @@
 
 use crate::errors::Stop;
 use crate::facts::{Fact, Says};
+use crate::files::File;
 use crate::nodes::{Held, Node, Sort};
+use crate::pieces::Known;
 use crate::world::World;
 use sftp_path::NoMemory;
+
+/// How many names of a directory are looked at for whether it has entries.
+const LOOKED_AT: usize = 256;
+
+/// How many files are proposed as the one that another name leads to.
+const SAME: u32 = 4;
 
 /// How many fresh names are tried.
 const TRIES: u32 = 100_000;
@@ -38,7 +46,7 @@ impl<'a> World<'a> {
     /// Where an entry was at the start.
     pub(crate) fn old_text(&self, at: usize) -> Result<Option<Vec<u8>>, NoMemory> {
         match self.entry(at) {
-            Some(entry) if entry.is_old && at != 0 => Ok(Some(self.old_place(
+            Some(entry) if (entry.is_old || entry.is_chosen) && at != 0 => Ok(Some(self.old_place(
                 entry.old_parent,
                 entry.old_name.as_slice(),
             )?)),
@@ -46,33 +54,64 @@ impl<'a> World<'a> {
         }
     }
 
-    /// Proposes that a file of the start is the file that the session changed last, under another name.
-    pub(crate) fn propose_same(&mut self, at: usize) -> Result<(), NoMemory> {
-        match self.changed_last(at) {
-            Some(other) => match self.old_text(other)? {
-                Some(place) => self.propose_of(at, Says::SameFile(place)),
-                None => Ok(()),
-            },
-            None => Ok(()),
+    /// Proposes that a file of the start is one that the session changed under another name: those first that were
+    /// changed last. If an offset and a byte are given, the session wrote that byte there.
+    pub(crate) fn propose_same(
+        &mut self,
+        at: usize,
+        wrote: Option<(u64, u8)>,
+    ) -> Result<(), NoMemory> {
+        let mut before = u64::MAX;
+        for _ in 0..SAME {
+            self.work = self.work.saturating_add(self.nodes.len() as u64);
+            match self.changed_before(at, before, wrote) {
+                Some((other, changed)) => {
+                    before = changed;
+                    self.propose_way(at, other)?;
+                    if let Some(place) = self.old_text(other)? {
+                        self.propose_of(at, Says::SameFile(place))?;
+                    }
+                }
+                None => return Ok(()),
+            }
         }
+        Ok(())
     }
 
-    /// The file of the start that the session changed last, but for this one.
-    fn changed_last(&self, at: usize) -> Option<usize> {
-        let mut last: Option<usize> = None;
+    /// The file of the start that the session changed last before a request, but for this one.
+    fn changed_before(
+        &self,
+        at: usize,
+        before: u64,
+        wrote: Option<(u64, u8)>,
+    ) -> Option<(usize, u64)> {
+        let mut last: Option<(usize, u64)> = None;
         let mut latest: u64 = 0;
         for (other, entry) in self.nodes.iter().enumerate() {
-            let changed = entry.file.written_by.max(entry.file.sized);
-            if other != at && entry.is_old && entry.sort == Sort::File && changed > latest {
-                last = Some(other);
+            let changed = entry.file.last.max(entry.rights.last);
+            let is_start = entry.is_old || entry.is_chosen;
+            let is_file = is_start && entry.sort == Sort::File && other != at;
+            if is_file && changed > latest && changed < before && self.wrote(&entry.file, wrote) {
+                last = Some((other, changed));
                 latest = changed;
             }
         }
         last
     }
 
-    /// A target for a link of the start, of this length if it is told, that leads to a name beside it that nothing
-    /// mentions.
+    /// Whether the session wrote this byte to a file at this offset, if they are given.
+    fn wrote(&self, file: &File, wrote: Option<(u64, u8)>) -> bool {
+        match wrote {
+            Some((offset, byte)) => match file.written.known(offset) {
+                Known::Bytes(piece) => self.session.get(piece.from) == Some(&byte),
+                Known::Gap(_) => byte == 0 && offset >= file.zeros,
+            },
+            None => true,
+        }
+    }
+
+    /// The target to assume for a link of the start whose target no reply told: a name beside it that nothing mentions,
+    /// of the told length.
     pub(crate) fn invented(&self, at: usize, length: Option<u64>) -> Result<Vec<u8>, NoMemory> {
         let parent = match self.entry(at) {
             Some(link) => link.parent,
@@ -105,11 +144,34 @@ impl<'a> World<'a> {
         let place = self.place_now(at)?;
         let says = Says::Link(Vec::from_slice(self.alloc, target.as_slice())?);
         self.invented.push(Fact { place, says, told })?;
-        if let Some(link) = self.entry_mut(at) {
-            link.target = Some(target);
-        } else {
-            drop(target);
+        self.lead(at, target);
+        Ok(())
+    }
+
+    /// Gives a link a target that is made up.
+    fn lead(&mut self, at: usize, target: Vec<u8>) {
+        match self.entry_mut(at) {
+            Some(link) => {
+                link.target = Some(target);
+                link.is_invented = true;
+            }
+            None => drop(target),
         }
+    }
+
+    /// Has a link lead to where no directory is.
+    pub(crate) fn lead_astray(&mut self, at: usize) -> Result<(), Stop> {
+        let length = match self.entry(at) {
+            Some(link) => link.length.unwrap_or(10),
+            None => 10,
+        };
+        let mut target = self.invented(at, Some(length.saturating_sub(2)))?;
+        target.extend_from_slice(b"/x")?;
+        let place = self.place_now(at)?;
+        let says = Says::Link(Vec::from_slice(self.alloc, target.as_slice())?);
+        let told = self.replied;
+        self.invented.push(Fact { place, says, told })?;
+        self.lead(at, target);
         Ok(())
     }
 
@@ -157,12 +219,12 @@ impl<'a> World<'a> {
         let Some(directory) = self.entry(at) else {
             return Some(false);
         };
-        for slot in directory.names.values() {
+        for slot in directory.names.values().take(LOOKED_AT) {
             if let Some(Held::Entry(_)) = slot.now.or(slot.start) {
                 return Some(true);
             }
         }
-        if directory.complete.is_some() {
+        if directory.complete.is_some() && directory.names.len() <= LOOKED_AT {
             Some(false)
         } else {
             None

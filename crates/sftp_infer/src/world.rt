@@ -4,10 +4,15 @@ use crate::clashes::Clash;
 use crate::facts::{Fact, Says};
 use crate::handles::Opened;
 use crate::nodes::{Held, Node, Slot, Sort};
+use crate::refusals::Guess;
+use crate::search::Take;
 use crate::settings::Settings;
 use sftp_path::NoMemory;
 use std::alloc::Global;
 use std::collections::BTreeMap;
+
+/// How many components of a walk are as much work as a request.
+const FREE_STEPS: u64 = 64;
 
 /// What is known in the middle of a pass.
 #[derive(Drop)]
@@ -29,6 +34,21 @@ pub(crate) struct World<'a> {
     pub(crate) learned: Vec<Fact>,
     /// What is made up, since a reply asks for something that nothing tells.
     pub(crate) invented: Vec<Fact>,
+    /// Whether the request at hand follows a last link.
+    pub(crate) follows: bool,
+    /// Whether refusals are taken, and whether one was passed over.
+    pub(crate) hears: bool,
+    pub(crate) skipped: bool,
+    /// The refusals for which a reason was taken that nothing tells.
+    pub(crate) guesses: Vec<Guess>,
+    /// The reasons that the search wants.
+    pub(crate) takes: Vec<Take>,
+    /// The numbers of entries that are there no more.
+    pub(crate) spare: Vec<usize>,
+    /// How many passes were made.
+    pub(crate) passes: u32,
+    /// The entry that showed who owns what is made.
+    pub(crate) owner_by: usize,
     /// Whether a path was relative.
     pub(crate) needs_home: bool,
     /// The contradiction that ends the pass, and what might resolve it.
@@ -37,6 +57,8 @@ pub(crate) struct World<'a> {
     /// The records at hand: of the request, and of its reply.
     pub(crate) asked: u64,
     pub(crate) replied: u64,
+    /// The one of them that says what the exchange tells: the reply if it has more than a code or a handle.
+    pub(crate) teller: u64,
     /// The steps of the pass, and the bytes that its facts take.
     pub(crate) work: u64,
     pub(crate) taken: u64,
@@ -66,14 +88,28 @@ impl<'a> World<'a> {
             most_handles: 0,
             learned: Vec::new(alloc),
             invented: Vec::new(alloc),
+            follows: false,
+            hears: false,
+            skipped: false,
+            guesses: Vec::new(alloc),
+            takes: Vec::new(alloc),
+            spare: Vec::new(alloc),
+            passes: 0,
+            owner_by: 0,
             needs_home: false,
             clash: None,
             proposals: Vec::new(alloc),
             asked: 0,
             replied: 0,
+            teller: 0,
             work: 0,
             taken: 0,
         })
+    }
+
+    /// Adds the components that a walk looked at to the work of the pass. Those of usual paths are no work of their own.
+    pub(crate) fn count_steps(&mut self, steps: u64) {
+        self.work = self.work.saturating_add(steps / FREE_STEPS);
     }
 
     pub(crate) fn entry(&self, at: usize) -> Option<&Node> {
@@ -102,7 +138,7 @@ impl<'a> World<'a> {
 
     /// Sets the kind of an entry that was of no known kind.
     pub(crate) fn set_sort(&mut self, at: usize, sort: Sort) {
-        let told = self.replied;
+        let told = self.teller;
         if let Some(entry) = self.nodes.get_mut(at) {
             if entry.sort == Sort::Unknown {
                 entry.sort = sort;
@@ -147,7 +183,6 @@ impl<'a> World<'a> {
         parent: usize,
         name: &[u8],
     ) -> Result<usize, NoMemory> {
-        let at = self.nodes.len();
         let mut entry = entry;
         match Vec::from_slice(self.alloc, name) {
             Ok(name) => entry.name = name,
@@ -157,6 +192,19 @@ impl<'a> World<'a> {
             }
         }
         entry.parent = parent;
+        self.store(entry)
+    }
+
+    /// Stores an entry, and returns its number.
+    fn store(&mut self, entry: Node) -> Result<usize, NoMemory> {
+        if let Some(at) = self.spare.pop() {
+            match self.nodes.get_mut(at) {
+                Some(place) => *place = entry,
+                None => drop(entry),
+            }
+            return Ok(at);
+        }
+        let at = self.nodes.len();
         self.nodes.push(entry)?;
         Ok(at)
     }
@@ -168,7 +216,7 @@ impl<'a> World<'a> {
         name: &[u8],
         sort: Sort,
     ) -> Result<usize, NoMemory> {
-        let mut entry = Node::old(self.alloc, sort, self.replied);
+        let mut entry = Node::old(self.alloc, sort, self.teller);
         entry.old_parent = parent;
         match Vec::from_slice(self.alloc, name) {
             Ok(name) => entry.old_name = name,
@@ -180,7 +228,7 @@ impl<'a> World<'a> {
         let at = self.put(entry, parent, name)?;
         let mut slot = self.slot(parent, name);
         slot.start = Some(Held::Entry(at));
-        slot.told = self.replied;
+        slot.told = self.teller;
         self.set_slot(parent, name, slot)?;
         Ok(at)
     }
@@ -195,7 +243,7 @@ impl<'a> World<'a> {
         let mut slot = self.slot(parent, name);
         if slot.start.is_none() {
             slot.start = Some(Held::Nothing);
-            slot.told = self.replied;
+            slot.told = self.teller;
             slot.is_assumed = is_assumed;
         }
         self.set_slot(parent, name, slot)
@@ -216,15 +264,19 @@ impl<'a> World<'a> {
 
     /// Takes back that nothing was at a name at the start, if it was only assumed and still matters. The pass goes on,
     /// and a further one begins with what is learned.
-    pub(crate) fn retract(&mut self, parent: usize, name: &[u8]) -> Result<bool, NoMemory> {
+    /// Returns the entry that is there.
+    pub(crate) fn retract(
+        &mut self,
+        parent: usize,
+        name: &[u8],
+    ) -> Result<Option<usize>, NoMemory> {
         let mut slot = self.slot(parent, name);
         if !slot.is_assumed || slot.now.is_some() {
-            return Ok(false);
+            return Ok(None);
         }
-        slot.start = None;
         slot.is_assumed = false;
         self.set_slot(parent, name, slot)?;
         self.learn(parent, name, Says::There)?;
-        Ok(true)
+        Ok(Some(self.tell(parent, name, Sort::Unknown)?))
     }
 }

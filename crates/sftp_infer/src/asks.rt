@@ -1,0 +1,137 @@
+//! What a reason for a refusal asks of the place to which a path leads, and what it costs to take it for granted.
+
+use crate::errors::Stop;
+use crate::look::Look;
+use crate::nodes::Sort;
+use crate::world::World;
+
+/// What has to be at the end of a path, or on the way.
+#[derive(Clone, Copy, Debug, PartialEq, Eq)]
+pub(crate) enum Asks {
+    Nothing,
+    Something,
+    Directory,
+    /// Something that is no directory.
+    NoDirectory,
+    /// Something that is no file.
+    NoFile,
+    /// Something that is no link.
+    NoLink,
+    /// A directory with entries.
+    Full,
+    /// Whatever there is, or nothing: the way leads there.
+    Place,
+    /// Nothing is at a name on the way.
+    Lost,
+    /// Something on the way is no directory.
+    Blocked,
+    /// A link that leads to where no directory is.
+    Astray,
+}
+
+/// What it costs to take back that nothing is somewhere, where that was only assumed.
+const RETRACTED: u32 = 4;
+
+/// What each name on the way costs of which nothing is known.
+const WAY: u32 = 2;
+
+impl Asks {
+    /// Whether it is about the way alone.
+    pub(crate) fn is_of_way(self) -> bool {
+        match self {
+            Asks::Lost | Asks::Blocked => true,
+            _ => false,
+        }
+    }
+
+    /// The kind of something at the end that does what is asked, if nothing is known of it.
+    pub(crate) fn sort(self) -> Sort {
+        match self {
+            Asks::Directory | Asks::Full | Asks::NoFile => Sort::Directory,
+            Asks::NoDirectory | Asks::NoLink => Sort::File,
+            Asks::Astray => Sort::Link,
+            _ => Sort::Unknown,
+        }
+    }
+
+    /// What this costs of something of this kind; `None` if it is not so.
+    fn cost_of_sort(self, sort: Sort) -> Option<u32> {
+        let fits = match self {
+            Asks::Something | Asks::Place => return Some(0),
+            Asks::Directory | Asks::Full => sort == Sort::Directory,
+            Asks::NoDirectory => sort != Sort::Directory,
+            Asks::NoFile => sort != Sort::File,
+            Asks::NoLink => sort != Sort::Link,
+            Asks::Nothing | Asks::Lost | Asks::Blocked | Asks::Astray => return None,
+        };
+        if sort == Sort::Unknown {
+            return Some(1);
+        }
+        if fits { Some(0) } else { None }
+    }
+}
+
+/// Where a path leads, and whether it is only assumed that nothing is there.
+#[derive(Clone, Copy)]
+pub(crate) struct Seen {
+    look: Look,
+    is_assumed: bool,
+}
+
+impl<'a> World<'a> {
+    /// Where a path leads, for what is asked of it.
+    pub(crate) fn see(&mut self, path: &[u8], follows: bool) -> Result<Seen, Stop> {
+        let found = self.look(path, follows)?;
+        let is_assumed = self.slot(found.parent, found.name.as_slice()).is_assumed;
+        let (look, steps) = (found.look, found.steps);
+        drop(found);
+        self.count_steps(steps);
+        Ok(Seen { look, is_assumed })
+    }
+
+    /// What it costs to take for granted what is asked of a path: 0 if it is known, `None` if it is not so.
+    pub(crate) fn cost_at(&self, seen: Seen, asks: Asks) -> Option<u32> {
+        let is_assumed = seen.is_assumed;
+        match seen.look {
+            Look::Entry(at) => self.cost_of_entry(at, asks),
+            Look::Nothing(_) => cost_of_nothing(asks, is_assumed),
+            Look::Unknown if asks.is_of_way() => None,
+            Look::Unknown if asks == Asks::Place => Some(0),
+            Look::Unknown if asks == Asks::Astray => Some(WAY),
+            Look::Unknown => Some(1),
+            Look::NoEntry(_) if asks == Asks::Lost || asks == Asks::Astray => Some(0),
+            Look::NoEntry(_) if is_assumed => Some(RETRACTED),
+            Look::NoEntry(_) => None,
+            Look::NotDir(_) | Look::Loop | Look::Bad if asks == Asks::Blocked => Some(0),
+            Look::NotDir(_) | Look::Loop | Look::Bad => None,
+            Look::UnknownWay if asks.is_of_way() || asks == Asks::Astray => Some(1),
+            Look::UnknownWay => Some(WAY),
+            Look::Unsure(_) if asks == Asks::Blocked => Some(1),
+            Look::Unsure(_) if asks == Asks::Lost => None,
+            Look::Unsure(_) => Some(WAY),
+            Look::Blind(_) => Some(WAY),
+        }
+    }
+
+    fn cost_of_entry(&self, at: usize, asks: Asks) -> Option<u32> {
+        let cost = asks.cost_of_sort(self.sort(at))?;
+        if asks != Asks::Full {
+            return Some(cost);
+        }
+        match self.has_entries(at) {
+            Some(true) => Some(cost),
+            Some(false) => None,
+            None => Some(cost.saturating_add(1)),
+        }
+    }
+}
+
+/// What is asked of a name at which nothing is, which may be only assumed.
+fn cost_of_nothing(asks: Asks, is_assumed: bool) -> Option<u32> {
+    match asks {
+        Asks::Nothing | Asks::Place => Some(0),
+        Asks::Lost | Asks::Blocked | Asks::Astray => None,
+        _ if is_assumed => Some(RETRACTED),
+        _ => None,
+    }
+}

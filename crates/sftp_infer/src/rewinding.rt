@@ -1,0 +1,97 @@
+//! Back to the start of the session, with what is known of it.
+
+use crate::files::File;
+use crate::nodes::{Node, Rights, Slot};
+use crate::pieces::Pieces;
+use crate::world::World;
+use sftp_path::NoMemory;
+use std::alloc::Global;
+use std::collections::BTreeMap;
+
+impl File {
+    /// Forgets what the session did, and a size that was only assumed.
+    fn rewind(&mut self, alloc: Global) {
+        self.size = None;
+        self.sized = 0;
+        self.furthest = 0;
+        self.written_by = 0;
+        self.zeros = u64::MAX;
+        self.first = 0;
+        self.last = 0;
+        self.is_appended = false;
+        self.is_blurred = false;
+        self.written = Pieces::new(alloc);
+        if self.is_guessed {
+            let (least, most) = self.unguessed;
+            self.least = least;
+            self.most = most;
+        }
+    }
+}
+
+impl Rights {
+    fn rewind(&mut self) {
+        self.owner = None;
+        self.permissions = None;
+        self.first = 0;
+        self.last = 0;
+    }
+}
+
+impl Slot {
+    fn rewind(&mut self) {
+        self.now = None;
+        self.changed = 0;
+        self.listed = 0;
+    }
+}
+
+impl Node {
+    /// Makes it what it was at the start.
+    fn rewind(&mut self, alloc: Global) -> Result<(), NoMemory> {
+        self.parent = self.old_parent;
+        if self.name.as_slice() != self.old_name.as_slice() {
+            self.name = Vec::from_slice(alloc, self.old_name.as_slice())?;
+        }
+        self.rights.rewind();
+        self.file.rewind(alloc);
+        for slot in self.names.values_mut() {
+            slot.rewind();
+        }
+        Ok(())
+    }
+}
+
+impl<'a> World<'a> {
+    /// Goes back to the start of the session, with what is known of it.
+    pub(crate) fn rewind(&mut self) -> Result<(), NoMemory> {
+        self.handles = BTreeMap::new(self.alloc);
+        self.asked = 0;
+        self.replied = 0;
+        self.teller = 0;
+        self.taken = 0;
+        self.owner = None;
+        self.owner_by = 0;
+        self.skipped = false;
+        self.spare.clear();
+        for at in 0..self.nodes.len() {
+            self.rewind_at(at)?;
+        }
+        Ok(())
+    }
+
+    /// Rewinds an entry; one that the session made is there no more.
+    fn rewind_at(&mut self, at: usize) -> Result<(), NoMemory> {
+        let alloc = self.alloc;
+        let Some(entry) = self.nodes.get_mut(at) else {
+            return Ok(());
+        };
+        if entry.is_old {
+            let shown = entry.file.shown.len() as u64;
+            self.taken = self.taken.saturating_add(shown);
+            return entry.rewind(alloc);
+        }
+        self.spare.push(at)?;
+        Ok(())
+    }
+}
