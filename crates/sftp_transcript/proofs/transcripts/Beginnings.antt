@@ -102,7 +102,7 @@ not_both P packet number bytes rest error apart is begins (inr other) =
     let one = begins_one bytes packet other.1.packet rest other.1.rest begins other.1.begins in
     other.1.is_other (subst P one.0 is)
 
-none_behind : (more : List Event) (ahead : List ℕ) (number : ℕ) (error : TranscriptError) → error ≢ NoMemory
+pub none_behind : (more : List Event) (ahead : List ℕ) (number : ℕ) (error : TranscriptError) → error ≢ NoMemory
     → AreRecords more ahead → ahead ≢ [] → EventFault number ahead error → ⊥
 none_behind [] ahead number error apart are some fault = some are.bytes_are
 none_behind (event ∷ more) ahead number error apart are some fault =
@@ -121,7 +121,9 @@ not_recorded stages.Version events others bytes ahead number error apart read fa
     let opened = read.1.opened in
     let p = record_parts others bytes opened read.1.opening is in
     let same = begins_one opened p.init.packet read.1.init.packet p.middle ahead p.init.begins read.1.init.begins in
-    not_both IsVersion p.version.packet 2 ahead p.records error apart p.version.is_kind (subst (λ (l : List ℕ). Begins l p.version.packet p.records) same.1 p.version.begins) fault
+    let answer = p.answered in
+    not_both IsVersion answer.version.packet 2 ahead answer.records error apart answer.version.is_kind
+    (subst (λ (l : List ℕ). Begins l answer.version.packet answer.records) same.1 answer.version.begins) fault
 not_recorded stages.Events events others bytes ahead number error apart read fault is =
     let on = begins_each events others bytes ahead read is in
     none_behind on.more ahead number error apart on.recorded fault.0 fault.1
