@@ -104,11 +104,6 @@ comes-given old new None found before known =
       subst (λ (s : Stage). Reaches old.stage before None s before) (gives.0 ∙ sym gives.1) (stays old.stage before),
     )
 
--- the same, with what the record says of an event
-pub comes-with : (old new : Reading) (given : Option GivenRecord) (event : Option Event) → event_in given ≡ event
-    → ((before : List ℕ) → HasAhead old.ahead before → GivesNext old.stage before given new) → Comes old event new
-comes-with old new given event is found = subst (λ (o : Option Event). Comes old o new) is (comes-given old new given found)
-
 -- ---- the events to come
 
 pub known-after : (old new : Reading) (given : Option Event) → Comes old given new → IsKnown old → IsKnown new
@@ -173,6 +168,20 @@ gives-none old new comes ends events r =
     let p = coming_split old new None comes events r in
     let at : AreRecords p.0 p.2.bytes = subst (λ (s : Stage). RecordsFrom s p.0 p.2.bytes) end.0 p.2.recorded in
     p.1 ∙ no_events p.0 p.2.bytes (ap length (same_Some p.2.bytes [] (sym p.2.are_ahead ∙ end.1))) at
+
+-- ---- past INIT and VERSION, to the next record
+
+module _ (old mid new : Reading) (given : Option GivenRecord) (passed : Comes old None mid)
+    (found : (before : List ℕ) → HasAhead mid.ahead before → GivesNext mid.stage before given new) where
+  pub comes-past : (event : Option Event) → event_in given ≡ event → Comes old event new
+  comes-past event is =
+      comes-then old mid new event passed (subst (λ (o : Option Event). Comes mid o new) is (comes-given mid new given found))
+
+  pub ended-past : given ≡ None → IsKnown old → HasEnded new
+  ended-past is k =
+      let at = known-after old mid None passed k in
+      let gives = rw is at (found at.0 at.1) in
+      (gives.1, gives.3)
 
 -- ---- the events that were given
 
@@ -265,21 +274,8 @@ pub number-is : (stage : Stage) (number : ℕ) (given : Option GivenRecord) → 
 number-is stage number (Some g) may = number_by stage number g.1 may
 number-is stage number None may = refl
 
--- events come last
-pub behind-event : (stage : Stage) (packet : Packet) (event : Event) → MayCome stage packet → event_from packet ≡ Some event
-    → stage_after stage ≡ stages.Events
-behind-event stages.Opening (Init version extensions) event may is = absurd cc
-behind-event stages.Opening other event may is = absurd may
-behind-event stages.Init (Init version extensions) event may is = absurd cc
-behind-event stages.Init other event may is = absurd may
-behind-event other packet event may is = refl
-
 pub onward : (stage : Stage) → rank stage ≤ rank (stage_after stage)
 onward stages.Opening = omega arith
 onward stages.Init = omega arith
 onward stages.Version = omega arith
 onward stages.Events = omega arith
-
-pub onward-untaken : (old new : Reading) → TookNoRecord old new → rank old.stage ≤ rank new.stage
-onward-untaken old new (inl kept) = omega (arith, ap rank kept.1)
-onward-untaken old new (inr opened) = omega (arith, ap rank opened.0, ap rank opened.1)

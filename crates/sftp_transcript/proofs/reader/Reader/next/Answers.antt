@@ -4,9 +4,9 @@ use Rattle.sftp_transcript.proofs.Imports.{[]}
 use Rattle.sftp_transcript.specs.Packets.{event_in}
 use Rattle.std.proofs.Common.{rules}
 use Rattle.std.proofs.lemmas.Grind.{common_steps}
-use Rattle.sftp_transcript.proofs.Reaching.{Comes, HasEnded, comes-start, comes-then, comes-untaken, comes-with}
-use Rattle.sftp_transcript.proofs.Reaching.{known-after, same-by, gave-event, gives-event, gave-none, gives-none, given-by}
-use Rattle.sftp_transcript.proofs.Reaching.{gave-end, excused-events, fault-of, number-is, onward}
+use Rattle.sftp_transcript.proofs.Reaching.{comes-start, comes-then, comes-untaken, comes-past, ended-past, known-after}
+use Rattle.sftp_transcript.proofs.Reaching.{same-by, gave-event, gives-event, gave-none, gives-none, given-by, gave-end}
+use Rattle.sftp_transcript.proofs.Reaching.{excused-events, fault-of, number-is, onward}
 use Rattle.sftp_transcript.proofs.reader.Reader.next.Goals as goal
 
 pub greetings-init : goal.greetings-init
@@ -60,103 +60,74 @@ returns-in_err-packet-clause-no_memory g c = λ is.
 
 pub returns-in-Some-event_of-clause-found : goal.returns-in-Some-event_of-clause-found
 returns-in-Some-event_of-clause-found g c =
-    let event = c.in-Some-event_of.event in
-    let is : event_in c.in_ok-packet.field-0 ≡ Some event =
-    ap event_in c.in-Some.is ∙ sym c.event_of.ensures ∙ c.in-Some-event_of.is in
-    let comes : Comes c.args.self.now (Some event) c.next_record.new.self =
-    comes-then c.args.self.now c.greetings.self c.next_record.new.self (Some event) c.greetings.invariant.comes
-    (comes-with c.greetings.self c.next_record.new.self c.in_ok-packet.field-0 (Some event) is c.in_ok-packet.ensures.found) in
-    gave-event c.args.self.now c.next_record.new.self event comes
+    gave-event c.args.self.now c.next_record.new.self c.in-Some-event_of.event
+    (comes-past c.args.self.now c.greetings.self c.next_record.new.self c.in_ok-packet.field-0 c.greetings.invariant.comes
+    c.in_ok-packet.ensures.found (Some c.in-Some-event_of.event) (search rules))
 
 pub returns-in-Some-event_of-clause-only : goal.returns-in-Some-event_of-clause-only
 returns-in-Some-event_of-clause-only g c = λ events none r.
-    let event = c.in-Some-event_of.event in
-    let is : event_in c.in_ok-packet.field-0 ≡ Some event = search rules in
-    let comes : Comes c.args.self.now (Some event) c.next_record.new.self =
-    comes-then c.args.self.now c.greetings.self c.next_record.new.self (Some event) c.greetings.invariant.comes
-    (comes-with c.greetings.self c.next_record.new.self c.in_ok-packet.field-0 (Some event) is c.in_ok-packet.ensures.found) in
-    gives-event c.args.self.now c.next_record.new.self event comes events r
+    gives-event c.args.self.now c.next_record.new.self c.in-Some-event_of.event
+    (comes-past c.args.self.now c.greetings.self c.next_record.new.self c.in_ok-packet.field-0 c.greetings.invariant.comes
+    c.in_ok-packet.ensures.found (Some c.in-Some-event_of.event) (search rules)) events r
 
 pub returns-in-Some-event_of-clause-first : goal.returns-in-Some-event_of-clause-first
 returns-in-Some-event_of-clause-first g c = λ bytes ahead events has.
     let passed = c.greetings.invariant in
     let mid = given-by c.args.self.now c.greetings.self None passed.comes passed.number passed.fault bytes ahead events has in
-    let is : event_in c.in_ok-packet.field-0 ≡ Some c.in-Some-event_of.event = grind (arith, common_steps) in
+    let is : event_in c.in_ok-packet.field-0 ≡ Some c.in-Some-event_of.event = search rules in
     rw is at (c.in_ok-packet.ensures.given bytes mid.0 events mid.1)
 
 pub returns-in-Some-event_of-clause-known : goal.returns-in-Some-event_of-clause-known
-returns-in-Some-event_of-clause-known g c = λ known.
-    let mid = known-after c.args.self.now c.greetings.self None c.greetings.invariant.comes known in
-    let gives = c.in_ok-packet.ensures.found mid.0 mid.1 in
-    let some = rw c.in-Some.is at gives in
-    (some.1.0, some.1.1)
+returns-in-Some-event_of-clause-known g c =
+    known-after c.args.self.now c.next_record.new.self (Some c.in-Some-event_of.event)
+    (comes-past c.args.self.now c.greetings.self c.next_record.new.self c.in_ok-packet.field-0 c.greetings.invariant.comes
+    c.in_ok-packet.ensures.found (Some c.in-Some-event_of.event) (search rules))
 
 -- ---- an INIT or a VERSION
 
 pub greetings-preserved : goal.greetings-preserved
-greetings-preserved g c =
-    let old = c.args.self.now in
-    let mid = c.greetings.self in
-    let new = c.next_record.new.self in
-    let given = c.in_ok-packet.field-0 in
-    let passed = c.greetings.invariant in
-    let is : event_in given ≡ None = ap event_in c.in-Some.is ∙ sym c.event_of.ensures ∙ c.in-None-event_of.is in
-    record {
-      comes = comes-then old mid new None passed.comes (comes-with mid new given None is c.in_ok-packet.ensures.found);
-      number = grind (arith, common_steps, number-is);
-      fault = grind (arith, common_steps);
-      again = λ error is. grind (arith, common_steps);
-      failures = λ none. grind (arith, common_steps);
-      never_rises = grind (arith, common_steps);
-      onward = grind (arith, common_steps, onward);
-    }
+greetings-preserved g c = record {
+  comes = comes-past c.args.self.now c.greetings.self c.next_record.new.self c.in_ok-packet.field-0 c.greetings.invariant.comes
+      c.in_ok-packet.ensures.found None (search rules);
+  number = grind (arith, common_steps, number-is);
+  fault = grind (arith, common_steps);
+  again = λ error is. grind (arith, common_steps);
+  failures = λ none. grind (arith, common_steps);
+  never_rises = grind (arith, common_steps);
+  onward = grind (arith, common_steps, onward);
+}
 
 -- ---- the end
 
 pub returns-in-None-clause-found : goal.returns-in-None-clause-found
 returns-in-None-clause-found g c =
     let old = c.args.self.now in
-    let mid = c.greetings.self in
     let new = c.next_record.new.self in
-    let passed = c.greetings.invariant in
-    let comes : Comes old None new = comes-then old mid new None passed.comes
-    (comes-with mid new c.in_ok-packet.field-0 None (ap event_in c.in-None.is) c.in_ok-packet.ensures.found) in
-    let ends : IsKnown old → HasEnded new = λ k.
-    let at = known-after old mid None passed.comes k in
-    let gives = rw c.in-None.is at (c.in_ok-packet.ensures.found at.0 at.1) in
-    (gives.1, gives.3) in
-    gave-none old new comes ends
+    gave-none old new
+    (comes-past old c.greetings.self new c.in_ok-packet.field-0 c.greetings.invariant.comes c.in_ok-packet.ensures.found None (ap event_in c.in-None.is))
+    (ended-past old c.greetings.self new c.in_ok-packet.field-0 c.greetings.invariant.comes c.in_ok-packet.ensures.found c.in-None.is)
 
 pub returns-in-None-clause-only : goal.returns-in-None-clause-only
 returns-in-None-clause-only g c = λ events none r.
     let old = c.args.self.now in
-    let mid = c.greetings.self in
     let new = c.next_record.new.self in
-    let passed = c.greetings.invariant in
-    let comes : Comes old None new = comes-then old mid new None passed.comes
-    (comes-with mid new c.in_ok-packet.field-0 None (ap event_in c.in-None.is) c.in_ok-packet.ensures.found) in
-    let ends : IsKnown old → HasEnded new = λ k.
-    let at = known-after old mid None passed.comes k in
-    let gives = rw c.in-None.is at (c.in_ok-packet.ensures.found at.0 at.1) in
-    (gives.1, gives.3) in
-    gives-none old new comes ends events r
+    gives-none old new
+    (comes-past old c.greetings.self new c.in_ok-packet.field-0 c.greetings.invariant.comes c.in_ok-packet.ensures.found None (ap event_in c.in-None.is))
+    (ended-past old c.greetings.self new c.in_ok-packet.field-0 c.greetings.invariant.comes c.in_ok-packet.ensures.found c.in-None.is)
+    events r
 
 pub returns-in-None-clause-first : goal.returns-in-None-clause-first
 returns-in-None-clause-first g c = λ bytes ahead events has.
     let old = c.args.self.now in
-    let mid = c.greetings.self in
     let new = c.next_record.new.self in
-    let passed = c.greetings.invariant in
-    let comes : Comes old None new = comes-then old mid new None passed.comes
-    (comes-with mid new c.in_ok-packet.field-0 None (ap event_in c.in-None.is) c.in_ok-packet.ensures.found) in
-    let ends : IsKnown old → HasEnded new = λ k.
-    let at = known-after old mid None passed.comes k in
-    let gives = rw c.in-None.is at (c.in_ok-packet.ensures.found at.0 at.1) in
-    (gives.1, gives.3) in
-    gave-end old new comes ends (grind (arith, common_steps)) (grind (arith, common_steps)) bytes ahead events has
+    gave-end old new
+    (comes-past old c.greetings.self new c.in_ok-packet.field-0 c.greetings.invariant.comes c.in_ok-packet.ensures.found None (ap event_in c.in-None.is))
+    (ended-past old c.greetings.self new c.in_ok-packet.field-0 c.greetings.invariant.comes c.in_ok-packet.ensures.found c.in-None.is)
+    (grind (arith, common_steps)) (grind (arith, common_steps)) bytes ahead events has
 
 pub returns-in-None-clause-known : goal.returns-in-None-clause-known
-returns-in-None-clause-known g c = λ k.
-    let at = known-after c.args.self.now c.greetings.self None c.greetings.invariant.comes k in
-    let gives = rw c.in-None.is at (c.in_ok-packet.ensures.found at.0 at.1) in
-    ([], gives.3)
+returns-in-None-clause-known g c = λ known. (
+  [],
+  (ended-past c.args.self.now c.greetings.self c.next_record.new.self c.in_ok-packet.field-0 c.greetings.invariant.comes
+      c.in_ok-packet.ensures.found c.in-None.is known).1,
+)
