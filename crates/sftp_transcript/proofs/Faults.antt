@@ -10,7 +10,7 @@ use Rattle.sftp_transcript.specs.Refused.{PacketFault, DirectedFault, RecordFaul
 use Rattle.sftp_transcript.specs.Refused.{IsEventPacket, EventFault}
 use Rattle.sftp_transcript.proofs.Fronts.{fault_stays}
 use Rattle.sftp_transcript.proofs.Inputs.{ahead_parts}
-use Rattle.sftp_transcript.proofs.Taking.{excused, opening_front}
+use Rattle.sftp_transcript.proofs.Taking.{front_held}
 
 packet_fault : (number : ℕ) (side : Side) (bytes more : List ℕ) (error : TranscriptError)
     → (front_of side bytes ≡ Ok None → more ≡ []) → PacketFault number side bytes error
@@ -72,9 +72,9 @@ fault_ahead P number m before error known end part fault =
 -- ---- what comes next is refused
 
 pub opening_fault : (m : Ahead) (before : List ℕ) (error : TranscriptError) → HasAhead m before → HoldsOpening m → error ≡ Magic 0
-    → ((rest : List ℕ) → m.held ≡ transcript_opening ++ rest → error ≡ NoMemory) → IsExcuse error ⊎ FaultAhead stages.Opening 0 before error
-opening_fault m before error known holds is only =
-    inr (is, λ rest opened. let front = opening_front m before rest holds known opened in subst IsExcuse is (excused (only front.rest front.held)))
+    → ((rest : List ℕ) → m.held ≡ transcript_opening ++ rest → ⊥) → IsExcuse error ⊎ FaultAhead stages.Opening 0 before error
+opening_fault m before error known holds is none =
+    inr (is, λ rest opened. none _ (front_held m transcript_opening before rest known opened (holds before rest known opened)))
 
 pub event_fault : (number : ℕ) (m : Ahead) (before : List ℕ) (error : TranscriptError) → HasAhead m before
     → (m.held ≡ [] → IsAtEnd m.left) → CutsAtEnd m → 0 < length m.held → EventFault number m.held error

@@ -8,7 +8,7 @@ pub mod Fronts
 pub mod Taking
 pub mod Faults
 pub mod Numbers
-pub mod Recorded
 pub mod Begun
+pub mod Coming
+pub mod Reaching
 pub mod Packets
-pub mod Greetings

@@ -1,18 +1,17 @@
--- The next record, before and after each step of a reader.
+-- The next record, behind the opening and before it, and the fault in its place.
 use Rattle.sftp_transcript.proofs.Imports.{◌≡◌, ◌≢◌, ℕ, ◌<◌, ◌≤◌, ◌⊎◌, inl, inr, List, [], ◌++◌, length, Option, Some}
-use Rattle.sftp_transcript.proofs.Imports.{None, Result, Ok, Err, OnErr, MatchResult, refl, sym, ap, ◌∙◌, subst, arith}
-use Rattle.sftp_transcript.proofs.Imports.{IsAtEnd, append_cancel_left, Packet, Init, Version, TranscriptError, Io}
-use Rattle.sftp_transcript.proofs.Imports.{NoMemory, Event, Asked, Replied, Stage, Ahead, CutsAtEnd, FaultAhead}
-use Rattle.sftp_transcript.proofs.Imports.{ReadUpTo, HasGiven, HasGivenOf, number_after_events, with_given, MayCome}
+use Rattle.sftp_transcript.proofs.Imports.{None, refl, sym, ap, ◌∙◌, subst, arith}
+use Rattle.sftp_transcript.proofs.Imports.{IsAtEnd, append_cancel_left, Packet, TranscriptError}
+use Rattle.sftp_transcript.proofs.Imports.{NoMemory, Stage, Ahead, CutsAtEnd, FaultAhead}
+use Rattle.sftp_transcript.proofs.Imports.{MayCome}
 use Rattle.sftp_transcript.proofs.Imports.{record_number, stage_after, BeginsNext, FaultNext, GivenRecord, GivesPacket}
-use Rattle.sftp_transcript.proofs.Imports.{GivesNext, number_then, IsStageThen, Begins, IsInit, IsVersion, Reading}
-use Rattle.sftp_transcript.proofs.Imports.{rank, HasAhead, IsExcuse, IsOpened, Took, transcript_opening, packet_of}
-use Rattle.sftp_packets.specs.declared.packets.Packet.TheVariants.{Request, Reply}
-use Rattle.sftp_transcript.specs.Packets.{stage_opened, IsAfterOpening, event_from, event_in, number_past, TookNoRecord}
+use Rattle.sftp_transcript.proofs.Imports.{GivesNext, IsStageThen, Begins, IsInit, IsVersion, Reading}
+use Rattle.sftp_transcript.proofs.Imports.{rank, HasAhead, IsExcuse, transcript_opening}
+use Rattle.sftp_transcript.specs.Packets.{stage_opened, IsAfterOpening}
 use Rattle.sftp_transcript.specs.declared.stage.Stage.TheVariants as stages
 use Rattle.sftp_transcript.specs.Refused.{KindFault, IsEventPacket}
-use Rattle.sftp_transcript.proofs.Begun.{opening_read, greeting_read, event_read, number_more, given_kept, given_passed}
 use Rattle.sftp_transcript.proofs.Faults.{fault_ahead, event_fault}
+use Rattle.sftp_transcript.proofs.Reaching.{memory_or}
 use Rattle.sftp_transcript.proofs.transcripts.Beginnings.{not_both}
 use Rattle.sftp_transcript.proofs.transcripts.OneRecord.{begins_one}
 
@@ -27,16 +26,6 @@ stage_fault stages.Version number m before error begun known end part some fault
 stage_fault stages.Events number m before error begun known end part some fault = event_fault number m before error known end part (some refl) fault
 
 -- ---- after the opening
-
-pub at_front : (stage : Stage) (before : List ℕ) → 1 ≤ rank stage → IsAfterOpening stage before before
-at_front stages.Opening before begun = absurd (omega (arith, begun))
-at_front other before begun = refl
-
-pub next_given : (stage : Stage) (before : List ℕ) (packet : Packet) (new : Ahead) → 1 ≤ rank stage
-    → MayCome stage packet × Took (λ all after. Begins all packet after) before new
-    → (rest : List ℕ) × HasAhead new rest × BeginsNext stage before packet rest
-next_given stage before packet new begun took =
-    (took.1.0, took.1.1, record { records = before; opened = at_front stage before begun; may_come = took.0; begins = took.1.2 })
 
 -- what is next after the opening is next before it
 next_opened : (old : Stage) (before records : List ℕ) (packet : Packet) (rest : List ℕ) → IsAfterOpening old before records
@@ -102,11 +91,6 @@ fault_opened old mid number now before records error e same is (inr fault) =
     let at : FaultAhead mid number records error = subst (λ (n : ℕ). FaultAhead mid n records error) same fault in
     inr (fault_behind old number before records error is (subst (λ (s : Stage). FaultAhead s number records error) e at))
 
-pub on_err_both : {A E P Q R : Type 0} (F : A → Type 0) (result : Result A E) → (P → Q → R) → OnErr result P
-    → MatchResult result F (λ _. Q) → OnErr result R
-on_err_both F (Ok value) f p q = tt
-on_err_both F (Err error) f p q = f p q
-
 -- ---- one record is next at most, and none where a fault comes next
 
 pub one_opened : (stage : Stage) (before records others : List ℕ) → IsAfterOpening stage before records
@@ -147,105 +131,8 @@ not_next stages.Version number before rest packet error apart fault n =
 not_next stages.Events number before rest packet error apart fault n =
     not_both IsEventPacket packet number before rest error apart n.may_come (subst (λ (l : List ℕ). Begins l packet rest) n.opened n.begins) fault.1
 
-memory_or : (error : TranscriptError) → (error ≢ NoMemory → ⊥) → IsExcuse error
-memory_or NoMemory not = tt
-memory_or (Io place) not = tt
-memory_or other not = absurd (not (λ e. absurd cc))
-
 pub next_excuse : (stage : Stage) (number : ℕ) (before rest : List ℕ) (packet : Packet) (error : TranscriptError)
     → IsExcuse error ⊎ FaultNext stage number before error → BeginsNext stage before packet rest → IsExcuse error
 next_excuse stage number before rest packet error (inl excuse) n = excuse
 next_excuse stage number before rest packet error (inr fault) n =
     memory_or error (λ apart. not_next stage number before rest packet error apart fault n)
-
--- ---- the events among the records
-
-event_of_init : (packet : Packet) → IsInit packet → event_from packet ≡ None
-event_of_init (Init version extensions) is = refl
-event_of_init (Version version extensions) is = absurd is
-event_of_init (Request request) is = absurd is
-event_of_init (Reply reply) is = absurd is
-
-event_of_version : (packet : Packet) → IsVersion packet → event_from packet ≡ None
-event_of_version (Init version extensions) is = absurd is
-event_of_version (Version version extensions) is = refl
-event_of_version (Request request) is = absurd is
-event_of_version (Reply reply) is = absurd is
-
-event_back : (event : Event) → event_from (packet_of event) ≡ Some event
-event_back (Asked request) = refl
-event_back (Replied reply) = refl
-
--- what a reader has given with the next record, and up to what
-record GivenUpTo (stage : Stage) (bytes : List ℕ) (events : List Event) (number : ℕ) (packet : Packet) (rest : List ℕ) : Type 0 where
-  pub read : ReadUpTo (stage_after stage) bytes (with_given events (event_from packet)) rest
-  pub behind : number_past stage number ≡ number_after_events (with_given events (event_from packet))
-
-module _ (stage : Stage) (bytes : List ℕ) (events : List Event) (number : ℕ) (packet : Packet) (rest : List ℕ) where
-  -- the packet gives this event, or none
-  up_to : (given : Option Event) → event_from packet ≡ given → ReadUpTo (stage_after stage) bytes (with_given events given) rest
-      → number_past stage number ≡ number_after_events (with_given events given) → GivenUpTo stage bytes events number packet rest
-  up_to given is read behind = record {
-    read = subst (λ (o : Option Event). ReadUpTo (stage_after stage) bytes (with_given events o) rest) (sym is) read;
-    behind = behind ∙ ap (λ (o : Option Event). number_after_events (with_given events o)) (sym is);
-  }
-
-given_up_to : (stage : Stage) (bytes : List ℕ) (events : List Event) (number : ℕ) (before : List ℕ) (packet : Packet) (rest : List ℕ)
-    → number ≡ number_after_events events → ReadUpTo stage bytes events before → BeginsNext stage before packet rest
-    → GivenUpTo stage bytes events number packet rest
-given_up_to stages.Opening bytes events number before packet rest is read n =
-    let opened = opening_read bytes events before n.records read n.opened in
-    let init = greeting_read stages.Init refl bytes events n.records rest opened (record { packet = packet; is_kind = n.may_come; begins = n.begins }) in
-    up_to stages.Opening bytes events number packet rest None (event_of_init packet n.may_come) init is
-given_up_to stages.Init bytes events number before packet rest is read n =
-    let begins : Begins before packet rest = subst (λ (l : List ℕ). Begins l packet rest) n.opened n.begins in
-    let init = greeting_read stages.Init refl bytes events before rest read (record { packet = packet; is_kind = n.may_come; begins = begins }) in
-    up_to stages.Init bytes events number packet rest None (event_of_init packet n.may_come) init is
-given_up_to stages.Version bytes events number before packet rest is read n =
-    let begins : Begins before packet rest = subst (λ (l : List ℕ). Begins l packet rest) n.opened n.begins in
-    let version = greeting_read stages.Version refl bytes events before rest read (record { packet = packet; is_kind = n.may_come; begins = begins }) in
-    up_to stages.Version bytes events number packet rest None (event_of_version packet n.may_come) version is
-given_up_to stages.Events bytes events number before packet rest is read n =
-    let event = n.may_come.0 in
-    let begins : Begins before (packet_of event) rest =
-    subst (λ (p : Packet). Begins before p rest) n.may_come.1 (subst (λ (l : List ℕ). Begins l packet rest) n.opened n.begins) in
-    let more = event_read event bytes events before rest read (begins.spelled, begins.bytes_are) in
-    let some : event_from packet ≡ Some event = ap event_from n.may_come.1 ∙ event_back event in
-    up_to stages.Events bytes events number packet rest (Some event) some more (number_more events event number is)
-
-pub given_next : (old new : Reading) (given : Option GivenRecord) → new.number ≡ number_then old.stage old.number given
-    → new.fault ≡ old.fault → ((before : List ℕ) → HasAhead old.ahead before → GivesNext old.stage before given new)
-    → (bytes ahead : List ℕ) (events : List Event) → HasGiven bytes events ahead old → HasGivenOf bytes (with_given events (event_in given)) new
-given_next old new (Some g) number fault found bytes ahead events given =
-    let gives = found ahead given.ahead_are in
-    let rest = gives.1.0 in
-    let up = given_up_to old.stage bytes events old.number ahead g.1 rest given.number given.read gives.1.2 in (
-      rest,
-      record {
-        ahead_are = gives.1.1;
-        read = subst (λ (s : Stage). ReadUpTo s bytes (with_given events (event_from g.1)) rest) (sym gives.0) up.read;
-        number = number ∙ up.behind;
-        faultless = fault ∙ given.faultless;
-      },
-    )
-given_next old new None number fault found bytes ahead events given =
-    let gives = found ahead given.ahead_are in
-    let at : ReadUpTo stages.Events bytes events ahead = subst (λ (s : Stage). ReadUpTo s bytes events ahead) gives.0 given.read in
-    let all : ReadUpTo stages.Events bytes events [] = subst (λ (l : List ℕ). ReadUpTo stages.Events bytes events l) gives.2 at in (
-      [],
-      record {
-        ahead_are = gives.3;
-        read = subst (λ (s : Stage). ReadUpTo s bytes events []) (sym gives.1) all;
-        number = number ∙ given.number;
-        faultless = fault ∙ given.faultless;
-      },
-    )
-
--- ---- with an error no record is given
-
-pub given_untaken : (old new : Reading) → TookNoRecord old new → new.number ≡ old.number → new.fault ≡ old.fault
-    → (bytes ahead : List ℕ) (events : List Event) → HasGiven bytes events ahead old → HasGivenOf bytes events new
-given_untaken old new (inl kept) number fault bytes ahead events given =
-    given_kept old new kept.0 kept.1 number fault bytes ahead events given
-given_untaken old new (inr opened) number fault bytes ahead events given =
-    given_passed IsOpened stages.Opening stages.Init opening_read old new opened.0 opened.1 number fault opened.2 bytes ahead events given

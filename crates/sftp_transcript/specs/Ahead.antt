@@ -1,12 +1,10 @@
 -- What a reader of a transcript file has ahead of it: bytes that it holds, and bytes that its source has left.
 use Rattle.std.specs.Prelude.{◌≡◌, ℕ, ◌+◌, ◌*◌, ◌≤◌, List, ◌∷◌, ◌++◌, length, drop, Option, Some, None, Ok}
 use Rattle.std.specs.Io.KnownBytes.{Keeps, IsAtEnd, prepend_known}
-use Rattle.sftp_packets.specs.declared.packets.Packet.{Packet}
 use Rattle.sftp_packets.specs.declared.packets.Side.{Side}
 use Rattle.sftp_wire.specs.Fronts.{front_of}
 use Rattle.sftp_packets.specs.Spelling.{packet_limit}
-use Rattle.sftp_packets.specs.Packets.{HasSpelling}
-use Rattle.sftp_transcript.specs.Transcript.{transcript_opening, record_text}
+use Rattle.sftp_transcript.specs.Transcript.{transcript_opening}
 
 -- the bytes held; those left, where they are known; how many calls of the source failed; a number that falls with each
 -- read that gives bytes
@@ -36,12 +34,6 @@ size_of a = a.reads_left * (capacity + 1) + length a.held
 pub record IsSameAhead (old new : Ahead) : Type 0 where
   pub bytes : Keeps (bytes_ahead old) (bytes_ahead new)
   pub never_rises : size_of new ≤ size_of old
-
--- the record that the bytes ahead begin with, if any, is held whole
-abbrev pub HoldsRecord : Ahead → Type 0
-HoldsRecord a =
-    (packet : Packet) (bytes rest : List ℕ) → HasSpelling packet → bytes_ahead a ≡ Some bytes
-    → bytes ≡ record_text packet ++ rest → length (record_text packet) ≤ length a.held
 
 -- the opening, if the bytes ahead begin with it, is held whole
 abbrev pub HoldsOpening : Ahead → Type 0

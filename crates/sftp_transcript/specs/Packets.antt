@@ -1,5 +1,5 @@
 -- The records of a transcript file one after the other, INIT and VERSION among them. This profile's own.
-use Rattle.std.specs.Prelude.{◌≡◌, ◌⊎◌, ℕ, Bool, true, false, List, [], length, Option, Some, None}
+use Rattle.std.specs.Prelude.{◌≡◌, ◌⊎◌, ℕ, List, [], length, Option, Some, None}
 use Rattle.sftp_packets.specs.declared.packets.Packet.{Packet}
 use Rattle.sftp_packets.specs.declared.packets.Packet.TheVariants.{Init, Version, Request, Reply}
 use Rattle.sftp_packets.specs.declared.packets.Side.{Side}
@@ -30,13 +30,6 @@ stage_opened stages.Opening = stages.Init
 stage_opened stages.Init = stages.Init
 stage_opened stages.Version = stages.Version
 stage_opened stages.Events = stages.Events
-
--- an INIT or a VERSION is next, and no opening before it
-abbrev pub is_greeting : Stage → Bool
-is_greeting stages.Opening = false
-is_greeting stages.Init = true
-is_greeting stages.Version = true
-is_greeting stages.Events = false
 
 -- the stage after the next record
 abbrev pub stage_after : Stage → Stage
@@ -97,8 +90,7 @@ GivesPacket packet None = ⊥
 
 -- the packet in front and the number of its bytes are taken, or none at the end
 abbrev pub TookPacket : Stage → List ℕ → Option (Packet × ℕ) → Ahead → Type 0
-TookPacket stage before (Some taken) new =
-    MayCome stage taken.0 × Took (λ all rest. Begins all taken.0 rest) before new
+TookPacket stage before (Some taken) new = Took (λ all rest. BeginsNext stage all taken.0 rest) before new
 TookPacket stage before None new = (stage ≡ stages.Events) × (before ≡ []) × HasAhead new []
 
 -- the next record is given, or none at the end

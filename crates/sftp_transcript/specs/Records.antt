@@ -1,6 +1,6 @@
 -- The steps by which a transcript file is read from left to right. This profile's own.
 use Rattle.std.specs.Prelude.{◌≡◌, ◌==◌, ℕ, ◌≤◌, List, ◌++◌, Option, Some, None}
-use Rattle.std.specs.Prelude.{Result, MatchResult, IsTrue, if◌then◌else◌}
+use Rattle.std.specs.Prelude.{IsTrue, if◌then◌else◌}
 use Rattle.sftp_packets.specs.declared.errors.Fault.TheVariants.{Length, WrongType}
 use Rattle.sftp_packets.specs.declared.errors.WireError.{WireError}
 use Rattle.sftp_packets.specs.declared.errors.WireError.TheVariants.{TooLong, NotCanonical, Unreadable}
@@ -46,10 +46,6 @@ IsVersion other = ⊥
 -- the bytes begin with the record of one
 abbrev pub BeginsVersion : List ℕ → List ℕ → Type 0
 BeginsVersion bytes rest = BeginsKind IsVersion bytes rest
-
--- the result has the property, unless memory ran out
-abbrev pub GivesOnly : {A : Type 0} → (A → Type 0) → Result A TranscriptError → Type 0
-GivesOnly P result = MatchResult result P (λ e. e ≡ NoMemory)
 
 -- the fault of a record whose packet cannot be read
 abbrev pub read_fault : ℕ → WireError → TranscriptError

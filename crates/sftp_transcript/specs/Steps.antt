@@ -1,11 +1,10 @@
 -- How a reader of a transcript file takes what is in front of the bytes ahead. This profile's own.
-use Rattle.std.specs.Prelude.{◌≡◌, ℕ, ⊤, List, [], ◌++◌, Option, Some, None, Bool, IsTrue, Result, MatchResult}
+use Rattle.std.specs.Prelude.{◌≡◌, ℕ, ⊤, List, ◌++◌, Some, Bool, IsTrue, Result, MatchResult}
 use Rattle.sftp_transcript.specs.declared.errors.TranscriptError.{TranscriptError}
 use Rattle.sftp_transcript.specs.declared.errors.TranscriptError.TheVariants.{Io, NoMemory}
-use Rattle.sftp_transcript.specs.declared.events.Event.{Event}
 use Rattle.sftp_transcript.specs.Ahead.{Ahead, bytes_ahead}
 use Rattle.sftp_transcript.specs.Streams.{one_more}
-use Rattle.sftp_transcript.specs.Transcript.{transcript_opening, event_record, IsEvent}
+use Rattle.sftp_transcript.specs.Transcript.{transcript_opening}
 
 -- these bytes are ahead
 abbrev pub HasAhead : Ahead → List ℕ → Type 0
@@ -33,12 +32,3 @@ IsOpened before after = before ≡ transcript_opening ++ after
 -- some bytes are ahead: those that follow what the bytes before begin with
 abbrev pub Took : (List ℕ → List ℕ → Type 0) → List ℕ → Ahead → Type 0
 Took P before new = (after : List ℕ) × HasAhead new after × P before after
-
--- the bytes before begin with the event, and the bytes after follow
-abbrev pub BeginsEvent : Event → List ℕ → List ℕ → Type 0
-BeginsEvent event before after = IsEvent event × (before ≡ event_record event ++ after)
-
--- the event in front is taken, or nothing is ahead
-abbrev pub TookEvent : List ℕ → Option Event → Ahead → Type 0
-TookEvent before (Some event) new = Took (BeginsEvent event) before new
-TookEvent before None new = (before ≡ []) × HasAhead new []

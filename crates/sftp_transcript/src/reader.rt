@@ -1,6 +1,6 @@
 //! A transcript file that is read record by record from a source. This profile's own; the packets in it are those of
 //! the draft, section 4 on.
-ghost use Rattle.std.specs.Prelude.{◌≡◌, ◌≢◌, ◌⊎◌, ◌<◌, ◌≤◌, List, ℕ, ⊤, [], Some, None, Ok, Err, IfSome, MatchResult};
+ghost use Rattle.std.specs.Prelude.{◌≡◌, ◌≢◌, ◌⊎◌, ◌<◌, ◌≤◌, List, ℕ, [], Some, None, Ok, Err, IfSome, MatchResult};
 ghost use Rattle.std.specs.Prelude.{OnOk, OnErr, IfOk, IfErr};
 ghost use Rattle.sftp_packets.specs.declared.packets.Packet.{Packet};
 ghost use Rattle.sftp_transcript.specs.declared.errors.TranscriptError.{TranscriptError};
@@ -14,31 +14,23 @@ ghost use Rattle.sftp_transcript.specs.Begun.{HasGiven, HasGivenOf, GaveFrom, Fa
 ghost use Rattle.sftp_transcript.specs.Begun.{HasStillGiven};
 ghost use Rattle.sftp_transcript.specs.Packets.{IsAfterOpening, BeginsNext, FaultNext, IsMeasured, GivesPacket};
 ghost use Rattle.sftp_transcript.specs.Packets.{GivesNext, TookNoRecord, stage_opened, stage_after, number_past};
-ghost use Rattle.sftp_transcript.specs.Packets.{IsStageThen, number_then, event_in, is_greeting};
+ghost use Rattle.sftp_transcript.specs.Packets.{IsStageThen, MayCome, number_then, event_in};
 
 use crate::buffer::Buffer;
 use crate::errors::TranscriptError;
 use crate::events::Event;
 use crate::input::Input;
+use crate::records::event_of;
 use crate::stage::Stage;
-use crate::steps::{pass_event, pass_opening, pass_record};
+use crate::steps::{pass_opening, pass_record};
 use crate::streams::Source;
 use crate::writer::sender;
 use sftp_wire::{Packet, Side};
 use std::alloc::Global;
 use std::marker::Model;
 
-/// The number of the record after an event, or where there is none.
-fn number_after(number: u64, given: &Option<Event>) -> u64
-    ensures { result ≡ number_after number given.now }
-{
-    match given {
-        Some(_) => number.saturating_add(1),
-        None => number,
-    }
-}
-
 /// The number of the next event's record, after the record at this stage.
+#[inline(always)]
 fn number_past(stage: Stage, number: u64) -> u64
     ensures { result ≡ number_past stage number }
 {
@@ -51,6 +43,7 @@ fn number_past(stage: Stage, number: u64) -> u64
 }
 
 /// The stage after the record at this one.
+#[inline(always)]
 fn stage_after(stage: Stage) -> Stage
     ensures { result ≡ stage_after stage }
 {
@@ -117,23 +110,20 @@ impl<R: Source> Reader<R> {
     }
 
     /// Takes the opening if it is next.
+    #[inline(always)]
     fn take_opening(&mut self) -> Result<(), TranscriptError>
-        ensures same { RecordsSame self.old self.new }
-        ensures only { (events : List Event) → Records self.old events → MatchResult result (λ _. ⊤) IsExcuse }
-        ensures next { OnOk result (1 ≤ rank self.new.stage) }
-        ensures stage { OnOk result (self.new.stage ≡ stage_opened self.old.stage) }
         ensures opened { OnOk result ((before : List ℕ) → HasAhead self.old.ahead before
             → Took (IsAfterOpening self.old.stage) before self.new.ahead) }
+        ensures stage { OnOk result (self.new.stage ≡ stage_opened self.old.stage) }
+        ensures next { OnOk result (1 ≤ rank self.new.stage) }
         ensures kept { MatchResult result (λ _. TookNoRecord self.old self.new)
             (λ _. IsSameAhead self.old.ahead self.new.ahead × (self.new.stage ≡ self.old.stage)) }
-        ensures unopened { (before : List ℕ) → HasAhead self.old.ahead before
-            → IfErr result (λ error. IsExcuse error ⊎ FaultNext self.old.stage self.old.number before error) }
+        ensures number { self.new.number ≡ self.old.number }
+        ensures fault { self.new.fault ≡ self.old.fault }
+        ensures never_rises { size_of self.new.ahead ≤ size_of self.old.ahead }
         ensures refused { IfErr result (FaultIn self.new.stage self.new.number self.new.ahead.held) }
-        ensures first { (bytes ahead : List ℕ) (events : List Event) → HasGiven bytes events ahead self.old
-            → MatchResult result (λ _. HasGivenOf bytes events self.new) (FaultOf bytes events) }
-        ensures onward { rank self.old.stage ≤ rank self.new.stage }
-        ensures still { (bytes ahead : List ℕ) (events : List Event) → HasGiven bytes events ahead self.old
-            → OnErr result (HasGivenOf bytes events self.new) }
+        ensures first { (before : List ℕ) → HasAhead self.old.ahead before
+            → IfErr result (λ error. IsExcuse error ⊎ FaultNext self.old.stage self.old.number before error) }
         ensures counts { CountsError R.may_fail result self.old.ahead.failures self.new.ahead.failures }
     {
         match self.stage {
@@ -148,116 +138,14 @@ impl<R: Source> Reader<R> {
         }
     }
 
-    /// Whether an INIT or a VERSION is next, and no opening before it.
-    #[inline(always)]
-    fn greets(&self) -> bool
-        ensures { result ≡ is_greeting self.now.stage }
-    {
-        match self.stage {
-            Stage::Opening => false,
-            Stage::Init => true,
-            Stage::Version => true,
-            Stage::Events => false,
-        }
-    }
-
-    /// Takes the client's INIT or the server's VERSION, whichever is next.
-    #[inline(always)]
-    fn take_greeting(&mut self) -> Result<(), TranscriptError>
-        requires { 1 ≤ rank self.old.stage }
-        ensures same { RecordsSame self.old self.new }
-        ensures only { (events : List Event) → Records self.old events → MatchResult result (λ _. ⊤) IsExcuse }
-        ensures next { OnOk result (self.new.stage ≡ stage_after self.old.stage) }
-        ensures refused { IfErr result (FaultIn self.new.stage self.new.number self.new.ahead.held) }
-        ensures first { (bytes ahead : List ℕ) (events : List Event) → HasGiven bytes events ahead self.old
-            → MatchResult result (λ _. HasGivenOf bytes events self.new) (FaultOf bytes events) }
-        ensures onward { rank self.old.stage ≤ rank self.new.stage }
-        ensures still { (bytes ahead : List ℕ) (events : List Event) → HasGiven bytes events ahead self.old
-            → OnErr result (HasGivenOf bytes events self.new) }
-        ensures counts { CountsError R.may_fail result self.old.ahead.failures self.new.ahead.failures }
-    {
-        if self.greets() {
-            drop(self.take_record()?);
-        }
-        Ok(())
-    }
-
-    /// Takes what comes before the events.
-    #[inline(always)]
-    fn take_start(&mut self) -> Result<(), TranscriptError>
-        ensures same { RecordsSame self.old self.new }
-        ensures only { (events : List Event) → Records self.old events → MatchResult result (λ _. ⊤) IsExcuse }
-        ensures next { OnOk result (self.new.stage ≡ Stage.Events) }
-        ensures refused { IfErr result (FaultIn self.new.stage self.new.number self.new.ahead.held) }
-        ensures first { (bytes ahead : List ℕ) (events : List Event) → HasGiven bytes events ahead self.old
-            → MatchResult result (λ _. HasGivenOf bytes events self.new) (FaultOf bytes events) }
-        ensures onward { rank self.old.stage ≤ rank self.new.stage }
-        ensures still { (bytes ahead : List ℕ) (events : List Event) → HasGiven bytes events ahead self.old
-            → OnErr result (HasGivenOf bytes events self.new) }
-        ensures counts { CountsError R.may_fail result self.old.ahead.failures self.new.ahead.failures }
-    {
-        self.take_opening()?;
-        self.take_greeting()?;
-        self.take_greeting()?;
-        Ok(())
-    }
-
-    /// Takes the event in front.
-    #[inline(always)]
-    fn take_event(&mut self) -> Result<Option<Event>, TranscriptError>
-        requires { self.old.stage ≡ Stage.Events }
-        ensures found { IfOk result (λ given. IsKnown self.old → Gave self.old given self.new) }
-        ensures known { IsKnown self.old → IsKnown self.new }
-        ensures only { (events : List Event) → Records self.old events
-            → MatchResult result (λ given. Gives given events self.new) IsExcuse }
-        ensures same { OnErr result (RecordsSame self.old self.new) }
-        ensures fault { self.new.fault ≡ self.old.fault }
-        ensures stage { self.new.stage ≡ Stage.Events }
-        ensures number { IfOk result (λ given. self.new.number ≡ number_after self.old.number given) }
-        ensures falls { IfOk result (λ given. IfSome given (λ _. size_of self.new.ahead < size_of self.old.ahead)) }
-        ensures never_rises { size_of self.new.ahead ≤ size_of self.old.ahead }
-        ensures refused { IfErr result (FaultIn self.new.stage self.new.number self.new.ahead.held) }
-        ensures first { (bytes ahead : List ℕ) (events : List Event) → HasGiven bytes events ahead self.old
-            → MatchResult result (λ given. GaveFrom bytes events given self.new) (FaultOf bytes events) }
-        ensures still { (bytes ahead : List ℕ) (events : List Event) → HasGiven bytes events ahead self.old
-            → OnErr result (HasGivenOf bytes events self.new) }
-        ensures counts { CountsError R.may_fail result self.old.ahead.failures self.new.ahead.failures }
-    {
-        let given = pass_event(self.alloc, &mut self.input, self.number)?;
-        self.number = number_after(self.number, &given);
-        Ok(given)
-    }
-
-    /// Takes the next event.
-    #[inline(always)]
-    fn take_next(&mut self) -> Result<Option<Event>, TranscriptError>
-        ensures found { IfOk result (λ given. IsKnown self.old → Gave self.old given self.new) }
-        ensures known { IsKnown self.old → IsKnown self.new }
-        ensures only { (events : List Event) → Records self.old events
-            → MatchResult result (λ given. Gives given events self.new) IsExcuse }
-        ensures same { OnErr result (RecordsSame self.old self.new) }
-        ensures fault { self.new.fault ≡ self.old.fault }
-        ensures stage { MatchResult result (λ _. self.new.stage ≡ Stage.Events)
-            (λ _. rank self.old.stage ≤ rank self.new.stage) }
-        ensures number { IfOk result (λ given. self.new.number ≡ number_after self.old.number given) }
-        ensures falls { IfOk result (λ given. IfSome given (λ _. size_of self.new.ahead < size_of self.old.ahead)) }
-        ensures refused { IfErr result (FaultIn self.new.stage self.new.number self.new.ahead.held) }
-        ensures first { (bytes ahead : List ℕ) (events : List Event) → HasGiven bytes events ahead self.old
-            → MatchResult result (λ given. GaveFrom bytes events given self.new) (FaultOf bytes events) }
-        ensures still { (bytes ahead : List ℕ) (events : List Event) → HasGiven bytes events ahead self.old
-            → OnErr result (HasGivenOf bytes events self.new) }
-        ensures counts { CountsError R.may_fail result self.old.ahead.failures self.new.ahead.failures }
-    {
-        self.take_start()?;
-        self.take_event()
-    }
-
     /// Takes the record in front. The opening was taken before.
+    #[inline(always)]
     fn take_record(&mut self) -> Result<Option<(Side, Packet, usize)>, TranscriptError>
         requires { 1 ≤ rank self.old.stage }
         ensures found { IfOk result (λ given. (before : List ℕ) → HasAhead self.old.ahead before
             → GivesNext self.old.stage before given self.new) }
         ensures measured { IfOk result (λ given. IfSome given IsMeasured) }
+        ensures may_come { IfOk result (λ given. IfSome given (λ g. MayCome self.old.stage g.1)) }
         ensures kept { OnErr result (IsSameAhead self.old.ahead self.new.ahead × (self.new.stage ≡ self.old.stage)) }
         ensures fault { self.new.fault ≡ self.old.fault }
         ensures number { MatchResult result
@@ -282,15 +170,18 @@ impl<R: Source> Reader<R> {
     }
 
     /// Takes the next record, and before it the opening if that is next.
+    #[inline(always)]
     fn take_next_record(&mut self) -> Result<Option<(Side, Packet, usize)>, TranscriptError>
         ensures found { IfOk result (λ given. (before : List ℕ) → HasAhead self.old.ahead before
             → GivesNext self.old.stage before given self.new) }
         ensures measured { IfOk result (λ given. IfSome given IsMeasured) }
+        ensures may_come { IfOk result (λ given. IfSome given (λ g. MayCome self.old.stage g.1)) }
         ensures kept { OnErr result (TookNoRecord self.old self.new) }
-        ensures same { OnErr result (RecordsSame self.old self.new) }
         ensures fault { self.new.fault ≡ self.old.fault }
-        ensures number { IfOk result
-            (λ given. self.new.number ≡ number_then self.old.stage self.old.number given) }
+        ensures number { MatchResult result
+            (λ given. self.new.number ≡ number_then self.old.stage self.old.number given)
+            (λ _. self.new.number ≡ self.old.number) }
+        ensures never_rises { size_of self.new.ahead ≤ size_of self.old.ahead }
         ensures stage { IfOk result (λ given. IsStageThen self.old.stage given self.new.stage) }
         ensures falls { IfOk result (λ given. IfSome given (λ _. size_of self.new.ahead < size_of self.old.ahead)) }
         ensures refused { IfErr result (FaultIn self.new.stage self.new.number self.new.ahead.held) }
@@ -366,14 +257,13 @@ impl<R: Source> Reader<R> {
             → CountsError R.may_fail result self.old.ahead.failures self.new.ahead.failures }
         ensures falls { IfOk result (λ given. IfSome given (λ _. size_of self.new.ahead < size_of self.old.ahead)) }
     {
-        if let Some(fault) = self.fault {
-            return Err(fault);
-        }
-        match self.take_next() {
-            Ok(given) => Ok(given),
-            Err(error) => {
-                self.report(error);
-                Err(error)
+        'greetings: loop {
+            match self.next_record()? {
+                Some((_, packet, _)) => match event_of(packet) {
+                    Some(event) => return Ok(Some(event)),
+                    None => {}
+                },
+                None => return Ok(None),
             }
         }
     }
@@ -384,6 +274,7 @@ impl<R: Source> Reader<R> {
     /// # Errors
     ///
     /// Those of `next`.
+    #[inline(always)]
     pub fn next_record(&mut self) -> Result<Option<(Side, Packet, usize)>, TranscriptError>
         // An error that was returned is returned again.
         ensures again { (error : TranscriptError) → self.old.fault ≡ Some error
@@ -392,6 +283,8 @@ impl<R: Source> Reader<R> {
         ensures found { IfOk result (λ given. (before : List ℕ) → HasAhead self.old.ahead before
             → GivesNext self.old.stage before given self.new) }
         ensures measured { IfOk result (λ given. IfSome given IsMeasured) }
+        // It may come where it stands: an INIT first, then a VERSION, then the packets of events.
+        ensures may_come { IfOk result (λ given. IfSome given (λ g. MayCome self.old.stage g.1)) }
         // Unless memory runs out or the source fails, it returns the record that is next.
         ensures only { (packet : Packet) (before rest : List ℕ) → self.old.fault ≡ None
             → HasAhead self.old.ahead before → BeginsNext self.old.stage before packet rest

@@ -1,14 +1,13 @@
 //! The records of transcript files, read from the bytes held. This profile's own; the packets in them are those of
 //! draft-ietf-secsh-filexfer-02, section 4 on.
-ghost use Rattle.std.specs.Prelude.{◌≡◌, ℕ, List, ◌++◌, ◌<◌, length, IfOk, IfErr, IsTrue, false};
-ghost use Rattle.sftp_packets.specs.declared.packets.Packet.{Packet};
+ghost use Rattle.std.specs.Prelude.{◌≡◌, ℕ, List, ◌++◌, ◌<◌, length, IfOk, IfErr, OnOk, OnErr, IsTrue, false};
 ghost use Rattle.sftp_packets.specs.Packets.{spelling, HasSpelling, side_of};
 ghost use Rattle.sftp_transcript.specs.declared.events.Event.{Event};
-ghost use Rattle.sftp_transcript.specs.Transcript.{transcript_opening, packet_of, event_record, IsEvent, IsRecord};
-ghost use Rattle.sftp_transcript.specs.Records.{side_of_direction, read_fault, Begins, GivesOnly};
+ghost use Rattle.sftp_transcript.specs.Transcript.{transcript_opening, IsRecord};
+ghost use Rattle.sftp_transcript.specs.Records.{side_of_direction, read_fault, Begins};
 ghost use Rattle.sftp_transcript.specs.Records.{IsInit, IsVersion};
-ghost use Rattle.sftp_transcript.specs.Refused.{PacketFault, RecordFault, EventFault, KindFault, IsEventPacket};
-ghost use Rattle.sftp_transcript.specs.Packets.{MayCome};
+ghost use Rattle.sftp_transcript.specs.Refused.{PacketFault, RecordFault, KindFault, IsEventPacket};
+ghost use Rattle.sftp_transcript.specs.Packets.{MayCome, event_from};
 
 use crate::errors::TranscriptError;
 use crate::events::Event;
@@ -25,49 +24,17 @@ const PROTOCOL_VERSION: u32 = 3;
 /// The bytes after the opening.
 pub(crate) fn take_opening(bytes: &[u8]) -> Result<&[u8], TranscriptError>
     ensures found { IfOk result (λ rest. bytes.now ≡ transcript_opening ++ rest.now) }
-    ensures only { (rest : List ℕ) → bytes.now ≡ transcript_opening ++ rest → GivesOnly (λ r. r.now ≡ rest) result }
     ensures refused { IfErr result (λ error. error ≡ TranscriptError.Magic 0) }
+    ensures none { OnErr result ((rest : List ℕ) → bytes.now ≡ transcript_opening ++ rest → ⊥) }
 {
     bytes
         .strip_prefix(&OPENING)
         .ok_or(TranscriptError::Magic { record: 0 })
 }
 
-/// The event of the record in front, and the bytes after it.
-#[inline(always)]
-pub(crate) fn take_event(
-    alloc: Global,
-    bytes: &[u8],
-    number: u64,
-) -> Result<(Event, &[u8]), TranscriptError>
-    ensures found { IfOk result (λ taken. IsEvent taken.0 × (bytes.now ≡ event_record taken.0 ++ taken.1.now)) }
-    ensures only { (event : Event) (rest : List ℕ) → IsEvent event → bytes.now ≡ event_record event ++ rest →
-        GivesOnly (λ taken. (taken.0 ≡ event) × (taken.1.now ≡ rest)) result }
-    ensures shorter { IfOk result (λ taken. length taken.1.now < length bytes.now) }
-    ensures refused { IfErr result (EventFault number bytes.now) }
-{
-    let (packet, rest) = take_record(alloc, bytes, number)?;
-    let event = event_of(packet, number)?;
-    Ok((event, rest))
-}
-
-/// The event of a packet: `Start` if the packet is an INIT or a VERSION.
-#[inline(always)]
-fn event_of(packet: Packet, number: u64) -> Result<Event, TranscriptError>
-    ensures found { IfOk result (λ event. packet ≡ packet_of event) }
-    ensures none { IfErr result (λ _. (event : Event) → packet ≡ packet_of event → ⊥) }
-    ensures start { IfErr result (λ error. error ≡ TranscriptError.Start number) }
-{
-    match packet {
-        Packet::Request(request) => Ok(Event::Asked(request)),
-        Packet::Reply(reply) => Ok(Event::Replied(reply)),
-        Packet::Init { .. } => Err(TranscriptError::Start { record: number }),
-        Packet::Version { .. } => Err(TranscriptError::Start { record: number }),
-    }
-}
-
 /// The packet of the record in front, if it may come at this stage, and the bytes after it. `Start` if no byte is left
 /// or the packet may not come.
+#[inline(always)]
 pub(crate) fn take_next(
     alloc: Global,
     bytes: &[u8],
@@ -79,25 +46,26 @@ pub(crate) fn take_next(
     ensures refused { IfErr result (KindFault (MayCome stage) number bytes.now) }
 {
     let (packet, rest) = take_record(alloc, bytes, number)?;
-    let packet = next_packet(packet, stage, number)?;
+    check(&packet, stage, number)?;
     Ok((packet, rest))
 }
 
-/// The packet, if it may come at this stage; else `Start`.
-fn next_packet(packet: Packet, stage: Stage, number: u64) -> Result<Packet, TranscriptError>
-    ensures found { IfOk result (λ given. (given ≡ packet) × MayCome stage packet) }
-    ensures none { IfErr result (λ _. MayCome stage packet → ⊥) }
+/// `Start` unless the packet may come at this stage.
+#[inline(always)]
+fn check(packet: &Packet, stage: Stage, number: u64) -> Result<(), TranscriptError>
+    ensures found { OnOk result (MayCome stage packet.now) }
+    ensures none { OnErr result (MayCome stage packet.now → ⊥) }
     ensures start { IfErr result (λ error. error ≡ TranscriptError.Start number) }
 {
-    if may_come(&packet, stage) {
-        Ok(packet)
+    if may_come(packet, stage) {
+        Ok(())
     } else {
-        drop(packet);
         Err(TranscriptError::Start { record: number })
     }
 }
 
 /// Whether the packet may come at this stage.
+#[inline(always)]
 fn may_come(packet: &Packet, stage: Stage) -> bool
     ensures yes { IsTrue result → MayCome stage packet.now }
     ensures no { result ≡ false → MayCome stage packet.now → ⊥ }
@@ -133,6 +101,7 @@ fn is_version(packet: &Packet) -> bool
 }
 
 /// Whether the packet is a request or a reply.
+#[inline(always)]
 fn is_event(packet: &Packet) -> bool
     ensures yes { IsTrue result → IsEventPacket packet.now }
     ensures no { result ≡ false → IsEventPacket packet.now → ⊥ }
@@ -145,12 +114,23 @@ fn is_event(packet: &Packet) -> bool
     }
 }
 
+/// The event of a packet; none if the packet is an INIT or a VERSION.
+#[inline(always)]
+pub(crate) fn event_of(packet: Packet) -> Option<Event>
+    ensures { result ≡ event_from packet }
+{
+    match packet {
+        Packet::Request(request) => Some(Event::Asked(request)),
+        Packet::Reply(reply) => Some(Event::Replied(reply)),
+        Packet::Init { .. } => None,
+        Packet::Version { .. } => None,
+    }
+}
+
 /// The packet of the record in front, and the bytes after it. `Start` if no byte is left.
 #[inline(always)]
 fn take_record(alloc: Global, bytes: &[u8], number: u64) -> Result<(Packet, &[u8]), TranscriptError>
     ensures found { IfOk result (λ taken. Begins bytes.now taken.0 taken.1.now) }
-    ensures only { (packet : Packet) (rest : List ℕ) → Begins bytes.now packet rest →
-        GivesOnly (λ taken. (taken.0 ≡ packet) × (taken.1.now ≡ rest)) result }
     ensures refused { IfErr result (RecordFault number bytes.now) }
 {
     match bytes {
@@ -183,8 +163,6 @@ fn take_packet(
 ) -> Result<(Packet, &[u8]), TranscriptError>
     ensures found { IfOk result (λ taken. HasSpelling taken.0 × (side_of taken.0 ≡ side)
         × (bytes.now ≡ spelling taken.0 ++ taken.1.now)) }
-    ensures only { (packet : Packet) (rest : List ℕ) → HasSpelling packet → side_of packet ≡ side →
-        bytes.now ≡ spelling packet ++ rest → GivesOnly (λ taken. (taken.0 ≡ packet) × (taken.1.now ≡ rest)) result }
     ensures refused { IfErr result (PacketFault number side bytes.now) }
 {
     match front(alloc, bytes, side) {

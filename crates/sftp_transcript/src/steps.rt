@@ -1,29 +1,26 @@
-//! What a reader of a transcript file takes from its input: the opening, an event, and any record.
+//! What a reader of a transcript file takes from its input: the opening, and a record.
 ghost use Rattle.std.specs.Prelude.{◌≡◌, ◌⊎◌, ◌<◌, ◌≤◌, List, ℕ, [], Some, None, OnOk, OnErr, IfOk, IfErr};
-ghost use Rattle.std.specs.Prelude.{IfSome, MatchResult, IsTrue, false, length};
+ghost use Rattle.std.specs.Prelude.{IfSome, IsTrue, false, length};
 ghost use Rattle.sftp_packets.specs.Packets.{spelling};
-ghost use Rattle.sftp_transcript.specs.declared.events.Event.{Event};
 ghost use Rattle.sftp_transcript.specs.Ahead.{IsSameAhead, size_of};
 ghost use Rattle.sftp_transcript.specs.Begun.{FaultAhead};
-ghost use Rattle.sftp_transcript.specs.Packets.{TookPacket, record_number};
+ghost use Rattle.sftp_transcript.specs.Packets.{MayCome, TookPacket, record_number};
 ghost use Rattle.sftp_transcript.specs.Recorded.{rank};
 ghost use Rattle.sftp_transcript.specs.Refused.{FaultIn};
-ghost use Rattle.sftp_transcript.specs.Steps.{HasAhead, IsExcuse, CountsError, IsOpened, Took, BeginsEvent, TookEvent};
+ghost use Rattle.sftp_transcript.specs.Steps.{HasAhead, IsExcuse, CountsError, IsOpened, Took};
 
 use crate::errors::TranscriptError;
-use crate::events::Event;
 use crate::input::Input;
-use crate::records::{take_event, take_next, take_opening};
+use crate::records::{take_next, take_opening};
 use crate::stage::Stage;
 use crate::streams::Source;
 use sftp_wire::Packet;
 use std::alloc::Global;
 
 /// Takes the opening.
+#[inline(never)]
 pub(crate) fn pass_opening<R: Source>(input: &mut Input<R>) -> Result<(), TranscriptError>
     ensures found { OnOk result ((before : List ℕ) → HasAhead input.old before → Took IsOpened before input.new) }
-    ensures only { (before after : List ℕ) → HasAhead input.old before → IsOpened before after
-        → MatchResult result (λ _. HasAhead input.new after) IsExcuse }
     ensures same { OnErr result (IsSameAhead input.old input.new) }
     ensures never_rises { size_of input.new ≤ size_of input.old }
     ensures refused { IfErr result (FaultIn Stage.Opening 0 input.new.held) }
@@ -37,37 +34,8 @@ pub(crate) fn pass_opening<R: Source>(input: &mut Input<R>) -> Result<(), Transc
     Ok(())
 }
 
-/// Takes the event in front; `None` at the end.
-#[inline(always)]
-pub(crate) fn pass_event<R: Source>(
-    alloc: Global,
-    input: &mut Input<R>,
-    number: u64,
-) -> Result<Option<Event>, TranscriptError>
-    ensures found { IfOk result (λ given. (before : List ℕ) → HasAhead input.old before
-        → TookEvent before given input.new) }
-    ensures only { (event : Event) (before after : List ℕ) → HasAhead input.old before → BeginsEvent event before after
-        → MatchResult result (λ given. (given ≡ Some event) × HasAhead input.new after) IsExcuse }
-    ensures ends { HasAhead input.old [] → MatchResult result (λ given. given ≡ None) IsExcuse }
-    ensures same { OnErr result (IsSameAhead input.old input.new) }
-    ensures never_rises { size_of input.new ≤ size_of input.old }
-    ensures falls { IfOk result (λ given. IfSome given (λ _. size_of input.new < size_of input.old)) }
-    ensures refused { IfErr result (FaultIn Stage.Events number input.new.held) }
-    ensures first { (before : List ℕ) → HasAhead input.old before
-        → IfErr result (λ error. IsExcuse error ⊎ FaultAhead Stage.Events number before error) }
-    ensures counts { CountsError R.may_fail result input.old.failures input.new.failures }
-{
-    input.fill_record(number)?;
-    if input.held().is_empty() {
-        return Ok(None);
-    }
-    let (event, rest) = take_event(alloc, input.held(), number)?;
-    let left = rest.len();
-    input.take(input.held().len() - left);
-    Ok(Some(event))
-}
-
 /// The number of the record at this stage, given that of the next event's record.
+#[inline(always)]
 fn record_number(stage: Stage, number: u64) -> u64
     ensures { result ≡ record_number stage number }
 {
@@ -80,6 +48,7 @@ fn record_number(stage: Stage, number: u64) -> u64
 }
 
 /// Whether the transcript may end at this stage, and no bytes are held.
+#[inline(always)]
 fn is_end(held: &[u8], stage: Stage) -> bool
     ensures yes { IsTrue result → (stage ≡ Stage.Events) × (held.now ≡ []) }
     ensures no { result ≡ false → stage ≡ Stage.Events → 0 < length held.now }
@@ -94,6 +63,7 @@ fn is_end(held: &[u8], stage: Stage) -> bool
 
 /// Takes the record in front, and returns its packet and the number of the packet's bytes; `None` at the end. The
 /// opening was taken before. The number is that of the next event's record.
+#[inline(always)]
 pub(crate) fn pass_record<R: Source>(
     alloc: Global,
     input: &mut Input<R>,
@@ -103,6 +73,7 @@ pub(crate) fn pass_record<R: Source>(
     requires { 1 ≤ rank stage }
     ensures found { IfOk result (λ given. (before : List ℕ) → HasAhead input.old before
         → TookPacket stage before given input.new) }
+    ensures may_come { IfOk result (λ given. IfSome given (λ taken. MayCome stage taken.0)) }
     ensures measured { IfOk result (λ given. IfSome given (λ taken. taken.1 ≡ length (spelling taken.0))) }
     ensures end { IfOk result (λ given. given ≡ None → stage ≡ Stage.Events) }
     ensures same { OnErr result (IsSameAhead input.old input.new) }

@@ -5,14 +5,14 @@ use Rattle.sftp_transcript.proofs.Imports.{AllByRecursion, append_cancel_left, f
 use Rattle.sftp_transcript.proofs.Imports.{Version, Side, Client, Server, TranscriptError, Wire, Truncated, NoMemory}
 use Rattle.sftp_transcript.proofs.Imports.{Event, Stage, BeginsRecord, ReadUpTo, FaultAhead, FaultAfter}
 use Rattle.sftp_transcript.proofs.Imports.{number_after_events, side_of_direction, Begins, IsInit, IsVersion}
-use Rattle.sftp_transcript.proofs.Imports.{transcript_opening, direction_of, record_text, packet_of, event_record}
+use Rattle.sftp_transcript.proofs.Imports.{transcript_opening, direction_of, packet_of, event_record}
 use Rattle.sftp_transcript.proofs.Imports.{IsEvent, AreRecords, IsHandshake, IsRecord, front_of}
 use Rattle.sftp_packets.specs.Packets.{spelling, HasSpelling, side_of}
 use Rattle.sftp_wire.proofs.StreamLaws.Front.{front_again}
 use Rattle.sftp_transcript.specs.declared.stage.Stage.TheVariants as stages
 use Rattle.sftp_transcript.specs.Refused.{KindFault, PacketFault, DirectedFault, RecordFault, IsEventPacket, EventFault}
 use Rattle.sftp_transcript.proofs.transcripts.OneRecord.{begins_one, event_from_packet}
-use Rattle.sftp_transcript.proofs.transcripts.Reading.{records_of, record_parts}
+use Rattle.sftp_transcript.proofs.transcripts.Reading.{records_of, record_parts, handshake_parts}
 
 -- ---- what begins the records begins each list of events
 
@@ -48,12 +48,11 @@ goes_on (event ∷ events) (other ∷ others) bytes rest all e are =
 -- the records after a handshake are fixed
 pub same_records : (opened records others : List ℕ) → IsHandshake opened records → IsHandshake opened others → records ≡ others
 same_records opened records others one other =
-    let init = begins_one opened (Init one.version one.asked) (Init other.version other.asked)
-    (record_text (Version 3 one.told) ++ records) (record_text (Version 3 other.told) ++ others)
-    (record { spelled = one.init; bytes_are = one.bytes_are }) (record { spelled = other.init; bytes_are = other.bytes_are }) in
-    let answer = begins_one (record_text (Version 3 one.told) ++ records) (Version 3 one.told) (Version 3 other.told) records others
-    (record { spelled = one.answer; bytes_are = refl }) (record { spelled = other.answer; bytes_are = init.1 }) in
-    answer.1
+    let p = handshake_parts opened records one in
+    let q = handshake_parts opened others other in
+    let middle = begins_one opened p.init.packet q.init.packet p.middle q.middle p.init.begins q.init.begins in
+    (begins_one p.middle p.version.packet q.version.packet records others p.version.begins
+    (subst (λ (l : List ℕ). Begins l q.version.packet others) (sym middle.1) q.version.begins)).1
 
 -- what begins the bytes begins each list of events that they record
 pub begins_each : (events others : List Event) (bytes rest : List ℕ) → BeginsRecord events bytes rest → IsRecord others bytes
@@ -102,7 +101,7 @@ not_both P packet number bytes rest error apart is begins (inr other) =
     let one = begins_one bytes packet other.1.packet rest other.1.rest begins other.1.begins in
     other.1.is_other (subst P one.0 is)
 
-none_behind : (more : List Event) (ahead : List ℕ) (number : ℕ) (error : TranscriptError) → error ≢ NoMemory
+pub none_behind : (more : List Event) (ahead : List ℕ) (number : ℕ) (error : TranscriptError) → error ≢ NoMemory
     → AreRecords more ahead → ahead ≢ [] → EventFault number ahead error → ⊥
 none_behind [] ahead number error apart are some fault = some are.bytes_are
 none_behind (event ∷ more) ahead number error apart are some fault =
@@ -121,7 +120,9 @@ not_recorded stages.Version events others bytes ahead number error apart read fa
     let opened = read.1.opened in
     let p = record_parts others bytes opened read.1.opening is in
     let same = begins_one opened p.init.packet read.1.init.packet p.middle ahead p.init.begins read.1.init.begins in
-    not_both IsVersion p.version.packet 2 ahead p.records error apart p.version.is_kind (subst (λ (l : List ℕ). Begins l p.version.packet p.records) same.1 p.version.begins) fault
+    let answer = p.answered in
+    not_both IsVersion answer.version.packet 2 ahead answer.records error apart answer.version.is_kind
+    (subst (λ (l : List ℕ). Begins l answer.version.packet answer.records) same.1 answer.version.begins) fault
 not_recorded stages.Events events others bytes ahead number error apart read fault is =
     let on = begins_each events others bytes ahead read is in
     none_behind on.more ahead number error apart on.recorded fault.0 fault.1

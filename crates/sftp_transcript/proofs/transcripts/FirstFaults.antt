@@ -5,11 +5,12 @@ use Rattle.sftp_transcript.proofs.Imports.{flat_map, AllByRecursion, append_canc
 use Rattle.sftp_transcript.proofs.Imports.{Side, TranscriptError, Wire, Truncated, NoMemory, Event, Stage, BeginsRecord}
 use Rattle.sftp_transcript.proofs.Imports.{BeginsWithInit, ReadUpTo, FaultAhead, FaultAfter, number_after_events}
 use Rattle.sftp_transcript.proofs.Imports.{side_of_direction, Begins, IsInit, IsVersion, BeginsVersion, rank}
-use Rattle.sftp_transcript.proofs.Imports.{transcript_opening, record_text, packet_of, event_record, IsEvent, front_of}
+use Rattle.sftp_transcript.proofs.Imports.{transcript_opening, packet_of, event_record, IsEvent, front_of}
 use Rattle.sftp_transcript.specs.declared.stage.Stage.TheVariants as stages
 use Rattle.sftp_transcript.specs.Refused.{KindFault, PacketFault, DirectedFault, RecordFault, IsEventPacket, EventFault}
 use Rattle.sftp_transcript.proofs.transcripts.Beginnings.{first_record, same_records, whole_record, not_both}
 use Rattle.sftp_transcript.proofs.transcripts.OneRecord.{begins_one, event_from_packet}
+use Rattle.sftp_transcript.proofs.transcripts.Reading.{handshake_parts}
 
 -- ---- a record has one fault
 
@@ -130,28 +131,6 @@ fault_ends events others ahead rest number error apart fault on =
 
 -- ---- what is read up to a stage has all that comes before
 
-init_of : (events : List Event) (bytes rest : List ℕ) (begins : BeginsRecord events bytes rest)
-    → BeginsWithInit bytes (record_text (Version 3 begins.handshake.told) ++ begins.records)
-init_of events bytes rest begins =
-    let shake = begins.handshake in
-    record {
-      opened = begins.opened;
-      opening = begins.opening;
-      init = record {
-        packet = Init shake.version shake.asked;
-        is_kind = shake.high_enough;
-        begins = record { spelled = shake.init; bytes_are = shake.bytes_are };
-      };
-    }
-
-version_of : (events : List Event) (bytes rest : List ℕ) (begins : BeginsRecord events bytes rest)
-    → BeginsVersion (record_text (Version 3 begins.handshake.told) ++ begins.records) begins.records
-version_of events bytes rest begins = record {
-  packet = Version 3 begins.handshake.told;
-  is_kind = refl;
-  begins = record { spelled = begins.handshake.answer; bytes_are = refl };
-}
-
 opens : (stage : Stage) (bytes : List ℕ) (events : List Event) (ahead : List ℕ) → 1 ≤ rank stage
     → ReadUpTo stage bytes events ahead → (opened : List ℕ) × (bytes ≡ transcript_opening ++ opened)
 opens stages.Opening bytes events ahead far read = absurd (omega (arith, far))
@@ -165,19 +144,17 @@ inits stages.Opening bytes events ahead far read = absurd (omega (arith, far))
 inits stages.Init bytes events ahead far read = absurd (omega (arith, far))
 inits stages.Version bytes events ahead far read = (ahead, read.1)
 inits stages.Events bytes events ahead far read =
-    (record_text (Version 3 read.handshake.told) ++ read.records, init_of events bytes ahead read)
+    let p = handshake_parts read.opened read.records read.handshake in
+    (p.middle, record { opened = read.opened; opening = read.opening; init = p.init })
 
 versions : (stage : Stage) (bytes : List ℕ) (events : List Event) (ahead : List ℕ) → 3 ≤ rank stage
     → ReadUpTo stage bytes events ahead → (middle rest : List ℕ) × BeginsWithInit bytes middle × BeginsVersion middle rest
 versions stages.Opening bytes events ahead far read = absurd (omega (arith, far))
 versions stages.Init bytes events ahead far read = absurd (omega (arith, far))
 versions stages.Version bytes events ahead far read = absurd (omega (arith, far))
-versions stages.Events bytes events ahead far read = (
-  record_text (Version 3 read.handshake.told) ++ read.records,
-  read.records,
-  init_of events bytes ahead read,
-  version_of events bytes ahead read,
-)
+versions stages.Events bytes events ahead far read =
+    let p = handshake_parts read.opened read.records read.handshake in
+    (p.middle, read.records, record { opened = read.opened; opening = read.opening; init = p.init }, p.version)
 
 one_init : (bytes ahead rest : List ℕ) → BeginsWithInit bytes ahead → BeginsWithInit bytes rest → ahead ≡ rest
 one_init bytes ahead rest one other =

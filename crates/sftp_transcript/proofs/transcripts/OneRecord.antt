@@ -46,6 +46,8 @@ records_are_one_lem events others bytes is same =
     let p = record_parts events bytes is.opened is.opening is in
     let q = record_parts others bytes is.opened is.opening same in
     let middle = begins_one is.opened p.init.packet q.init.packet p.middle q.middle p.init.begins q.init.begins in
-    let records = begins_one p.middle p.version.packet q.version.packet p.records q.records p.version.begins
-    (rw middle.1 q.version.begins) in
-    AreRecords-one events others p.records p.recorded (rw records.1 q.recorded)
+    let one = p.answered in
+    let other = q.answered in
+    let records = begins_one p.middle one.version.packet other.version.packet one.records other.records one.version.begins
+    (rw middle.1 other.version.begins) in
+    AreRecords-one events others one.records one.recorded (rw records.1 other.recorded)

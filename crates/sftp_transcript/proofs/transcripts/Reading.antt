@@ -2,8 +2,9 @@
 use Rattle.sftp_transcript.proofs.Imports.{eqb-true, ◌≡◌, ℕ, List, [], ◌∷◌, ◌++◌, length, refl, sym, ◌∙◌, subst, arith}
 use Rattle.sftp_transcript.proofs.Imports.{flat_map, append-nil, event_record, append_cancel_left, Event, Packet, Init}
 use Rattle.sftp_transcript.proofs.Imports.{Version, transcript_opening, AreRecords, IsHandshake, IsRecord, Begins}
-use Rattle.sftp_transcript.proofs.Imports.{IsInit, IsVersion, BeginsVersion}
-use Rattle.sftp_transcript.specs.Records.{BeginsInit}
+use Rattle.sftp_transcript.proofs.Imports.{IsInit, IsVersion, record_text}
+use Rattle.sftp_transcript.specs.Recorded.{RecordsFromInit}
+use Rattle.sftp_transcript.specs.Records.{BeginsInit, BeginsVersion}
 
 pub no_events : (events : List Event) (bytes : List ℕ) → length bytes ≡ 0 → AreRecords events bytes → events ≡ []
 no_events [] bytes none are = refl
@@ -16,24 +17,37 @@ records_of events bytes is =
 
 -- ---- the records before the events
 
--- the steps by which events are recorded after the opening
-pub record RecordParts (events : List Event) (opened : List ℕ) : Type 0 where
+-- a handshake is an INIT, and then a VERSION
+pub record HandshakeParts (opened records : List ℕ) : Type 0 where
   pub middle : List ℕ
-  pub records : List ℕ
   pub init : BeginsInit opened middle
   pub version : BeginsVersion middle records
-  pub recorded : AreRecords events records
 
-handshake_parts : (events : List Event) (opened records : List ℕ) → IsHandshake opened records
-    → AreRecords events records → RecordParts events opened
-handshake_parts events opened records shake are = grind arith
+pub handshake_parts : (opened records : List ℕ) → IsHandshake opened records → HandshakeParts opened records
+handshake_parts opened records shake = record {
+  middle = record_text (Version 3 shake.told) ++ records;
+  init = record {
+    packet = Init shake.version shake.asked;
+    is_kind = shake.high_enough;
+    begins = record { spelled = shake.init; bytes_are = shake.bytes_are };
+  };
+  version = record {
+    packet = Version 3 shake.told;
+    is_kind = refl;
+    begins = record { spelled = shake.answer; bytes_are = refl };
+  };
+}
 
 pub record_parts : (events : List Event) (bytes opened : List ℕ) → bytes ≡ transcript_opening ++ opened
-    → IsRecord events bytes → RecordParts events opened
+    → IsRecord events bytes → RecordsFromInit events opened
 record_parts events bytes opened e is =
     let same : is.opened ≡ opened = append_cancel_left transcript_opening is.opened opened (sym is.opening ∙ e) in
-    handshake_parts events opened is.records (subst (λ (l : List ℕ). IsHandshake l is.records) same is.handshake)
-    (records_of events bytes is)
+    let p = handshake_parts opened is.records (subst (λ (l : List ℕ). IsHandshake l is.records) same is.handshake) in
+    record {
+      middle = p.middle;
+      init = p.init;
+      answered = record { records = is.records; version = p.version; recorded = records_of events bytes is };
+    }
 
 -- an INIT and a VERSION in front are a handshake
 pub handshake_by : (p q : Packet) (opened middle records : List ℕ) → IsInit p → Begins opened p middle → IsVersion q

@@ -1,17 +1,8 @@
 -- Where the bytes ahead begin with the opening, so do the bytes held.
 use Rattle.sftp_transcript.proofs.Imports.{err_from_is_err_and, bytes_ahead, HasAhead}
 use Rattle.sftp_transcript.proofs.Faults.{opening_fault}
-use Rattle.sftp_transcript.proofs.Taking.{known_kept, excused, opening_front}
+use Rattle.sftp_transcript.proofs.Taking.{known_kept}
 use Rattle.sftp_transcript.proofs.steps.pass_opening.Goals as goal
-
-pub returns-in_err-left-clause-only : goal.returns-in_err-left-clause-only
-returns-in_err-left-clause-only g c = λ before after known is.
-    let m = c.fill_opening.new.self in
-    let now : HasAhead m before =
-    known_kept (bytes_ahead c.args.input.now) (bytes_ahead m) before c.fill_opening.ensures.same.bytes known in
-    let front = opening_front m before after c.in_ok-fill_opening.ensures.whole now is in
-    let p = err_from_is_err_and c.from_residual-in_err-left.result c.from_residual-in_err-left.ensures.1 in
-    rw (p.1, p.2) (excused (c.in_err-left.ensures.only front.rest (rw c.held.ensures front.held)))
 
 pub returns-in_err-left-clause-first : goal.returns-in_err-left-clause-first
 returns-in_err-left-clause-first g c = λ before known.
@@ -20,4 +11,5 @@ returns-in_err-left-clause-first g c = λ before known.
     known_kept (bytes_ahead c.args.input.now) (bytes_ahead m) before c.fill_opening.ensures.same.bytes known in
     let p = err_from_is_err_and c.from_residual-in_err-left.result c.from_residual-in_err-left.ensures.1 in
     rw (p.1, p.2)
-    (opening_fault m before c.in_err-left.field-0.0 now c.in_ok-fill_opening.ensures.whole c.in_err-left.ensures.refused (λ rest held. c.in_err-left.ensures.only rest (rw c.held.ensures held)))
+    (opening_fault m before c.in_err-left.field-0.0 now c.in_ok-fill_opening.ensures.whole c.in_err-left.ensures.refused
+    (λ rest held. c.in_err-left.ensures.none rest (rw c.held.ensures held)))

@@ -1,6 +1,6 @@
 -- What is taken from the bytes held is taken from the bytes ahead.
 use Rattle.sftp_transcript.proofs.Imports.{◌≡◌, ◌-◌, ◌<◌, length, rules, sym, subst, err_from_is_err_and, Ahead}
-use Rattle.sftp_transcript.proofs.Imports.{bytes_ahead, ahead_without, MayCome, record_number, Begins, HasAhead, Took}
+use Rattle.sftp_transcript.proofs.Imports.{bytes_ahead, ahead_without, BeginsNext, MayCome, record_number, Begins, HasAhead, Took}
 use Rattle.sftp_transcript.specs.declared.stage.Stage.TheVariants as stages
 use Rattle.sftp_transcript.specs.Refused.{KindFault}
 use Rattle.sftp_transcript.proofs.Packets.{stage_fault}
@@ -29,4 +29,5 @@ returns-clause-found g c = λ before known.
     let rest = c.in_ok-packet.rest.now in
     let new : c.take.new.self ≡ ahead_without (length m.held - length rest) m = search rules in
     let begins : Begins m.held packet rest = rw (← c.held-2.ensures) c.in_ok-packet.ensures.found.1 in
-    (c.in_ok-packet.ensures.found.0, subst (λ (a : Ahead). Took (λ all after. Begins all packet after) before a) (sym new) (record_took m packet rest before now begins))
+    subst (λ (a : Ahead). Took (λ all after. BeginsNext c.args.stage all packet after) before a) (sym new)
+    (record_took c.args.stage m packet rest before c.requires now c.in_ok-packet.ensures.found.0 begins)

@@ -1,8 +1,7 @@
 -- Behind the opening the same record is next.
-use Rattle.sftp_transcript.proofs.Imports.{◌≡◌, List, ℕ, ◌⊎◌, IfOk-weaker, IfErr-weaker, FaultAhead, GivesNext}
-use Rattle.sftp_transcript.proofs.Imports.{FaultNext, IsStageThen, number_then, HasAhead, IsExcuse}
-use Rattle.sftp_transcript.proofs.Packets.{gives_opened, fault_opened, stage_then_opened, on_err_both}
-use Rattle.sftp_transcript.proofs.Recorded.{RecordsSame-kept, RecordsSame-then}
+use Rattle.sftp_transcript.proofs.Imports.{List, ℕ, ◌⊎◌, IfOk-weaker, IfErr-weaker, FaultAhead, GivesNext}
+use Rattle.sftp_transcript.proofs.Imports.{FaultNext, IsStageThen, HasAhead, IsExcuse}
+use Rattle.sftp_transcript.proofs.Packets.{gives_opened, fault_opened, stage_then_opened}
 use Rattle.sftp_transcript.proofs.reader.Reader.take_next_record.Goals as goal
 
 pub returns-clause-found : goal.returns-clause-found
@@ -17,15 +16,6 @@ returns-clause-found g c =
     gives_opened old.stage mid.stage before opened.0 given new c.in_ok-take_opening.ensures.stage opened.2 (found opened.0 opened.1))
     c.take_record.ensures.found
 
-pub returns-clause-same : goal.returns-clause-same
-returns-clause-same g c =
-    let old = c.args.self.now in
-    let mid = c.take_opening.new.self in
-    let new = c.take_record.new.self in
-    on_err_both (λ given. new.number ≡ number_then mid.stage mid.number given) c.take_record.result
-    (λ kept number. RecordsSame-then old mid new c.take_opening.ensures.same (RecordsSame-kept mid new kept.0 kept.1 number c.take_record.ensures.fault))
-    c.take_record.ensures.kept c.take_record.ensures.number
-
 pub returns-clause-first : goal.returns-clause-first
 returns-clause-first g c = λ before known.
     let old = c.args.self.now in
@@ -33,7 +23,7 @@ returns-clause-first g c = λ before known.
     let opened = c.in_ok-take_opening.ensures.opened before known in
     IfErr-weaker c.take_record.result (λ error. IsExcuse error ⊎ FaultAhead mid.stage mid.number opened.0 error)
     (λ error. IsExcuse error ⊎ FaultNext old.stage old.number before error)
-    (λ error fault. fault_opened old.stage mid.stage old.number mid.number before opened.0 error c.in_ok-take_opening.ensures.stage c.take_opening.ensures.same.number opened.2 fault)
+    (λ error fault. fault_opened old.stage mid.stage old.number mid.number before opened.0 error c.in_ok-take_opening.ensures.stage c.take_opening.ensures.number opened.2 fault)
     (c.take_record.ensures.first opened.0 opened.1)
 
 pub returns-clause-stage : goal.returns-clause-stage

@@ -1,21 +1,16 @@
 -- The record in front is the next one.
-use Rattle.sftp_transcript.proofs.Imports.{◌≡◌, ◌≤◌, List, ℕ, [], sym, subst, BeginsNext, stage_after, Reading, rank}
-use Rattle.sftp_transcript.proofs.Imports.{HasAhead}
+use Rattle.sftp_transcript.proofs.Imports.{◌≡◌, List, ℕ, [], subst, BeginsNext, stage_after, Reading, HasAhead}
 use Rattle.sftp_transcript.specs.declared.stage.Stage.TheVariants as stages
-use Rattle.sftp_transcript.proofs.Packets.{next_given}
 use Rattle.sftp_transcript.proofs.reader.Reader.take_record.Goals as goal
 
 pub returns-in-Some-clause-found : goal.returns-in-Some-clause-found
 returns-in-Some-clause-found g c =
-    let old : Reading =
-    record { ahead = c.self.inside.input; stage = c.self.inside.stage; number = c.self.inside.number; fault = c.self.inside.fault } in
-    let begun : 1 ≤ rank old.stage = subst (λ (s : Reading). 1 ≤ rank s.stage) (sym c.self.view_is) c.requires in
     let packet = c.in-Some.packet in
     let new = c.pass_record.new.input in
     subst
     (λ (s : Reading). (before : List ℕ) → HasAhead s.ahead before → (c.stage_after-self-inside.result ≡ stage_after s.stage) × ((x : List ℕ) × HasAhead new x × BeginsNext s.stage before packet x))
     c.self.view_is
-    (λ before known. (c.stage_after-self-inside.ensures, next_given old.stage before packet new begun (rw c.in-Some.is at (c.in_ok-packet.ensures.found before known))))
+    (λ before known. (c.stage_after-self-inside.ensures, rw c.in-Some.is at (c.in_ok-packet.ensures.found before known)))
 
 pub returns-in-None-clause-found : goal.returns-in-None-clause-found
 returns-in-None-clause-found g c =
