@@ -5,3 +5,4 @@ pub mod RangeExchanges
 pub mod SteadyRanges
 pub mod RangesKept
 pub mod Overwrites
+pub mod Spans

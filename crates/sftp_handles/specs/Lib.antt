@@ -9,6 +9,7 @@ pub mod Laws
 pub mod Clash
 pub mod Touch
 pub mod Ranges
+pub mod Spans
 pub mod Examples
 pub mod ClashExamples
 pub mod RangeExamples

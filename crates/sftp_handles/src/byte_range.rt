@@ -12,3 +12,12 @@ pub struct ByteRange {
     /// The offset after the last byte.
     pub end: u64,
 }
+
+/// The bytes that a request reads or writes, whether its file has them or not. They may end past the last offset.
+#[derive(Clone, Copy)]
+pub struct Span {
+    /// The offset of the first byte.
+    pub start: u64,
+    /// How many bytes there are.
+    pub count: u64,
+}

@@ -6,6 +6,7 @@ ghost use Rattle.sftp_handles.specs.Handles.{open_at};
 ghost use Rattle.sftp_handles.specs.Seen.{a_file, a_listing};
 ghost use Rattle.sftp_handles.specs.Clash as clashes;
 ghost use Rattle.sftp_handles.specs.Clash.{share, touched, touched_through};
+ghost use Rattle.sftp_handles.specs.Spans.{file_in};
 ghost use Rattle.sftp_handles.specs.Touch.{handle_in, touched_as};
 ghost use Rattle.sftp_handles.specs.Uses as uses;
 
@@ -14,6 +15,7 @@ use crate::requests::{Use, through};
 use crate::sessions::Session;
 use crate::tables::HandleTable;
 use crate::touch::Touch;
+use sftp_tree::FileNo;
 use sftp_wire::{Ask, Request};
 
 impl Touch {
@@ -30,6 +32,19 @@ impl Touch {
             (Touch::WritesFile(file), Touch::WritesFile(number)) => *file == *number,
             (Touch::TakesNames, Touch::TakesNames) => have_one_handle(ask, other_ask),
             _ => false,
+        }
+    }
+
+    /// The file that is touched, if nothing else is. Does not allocate.
+    pub fn file(&self) -> Option<FileNo>
+        ensures { (ask : Ask) → result ≡ file_in (touched_as self.now ask) }
+    {
+        match self {
+            Touch::ReadsFile(file) => Some(*file),
+            Touch::WritesFile(file) => Some(*file),
+            Touch::Nothing => None,
+            Touch::TakesNames => None,
+            Touch::Everything => None,
         }
     }
 }

@@ -35,7 +35,7 @@ mod slots;
 mod tables;
 mod touch;
 
-pub use byte_range::ByteRange;
+pub use byte_range::{ByteRange, Span};
 pub use clash::is_barrier;
 pub use given_table::GivenTable;
 pub use opens::Open;

@@ -1,10 +1,11 @@
 -- What the calls of the notes say of the core.
 use Rattle.sftp_server.proofs.Imports.{◌≡◌, ◌++◌, ◌<◌, ◌≤◌, ◌-◌, ◌&&◌, ℕ, Bool, true, false, List, [], ◌∷◌, Option}
 use Rattle.sftp_server.proofs.Imports.{Some, None, if◌then◌else◌, length, take, drop, set, slice_get, refl, sym, ap}
-use Rattle.sftp_server.proofs.Imports.{◌∙◌, arith, none-some, same_Some, and_parts, Request, Reply, State, Allowed}
-use Rattle.sftp_server.proofs.Imports.{Entry, Pending, Done, Sent, Machine, is_pending, ready_in, reply_at, from_unsent}
-use Rattle.sftp_server.proofs.Imports.{request_in, pending_at, with_progress, choices_of, server_clash, blank, note_at}
-use Rattle.sftp_server.proofs.Imports.{possible_count, AreNotes, ask_in}
+use Rattle.sftp_server.proofs.Imports.{◌∙◌, arith, none-some, same_Some, and_parts, Ask, Request, Reply, State, Allowed}
+use Rattle.sftp_server.proofs.Imports.{touched_as, ends_of, file_in, range_now, Entry, Pending, Done, Sent, Machine}
+use Rattle.sftp_server.proofs.Imports.{is_pending, ready_in, reply_at, from_unsent, request_in, pending_at}
+use Rattle.sftp_server.proofs.Imports.{with_progress, choices_of, server_clash, resized_by, resized, portion_now, blank}
+use Rattle.sftp_server.proofs.Imports.{note_at, possible_count, AreNotes, ask_in, ask_at}
 use Rattle.sftp_server.specs.Readiness.{CanRefresh, KeepsNotes}
 use Rattle.sftp_server.specs.declared.cores.Choice.TheVariants as choices
 use Rattle.sftp_server.specs.declared.readiness.Readiness.{Readiness}
@@ -13,6 +14,7 @@ use Rattle.sftp_server.proofs.SentNotes.{notes-sent}
 use Rattle.sftp_server.proofs.StillTouched.{ready-open, notes-worked}
 use Rattle.sftp_server.proofs.ReadyLaws.{ready-is, possible-count, possible-within, choice-at}
 use Rattle.sftp_server.proofs.NewNotes.{notes-pushed}
+use Rattle.sftp_server.proofs.Settling.{resized-noted}
 
 -- ---- requests that are taken
 
@@ -68,23 +70,26 @@ ask-found (Some entry) request is = by (is_pending entry.progress) refl
     by false off = absurd (none-some request (let f : None ≡ Some request = rw off at is in f))
 
 pub keeps-done : (s end : State) (queue after : List Entry) (old new : Readiness) (k : ℕ) (request : Request)
-    (reply : Reply) → KeepsNotes s queue old → ready_in server_clash s (take k queue) (slice_get queue k) ≡ true
+    (reply : Reply) (file : Option ℕ) → KeepsNotes s queue old
+    → ready_in server_clash s (take k queue) (slice_get queue k) ≡ true
     → pending_at queue k ≡ Some request → Allowed s request reply end
     → after ≡ with_progress queue k (Done reply)
+    → ((ask : Ask) → file ≡ resized_by (touched_as (note_at old.notes.items k).touch ask)
+    (range_now s (file_in (touched_as (note_at old.notes.items k).touch ask)) (ends_of (note_at old.notes.items k).span)))
     → new.notes.items ≡ set old.notes.items k (record (note_at old.notes.items k) { pending = false })
     → new.first_pending ≡ old.first_pending → new.opened ≡ old.opened → new.writers ≡ old.writers
-    → new.possible ≡ old.possible → CanRefresh end after new k
-keeps-done s end queue after old new k request reply keeps ready pending allowed is notes first opened writers
-    possible =
+    → new.possible ≡ old.possible → CanRefresh end after new k file
+keeps-done s end queue after old new k request reply file keeps ready pending allowed is found notes first opened
+    writers possible =
     let both = and_parts (note_at old.notes.items k).pending (note_at old.notes.items k).possible
     (sym (ready-noted s queue old k keeps) ∙ ready) in
     let before = ready-open k keeps.0 both.0 both.1 in
-    let parts = notes-worked end k request reply keeps.0 both.0 both.1
-    (ask-found (slice_get queue k) request pending) allowed in
+    let same : file ≡ resized (portion_now s queue k) =
+    found (ask_at queue k) ∙ resized-noted keeps.0.marks before both.0 in
     record {
       within = rw opened before;
-      noted = rw (notes, first, opened, writers, possible, is) parts.0;
-      done = rw (notes, opened, is) parts.1;
+      settling = rw (notes, first, opened, writers, possible, is, same) (notes-worked end k request reply keeps.0 both.0
+          both.1 (ask-found (slice_get queue k) request pending) allowed);
     }
 
 -- ---- a reply is sent

@@ -1,22 +1,19 @@
 -- How the notes of a queue change once a request is done.
 use Rattle.sftp_server.proofs.Imports.{◌≡◌, ◌≢◌, ◌+◌, ◌<◌, ◌≤◌, ◌&&◌, not, ◌==◌, nat_lt, ℕ, suc, Bool, true, false}
 use Rattle.sftp_server.proofs.Imports.{List, Option, is_some, length, set, refl, sym, ap, subst, ◌∙◌, arith, ◌⊎◌, inl}
-use Rattle.sftp_server.proofs.Imports.{inr, ltb-true, ltb-false, and_from, true≢false, cases_Bool, eqb-true, eqb-false}
-use Rattle.sftp_server.proofs.Imports.{length-set, get_or-set_other, and-false, and-true, Ask, Reply, State, Touched}
-use Rattle.sftp_server.proofs.Imports.{touched, share, untouched, everything, touched_as, range, Touch, Everything}
-use Rattle.sftp_server.proofs.Imports.{Entry, Done, Note, is_pending_at, pending_in, reply_at, reply_in, with_progress}
-use Rattle.sftp_server.proofs.Imports.{Portion, portion_in, portions_clash, is_on, IsPortion, resizes, is_behind}
-use Rattle.sftp_server.proofs.Imports.{AreKnown, AreKnownBut, without, blank, note_at, ask_at, touched_at, portion_at}
-use Rattle.sftp_server.proofs.Imports.{portion_now, is_in_way, pending_by, is_late, IsNoted, IsDone, AreNotes, IsFree}
-use Rattle.sftp_server.proofs.Imports.{IsBlocked, IsStopped, AreBlockedBut, AreNotReadyOn, HaveTheirRanges, IsMarked}
-use Rattle.sftp_server.proofs.Imports.{AreBlockedButOn, IsMarkedAsked}
-use Rattle.sftp_server.specs.Readiness.{IsMarkedBut, is_all, AreBlocked}
+use Rattle.sftp_server.proofs.Imports.{inr, ltb-true, ltb-false, and_from, and_left, true≢false, cases_Bool, eqb-true}
+use Rattle.sftp_server.proofs.Imports.{eqb-false, length-set, get_or-set_other, Ask, Reply, State, Touched, touched}
+use Rattle.sftp_server.proofs.Imports.{share, untouched, everything, touched_as, range, Touch, Everything, Entry, Done}
+use Rattle.sftp_server.proofs.Imports.{Note, is_pending_at, pending_in, reply_at, reply_in, with_progress, Aim, aim_in}
+use Rattle.sftp_server.proofs.Imports.{Portion, portion_in, portions_clash, is_of, resized, blank, note_at, ask_at}
+use Rattle.sftp_server.proofs.Imports.{portion_now, is_in_way, IsNoted, AreNotes, IsFree, IsBlocked, IsLinked, IsLate}
+use Rattle.sftp_server.proofs.Imports.{IsMarked, IsMarkedAsked, IsSettling}
+use Rattle.sftp_server.specs.Readiness.{is_all}
 use Rattle.sftp_server.proofs.Queues.{length-progress}
-use Rattle.sftp_server.proofs.RangedNotes.{resizes-on, resizes-one, resizes-clashes, clash-right, all-none, clear-front}
-use Rattle.sftp_server.proofs.RangedNotes.{behind-without, known-kept, known-resized}
+use Rattle.sftp_server.proofs.RangedNotes.{all-none, clash-right, clash-still, late-aside, resized-clashes}
 use Rattle.sftp_server.proofs.NotePlaces.{part-set, fails-set, fails-still, passed-before, passes-elsewhere, count-set}
-use Rattle.sftp_server.proofs.NotePlaces.{other-progress, ask-progress, worked-here, reply-here, in_way-fewer}
-use Rattle.sftp_server.proofs.NotePlaces.{in_way-same, portion-set}
+use Rattle.sftp_server.proofs.NotePlaces.{other-progress, ask-progress, worked-here, reply-here, blocked-as}
+use Rattle.sftp_server.proofs.Notes.{by_place}
 
 -- the notes after the request at the position was done
 abbrev pub done_note : List Note → ℕ → Note
@@ -25,13 +22,12 @@ done_note notes k = record (note_at notes k) { pending = false }
 abbrev pub done_notes : List Note → ℕ → List Note
 done_notes notes k = set notes k (done_note notes k)
 
--- What a step leaves as it was, by what is asked: what requests touch, and the ranges of their files that they keep to.
+-- What a step leaves as it was, by what is asked, unless that touches everything: what requests touch, and their spans;
+-- and the ranges that they keep to, but for those on the file whose length may have changed.
 pub record IsStep (before after : State) (asked : Ask) : Type 0 where
-  pub touches : touched before asked ≢ everything → (ask : Ask) → touched after ask ≡ touched before ask
-  pub kept : touched before asked ≢ everything → ((number : ℕ) → resizes number (portion_in before asked) ≡ false)
-      → (ask : Ask) → range after ask ≡ range before ask
-  pub resized : (number : ℕ) → resizes number (portion_in before asked) ≡ true → (ask : Ask)
-      → is_on number (touched before ask) ≡ false → range after ask ≡ range before ask
+  pub aims : touched before asked ≢ everything → (ask : Ask) → aim_in after ask ≡ aim_in before ask
+  pub ranges : touched before asked ≢ everything → (ask : Ask)
+      → is_of (resized (portion_in before asked)) (touched before ask) ≡ false → range after ask ≡ range before ask
 
 module _ (queue : List Entry) (notes : List Note) (k : ℕ) (reply : Reply) where
   abbrev after : List Entry
@@ -55,18 +51,11 @@ module _ (queue : List Entry) (notes : List Note) (k : ℕ) (reply : Reply) wher
   done-here : (note_at noted k).pending ≡ false
   done-here = fails-set (λ (n : Note). n.pending) notes k (done_note notes k) refl refl
 
-  done-pending : (j : ℕ) → pending_by noted j ≡ without (pending_by notes) k j
-  done-pending j = by (cases_Bool (j == k))
-    where
-      by : ((j == k) ≡ true) ⊎ ((j == k) ≡ false)
-          → (note_at noted j).pending ≡ ((note_at notes j).pending && not (j == k))
-      by (inl same) =
-          ap (λ (n : ℕ). (note_at noted n).pending) (eqb-true j k same)
-          ∙ (done-here ∙ rw same (sym (and-false (note_at notes j).pending)))
-      by (inr other) = done-other j (eqb-false j k other) ∙ rw other (sym (and-true (note_at notes j).pending))
-
   done-touch : (j : ℕ) → (note_at noted j).touch ≡ (note_at notes j).touch
   done-touch j = part-set (λ (n : Note). n.touch) notes k j (done_note notes k) refl
+
+  done-span : (j : ℕ) → (note_at noted j).span ≡ (note_at notes j).span
+  done-span j = part-set (λ (n : Note). n.span) notes k j (done_note notes k) refl
 
   done-possible : (j : ℕ) → (note_at noted j).possible ≡ (note_at notes j).possible
   done-possible j = part-set (λ (n : Note). n.possible) notes k j (done_note notes k) refl
@@ -77,21 +66,16 @@ module _ (queue : List Entry) (notes : List Note) (k : ℕ) (reply : Reply) wher
   done-waiter : (j : ℕ) → (note_at noted j).waiter ≡ (note_at notes j).waiter
   done-waiter j = part-set (λ (n : Note). n.waiter) notes k j (done_note notes k) refl
 
-  done-portion : (j : ℕ) → portion_at after noted j ≡ portion_at queue notes j
-  done-portion j = portion-set queue notes k j (Done reply) (done_note notes k) refl refl
+  done-asks : (j : ℕ) → ask_at after j ≡ ask_at queue j
+  done-asks j = ask-progress queue k j (Done reply)
 
   -- ---- what all notes keep
 
-  -- one that is free stays so
-  done-free : (j : ℕ) → IsFree queue notes j → IsFree after noted j
-  done-free j free = λ i before.
-      ap (is_in_way after noted i) (done-portion j)
-      ∙ in_way-fewer queue after notes noted i (portion_at queue notes j) (was-pending i) (done-portion i)
-      (free i before)
-
-  noted-done : {first opened writers possible : ℕ} → IsNoted queue notes first opened writers possible → k < opened
-      → IsNoted after noted first opened writers possible
-  noted-done is within =
+  noted-done : {s end : State} {first opened writers possible : ℕ} → IsNoted s queue notes first opened writers possible
+      → k < opened
+      → ((j : ℕ) → j < opened → (note_at noted j).pending ≡ true → IsFree s queue j → IsFree end after j)
+      → IsNoted end after noted first opened writers possible
+  noted-done is within frees =
       let same = length-progress queue k (Done reply) in
       let sum = count-set notes k (done_note notes k) (omega (arith, within, is.within, is.same_length)) in
       record {
@@ -109,131 +93,8 @@ module _ (queue : List Entry) (notes : List Note) (k : ℕ) (reply : Reply) wher
               done-possible j ∙ parts.1,
             );
         free = λ j before pending ready.
-            done-free j (is.free j before (was-pending j pending) (sym (done-possible j) ∙ ready));
+            frees j before pending (is.free j before (was-pending j pending) (sym (done-possible j) ∙ ready));
       }
-
-  -- ---- what waits
-
-  -- one that did not wait for the request that was done waits as before
-  done-blocked : (j : ℕ) → (is : IsBlocked queue notes j) → is.blocker ≢ k → IsBlocked after noted j
-  done-blocked j is other = record {
-    blocker = is.blocker;
-    back = rw (done-blocker j) is.back;
-    before = is.before;
-    in_way =
-        ap (is_in_way after noted is.blocker) (done-portion j)
-        ∙ (in_way-same queue after notes noted is.blocker (portion_at queue notes j) (done-other is.blocker other)
-        (done-portion is.blocker)
-        ∙ is.in_way);
-    reached = rw (done-blocker j, done-waiter is.blocker) is.reached;
-  }
-
-  -- the one at this position did not wait for it, by its note
-  abbrev WaitsForOther : ℕ → Type 0
-  WaitsForOther j = suc k ≤ j → j ≤ k + (note_at noted k).waiter → k + (note_at noted j).blocker ≢ j
-
-  -- so it waited for another one
-  other-blocker : (j : ℕ) → (is : IsBlocked queue notes j) → WaitsForOther j → is.blocker ≢ k
-  other-blocker j is other = λ same.
-      let waiter = done-waiter k in
-      let here : k + (note_at notes j).blocker ≡ j =
-      subst (λ (b : ℕ). b + (note_at notes j).blocker ≡ j) same is.back in
-      let reached : (note_at notes j).blocker ≤ (note_at notes k).waiter =
-      subst (λ (b : ℕ). (note_at notes j).blocker ≤ (note_at notes b).waiter) same is.reached in
-      let later : k < j = subst (λ (b : ℕ). b < j) same is.before in
-      other (omega (arith, later)) (omega (arith, here, reached, waiter))
-      (ap (λ (b : ℕ). k + b) (done-blocker j) ∙ here)
-
-  -- what is behind one that may change the length of its file is as before, if the one that was done may not
-  done-late : (j : ℕ)
-      → ((m : ℕ) → is_on m (touched_at queue notes j) ≡ true → resizes m (portion_at queue notes k) ≡ false)
-      → is_late after noted j ≡ is_late queue notes j
-  done-late j keeps =
-      (λ i. is_behind (λ n. done-pending n i) (λ n. done-portion n i) j)
-      ∙ behind-without (pending_by notes) (portion_at queue notes) k j (touched_at queue notes j) keeps
-
-  blocked-kept : (opened : ℕ) → AreBlocked queue notes opened
-      → ((number : ℕ) → resizes number (portion_at queue notes k) ≡ false)
-      → AreBlockedBut after noted opened k (suc k) (k + (note_at noted k).waiter)
-  blocked-kept opened are keeps = λ j before pending possible other.
-      by j other (are j before (was-pending j pending) (sym (done-possible j) ∙ possible))
-    where
-      by : (j : ℕ) → WaitsForOther j → IsStopped queue notes j → IsStopped after noted j
-      by j other (inl is) = inl (done-blocked j is (other-blocker j is other))
-      by j other (inr late) = inr (done-late j (λ m on. keeps m) ∙ late)
-
-  -- a request that may change the length of its file is in the way of all that are on it, and these in its way
-  module _ (number : ℕ) (is : resizes number (portion_at queue notes k) ≡ true) where
-    abbrev IsOn : ℕ → Type 0
-    IsOn j = is_on number (touched_at queue notes j) ≡ true
-
-    resizing-before : (j : ℕ) → IsOn j → (note_at notes j).pending ≡ true → IsFree queue notes k → j < k → ⊥
-    resizing-before j on waits free before =
-        let clash = (resizes-clashes number (portion_at queue notes k) (portion_at queue notes j) is on).1 in
-        true≢false (sym (and_from (note_at notes j).pending (portions_clash (portion_at queue notes j)
-        (portion_at queue notes k)) waits clash) ∙ free j before)
-
-    resizing-after : (j : ℕ) → IsOn j → (note_at notes k).pending ≡ true → IsFree queue notes j → k < j → ⊥
-    resizing-after j on waits free later =
-        let clash = (resizes-clashes number (portion_at queue notes k) (portion_at queue notes j) is on).0 in
-        true≢false (sym (and_from (note_at notes k).pending (portions_clash (portion_at queue notes k)
-        (portion_at queue notes j)) waits clash) ∙ free k later)
-
-    blocked-resized : (opened : ℕ) → AreBlocked queue notes opened → IsFree queue notes k
-        → AreBlockedButOn after noted opened k (k + (note_at noted k).waiter) number (suc k)
-    blocked-resized opened are free = λ j before pending possible other next.
-        by j (was-pending j pending) (is-other j pending) other
-        (λ on. next (ap (λ (p : Portion). is_on number p.touched) (done-portion j) ∙ on))
-        (are j before (was-pending j pending) (sym (done-possible j) ∙ possible))
-      where
-        not-on : (j : ℕ) → (note_at notes j).pending ≡ true → j ≢ k → (IsOn j → j < suc k) → (b : Bool)
-            → is_on number (touched_at queue notes j) ≡ b → is_on number (touched_at queue notes j) ≡ false
-        not-on j waits apart next false on = on
-        not-on j waits apart next true on =
-            absurd (resizing-before j on waits free (let near = next on in omega (arith, near, apart)))
-
-        by : (j : ℕ) → (note_at notes j).pending ≡ true → j ≢ k → WaitsForOther j → (IsOn j → j < suc k)
-            → IsStopped queue notes j → IsStopped after noted j
-        by j waits apart other next (inl blocked) = inl (done-blocked j blocked (other-blocker j blocked other))
-        by j waits apart other next (inr late) =
-            let off = not-on j waits apart next (is_on number (touched_at queue notes j)) refl in
-            inr (done-late j (λ m on.
-            resizes-one number m (touched_at queue notes k) (note_at notes k).range is (λ same.
-            true≢false (sym on ∙ (ap (λ (n : ℕ). is_on n (touched_at queue notes j)) same ∙ off)))) ∙ late)
-
-    not-ready : {first opened writers possible : ℕ} → IsNoted queue notes first opened writers possible
-        → (note_at notes k).pending ≡ true → AreNotReadyOn after noted opened number (suc k)
-    not-ready {opened = opened} kept waits = λ j from before pending on.
-        by j (omega (arith, from)) before (was-pending j pending)
-        (sym (ap (λ (p : Portion). is_on number p.touched) (done-portion j)) ∙ on) (note_at notes j).possible refl
-      where
-        by : (j : ℕ) → k < j → j < opened → (note_at notes j).pending ≡ true → IsOn j → (b : Bool)
-            → (note_at notes j).possible ≡ b → (note_at noted j).possible ≡ false
-        by j later before pending on false ready = done-possible j ∙ ready
-        by j later before pending on true ready =
-            absurd (resizing-after j on waits (kept.free j before pending ready) later)
-
-  -- ---- what is known
-
-  -- what is known of the notes before is known of the notes after it, as far as the requests' portions
-  pendings : pending_by noted ≡ without (pending_by notes) k
-  pendings = λ i j. done-pending j i
-
-  portions : portion_at after noted ≡ portion_at queue notes
-  portions = λ i j. done-portion j i
-
-  now-done : (s : State) → portion_now s after ≡ portion_now s queue
-  now-done s = λ i j. portion_in s (ask-progress queue k j (Done reply) i)
-
-  known-done : (s : State) (opened : ℕ)
-      → AreKnown (without (pending_by notes) k) (portion_at queue notes) (portion_now s queue) opened
-      → AreKnown (pending_by noted) (portion_at after noted) (portion_now s after) opened
-  known-done s opened known = rw (pendings, portions, now-done s) known
-
-  known-done_but : (s : State) (opened number : ℕ)
-      → AreKnownBut (without (pending_by notes) k) (portion_at queue notes) (portion_now s queue) opened number (suc k)
-      → AreKnownBut (pending_by noted) (portion_at after noted) (portion_now s after) opened number (suc k)
-  known-done_but s opened number known = rw (pendings, portions, now-done s) known
 
   asked-done : IsMarkedAsked queue notes → k < length queue → (note_at notes k).possible ≡ true
       → IsMarkedAsked after noted
@@ -261,10 +122,6 @@ module _ (queue : List Entry) (notes : List Note) (k : ℕ) (reply : Reply) wher
           ∙ sym (ap (λ (found : Option Entry). is_some (reply_in found)) (other-progress queue k j (Done reply)
           (eqb-false j k other))))
 
-  ranged-done : (opened : ℕ) → HaveTheirRanges queue notes opened → HaveTheirRanges after noted opened
-  ranged-done opened ranged = λ j before pending.
-      subst IsPortion (sym (done-portion j)) (ranged j before (was-pending j pending))
-
 -- ---- what touches everything
 
 share-all : (other : Touched) → share other everything ≡ true
@@ -275,30 +132,9 @@ pub all-touched : (touch : Touch) (ask : Ask) → is_all touch ≡ true → touc
 all-touched Everything ask all = refl
 all-touched touch ask all = absurd cc
 
-not-all : (touch : Touch) (ask : Ask) → is_all touch ≡ false → touched_as touch ask ≢ everything
-not-all Everything ask part is = absurd (true≢false part)
-not-all touch ask part is = absurd cc
-
--- nothing but the last open request touches everything, and it is ready only if it is the only one that is pending
-alone : (queue : List Entry) (notes : List Note) (first opened writers possible k j : ℕ)
-    → IsNoted queue notes first opened writers possible → HaveTheirRanges queue notes opened → k < opened
-    → (note_at notes k).pending ≡ true → (note_at notes k).possible ≡ true → is_all (note_at notes k).touch ≡ true
-    → j < opened → (note_at notes j).pending ≡ true → j ≢ k → ⊥
-alone queue notes first opened writers possible k j is ranged within pending ready all before waits other =
-    let here : suc k ≡ opened = last-all (nat_lt (suc k) opened) refl in
-    let touches = all-touched (note_at notes k).touch (ask_at queue k) all in
-    let none = all-none (touched_at queue notes k) (note_at notes k).range (ranged k within pending) touches in
-    let clash = clash-right (portion_at queue notes j) (portion_at queue notes k) none in
-    let shared : share (touched_at queue notes j) (touched_at queue notes k) ≡ true =
-    ap (share (touched_at queue notes j)) touches ∙ share-all (touched_at queue notes j) in
-    true≢false (sym (and_from (note_at notes j).pending (portions_clash (portion_at queue notes j)
-    (portion_at queue notes k)) waits
-    (clash ∙ and_from (share (touched_at queue notes j) (touched_at queue notes k)) (not false) shared refl))
-    ∙ is.free k within pending ready j (omega (arith, here, before, other)))
-  where
-    last-all : (b : Bool) → nat_lt (suc k) opened ≡ b → suc k ≡ opened
-    last-all true less = absurd (true≢false (sym all ∙ is.last k (ltb-true (suc k) opened less) pending))
-    last-all false less = let more = ltb-false (suc k) opened less in omega (arith, more, within)
+all-touch : (touch : Touch) (ask : Ask) → touched_as touch ask ≡ everything → is_all touch ≡ true
+all-touch Everything ask is = refl
+all-touch touch ask is = absurd cc
 
 -- ---- the request that was done
 
@@ -306,86 +142,171 @@ module _ {s : State} {queue : List Entry} {notes : List Note} {first opened writ
     (reply : Reply) (are : AreNotes s queue notes first opened writers possible) (within : k < opened)
     (pending : (note_at notes k).pending ≡ true) (ready : (note_at notes k).possible ≡ true)
     (step : IsStep s end (ask_at queue k)) where
-  free : IsFree queue notes k
-  free = are.noted.free k within pending ready
+  abbrev later : List Entry
+  later = with_progress queue k (Done reply)
 
-  -- its note says what it touches now, and the range that it keeps to
-  own : portion_at queue notes k ≡ portion_in s (ask_at queue k)
-  own =
-      let touches = are.marks.known.touches k within pending in
-      let front = clear-front (pending_by notes) (portion_at queue notes) k free in
-      let ranges = are.marks.known.ranges k within pending front in
-      λ i. record { touched = touches i; range = ranges i }
+  abbrev own : Portion
+  own = portion_now s queue k
 
-  part : is_all (note_at notes k).touch ≡ false → touched s (ask_at queue k) ≢ everything
-  part is all =
-      not-all (note_at notes k).touch (ask_at queue k) is (ap (λ (p : Portion). p.touched) own ∙ all)
+  -- the file whose length it may have changed
+  abbrev file : Option ℕ
+  file = resized own
 
-  asked : IsMarkedAsked (with_progress queue k (Done reply)) (done_notes notes k)
-  asked = asked-done queue notes k reply are.marks.asked (omega (arith, within, are.noted.within)) ready
+  abbrev at : ℕ → Touched
+  at j = touched s (ask_at queue j)
 
-  kept-by : ((number : ℕ) → resizes number (portion_at queue notes k) ≡ false) → (b : Bool)
-      → is_all (note_at notes k).touch ≡ b
-      → AreKnown (without (pending_by notes) k) (portion_at queue notes) (portion_now end queue) opened
-  kept-by keeps false is =
-      known-kept (pending_by notes) (portion_at queue notes) (portion_now s queue) (portion_now end queue) opened k
-      are.marks.known keeps (λ j before waits. step.touches (part is) (ask_at queue j))
-      (λ j before waits.
-      step.kept (part is) (λ number. ap (resizes number) (sym own) ∙ keeps number) (ask_at queue j))
-  kept-by keeps true all =
-      let none : (j : ℕ) → j < opened → without (pending_by notes) k j ≡ true → ⊥ = λ j before waits.
-      let on = done-pending queue notes k reply j ∙ waits in
-      alone queue notes first opened writers possible k j are.noted are.marks.ranged within pending ready all before
-      (was-pending queue notes k reply j on) (is-other queue notes k reply j on) in
-      record {
-        touches = λ j before waits. absurd (none j before waits);
-        ranges = λ j before waits front. absurd (none j before waits);
-      }
+  queued : (j : ℕ) → (note_at notes j).pending ≡ true → is_pending_at queue j ≡ true
+  queued j waits = sym (are.marks.asked.marked j) ∙ waits
 
-  kept : ((number : ℕ) → resizes number (portion_at queue notes k) ≡ false)
-      → IsMarked end (with_progress queue k (Done reply)) (done_notes notes k) opened
-  kept keeps = record {
-    asked = asked;
-    ranged = ranged-done queue notes k reply opened are.marks.ranged;
-    known = known-done queue notes k reply end opened (kept-by keeps (is_all (note_at notes k).touch) refl);
+  -- none that conflicts with it was pending before it
+  not-before : (j : ℕ) → j < k → (note_at notes j).pending ≡ true
+      → portions_clash (portion_now s queue j) own ≡ true → ⊥
+  not-before j before waits clash =
+      true≢false (sym (and_from (is_pending_at queue j) (portions_clash (portion_now s queue j) own) (queued j waits) clash)
+      ∙ are.noted.free k within pending ready j before)
+
+  -- and none that conflicts with it is free behind it
+  not-behind : (j : ℕ) → k < j → IsFree s queue j → portions_clash own (portion_now s queue j) ≡ true → ⊥
+  not-behind j behind free clash =
+      true≢false (sym (and_from (is_pending_at queue k) (portions_clash own (portion_now s queue j)) (queued k pending)
+      clash) ∙ free k behind)
+
+  -- if others are pending and open, it does not touch everything
+  part : (j : ℕ) → j < opened → (note_at notes j).pending ≡ true → j ≢ k → at k ≢ everything
+  part j lt waits apart all = by (nat_lt (suc k) opened) refl
+    where
+      touch-all : is_all (note_at notes k).touch ≡ true
+      touch-all =
+          all-touch (note_at notes k).touch (ask_at queue k)
+          (ap (λ (aim : Aim). aim.0) (are.marks.aims k within pending) ∙ all)
+
+      clash : portions_clash (portion_now s queue j) own ≡ true
+      clash =
+          clash-right (portion_now s queue j) own (all-none s (ask_at queue k) all)
+          ∙ (ap (λ (t : Touched). share (at j) t && not false) all ∙ ap (λ b. b && not false) (share-all (at j)))
+
+      by : (b : Bool) → nat_lt (suc k) opened ≡ b → ⊥
+      by true less = true≢false (sym touch-all ∙ are.noted.last k (ltb-true (suc k) opened less) pending)
+      by false less =
+          let more = ltb-false (suc k) opened less in
+          not-before j (omega (arith, more, lt, apart)) waits clash
+
+  -- of a file whose length may have changed, none before it is pending, and none behind it is ready
+  aside-before : (j : ℕ) → (note_at notes j).pending ≡ true → j ≢ k → (is_of file (at j) ≡ true → j < suc k)
+      → is_of file (at j) ≡ false
+  aside-before j waits apart near = elim (cases_Bool (is_of file (at j))) [
+    | inl on ↦
+        absurd (not-before j (let before = near on in omega (arith, before, apart)) waits
+        (resized-clashes own (portion_now s queue j) on).1)
+    | inr off ↦ off
+  ]
+
+  not-free : (j : ℕ) → k < j → IsFree s queue j → is_of file (at j) ≡ true → ⊥
+  not-free j behind free on = not-behind j behind free (resized-clashes own (portion_now s queue j) on).0
+
+  -- ---- what is in the way once it is done
+
+  module _ (j : ℕ) (lt : j < opened) (waits : (note_at (done_notes notes k) j).pending ≡ true) where
+    was : (note_at notes j).pending ≡ true
+    was = was-pending queue notes k reply j waits
+
+    other : j ≢ k
+    other = is-other queue notes k reply j waits
+
+    touched-still : (i : ℕ) → touched end (ask_at later i) ≡ at i
+    touched-still i =
+        ap (touched end) (done-asks queue notes k reply i)
+        ∙ ap (λ (aim : Aim). aim.0) (step.aims (part j lt was other) (ask_at queue i))
+
+    range-still : (i : ℕ) → is_of file (at i) ≡ false → range end (ask_at later i) ≡ range s (ask_at queue i)
+    range-still i off =
+        ap (range end) (done-asks queue notes k reply i) ∙ step.ranges (part j lt was other) (ask_at queue i) off
+
+    portion-still : (i : ℕ) → is_of file (at i) ≡ false → portion_now end later i ≡ portion_now s queue i
+    portion-still i off = λ n. record { touched = touched-still i n; range = range-still i off n }
+
+    module _ (aside : is_of file (at j) ≡ false) where
+      -- another is in its way as before
+      way-still : (i : ℕ) → i ≢ k → is_in_way end later i j ≡ is_in_way s queue i j
+      way-still i apart =
+          (λ n. ap pending_in (other-progress queue k i (Done reply) apart) n
+          && portions_clash (portion_now end later i) (portion_now end later j))
+          ∙ ap (λ b. is_pending_at queue i && b)
+          (clash-still file (portion_now s queue i) (portion_now end later i) (portion_now s queue j)
+          (portion_now end later j) (touched-still i) (portion-still j aside) aside (range-still i)
+          (all-none s (ask_at queue j)))
+
+      late-still : (i : ℕ) → IsLate s queue i j → IsLate end later i j
+      late-still i late =
+          let off = late-aside file (at i) (range s (ask_at queue i)) (at j) late aside in
+          (λ n. is_of (resized (portion-still i off n)) (touched-still j n)) ∙ late
+
+      -- one that was free is so still
+      free-aside : IsFree s queue j → IsFree end later j
+      free-aside free i before = by_place i k (is_in_way end later i j ≡ false)
+          (λ same.
+          and_left (is_pending_at later i) (portions_clash (portion_now end later i) (portion_now end later j))
+          (ap (is_pending_at later) same ∙ worked-here queue k (Done reply) refl))
+          (λ apart. way-still i apart ∙ free i before)
+
+      -- one that waited for another waits as before
+      blocked-still : (is : IsBlocked s queue notes j)
+          → (suc k ≤ j → j ≤ k + (note_at (done_notes notes k) k).waiter
+          → k + (note_at (done_notes notes k) j).blocker ≢ j)
+          → IsBlocked end later (done_notes notes k) j
+      blocked-still is for_other =
+          blocked-as j is (way-still is.blocker apart) (late-still is.blocker) (done-blocker queue notes k reply j)
+          (let same = done-waiter queue notes k reply is.blocker in omega (arith, same))
+        where
+          by : (b : ℕ) → b < j → IsLinked notes j b ⊎ IsLate s queue b j → b ≡ k → ⊥
+          by b before (inl linked) same =
+              let waiter = done-waiter queue notes k reply k in
+              let here : k + (note_at notes j).blocker ≡ j =
+              subst (λ (i : ℕ). i + (note_at notes j).blocker ≡ j) same linked.back in
+              let reached : (note_at notes j).blocker ≤ (note_at notes k).waiter =
+              subst (λ (i : ℕ). (note_at notes j).blocker ≤ (note_at notes i).waiter) same linked.reached in
+              for_other (omega (arith, before, same)) (omega (arith, here, reached, waiter))
+              (ap (λ (n : ℕ). k + n) (done-blocker queue notes k reply j) ∙ here)
+          by b before (inr late) same =
+              true≢false (sym (subst (λ (i : ℕ). IsLate s queue i j) same late) ∙ aside)
+
+          apart : is.blocker ≢ k
+          apart = by is.blocker is.before is.link
+
+    free-still : IsFree s queue j → IsFree end later j
+    free-still free = free-aside (aside-before j was other (by (nat_lt j (suc k)) refl)) free
+      where
+        by : (b : Bool) → nat_lt j (suc k) ≡ b → is_of file (at j) ≡ true → j < suc k
+        by true less on = ltb-true j (suc k) less
+        by false more on = absurd (not-free j (ltb-false j (suc k) more) free on)
+
+  -- ---- what is known before the notes are looked through again
+
+  pub marked-done : IsSettling end later (done_notes notes k) first opened writers possible k
+      (k + (note_at (done_notes notes k) k).waiter) file (suc k)
+  marked-done = record {
+    noted = noted-done queue notes k reply are.noted within free-still;
+    blocked = λ j lt waits off for_other near.
+        let was = was-pending queue notes k reply j waits in
+        let apart = is-other queue notes k reply j waits in
+        let aside = aside-before j was apart (λ on. near (ap (is_of file) (touched-still j lt waits j) ∙ on)) in
+        blocked-still j lt waits aside
+        (are.blocked j lt was (sym (done-possible queue notes k reply j) ∙ off)) for_other;
+    waits = λ j behind lt waits on.
+        by j behind lt waits (ap (is_of file) (sym (touched-still j lt waits j)) ∙ on) (note_at notes j).possible refl;
+    marks = record {
+      asked = asked-done queue notes k reply are.marks.asked (omega (arith, within, are.noted.within)) ready;
+      aims = λ j lt waits.
+          let was = was-pending queue notes k reply j waits in
+          rw (done-touch queue notes k reply j, done-span queue notes k reply j, done-asks queue notes k reply j)
+          (are.marks.aims j lt was
+          ∙ sym (step.aims (part j lt was (is-other queue notes k reply j waits)) (ask_at queue j)));
+    };
   }
-
-  resizing-part : (number : ℕ) → resizes number (portion_at queue notes k) ≡ true
-      → touched s (ask_at queue k) ≢ everything
-  resizing-part number is all =
-      true≢false (sym (resizes-on number (touched_at queue notes k) (note_at notes k).range is)
-      ∙ ap (λ (t : Touched). is_on number t) (ap (λ (p : Portion). p.touched) own ∙ all))
-
-  resized : (number : ℕ) → resizes number (portion_at queue notes k) ≡ true
-      → IsMarkedBut end (with_progress queue k (Done reply)) (done_notes notes k) opened number (suc k)
-  resized number is = record {
-    asked = asked;
-    ranged = ranged-done queue notes k reply opened are.marks.ranged;
-    known =
-        known-done_but queue notes k reply end opened number
-        (known-resized (pending_by notes) (portion_at queue notes) (portion_now s queue) (portion_now end queue) opened
-        k are.marks.known number pending free is
-        (λ j before waits. step.touches (resizing-part number is) (ask_at queue j))
-        (λ j before waits other.
-        step.resized number (ap (resizes number) (sym own) ∙ is) (ask_at queue j) other));
-  }
-
-  -- The request at the position was ready and was done: what is known before the notes are looked through again.
-  pub marked-done : IsNoted (with_progress queue k (Done reply)) (done_notes notes k) first opened writers possible
-      × IsDone end (with_progress queue k (Done reply)) (done_notes notes k) opened k
-  marked-done = (
-    noted-done queue notes k reply are.noted within,
-    record {
-      kept = λ keeps.
-          let before : (number : ℕ) → resizes number (portion_at queue notes k) ≡ false = λ number.
-          ap (resizes number) (sym (done-portion queue notes k reply k)) ∙ keeps number in
-          (kept before, blocked-kept queue notes k reply opened are.blocked before);
-      resized = λ number is.
-          let before : resizes number (portion_at queue notes k) ≡ true =
-          ap (resizes number) (sym (done-portion queue notes k reply k)) ∙ is in (
-            resized number before,
-            blocked-resized queue notes k reply number before opened are.blocked free,
-            not-ready queue notes k reply number before are.noted pending,
-          );
-    },
-  )
+    where
+      by : (j : ℕ) → suc k ≤ j → j < opened → (note_at (done_notes notes k) j).pending ≡ true
+          → is_of file (at j) ≡ true → (b : Bool) → (note_at notes j).possible ≡ b
+          → (note_at (done_notes notes k) j).possible ≡ false
+      by j behind lt waits on false off = done-possible queue notes k reply j ∙ off
+      by j behind lt waits on true yes =
+          absurd (not-free j behind (are.noted.free j lt (was-pending queue notes k reply j waits) yes) on)

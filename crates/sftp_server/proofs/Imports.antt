@@ -26,9 +26,12 @@ unfoldable pub use Rattle.sftp_handles.specs.Clash.{touched, clash}
 unfoldable pub use Rattle.sftp_handles.specs.Handles.{pins_of}
 pub use Rattle.sftp_handles.specs.Ranges.{are_apart, may_resize}
 unfoldable pub use Rattle.sftp_handles.specs.Ranges.{range, range_clash}
+pub use Rattle.sftp_handles.specs.Spans.{ends_of, file_in, size_in, range_now}
+unfoldable pub use Rattle.sftp_handles.specs.Spans.{spanned}
 pub use Rattle.sftp_handles.specs.State.{State, Good, started, closed_tree, settled}
 pub use Rattle.sftp_handles.specs.Touch.{touched_as}
 pub use Rattle.sftp_handles.specs.declared.byte_range.ByteRange.{ByteRange}
+pub use Rattle.sftp_handles.specs.declared.byte_range.Span.{Span}
 pub use Rattle.sftp_handles.specs.declared.touch.Touch.{Touch}
 pub use Rattle.sftp_handles.specs.declared.touch.Touch.TheVariants.{Everything, Nothing, WritesFile}
 pub use Rattle.sftp_packets.specs.AskValues.{IsAsk}
@@ -85,13 +88,12 @@ pub use Rattle.sftp_server.specs.Machine.{can_take, IsIdle, IsDelivery, IsWork, 
 unfoldable pub use Rattle.sftp_server.specs.Machine.{is_free_of, from_unsent, is_unsent}
 pub use Rattle.sftp_server.specs.Queue.{request_in, pending_at, HasReply, sent_in, IsQueue}
 unfoldable pub use Rattle.sftp_server.specs.Queue.{with_progress, AreUnsentApart}
-pub use Rattle.sftp_server.specs.RangedNotes.{Portion, portion_in, portions_clash, is_on, IsPortion, resizes, is_behind}
-pub use Rattle.sftp_server.specs.RangedNotes.{AreKnown, AreKnownBut, without, is_behind_by, any_below, HasItsRange}
-pub use Rattle.sftp_server.specs.RangedNotes.{resizes_by, stands_in_way, IsClear, IsHindered, looked_at}
+pub use Rattle.sftp_server.specs.RangedNotes.{Aim, aim_in, Portion, portion_in, portion_of, portions_clash, resized_by}
+pub use Rattle.sftp_server.specs.RangedNotes.{resized, is_on, is_of, extent_now, is_clear}
 pub use Rattle.sftp_server.specs.Readiness.{blank, note_at, as_count, possible_count, AreNotes, ask_in, ask_at}
-pub use Rattle.sftp_server.specs.Readiness.{touched_at, portion_at, portion_now, is_in_way, pending_by, is_late}
-pub use Rattle.sftp_server.specs.Readiness.{IsNoted, IsDone, IsFree, IsBlocked, IsStopped, AreBlockedBut, AreNotReadyOn}
-pub use Rattle.sftp_server.specs.Readiness.{HaveTheirRanges, IsMarked, AreBlockedButOn, IsMarkedAsked, only_reads}
+pub use Rattle.sftp_server.specs.Readiness.{touched_at, aim_at, portion_now, is_in_way, IsNoted, IsFree, IsBlocked}
+pub use Rattle.sftp_server.specs.Readiness.{IsLinked, IsLate, AreBlockedBut, AreNotReadyOn}
+pub use Rattle.sftp_server.specs.Readiness.{IsMarked, AreBlockedButOn, IsMarkedAsked, only_reads}
 pub use Rattle.sftp_server.specs.Readiness.{IsPlaced, IsFreeFrom, AreAlike, IsSettling, touches_file}
 pub use Rattle.sftp_server.specs.Served.{IsOpened, session_packets, recorded, IsListed, IsBeginning, IsCutInLast}
 pub use Rattle.sftp_server.specs.Served.{StreamBytes, stream_bytes, Passed, EndsSession, IsUnopenedBy, IsServed, Serves}
@@ -109,5 +111,6 @@ pub use Rattle.sftp_server.specs.declared.queue.Entry.{Entry}
 pub use Rattle.sftp_server.specs.declared.queue.Progress.{Progress}
 pub use Rattle.sftp_server.specs.declared.queue.Progress.TheVariants.{Pending, Done, Sent}
 pub use Rattle.sftp_server.specs.declared.readiness.Note.{Note}
+pub use Rattle.sftp_server.specs.declared.readiness.Extent.{Extent}
 pub use Rattle.sftp_server.specs.declared.refusals.Refuse.{Refuse}
 pub use Rattle.sftp_server.specs.declared.taking.Front.{Front}

@@ -1,13 +1,10 @@
 -- What one request more changes of the notes.
 use Rattle.sftp_server.proofs.Imports.{◌≡◌, ◌+◌, ◌<◌, ◌≤◌, ◌++◌, nat_lt, ℕ, zero, suc, Bool, true, false, List, [], ◌∷◌}
-use Rattle.sftp_server.proofs.Imports.{Option, is_some, length, slice_get, refl, sym, ap, subst, ◌∙◌, arith}
-use Rattle.sftp_server.proofs.Imports.{length-append, inl, inr, ltb-true, ltb-false, sum_by_push, Request, State, Entry}
-use Rattle.sftp_server.proofs.Imports.{Pending, Note, is_pending_at, reply_at, Portion, portion_in, IsPortion}
-use Rattle.sftp_server.proofs.Imports.{is_behind_by, blank, note_at, portion_at, portion_now, is_in_way, as_count}
-use Rattle.sftp_server.proofs.Imports.{pending_by, is_late, IsNoted, AreNotes, get_or_append_left, get_or_push, ask_in}
-use Rattle.sftp_server.proofs.Imports.{IsFree, IsBlocked, IsStopped, IsMarked}
-use Rattle.sftp_server.proofs.NotePlaces.{in_way-same}
-use Rattle.sftp_server.proofs.RangedNotes.{behind-local}
+use Rattle.sftp_server.proofs.Imports.{is_some, length, slice_get, refl, sym, ap, subst, ◌∙◌, arith, length-append}
+use Rattle.sftp_server.proofs.Imports.{ltb-true, ltb-false, sum_by_push, Request, State, Entry, Pending, Note}
+use Rattle.sftp_server.proofs.Imports.{is_pending_at, pending_in, reply_at, blank, note_at, ask_at, is_in_way, as_count}
+use Rattle.sftp_server.proofs.Imports.{IsNoted, AreNotes, get_or_append_left, get_or_push, ask_in, IsBlocked, IsMarked}
+use Rattle.sftp_server.proofs.NotePlaces.{way-moved, late-moved, blocked-as}
 
 -- the note of a request that was just taken
 abbrev pub new_note : Note
@@ -71,21 +68,21 @@ module _ (queue : List Entry) (notes : List Note) (request : Request) (same : le
   abbrev noted : List Note
   noted = with_new notes
 
-  portion-new : (j : ℕ) → j < length queue → portion_at asked noted j ≡ portion_at queue notes j
-  portion-new j before =
-      rw (note-before notes j (omega (arith, same, before)), get-before queue request j before) refl
+  asked-before : (j : ℕ) → j < length queue → ask_at asked j ≡ ask_at queue j
+  asked-before j before = ap ask_in (get-before queue request j before)
 
   pending-before : (j : ℕ) → j < length queue → (note_at noted j).pending ≡ (note_at notes j).pending
   pending-before j before = ap (λ (n : Note). n.pending) (note-before notes j (omega (arith, same, before)))
 
-  free-new : (j : ℕ) → j < length queue → IsFree queue notes j → IsFree asked noted j
-  free-new j within free = λ i before.
-      let less : i < length queue = omega (arith, before, within) in
-      ap (is_in_way asked noted i) (portion-new j within)
-      ∙ (in_way-same queue asked notes noted i (portion_at queue notes j) (pending-before i less) (portion-new i less)
-      ∙ free i before)
+  -- what is in the way of requests that were there is so still
+  way-new : (s : State) (i j : ℕ) → i < length queue → j < length queue
+      → is_in_way s asked i j ≡ is_in_way s queue i j
+  way-new s i j lt_i lt_j =
+      way-moved s queue asked i j i j (ap pending_in (get-before queue request i lt_i)) (asked-before i lt_i)
+      (asked-before j lt_j)
 
-  new-behind : {first opened writers possible : ℕ} (j : ℕ) → IsNoted queue notes first opened writers possible
+  new-behind : {s : State} {first opened writers possible : ℕ} (j : ℕ)
+      → IsNoted s queue notes first opened writers possible
       → opened ≤ j → j < length queue + 1 → ((note_at noted j).pending ≡ true) × ((note_at noted j).possible ≡ false)
   new-behind j is from to = by (nat_lt j (length queue)) refl
     where
@@ -99,9 +96,9 @@ module _ (queue : List Entry) (notes : List Note) (request : Request) (same : le
           let here : length notes ≡ j = omega (arith, after, to, same) in
           rw (get_or_push notes new_note blank j here) (refl, refl)
 
-  noted-new : {first opened writers possible : ℕ} → IsNoted queue notes first opened writers possible
-      → IsNoted asked noted first opened writers possible
-  noted-new {opened = opened} is =
+  noted-new : {s : State} {first opened writers possible : ℕ} → IsNoted s queue notes first opened writers possible
+      → IsNoted s asked noted first opened writers possible
+  noted-new {s} {opened = opened} is =
       let longer = length-append queue (record { request = request; progress = Pending } ∷ []) in
       let longer_notes = length-append notes (new_note ∷ []) in
       let sum = sum_by_push (λ (n : Note). as_count n.possible) notes new_note in
@@ -122,67 +119,35 @@ module _ (queue : List Entry) (notes : List Note) (request : Request) (same : le
         behind = λ j from to. new-behind j is from (subst (λ (n : ℕ). j < n) size to);
         free = λ j before pending ready.
             let here = note-before notes j (inside j before) in
-            free-new j (omega (arith, before, is.within)) (is.free j before (rw here at pending) (rw here at ready));
+            let inside : j < length queue = omega (arith, before, is.within) in
+            λ i less.
+            way-new s i j (omega (arith, less, inside)) inside
+            ∙ is.free j before (rw here at pending) (rw here at ready) i less;
       }
 
-  blocked-new : (j : ℕ) → j < length queue → IsBlocked queue notes j → IsBlocked asked noted j
-  blocked-new j within is =
+  blocked-new : {s : State} (j : ℕ) → j < length queue → IsBlocked s queue notes j → IsBlocked s asked noted j
+  blocked-new {s} j within is =
       let before : is.blocker < length queue = let less = is.before in omega (arith, less, within) in
-      let blocker = note-before notes is.blocker (omega (arith, before, same)) in
       let here = note-before notes j (omega (arith, within, same)) in
-      record {
-        blocker = is.blocker;
-        back = rw here is.back;
-        before = is.before;
-        in_way =
-            ap (is_in_way asked noted is.blocker) (portion-new j within)
-            ∙ (in_way-same queue asked notes noted is.blocker (portion_at queue notes j)
-            (ap (λ (n : Note). n.pending) blocker) (portion-new is.blocker before) ∙ is.in_way);
-        reached = rw (here, blocker) is.reached;
-      }
-
-  late-new : (j : ℕ) → j < length queue → is_late asked noted j ≡ is_late queue notes j
-  late-new j within =
-      ap (λ (p : Portion). is_behind_by (pending_by noted) (portion_at asked noted) j p.touched) (portion-new j within)
-      ∙ behind-local (pending_by noted) (pending_by notes) (portion_at asked noted) (portion_at queue notes) j
-      (portion_at queue notes j).touched (λ i less. pending-before i (omega (arith, less, within)))
-      (λ i less. portion-new i (omega (arith, less, within)))
-
-  stopped-new : (j : ℕ) → j < length queue → IsStopped queue notes j → IsStopped asked noted j
-  stopped-new j within (inl is) = inl (blocked-new j within is)
-  stopped-new j within (inr late) = inr (late-new j within ∙ late)
-
-  now-new : (s : State) (j : ℕ) → j < length queue → portion_now s asked j ≡ portion_now s queue j
-  now-new s j within = ap (λ (found : Option Entry). portion_in s (ask_in found)) (get-before queue request j within)
+      let there = ap (λ (n : Note). n.waiter) (note-before notes is.blocker (omega (arith, before, same))) in
+      blocked-as j is (way-new s is.blocker j before within)
+      (late-moved s queue asked is.blocker j is.blocker j (asked-before is.blocker before) (asked-before j within))
+      (ap (λ (n : Note). n.blocker) here) (omega (arith, there))
 
   marks-new : (s : State) (opened : ℕ) → opened ≤ length queue → IsMarked s queue notes opened
       → IsMarked s asked noted opened
-  marks-new s opened within are =
-      let inside : (j : ℕ) → j < opened → j < length queue = λ j before. omega (arith, before, within) in
-      let waits : (j : ℕ) → j < opened → (note_at noted j).pending ≡ (note_at notes j).pending = λ j before.
-      pending-before j (inside j before) in
-      record {
-        asked = record {
-          marked = λ j. pending-new queue notes request j same are.asked.marked;
-          replies = λ j idle.
-              part-new (λ (n : Note). n.possible) notes j refl
-              ∙ (are.asked.replies j (idle-before notes j idle) ∙ ap is_some (sym (reply-new queue request j)));
-        };
-        ranged = λ j before pending.
-            subst IsPortion (sym (portion-new j (inside j before)))
-            (are.ranged j before (sym (waits j before) ∙ pending));
-        known = record {
-          touches = λ j before pending.
-              ap (λ (p : Portion). p.touched) (portion-new j (inside j before))
-              ∙ (are.known.touches j before (sym (waits j before) ∙ pending)
-              ∙ ap (λ (p : Portion). p.touched) (sym (now-new s j (inside j before))));
-          ranges = λ j before pending front.
-              ap (λ (p : Portion). p.range) (portion-new j (inside j before))
-              ∙ (are.known.ranges j before (sym (waits j before) ∙ pending)
-              (sym (late-new j (inside j before)) ∙ front)
-              ∙ ap (λ (p : Portion). p.range) (sym (now-new s j (inside j before))));
-        };
-      }
+  marks-new s opened within are = record {
+    asked = record {
+      marked = λ j. pending-new queue notes request j same are.asked.marked;
+      replies = λ j idle.
+          part-new (λ (n : Note). n.possible) notes j refl
+          ∙ (are.asked.replies j (idle-before notes j idle) ∙ ap is_some (sym (reply-new queue request j)));
+    };
+    aims = λ j before pending.
+        let inside : j < length queue = omega (arith, before, within) in
+        rw (note-before notes j (omega (arith, inside, same)), asked-before j inside)
+        (are.aims j before (sym (pending-before j inside) ∙ pending));
+  }
 
 -- A request was taken, and is pending. Whether it is open is not yet judged.
 pub notes-pushed : {s : State} {queue : List Entry} {notes : List Note} {first opened writers possible : ℕ}
@@ -196,7 +161,7 @@ notes-pushed {s} {queue} {notes} {opened = opened} request are =
       noted = noted-new queue notes request same are.noted;
       blocked = λ j before pending waits.
           let here = note-before notes j (omega (arith, inside j before, same)) in
-          stopped-new queue notes request same j (inside j before)
+          blocked-new queue notes request same j (inside j before)
           (are.blocked j before (rw here at pending) (rw here at waits));
       marks = marks-new queue notes request same s opened are.noted.within are.marks;
     }

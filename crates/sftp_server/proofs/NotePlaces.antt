@@ -1,14 +1,13 @@
 -- Notes and requests at their positions, after one is replaced.
-use Rattle.sftp_server.proofs.Imports.{◌≡◌, ◌≢◌, ◌+◌, ◌<◌, ◌&&◌, ℕ, zero, suc, Bool, true, false, List, [], ◌∷◌, Option}
-use Rattle.sftp_server.proofs.Imports.{Some, None, is_some, length, set, slice_get, refl, sym, ap, ◌∙◌, ◌||◌, arith}
-use Rattle.sftp_server.proofs.Imports.{◌-◌, take, drop, true≢false, and_left, and_right, none-some, get_or-drop}
-use Rattle.sftp_server.proofs.Imports.{sum_by-set, sum_by-cons, sum_by-take-drop, Reply, Touched, Entry, Progress, Note}
+use Rattle.sftp_server.proofs.Imports.{◌≡◌, ◌≢◌, ◌+◌, ◌<◌, ◌≤◌, ◌&&◌, ℕ, zero, suc, Bool, true, false, List, [], ◌∷◌}
+use Rattle.sftp_server.proofs.Imports.{Option, Some, None, is_some, length, set, slice_get, refl, sym, ap, ◌∙◌, arith}
+use Rattle.sftp_server.proofs.Imports.{◌-◌, ◌⊎◌, inl, inr, take, drop, true≢false, none-some, get_or-drop, State, touched}
+use Rattle.sftp_server.proofs.Imports.{sum_by-set, sum_by-cons, sum_by-take-drop, Reply, Entry, Progress, Note}
 use Rattle.sftp_server.proofs.Imports.{Pending, Done, Sent, is_pending, is_sent, is_pending_at, pending_in, reply_of}
-use Rattle.sftp_server.proofs.Imports.{reply_in, reply_at, from_unsent, with_progress, sent_in, portion_at, is_late}
-use Rattle.sftp_server.proofs.Imports.{pending_by, blank, note_at, ask_at, is_in_way, as_count, possible_count, Portion}
-use Rattle.sftp_server.proofs.Imports.{portions_clash, resizes, any_below, is_behind_by, ask_in}
+use Rattle.sftp_server.proofs.Imports.{reply_in, reply_at, from_unsent, with_progress, sent_in, blank, note_at, ask_at}
+use Rattle.sftp_server.proofs.Imports.{is_in_way, as_count, possible_count, portion_in, portions_clash, resized, is_of}
+use Rattle.sftp_server.proofs.Imports.{ask_in, IsBlocked, IsLinked, IsLate}
 use Rattle.sftp_server.proofs.Queues.{from_unsent-short}
-use Rattle.sftp_server.proofs.RangedNotes.{behind-on, behind-local}
 
 -- ---- one note is replaced
 
@@ -112,64 +111,39 @@ reply-worked (entry ∷ queue) (suc k) reply is = reply-worked queue k reply is
 
 -- ---- what is in the way
 
-and-fewer : (a b c : Bool) → (b ≡ true → a ≡ true) → (a && c) ≡ false → (b && c) ≡ false
-and-fewer true b c was clear = and_right b c clear
-and-fewer false true c was clear = absurd (true≢false (sym (was refl)))
-and-fewer false false c was clear = refl
+-- a request is in the way as one of another queue is, if it is as pending, and both ask the same as those
+pub way-moved : (s : State) (queue later : List Entry) (i j x y : ℕ) → is_pending_at later i ≡ is_pending_at queue x
+    → ask_at later i ≡ ask_at queue x → ask_at later j ≡ ask_at queue y
+    → is_in_way s later i j ≡ is_in_way s queue x y
+way-moved s queue later i j x y pending ask other =
+    λ n. pending n && portions_clash (portion_in s (ask n)) (portion_in s (other n))
 
--- What is not in the way is not in the way after the change either, if its note says the same, and it is pending only
--- if it was before.
-pub in_way-fewer : (queue queue' : List Entry) (notes notes' : List Note) (j : ℕ) (at : Portion)
-    → ((note_at notes' j).pending ≡ true → (note_at notes j).pending ≡ true)
-    → portion_at queue' notes' j ≡ portion_at queue notes j
-    → is_in_way queue notes j at ≡ false → is_in_way queue' notes' j at ≡ false
-in_way-fewer queue queue' notes notes' j at fewer same clear =
-    ap (λ (p : Portion). (note_at notes' j).pending && portions_clash p at) same
-    ∙ and-fewer (note_at notes j).pending (note_at notes' j).pending (portions_clash (portion_at queue notes j) at)
-    fewer clear
+pub late-moved : (s : State) (queue later : List Entry) (i j x y : ℕ) → ask_at later i ≡ ask_at queue x
+    → ask_at later j ≡ ask_at queue y → IsLate s queue x y → IsLate s later i j
+late-moved s queue later i j x y ask other late =
+    (λ n. is_of (resized (portion_in s (ask n))) (touched s (other n))) ∙ late
 
--- what is in the way is so after the change too, if its note says the same and it is as pending
-pub in_way-same : (queue queue' : List Entry) (notes notes' : List Note) (j : ℕ) (at : Portion)
-    → (note_at notes' j).pending ≡ (note_at notes j).pending
-    → portion_at queue' notes' j ≡ portion_at queue notes j
-    → is_in_way queue' notes' j at ≡ is_in_way queue notes j at
-in_way-same queue queue' notes notes' j at pending same = λ i. pending i && portions_clash (same i) at
-
--- what a request touches by its note stays, and its range, if neither what the note says nor what it asks changes
-pub portion-set : (queue : List Entry) (notes : List Note) (k j : ℕ) (progress : Progress) (note : Note)
-    → note.touch ≡ (note_at notes k).touch → note.range ≡ (note_at notes k).range
-    → portion_at (with_progress queue k progress) (set notes k note) j ≡ portion_at queue notes j
-portion-set queue notes k j progress note touch range =
-    rw (
-      part-set (λ (n : Note). n.touch) notes k j note touch,
-      part-set (λ (n : Note). n.range) notes k j note range,
-      ask-progress queue k j progress,
-    ) refl
-
--- ---- what is behind a request that may change the length of its file
-
-none-below : (n : ℕ) (test : ℕ → Bool) → ((j : ℕ) → j < n → test j ≡ false) → any_below n test ≡ false
-none-below zero test none = refl
-none-below (suc n) test none =
-    rw (none n (omega arith), none-below n test (λ j less. none j (omega (arith, less)))) refl
-
--- if none in front passes, it does not matter
-below-drop : (n k : ℕ) (test : ℕ → Bool) → ((j : ℕ) → j < n → test j ≡ false)
-    → any_below (n + k) test ≡ any_below k (λ j. test (n + j))
-below-drop n zero test none =
-    let same : n + 0 ≡ n = omega arith in
-    ap (λ (m : ℕ). any_below m test) same ∙ none-below n test none
-below-drop n (suc k) test none =
-    let same : n + suc k ≡ suc (n + k) = omega arith in
-    ap (λ (m : ℕ). any_below m test) same ∙ ap (λ (b : Bool). test (n + k) || b) (below-drop n k test none)
-
-behind-front : (pending : ℕ → Bool) (noted : ℕ → Portion) (n k : ℕ) (at : Touched)
-    → ((j : ℕ) → j < n → pending j ≡ false)
-    → is_behind_by pending noted (n + k) at ≡ is_behind_by (λ j. pending (n + j)) (λ j. noted (n + j)) k at
-behind-front pending noted n k at idle =
-    behind-on pending (λ j. pending (n + j)) noted (λ j. noted (n + j)) (n + k) k at (λ m on.
-    below-drop n k (λ j. pending j && resizes m (noted j))
-    (λ j less. and_left (pending j) (resizes m (noted j)) (idle j less)))
+-- A request waits as before if what it waits for is in its way still, or may change the length of its file still, and
+-- its note names the same.
+pub blocked-as : {s end : State} {queue later : List Entry} {notes noted : List Note} (j : ℕ)
+    → (is : IsBlocked s queue notes j) → is_in_way end later is.blocker j ≡ is_in_way s queue is.blocker j
+    → (IsLate s queue is.blocker j → IsLate end later is.blocker j)
+    → (note_at noted j).blocker ≡ (note_at notes j).blocker
+    → (note_at notes is.blocker).waiter ≤ (note_at noted is.blocker).waiter → IsBlocked end later noted j
+blocked-as {s} {end} {queue} {later} {notes} {noted} j is way still same more = record {
+  blocker = is.blocker;
+  before = is.before;
+  in_way = way ∙ is.in_way;
+  link = by is.link;
+}
+  where
+    by : IsLinked notes j is.blocker ⊎ IsLate s queue is.blocker j
+        → IsLinked noted j is.blocker ⊎ IsLate end later is.blocker j
+    by (inl linked) = inl record {
+      back = ap (λ (n : ℕ). is.blocker + n) same ∙ linked.back;
+      reached = let reached = linked.reached in omega (arith, same, more, reached);
+    }
+    by (inr late) = inr (still late)
 
 -- ---- requests leave the front
 
@@ -185,27 +159,6 @@ get-drop (suc n) (entry ∷ queue) j =
 
 pub ask-drop : (n : ℕ) (queue : List Entry) (j : ℕ) → ask_at (drop n queue) j ≡ ask_at queue (n + j)
 ask-drop n queue j = ap ask_in (get-drop n queue j)
-
-pub portion-drop : (n : ℕ) (queue : List Entry) (notes : List Note) (j : ℕ)
-    → portion_at (drop n queue) (drop n notes) j ≡ portion_at queue notes (n + j)
-portion-drop n queue notes j = rw (note-drop n notes j, ask-drop n queue j) refl
-
-pub in_way-drop : (n : ℕ) (queue : List Entry) (notes : List Note) (j : ℕ) (at : Portion)
-    → is_in_way (drop n queue) (drop n notes) j at ≡ is_in_way queue notes (n + j) at
-in_way-drop n queue notes j at = rw (note-drop n notes j, ask-drop n queue j) refl
-
--- whether a request is behind another is as before if nothing that is pending was in front
-pub late-drop : (n : ℕ) (queue : List Entry) (notes : List Note) (k : ℕ)
-    → ((j : ℕ) → j < n → (note_at notes j).pending ≡ false)
-    → is_late (drop n queue) (drop n notes) k ≡ is_late queue notes (n + k)
-late-drop n queue notes k idle =
-    ap (λ (p : Portion). is_behind_by (pending_by (drop n notes)) (portion_at (drop n queue) (drop n notes)) k
-    p.touched) (portion-drop n queue notes k)
-    ∙ (behind-local (pending_by (drop n notes)) (λ j. (note_at notes (n + j)).pending)
-    (portion_at (drop n queue) (drop n notes)) (λ j. portion_at queue notes (n + j)) k (portion_at queue notes
-    (n + k)).touched (λ j less. ap (λ (note : Note). note.pending) (note-drop n notes j))
-    (λ j less. portion-drop n queue notes j)
-    ∙ sym (behind-front (pending_by notes) (portion_at queue notes) n k (portion_at queue notes (n + k)).touched idle))
 
 -- where nothing is possible in front, as much is possible without it
 none-possible : (n : ℕ) (notes : List Note) → ((j : ℕ) → j < n → (note_at notes j).possible ≡ false)

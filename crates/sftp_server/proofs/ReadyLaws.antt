@@ -1,20 +1,19 @@
 -- What the notes of a queue say of what is ready, and of what is possible.
 use Rattle.sftp_server.proofs.Imports.{◌≡◌, ◌+◌, ◌<◌, ◌≤◌, ◌++◌, ◌&&◌, ◌||◌, not, nat_lt, ℕ, zero, suc, Bool, true}
-use Rattle.sftp_server.proofs.Imports.{false, List, [], ◌∷◌, ◌⊎◌, inl, inr, Option, Some, None, is_some, if◌then◌else◌}
+use Rattle.sftp_server.proofs.Imports.{false, List, [], ◌∷◌, Option, Some, None, is_some, if◌then◌else◌}
 use Rattle.sftp_server.proofs.Imports.{length, take, drop, slice_get, refl, sym, ap, ap₂, ◌∙◌, ◌-◌, arith}
 use Rattle.sftp_server.proofs.Imports.{length-append, append_assoc, true≢false, ltb-true, ltb-false, and_from}
 use Rattle.sftp_server.proofs.Imports.{sum_by-cons, and-false, or-false, Request, State, Touched, touched, share, clash}
-use Rattle.sftp_server.proofs.Imports.{everything, range, range_clash, Choice, Entry, Progress, Pending, Done, Sent}
-use Rattle.sftp_server.proofs.Imports.{Note, Machine, ClashOf, is_pending, is_free_of, ready_in, is_ready, pending_in}
-use Rattle.sftp_server.proofs.Imports.{reply_of, reply_in, reply_at, choices_at, choices_from, choices_of, portion_in}
-use Rattle.sftp_server.proofs.Imports.{portions_clash, stands_in_way, IsHindered, blank, note_at, ask_at, portion_at}
-use Rattle.sftp_server.proofs.Imports.{portion_now, as_count, possible_count, pending_by, is_late, AreNotes, take_all}
-use Rattle.sftp_server.proofs.Imports.{drop_more, get_or_past, ask_in, IsStopped, IsMarked, IsMarkedAsked}
+use Rattle.sftp_server.proofs.Imports.{everything, range_clash, Choice, Entry, Progress, Pending, Done, Sent, Note}
+use Rattle.sftp_server.proofs.Imports.{Machine, ClashOf, is_pending, is_free_of, ready_in, is_ready, pending_in}
+use Rattle.sftp_server.proofs.Imports.{is_pending_at, reply_of, reply_in, reply_at, choices_at, choices_from, choices_of}
+use Rattle.sftp_server.proofs.Imports.{Aim, portion_in, portions_clash, blank, note_at, ask_at, portion_now, is_in_way}
+use Rattle.sftp_server.proofs.Imports.{as_count, possible_count, AreNotes, take_all, drop_more, get_or_past, ask_in}
+use Rattle.sftp_server.proofs.Imports.{IsMarked}
 use Rattle.std.proofs.lemmas.Option.{slice_get_within}
 use Rattle.sftp_server.specs.Readiness.{IsShut, IsOpened}
 use Rattle.sftp_server.specs.declared.cores.Choice.TheVariants as choices
-use Rattle.sftp_server.proofs.RangedNotes.{clear-is, hindered-is, clash-left, all-none}
-use Rattle.sftp_server.proofs.StillRanged.{portion-sound}
+use Rattle.sftp_server.proofs.RangedNotes.{clash-left, all-none}
 use Rattle.sftp_server.proofs.DoneNotes.{all-touched}
 
 -- ---- freeness, position by position
@@ -52,15 +51,12 @@ unfolding range_clash clash
 blocks-portions s None request = refl
 blocks-portions s (Some entry) request = refl
 
--- the request at a position blocks a later one if it stands in its way now
-blocks-now : (s : State) (queue : List Entry) (notes : List Note) (j k : ℕ) (entry : Entry)
-    → IsMarkedAsked queue notes → slice_get queue k ≡ Some entry
-    → blocks_in range_clash s (slice_get queue j) entry.request
-    ≡ stands_in_way (pending_by notes) (portion_now s queue) j k
-blocks-now s queue notes j k entry are at =
-    let named : ask_at queue k ≡ entry.request.ask = ap ask_in at in
+-- the request at a position blocks a later one if it is in its way
+blocks-now : (s : State) (queue : List Entry) (j k : ℕ) (entry : Entry) → slice_get queue k ≡ Some entry
+    → blocks_in range_clash s (slice_get queue j) entry.request ≡ is_in_way s queue j k
+blocks-now s queue j k entry at =
     blocks-portions s (slice_get queue j) entry.request
-    ∙ (λ i. sym (are.marked j) i && portions_clash (portion_now s queue j) (portion_in s (sym named i)))
+    ∙ (λ i. is_pending_at queue j && portions_clash (portion_now s queue j) (portion_in s (ask_in (sym at i))))
 
 -- the last open request, which touches everything, blocks each later one
 blocks-shut : (s : State) (queue : List Entry) (notes : List Note) (opened k : ℕ) (entry : Entry)
@@ -69,23 +65,16 @@ blocks-shut : (s : State) (queue : List Entry) (notes : List Note) (opened k : �
 blocks-shut s queue notes opened k entry are shut at =
     let here = shut.position in
     let all : touched s (ask_at queue shut.last) ≡ everything =
-    sym (are.known.touches shut.last (omega (arith, here)) shut.pending)
+    ap (λ (aim : Aim). aim.0) (sym (are.aims shut.last (omega (arith, here)) shut.pending))
     ∙ all-touched (note_at notes shut.last).touch (ask_at queue shut.last) shut.touches in
-    let none = all-none (touched s (ask_at queue shut.last)) (range s (ask_at queue shut.last)) (portion-sound s
-    (ask_at queue shut.last)) all in
-    blocks-now s queue notes shut.last k entry are.asked at
-    ∙ and_from (note_at notes shut.last).pending
-    (portions_clash (portion_now s queue shut.last) (portion_now s queue k)) shut.pending
-    (clash-left (portion_now s queue shut.last) (portion_now s queue k) none
+    blocks-now s queue shut.last k entry at
+    ∙ and_from (is_pending_at queue shut.last)
+    (portions_clash (portion_now s queue shut.last) (portion_now s queue k))
+    (sym (are.asked.marked shut.last) ∙ shut.pending)
+    (clash-left (portion_now s queue shut.last) (portion_now s queue k) (all-none s (ask_at queue shut.last) all)
     ∙ ap (λ (at : Touched). share at (touched s (ask_at queue k)) && not false) all)
 
 -- ---- what is ready
-
--- what waits by its note is hindered, or is behind a request that may change the length of its file
-stopped-hindered : (queue : List Entry) (notes : List Note) (k : ℕ) → IsStopped queue notes k
-    → IsHindered (pending_by notes) (portion_at queue notes) k ⊎ (is_late queue notes k ≡ true)
-stopped-hindered queue notes k (inl is) = inl (is.blocker, is.before, is.in_way)
-stopped-hindered queue notes k (inr late) = inr late
 
 pub ready-is : {s : State} {queue : List Entry} {notes : List Note} {first opened writers possible : ℕ}
     → AreNotes s queue notes first opened writers possible → IsOpened queue notes opened → (k : ℕ)
@@ -98,16 +87,12 @@ ready-is {s} {queue} {notes} {opened = opened} are is_opened k =
         → (note_at notes k).pending ≡ true → (b : Bool) → (note_at notes k).possible ≡ b
         → is_free_of range_clash s (take k queue) entry.request ≡ b
     open-possible entry at within pending true ready =
-        let clear = clear-is (pending_by notes) (portion_at queue notes) (portion_now s queue) opened are.marks.known k
-        within pending (portion-sound s (ask_at queue k)) (are.noted.free k within pending ready) in
         free-more range_clash s queue k entry.request (λ j before.
-        blocks-now s queue notes j k entry are.marks.asked at ∙ clear j before)
+        blocks-now s queue j k entry at ∙ are.noted.free k within pending ready j before)
     open-possible entry at within pending false waits =
-        let found = hindered-is (pending_by notes) (portion_at queue notes) (portion_now s queue) opened are.marks.known
-        k within pending (portion-sound s (ask_at queue k)) (stopped-hindered queue notes k (are.blocked k within
-        pending waits)) in
-        free-not range_clash s queue k found.0 entry.request found.1
-        (blocks-now s queue notes found.0 k entry are.marks.asked at ∙ found.2)
+        let is = are.blocked k within pending waits in
+        free-not range_clash s queue k is.blocker entry.request is.before
+        (blocks-now s queue is.blocker k entry at ∙ is.in_way)
 
     behind-possible : (entry : Entry) → slice_get queue k ≡ Some entry → opened ≤ k
         → is_free_of range_clash s (take k queue) entry.request ≡ (note_at notes k).possible

@@ -2,18 +2,17 @@
 use Rattle.sftp_server.proofs.Imports.{◌≡◌, ◌≢◌, ◌+◌, ◌-◌, ◌<◌, ◌≤◌, ◌==◌, nat_lt, ℕ, Bool, true, false, List, Option}
 use Rattle.sftp_server.proofs.Imports.{Some, is_some, length, set, drop, slice_get, refl, sym, ap, subst, ◌∙◌, arith}
 use Rattle.sftp_server.proofs.Imports.{◌⊎◌, inl, inr, ltb-true, ltb-false, and_parts, true≢false, cases_Bool, eqb-true}
-use Rattle.sftp_server.proofs.Imports.{eqb-false, length-set, get_or-set_other, Reply, State, touched, range, Entry}
-use Rattle.sftp_server.proofs.Imports.{Sent, Note, is_pending_at, pending_in, reply_at, reply_in, from_unsent}
-use Rattle.sftp_server.proofs.Imports.{with_progress, Portion, portion_in, portions_clash, IsPortion, is_behind}
-use Rattle.sftp_server.proofs.Imports.{AreKnown, blank, note_at, portion_at, portion_now, is_in_way, possible_count}
-use Rattle.sftp_server.proofs.Imports.{pending_by, is_late, IsNoted, AreNotes, length-drop, IsFree, IsBlocked}
-use Rattle.sftp_server.proofs.Imports.{IsStopped, IsMarked, IsMarkedAsked}
+use Rattle.sftp_server.proofs.Imports.{eqb-false, length-set, get_or-set_other, Reply, State, Entry, Sent, Note}
+use Rattle.sftp_server.proofs.Imports.{is_pending_at, pending_in, reply_at, reply_in, from_unsent, with_progress}
+use Rattle.sftp_server.proofs.Imports.{portions_clash, blank, note_at, ask_at, portion_now, is_in_way, possible_count}
+use Rattle.sftp_server.proofs.Imports.{IsNoted, AreNotes, length-drop, IsBlocked, IsLinked, IsLate, IsMarked}
+use Rattle.sftp_server.proofs.Imports.{IsMarkedAsked}
 use Rattle.sftp_server.specs.Readiness.{AreBlocked, IsOpened}
 use Rattle.sftp_server.proofs.Queues.{length-progress}
 use Rattle.sftp_server.proofs.NotePlaces.{part-set, fails-set, fails-still, passed-before, count-set, other-progress}
-use Rattle.sftp_server.proofs.NotePlaces.{ask-progress, worked-here, reply-here, in_way-same, portion-set, reply-within}
-use Rattle.sftp_server.proofs.NotePlaces.{reply-worked, note-drop, get-drop, ask-drop, portion-drop, in_way-drop}
-use Rattle.sftp_server.proofs.NotePlaces.{late-drop, count-drop, front-drop, sent-front, sent-worked}
+use Rattle.sftp_server.proofs.NotePlaces.{ask-progress, worked-here, reply-here, way-moved, late-moved, blocked-as}
+use Rattle.sftp_server.proofs.NotePlaces.{reply-within, reply-worked, note-drop, get-drop, ask-drop, count-drop}
+use Rattle.sftp_server.proofs.NotePlaces.{front-drop, sent-front, sent-worked}
 
 -- ---- a reply is sent
 
@@ -49,8 +48,8 @@ module _ (queue : List Entry) (notes : List Note) (k : ℕ) where
   sent-waiter : (j : ℕ) → (note_at noted j).waiter ≡ (note_at notes j).waiter
   sent-waiter j = part-set (λ (n : Note). n.waiter) notes k j (sent_note notes k) refl
 
-  sent-portion : (j : ℕ) → portion_at after noted j ≡ portion_at queue notes j
-  sent-portion j = portion-set queue notes k j Sent (sent_note notes k) refl refl
+  sent-asks : (j : ℕ) → ask_at after j ≡ ask_at queue j
+  sent-asks j = ask-progress queue k j Sent
 
   sent-count : (possible : ℕ) → k < length notes → (note_at notes k).possible ≡ true
       → possible ≡ possible_count notes → possible - 1 ≡ possible_count noted
@@ -59,74 +58,60 @@ module _ (queue : List Entry) (notes : List Note) (k : ℕ) where
       let sum : possible_count noted + 1 ≡ possible_count notes + 0 = rw was at all in
       omega (arith, sum, counted)
 
-  sent-free : (j : ℕ) → IsFree queue notes j → IsFree after noted j
-  sent-free j free = λ i before.
-      ap (is_in_way after noted i) (sent-portion j)
-      ∙ (in_way-same queue after notes noted i (portion_at queue notes j) (sent-pending i) (sent-portion i)
-      ∙ free i before)
+  -- what was done is in the way of none, before and after its reply is sent
+  module _ (worked : is_pending_at queue k ≡ false) where
+    queued-pending : (j : ℕ) → is_pending_at after j ≡ is_pending_at queue j
+    queued-pending j = by (cases_Bool (j == k))
+      where
+        by : ((j == k) ≡ true) ⊎ ((j == k) ≡ false) → is_pending_at after j ≡ is_pending_at queue j
+        by (inl same) =
+            subst (λ (n : ℕ). is_pending_at after n ≡ is_pending_at queue n) (sym (eqb-true j k same))
+            (worked-here queue k Sent refl ∙ sym worked)
+        by (inr other) = ap pending_in (other-progress queue k j Sent (eqb-false j k other))
 
-  noted-sent : {first opened writers possible : ℕ} → IsNoted queue notes first opened writers possible
-      → k < length queue → (note_at notes k).possible ≡ true
-      → IsNoted after noted first opened writers (possible - 1)
-  noted-sent {possible = possible} is within was =
-      let same = length-progress queue k Sent in
-      record {
-        same_length = length-set notes k (sent_note notes k) ∙ (is.same_length ∙ sym same);
-        within = rw same is.within;
-        front = rw same is.front;
-        passed = λ j before. sent-pending j ∙ is.passed j before;
-        reads = λ j from to pending. rw (sent-touch j) (is.reads j from to (sym (sent-pending j) ∙ pending));
-        counted = sent-count possible (omega (arith, within, is.same_length)) was is.counted;
-        last = λ j before pending. rw (sent-touch j) (is.last j before (sym (sent-pending j) ∙ pending));
-        behind = λ j from to.
-            let parts = is.behind j from (subst (λ (n : ℕ). j < n) same to) in (
-              sent-pending j ∙ parts.0,
-              fails-still (λ (n : Note). n.possible) notes k j (sent_note notes k) refl parts.1,
-            );
-        free = λ j before pending ready.
-            sent-free j (is.free j before (sym (sent-pending j) ∙ pending) (was-possible j ready));
-      }
+    sent-way : (s : State) (i j : ℕ) → is_in_way s after i j ≡ is_in_way s queue i j
+    sent-way s i j = way-moved s queue after i j i j (queued-pending i) (sent-asks i) (sent-asks j)
 
-  sent-blocked : (j : ℕ) → IsBlocked queue notes j → IsBlocked after noted j
-  sent-blocked j is = record {
-    blocker = is.blocker;
-    back = rw (sent-blocker j) is.back;
-    before = is.before;
-    in_way =
-        ap (is_in_way after noted is.blocker) (sent-portion j)
-        ∙ (in_way-same queue after notes noted is.blocker (portion_at queue notes j) (sent-pending is.blocker)
-        (sent-portion is.blocker)
-        ∙ is.in_way);
-    reached = rw (sent-blocker j, sent-waiter is.blocker) is.reached;
-  }
+    noted-sent : {s : State} {first opened writers possible : ℕ} → IsNoted s queue notes first opened writers possible
+        → k < length queue → (note_at notes k).possible ≡ true
+        → IsNoted s after noted first opened writers (possible - 1)
+    noted-sent {s} {possible = possible} is within was =
+        let same = length-progress queue k Sent in
+        record {
+          same_length = length-set notes k (sent_note notes k) ∙ (is.same_length ∙ sym same);
+          within = rw same is.within;
+          front = rw same is.front;
+          passed = λ j before. sent-pending j ∙ is.passed j before;
+          reads = λ j from to pending. rw (sent-touch j) (is.reads j from to (sym (sent-pending j) ∙ pending));
+          counted = sent-count possible (omega (arith, within, is.same_length)) was is.counted;
+          last = λ j before pending. rw (sent-touch j) (is.last j before (sym (sent-pending j) ∙ pending));
+          behind = λ j from to.
+              let parts = is.behind j from (subst (λ (n : ℕ). j < n) same to) in (
+                sent-pending j ∙ parts.0,
+                fails-still (λ (n : Note). n.possible) notes k j (sent_note notes k) refl parts.1,
+              );
+          free = λ j before pending ready. λ i less.
+              sent-way s i j
+              ∙ is.free j before (sym (sent-pending j) ∙ pending) (was-possible j ready) i less;
+        }
 
-  sent-late : (j : ℕ) → is_late after noted j ≡ is_late queue notes j
-  sent-late j = λ i. is_behind (λ n. sent-pending n i) (λ n. sent-portion n i) j
-
-  blocked-sent : {opened : ℕ} → AreBlocked queue notes opened → (note_at notes k).pending ≡ false
-      → AreBlocked after noted opened
-  blocked-sent are worked = λ j before pending possible.
-      let waits = sym (sent-pending j) ∙ pending in
-      let other : j ≢ k = λ same. true≢false (sym waits ∙ (ap (λ (n : ℕ). (note_at notes n).pending) same ∙ worked)) in
-      by j (are j before waits (sym (sent-other j other) ∙ possible))
-    where
-      by : (j : ℕ) → IsStopped queue notes j → IsStopped after noted j
-      by j (inl is) = inl (sent-blocked j is)
-      by j (inr late) = inr (sent-late j ∙ late)
+    blocked-sent : {s : State} {opened : ℕ} → AreBlocked s queue notes opened → (note_at notes k).pending ≡ false
+        → AreBlocked s after noted opened
+    blocked-sent {s} are idle = λ j before pending possible.
+        let waits = sym (sent-pending j) ∙ pending in
+        let other : j ≢ k = λ same. true≢false (sym waits ∙ (ap (λ (n : ℕ). (note_at notes n).pending) same ∙ idle)) in
+        let is = are j before waits (sym (sent-other j other) ∙ possible) in
+        blocked-as j is (sent-way s is.blocker j)
+        (late-moved s queue after is.blocker j is.blocker j (sent-asks is.blocker) (sent-asks j)) (sent-blocker j)
+        (let same = sent-waiter is.blocker in omega (arith, same))
 
   asked-sent : IsMarkedAsked queue notes → is_pending_at queue k ≡ false → k < length queue
       → IsMarkedAsked after noted
   asked-sent are worked within = record {
-    marked = λ j. sent-pending j ∙ (are.marked j ∙ marked-at j (cases_Bool (j == k)));
+    marked = λ j. sent-pending j ∙ (are.marked j ∙ sym (queued-pending worked j));
     replies = λ j idle. replies-at j (sym (sent-pending j) ∙ idle) (cases_Bool (j == k));
   }
     where
-      marked-at : (j : ℕ) → ((j == k) ≡ true) ⊎ ((j == k) ≡ false) → is_pending_at queue j ≡ is_pending_at after j
-      marked-at j (inl same) =
-          subst (λ (n : ℕ). is_pending_at queue n ≡ is_pending_at after n) (sym (eqb-true j k same))
-          (worked ∙ sym (worked-here queue k Sent refl))
-      marked-at j (inr other) = sym (ap pending_in (other-progress queue k j Sent (eqb-false j k other)))
-
       replies-at : (j : ℕ) → (note_at notes j).pending ≡ false → ((j == k) ≡ true) ⊎ ((j == k) ≡ false)
           → (note_at noted j).possible ≡ is_some (reply_at after j)
       replies-at j idle (inl same) =
@@ -139,30 +124,21 @@ module _ (queue : List Entry) (notes : List Note) (k : ℕ) where
           ∙ sym (ap (λ (found : Option Entry). is_some (reply_in found)) (other-progress queue k j Sent
           (eqb-false j k other))))
 
-  known-sent : (s : State) (opened : ℕ)
-      → AreKnown (pending_by notes) (portion_at queue notes) (portion_now s queue) opened
-      → AreKnown (pending_by noted) (portion_at after noted) (portion_now s after) opened
-  known-sent s opened known =
-      let pending : pending_by noted ≡ pending_by notes = λ i j. sent-pending j i in
-      let portions : portion_at after noted ≡ portion_at queue notes = λ i j. sent-portion j i in
-      let now : portion_now s after ≡ portion_now s queue = λ i j. portion_in s (ask-progress queue k j Sent i) in
-      rw (pending, portions, now) known
-
   notes-marked : {s : State} {first opened writers possible : ℕ} (reply : Reply)
       → AreNotes s queue notes first opened writers possible → reply_at queue k ≡ Some reply
       → AreNotes s after noted first opened writers (possible - 1)
-  notes-marked {s} {opened = opened} reply are is =
+  notes-marked reply are is =
       let within = reply-within queue k reply is in
       let worked = reply-worked queue k reply is in
       let idle = are.marks.asked.marked k ∙ worked in
       record {
-        noted = noted-sent are.noted within (are.marks.asked.replies k idle ∙ ap is_some is);
-        blocked = blocked-sent are.blocked idle;
+        noted = noted-sent worked are.noted within (are.marks.asked.replies k idle ∙ ap is_some is);
+        blocked = blocked-sent worked are.blocked idle;
         marks = record {
           asked = asked-sent are.marks.asked worked within;
-          ranged = λ j before pending.
-              subst IsPortion (sym (sent-portion j)) (are.marks.ranged j before (sym (sent-pending j) ∙ pending));
-          known = known-sent s opened are.marks.known;
+          aims = λ j before pending.
+              rw (sent-touch j, part-set (λ (n : Note). n.span) notes k j (sent_note notes k) refl, sent-asks j)
+              (are.marks.aims j before (sym (sent-pending j) ∙ pending));
         };
       }
 
@@ -188,15 +164,15 @@ not-front notes n j idle pending = by (nat_lt j n) refl
     by false less = ltb-false j n less
 
 module _ (queue : List Entry) (notes : List Note) (n : ℕ) where
-  free-drop : (j : ℕ) → IsFree queue notes (n + j) → IsFree (drop n queue) (drop n notes) j
-  free-drop j free = λ i before.
-      ap (is_in_way (drop n queue) (drop n notes) i) (portion-drop n queue notes j)
-      ∙ (in_way-drop n queue notes i (portion_at queue notes (n + j)) ∙ free (n + i) (omega (arith, before)))
+  drop-way : (s : State) (i j : ℕ) → is_in_way s (drop n queue) i j ≡ is_in_way s queue (n + i) (n + j)
+  drop-way s i j =
+      way-moved s queue (drop n queue) i j (n + i) (n + j) (ap pending_in (get-drop n queue i)) (ask-drop n queue i)
+      (ask-drop n queue j)
 
-  noted-drop : {first opened writers possible : ℕ} → IsNoted queue notes first opened writers possible
+  noted-drop : {s : State} {first opened writers possible : ℕ} → IsNoted s queue notes first opened writers possible
       → n ≤ length queue → ((j : ℕ) → j < n → (note_at notes j).possible ≡ false)
-      → IsNoted (drop n queue) (drop n notes) (first - n) (opened - n) (writers - n) possible
-  noted-drop is some never =
+      → IsNoted s (drop n queue) (drop n notes) (first - n) (opened - n) (writers - n) possible
+  noted-drop {s} is some never =
       let left = length-drop n queue in
       let left_notes = length-drop n notes in
       record {
@@ -213,74 +189,70 @@ module _ (queue : List Entry) (notes : List Note) (n : ℕ) where
         behind = λ j from to.
             let parts = is.behind (n + j) (omega (arith, from)) (omega (arith, to, left)) in
             rw (note-drop n notes j) parts;
-        free = λ j before pending ready.
-            free-drop j (is.free (n + j) (omega (arith, before)) (rw (note-drop n notes j) at pending)
-            (rw (note-drop n notes j) at ready));
+        free = λ j before pending ready. λ i less.
+            drop-way s i j
+            ∙ is.free (n + j) (omega (arith, before)) (rw (note-drop n notes j) at pending)
+            (rw (note-drop n notes j) at ready) (n + i) (omega (arith, less));
       }
 
-  blocked-drop : (j : ℕ) → (is : IsBlocked queue notes (n + j)) → n ≤ is.blocker
-      → IsBlocked (drop n queue) (drop n notes) j
-  blocked-drop j is some =
-      let there : n + (is.blocker - n) ≡ is.blocker = omega (arith, some) in
-      record {
-        blocker = is.blocker - n;
-        back = rw (note-drop n notes j) (omega (arith, is.back, some));
-        before = omega (arith, is.before, some);
-        in_way =
-            ap (is_in_way (drop n queue) (drop n notes) (is.blocker - n)) (portion-drop n queue notes j)
-            ∙ (in_way-drop n queue notes (is.blocker - n) (portion_at queue notes (n + j))
-            ∙ subst (λ (i : ℕ). is_in_way queue notes i (portion_at queue notes (n + j)) ≡ true) (sym there) is.in_way);
-        reached = rw (note-drop n notes j, note-drop n notes (is.blocker - n), there) is.reached;
-      }
+  -- what waits for a request that is still there waits for it
+  blocked-drop : {s : State} (j : ℕ) → (is : IsBlocked s queue notes (n + j)) → n ≤ is.blocker
+      → IsBlocked s (drop n queue) (drop n notes) j
+  blocked-drop {s} j is some = record {
+    blocker = left;
+    before = omega (arith, is.before, some);
+    in_way =
+        drop-way s left j ∙ subst (λ (i : ℕ). is_in_way s queue i (n + j) ≡ true) (sym there) is.in_way;
+    link = by is.link;
+  }
+    where
+      left : ℕ
+      left = is.blocker - n
 
-  blocker-pending : (j : ℕ) → (is : IsBlocked queue notes j) → (note_at notes is.blocker).pending ≡ true
-  blocker-pending j is =
-      (and_parts (note_at notes is.blocker).pending
-      (portions_clash (portion_at queue notes is.blocker) (portion_at queue notes j)) is.in_way).0
+      there : n + left ≡ is.blocker
+      there = omega (arith, some)
+
+      by : IsLinked notes (n + j) is.blocker ⊎ IsLate s queue is.blocker (n + j)
+          → IsLinked (drop n notes) j left ⊎ IsLate s (drop n queue) left j
+      by (inl linked) = inl record {
+        back = rw (note-drop n notes j) (omega (arith, linked.back, some));
+        reached = rw (note-drop n notes j, note-drop n notes left, there) linked.reached;
+      }
+      by (inr late) = inr
+          (late-moved s queue (drop n queue) left j (n + left) (n + j) (ask-drop n queue left) (ask-drop n queue j)
+          (subst (λ (i : ℕ). IsLate s queue i (n + j)) (sym there) late))
 
   pending-drop : (j : ℕ) → (note_at (drop n notes) j).pending ≡ (note_at notes (n + j)).pending
   pending-drop j = ap (λ (note : Note). note.pending) (note-drop n notes j)
 
   module _ (idle : (j : ℕ) → j < n → (note_at notes j).pending ≡ false) where
-    stopped-drop : (j : ℕ) → IsStopped queue notes (n + j) → IsStopped (drop n queue) (drop n notes) j
-    stopped-drop j (inl is) =
-        inl (blocked-drop j is (not-front notes n is.blocker idle (blocker-pending (n + j) is)))
-    stopped-drop j (inr late) = inr (late-drop n queue notes j idle ∙ late)
-
     marks-drop : {s : State} {opened : ℕ} → IsMarked s queue notes opened
         → IsMarked s (drop n queue) (drop n notes) (opened - n)
-    marks-drop {s} are = record {
+    marks-drop are = record {
       asked = record {
         marked = λ j. rw (note-drop n notes j) (are.asked.marked (n + j) ∙ ap pending_in (sym (get-drop n queue j)));
         replies = λ j worked.
             rw (note-drop n notes j) (are.asked.replies (n + j) (rw (note-drop n notes j) at worked)
             ∙ ap (λ (found : Option Entry). is_some (reply_in found)) (sym (get-drop n queue j)));
       };
-      ranged = λ j before pending.
-          subst IsPortion (sym (portion-drop n queue notes j))
-          (are.ranged (n + j) (omega (arith, before)) (rw (note-drop n notes j) at pending));
-      known = record {
-        touches = λ j before pending.
-            ap (λ (p : Portion). p.touched) (portion-drop n queue notes j)
-            ∙ (are.known.touches (n + j) (omega (arith, before)) (sym (pending-drop j) ∙ pending)
-            ∙ ap (touched s) (sym (ask-drop n queue j)));
-        ranges = λ j before pending front.
-            ap (λ (p : Portion). p.range) (portion-drop n queue notes j)
-            ∙ (are.known.ranges (n + j) (omega (arith, before)) (sym (pending-drop j) ∙ pending)
-            (sym (late-drop n queue notes j idle) ∙ front)
-            ∙ ap (range s) (sym (ask-drop n queue j)));
-      };
+      aims = λ j before pending.
+          rw (note-drop n notes j, ask-drop n queue j)
+          (are.aims (n + j) (omega (arith, before)) (sym (pending-drop j) ∙ pending));
     }
 
     notes-drop : {s : State} {first opened writers possible : ℕ}
         → AreNotes s queue notes first opened writers possible → n ≤ length queue
         → ((j : ℕ) → j < n → (note_at notes j).possible ≡ false)
         → AreNotes s (drop n queue) (drop n notes) (first - n) (opened - n) (writers - n) possible
-    notes-drop are some never = record {
+    notes-drop {s} are some never = record {
       noted = noted-drop are.noted some never;
       blocked = λ j before pending waits.
-          stopped-drop j (are.blocked (n + j) (omega (arith, before)) (rw (note-drop n notes j) at pending)
-          (rw (note-drop n notes j) at waits));
+          let is = are.blocked (n + j) (omega (arith, before)) (rw (note-drop n notes j) at pending)
+          (rw (note-drop n notes j) at waits) in
+          blocked-drop j is (not-front notes n is.blocker idle
+          (are.marks.asked.marked is.blocker
+          ∙ (and_parts (is_pending_at queue is.blocker) (portions_clash (portion_now s queue is.blocker)
+          (portion_now s queue (n + j))) is.in_way).0));
       marks = marks-drop are.marks;
     }
 

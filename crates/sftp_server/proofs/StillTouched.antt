@@ -1,79 +1,85 @@
--- A request that does not touch everything changes nothing of what requests touch.
-use Rattle.sftp_server.proofs.Imports.{◌≡◌, ◌≢◌, ◌<◌, nat_lt, ℕ, zero, suc, Bool, true, false, List, [], ◌∷◌, Option}
-use Rattle.sftp_server.proofs.Imports.{Some, None, length, refl, sym, ap, ◌∙◌, ◌⊎◌, inl, inr, arith, true≢false}
-use Rattle.sftp_server.proofs.Imports.{ltb-true, ltb-false, Ask, Request, Reply, asked_handle, State, Allowed, Touched}
-use Rattle.sftp_server.proofs.Imports.{everything, touched, Entry, Done, Note, is_pending_at, with_progress, note_at}
-use Rattle.sftp_server.proofs.Imports.{ask_at, IsNoted, IsDone, AreNotes, is_on, resizes_by, ByteRange, range}
-use Rattle.sftp_handles.specs.Handles.{Handles, open_at}
+-- A request that does not touch everything changes nothing of what requests touch, nor of their spans.
+use Rattle.sftp_server.proofs.Imports.{◌≡◌, ◌≢◌, ◌<◌, ◌+◌, nat_lt, ℕ, zero, suc, Bool, true, false, List, [], ◌∷◌}
+use Rattle.sftp_server.proofs.Imports.{Option, Some, None, length, refl, sym, ap, ◌∙◌, ◌⊎◌, inl, inr, arith}
+use Rattle.sftp_server.proofs.Imports.{true≢false, ltb-true, ltb-false, Ask, Request, Reply, asked_handle, State}
+use Rattle.sftp_server.proofs.Imports.{Allowed, everything, touched, spanned, Entry, Done, Note, is_pending_at}
+use Rattle.sftp_server.proofs.Imports.{with_progress, Aim, aim_in, portion_now, resized, note_at, ask_at, AreNotes}
+use Rattle.sftp_server.proofs.Imports.{IsSettling}
+use Rattle.sftp_packets.specs.declared.replies.Answer.{Answer}
+use Rattle.sftp_tree.specs.Tree.{limits}
+use Rattle.sftp_handles.specs.Handles.{open_at}
 use Rattle.sftp_handles.specs.Requests.{changed, after, after_by}
 use Rattle.sftp_handles.specs.Allowed.{Refuses, Does}
 use Rattle.sftp_handles.specs.Clash.{touched_by, touched_through, may_change}
-use Rattle.sftp_packets.specs.declared.replies.Answer.{Answer}
+use Rattle.sftp_handles.specs.Spans.{span_by, span_open}
 use Rattle.sftp_handles.specs.Seen.{seen}
 use Rattle.sftp_handles.specs.RequestRows.{row_of, Change, nothing, change_of}
 use Rattle.sftp_handles.proofs.ClashLaws.Touches.{applied, change-touches, touched-stays}
 use Rattle.sftp_handles.proofs.ClashLaws.Exchanges.{handle-of}
-use Rattle.sftp_server.proofs.RangedNotes.{resizes-on}
-use Rattle.sftp_server.proofs.StillRanged.{ranges-still, other-ranges-still}
+use Rattle.sftp_handles.proofs.RangeLaws.Spans.{spanned-stays}
+use Rattle.sftp_server.proofs.StillRanged.{ranges-still}
 use Rattle.sftp_server.proofs.DoneNotes.{IsStep, done_notes, marked-done}
 
 -- ---- a step
 
--- what a request touches is seen of the handles alone
-touched-same : (s t : State) (ask : Ask) → s.handles ≡ t.handles → touched s ask ≡ touched t ask
-unfolding touched
-touched-same s t ask same = by (asked_handle ask)
+-- what a request touches and its span are seen of the handles and the limits alone
+aims-same : (s t : State) (ask : Ask) → s.handles ≡ t.handles → limits s.tree ≡ limits t.tree
+    → aim_in s ask ≡ aim_in t ask
+unfolding touched spanned
+aims-same s t ask same bounds = by (asked_handle ask)
   where
-    by : (named : Option (List ℕ)) → touched_by s ask named ≡ touched_by t ask named
+    by : (named : Option (List ℕ)) → (touched_by s ask named, span_by s ask named)
+        ≡ (touched_by t ask named, span_by t ask named)
     by None = refl
-    by (Some handle) =
-        ap (λ (handles : Handles). touched_through (row_of ask).needed (may_change ask) handle (open_at handles handle))
-        same
+    by (Some handle) = λ i. (
+      touched_through (row_of ask).needed (may_change ask) handle (open_at (same i) handle),
+      span_open (bounds i) ask (row_of ask).needed (open_at (same i) handle),
+    )
 
 changed-handles : (s : State) (handle : List ℕ) (change : Change)
     → (changed s handle change).handles ≡ (applied s handle change).handles
 changed-handles s handle nothing = refl
 changed-handles s handle change = refl
 
-touched-done : (s : State) (asked ask : Ask) (answer : Answer) (handle : List ℕ) → asked_handle asked ≡ Some handle
-    → touched s asked ≢ everything → touched (after s asked answer) ask ≡ touched s ask
-unfolding after
-touched-done s asked ask answer handle named part =
-    let change = change_of (row_of asked) (seen s (row_of asked).needed handle) answer in
-    ap (λ (found : Option (List ℕ)). touched (after_by s asked answer found) ask) named
-    ∙ (touched-same (changed s handle change) (applied s handle change) ask (changed-handles s handle change)
-    ∙ touched-stays s ask handle (touched s asked) change (change-touches s asked handle answer named) part)
+changed-limits : (s : State) (handle : List ℕ) (change : Change)
+    → limits (changed s handle change).tree ≡ limits (applied s handle change).tree
+changed-limits s handle nothing = refl
+changed-limits s handle change = refl
 
-pub touched-past : (s end : State) (request : Request) (reply : Reply) (ask : Ask)
-    → touched s request.ask ≢ everything → Allowed s request reply end → touched end ask ≡ touched s ask
-touched-past s end request reply ask part allowed = by allowed.step
+aims-done : (s : State) (asked ask : Ask) (answer : Answer) (handle : List ℕ) → asked_handle asked ≡ Some handle
+    → touched s asked ≢ everything → aim_in (after s asked answer) ask ≡ aim_in s ask
+unfolding after
+aims-done s asked ask answer handle named part =
+    let change = change_of (row_of asked) (seen s (row_of asked).needed handle) answer in
+    let touches = change-touches s asked handle answer named in
+    ap (λ (found : Option (List ℕ)). aim_in (after_by s asked answer found) ask) named
+    ∙ (aims-same (changed s handle change) (applied s handle change) ask (changed-handles s handle change)
+    (changed-limits s handle change)
+    ∙ (λ i. (
+      touched-stays s ask handle (touched s asked) change touches part i,
+      spanned-stays s ask handle (touched s asked) change touches part i,
+    )))
+
+aims-past : (s end : State) (request : Request) (reply : Reply) (ask : Ask) → touched s request.ask ≢ everything
+    → Allowed s request reply end → aim_in end ask ≡ aim_in s ask
+aims-past s end request reply ask part allowed = by allowed.step
   where
-    by : Refuses s request.ask reply.answer end ⊎ Does s request.ask reply.answer end
-        → touched end ask ≡ touched s ask
-    by (inl refused) = ap (λ (e : State). touched e ask) refused.unchanged
+    by : Refuses s request.ask reply.answer end ⊎ Does s request.ask reply.answer end → aim_in end ask ≡ aim_in s ask
+    by (inl refused) = ap (λ (e : State). aim_in e ask) refused.unchanged
     by (inr does) =
         let named = handle-of s request.ask part in
-        ap (λ (e : State). touched e ask) does.changed
-        ∙ touched-done s request.ask ask reply.answer named.0 named.1 part
+        ap (λ (e : State). aim_in e ask) does.changed
+        ∙ aims-done s request.ask ask reply.answer named.0 named.1 part
 
 -- what a step leaves as it was, by what was asked
 pub step-leaves : (s end : State) (request : Request) (reply : Reply) (asked : Ask) → asked ≡ request.ask
     → Allowed s request reply end → IsStep s end asked
-step-leaves s end request reply asked named allowed =
-    let touches : touched s request.ask ≢ everything → (ask : Ask) → touched end ask ≡ touched s ask = λ part ask.
-    touched-past s end request reply ask part allowed in
-    rw named record {
-      touches = touches;
-      kept = λ part keeps ask. ranges-still s end request reply ask part keeps allowed;
-      resized = λ number is ask other.
-          other-ranges-still s end request reply ask number is other
-          (touches (resizing-part number (touched s request.ask) (range s request.ask) is) ask) allowed;
-    }
-  where
-    resizing-part : (number : ℕ) (at : Touched) (found : Option ByteRange) → resizes_by number at found ≡ true
-        → at ≢ everything
-    resizing-part number at found is all =
-        true≢false (sym (resizes-on number at found is) ∙ ap (λ (t : Touched). is_on number t) all)
+step-leaves s end request reply asked named allowed = rw named record {
+  aims = λ part ask. aims-past s end request reply ask part allowed;
+  ranges = λ part ask other.
+      ranges-still s end request reply ask part other
+      (ap (λ (aim : Aim). aim.0) (aims-past s end request reply ask part allowed)) allowed;
+}
 
 -- ---- what the notes say of it
 
@@ -100,8 +106,8 @@ pub notes-worked : {s : State} {queue : List Entry} {notes : List Note} {first o
     (end : State) (k : ℕ) (request : Request) (reply : Reply) → AreNotes s queue notes first opened writers possible
     → (note_at notes k).pending ≡ true → (note_at notes k).possible ≡ true → ask_at queue k ≡ request.ask
     → Allowed s request reply end
-    → IsNoted (with_progress queue k (Done reply)) (done_notes notes k) first opened writers possible
-    × IsDone end (with_progress queue k (Done reply)) (done_notes notes k) opened k
+    → IsSettling end (with_progress queue k (Done reply)) (done_notes notes k) first opened writers possible k
+    (k + (note_at (done_notes notes k) k).waiter) (resized (portion_now s queue k)) (suc k)
 notes-worked {s} {queue} end k request reply are pending ready named allowed =
     marked-done end k reply are (ready-open k are pending ready) pending ready
     (step-leaves s end request reply (ask_at queue k) named allowed)

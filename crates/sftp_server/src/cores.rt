@@ -174,10 +174,12 @@ impl Core {
         let Some(request) = self.queue.pending(k) else {
             return Ok(Did::NoSuch);
         };
+        // Asked while the request is still to be done: it depends on how long the file is.
+        let file = self.readiness.resized(&self.session, k);
         let reply = self.session.answer(request)?;
         self.queue.complete(k, reply);
         self.readiness.mark_done(k);
-        self.readiness.refresh(&self.session, &self.queue, k);
+        self.readiness.refresh(&self.session, &self.queue, k, file);
         Ok(Did::Done)
     }
 

@@ -1,21 +1,23 @@
 //! Which requests of a queue are ready, without a search through the requests before each.
-ghost use Rattle.std.specs.Prelude.{◌≡◌, ◌≢◌, ◌+◌, ◌-◌, ◌<◌, ◌≤◌, ◌&&◌, ◌++◌, ℕ, suc, [], ◌∷◌, true, false};
+ghost use Rattle.std.specs.Prelude.{◌≡◌, ◌≢◌, ◌+◌, ◌-◌, ◌<◌, ◌≤◌, ◌&&◌, ◌++◌, ℕ, suc, [], ◌∷◌, true, false, Some};
 ghost use Rattle.std.specs.Prelude.{OnOk, not, length, take, drop, set};
 ghost use Rattle.std.specs.VecDeque.{deque_len, deque_capacity};
-ghost use Rattle.sftp_handles.specs.Clash.{touched, share};
+ghost use Rattle.sftp_packets.specs.declared.requests.Ask.{Ask as Asked};
+ghost use Rattle.sftp_handles.specs.Clash.{touched, share, writes_file};
 ghost use Rattle.sftp_handles.specs.Ranges as ranges;
-ghost use Rattle.sftp_handles.specs.Ranges.{range};
+ghost use Rattle.sftp_handles.specs.Spans.{spanned, ends_of, file_in, range_now};
 ghost use Rattle.sftp_handles.specs.Touch.{touched_as};
-ghost use Rattle.sftp_server.specs.Readiness.{blank, note_at, portion_at, ask_at, IsFree, IsBlockedBack};
+ghost use Rattle.sftp_server.specs.Readiness.{blank, note_at, touched_at, portion_now, ask_at, IsFree, IsBlockedBack};
 ghost use Rattle.sftp_server.specs.Readiness.{IsPlaced, AreAlike, possible_count, IsNoted, AreBlocked, AreBlockedBut};
-ghost use Rattle.sftp_server.specs.Readiness.{IsShut, AreNotes, IsOpened, IsTouched};
-ghost use Rattle.sftp_server.specs.Readiness.{CanRefresh, IsSettling, IsSettled, IsMarkedBut, AreNotReadyOn};
+ghost use Rattle.sftp_server.specs.Readiness.{IsShut, AreNotes, IsOpened, IsTouched, IsMarked};
+ghost use Rattle.sftp_server.specs.Readiness.{CanRefresh, IsSettling, IsSettled, AreNotReadyOn};
 ghost use Rattle.sftp_server.specs.Readiness.{AreBlockedButOn};
 ghost use Rattle.sftp_server.specs.Readiness as words;
-ghost use Rattle.sftp_server.specs.RangedNotes.{resizes, portions_clash};
+ghost use Rattle.sftp_server.specs.RangedNotes.{resized, resized_by, extent_now};
+ghost use Rattle.sftp_server.specs.RangedNotes as portions;
 
 use crate::queue::Queue;
-use sftp_handles::{ByteRange, Session, SlabTable, Touch};
+use sftp_handles::{ByteRange, Session, SlabTable, Span, Touch};
 use sftp_tree::FileNo;
 use std::alloc::{AllocError, Global};
 use std::collections::VecDeque;
@@ -25,9 +27,8 @@ use std::collections::VecDeque;
 pub struct Note {
     /// What it touches, while it is open and pending.
     pub touch: Touch,
-    /// The range of its file that it keeps to, if any. It may be out of date while an earlier request is pending that
-    /// may change the length of the file.
-    pub range: Option<ByteRange>,
+    /// The bytes of its file that it reads or writes, whether the file has them or not, while it is open and pending.
+    pub span: Option<Span>,
     /// It is not done yet.
     pub pending: bool,
     /// It is ready, or it is done and its reply is still to be sent.
@@ -36,6 +37,14 @@ pub struct Note {
     pub blocker: usize,
     /// How many positions further on, at most, the requests are that wait for this one.
     pub waiter: usize,
+}
+
+/// The range of its file that a request keeps to, and how long that file is.
+#[derive(Clone, Copy)]
+pub struct Extent {
+    pub range: ByteRange,
+    /// How many bytes the file has.
+    pub size: u64,
 }
 
 /// A note for each request of a queue. The requests up to the first pending one that touches everything are open. Until
@@ -148,7 +157,7 @@ impl Readiness {
     {
         self.notes.push_back_reserved(Note {
             touch: Touch::Nothing,
-            range: None,
+            span: None,
             pending: true,
             possible: false,
             blocker: 0,
@@ -170,42 +179,17 @@ impl Readiness {
         self.notes[k].pending = false;
     }
 
-    /// Looks again at the requests that may have become ready because the one at this position is done.
-    pub(crate) fn refresh(&mut self, session: &Session<SlabTable>, queue: &Queue, k: usize)
-        requires { CanRefresh session.now queue.now self.old k }
-        ensures notes { AreNotes session.now queue.now self.new.notes.items self.new.first_pending self.new.opened
-            self.new.writers self.new.possible }
-        ensures opened { IsOpened queue.now self.new.notes.items self.new.opened }
-    {
-        self.settle(session, queue, k);
-        self.pass();
-        self.wake(queue, k);
-        self.open_more(session, queue);
-    }
-
-    /// If the request at `k`, which is done, may have changed the length of a file, looks again at the requests on it.
-    fn settle(&mut self, session: &Session<SlabTable>, queue: &Queue, k: usize)
-        requires { CanRefresh session.now queue.now self.old k }
-        ensures settled { IsSettled session.now queue.now self.new.notes.items self.new.first_pending self.new.opened
-            self.new.writers self.new.possible k (k + (note_at self.old.notes.items k).waiter) }
-        ensures reach { (note_at self.old.notes.items k).waiter ≤ (note_at self.new.notes.items k).waiter }
-        ensures size { self.new.opened ≡ self.old.opened }
-    {
-        match self.resized(k) {
-            Some(file) => self.settle_file(session, queue, k, file),
-            None => {}
-        }
-    }
-
-    /// The file whose length the request at this position may change, by its note.
-    fn resized(&self, k: usize) -> Option<FileNo>
+    /// The file whose length the request at this position may change, if it may: it writes the file, and its span does
+    /// not end within it.
+    pub(crate) fn resized(&self, session: &Session<SlabTable>, k: usize) -> Option<FileNo>
         requires { k < length self.now.notes.items }
-        ensures { result
-            ≡ words.resized_file (note_at self.now.notes.items k).touch (note_at self.now.notes.items k).range }
+        ensures { (ask : Asked) → result ≡ resized_by (touched_as (note_at self.now.notes.items k).touch ask)
+            (range_now session.now (file_in (touched_as (note_at self.now.notes.items k).touch ask))
+            (ends_of (note_at self.now.notes.items k).span)) }
     {
         let note = &self.notes[k];
         match &note.touch {
-            Touch::WritesFile(file) => match &note.range {
+            Touch::WritesFile(file) => match session.range_of(*file, note.span) {
                 Some(_) => None,
                 None => Some(*file),
             },
@@ -216,13 +200,53 @@ impl Readiness {
         }
     }
 
+    /// Looks again at the requests that may have become ready because the one at this position is done. `file` is the
+    /// one whose length it may have changed.
+    pub(crate) fn refresh(
+        &mut self,
+        session: &Session<SlabTable>,
+        queue: &Queue,
+        k: usize,
+        file: Option<FileNo>,
+    )
+        requires { CanRefresh session.now queue.now self.old k file }
+        ensures notes { AreNotes session.now queue.now self.new.notes.items self.new.first_pending self.new.opened
+            self.new.writers self.new.possible }
+        ensures opened { IsOpened queue.now self.new.notes.items self.new.opened }
+    {
+        self.settle(session, queue, k, file);
+        self.pass();
+        self.wake(session, queue, k);
+        self.open_more(session, queue);
+    }
+
+    /// If the request at `k`, which is done, may have changed the length of a file, looks again at the requests on it.
+    fn settle(
+        &mut self,
+        session: &Session<SlabTable>,
+        queue: &Queue,
+        k: usize,
+        file: Option<FileNo>,
+    )
+        requires { CanRefresh session.now queue.now self.old k file }
+        ensures settled { IsSettled session.now queue.now self.new.notes.items self.new.first_pending self.new.opened
+            self.new.writers self.new.possible k (k + (note_at self.old.notes.items k).waiter) }
+        ensures reach { (note_at self.old.notes.items k).waiter ≤ (note_at self.new.notes.items k).waiter }
+        ensures size { self.new.opened ≡ self.old.opened }
+    {
+        match file {
+            Some(file) => self.settle_file(session, queue, k, file),
+            None => {}
+        }
+    }
+
     /// Looks again at the requests on a file behind the one at `k`, as far as the first that may still change the
     /// length of the file: those behind that one are not ready anyway.
     fn settle_file(&mut self, session: &Session<SlabTable>, queue: &Queue, k: usize, file: FileNo)
         requires within { k < self.old.opened }
         requires settling { IsSettling session.now queue.now self.old.notes.items self.old.first_pending
-            self.old.opened self.old.writers self.old.possible k (k + (note_at self.old.notes.items k).waiter) file
-            (suc k) }
+            self.old.opened self.old.writers self.old.possible k (k + (note_at self.old.notes.items k).waiter)
+            (Some file) (suc k) }
         ensures settled { IsSettled session.now queue.now self.new.notes.items self.new.first_pending self.new.opened
             self.new.writers self.new.possible k (k + (note_at self.old.notes.items k).waiter) }
         ensures reach { (note_at self.old.notes.items k).waiter ≤ (note_at self.new.notes.items k).waiter }
@@ -247,24 +271,24 @@ impl Readiness {
         file: FileNo,
     ) -> bool
         requires within { q < self.old.opened }
-        requires noted { IsNoted queue.now self.old.notes.items self.old.first_pending self.old.opened self.old.writers
-            self.old.possible }
-        requires waits { AreNotReadyOn queue.now self.old.notes.items self.old.opened file q }
-        requires marks { IsMarkedBut session.now queue.now self.old.notes.items self.old.opened file q }
-        ensures settling { (done to : ℕ) → AreBlockedButOn queue.now self.old.notes.items self.old.opened done to file q
-            → IsSettling session.now queue.now self.new.notes.items self.new.first_pending self.new.opened
-            self.new.writers self.new.possible done to file (suc q) }
+        requires noted { IsNoted session.now queue.now self.old.notes.items self.old.first_pending self.old.opened
+            self.old.writers self.old.possible }
+        requires waits { AreNotReadyOn session.now queue.now self.old.notes.items self.old.opened (Some file) q }
+        requires marks { IsMarked session.now queue.now self.old.notes.items self.old.opened }
+        ensures settling { (done to : ℕ) → AreBlockedButOn session.now queue.now self.old.notes.items self.old.opened
+            done to (Some file) q → IsSettling session.now queue.now self.new.notes.items self.new.first_pending
+            self.new.opened self.new.writers self.new.possible done to (Some file) (suc q) }
         ensures stops { result ≡ true → ((note_at self.new.notes.items q).pending ≡ true)
-            × (resizes file (portion_at queue.now self.new.notes.items q) ≡ true) }
+            × (resized (portion_now session.now queue.now q) ≡ Some file) }
         ensures reach { (j : ℕ) → (note_at self.old.notes.items j).waiter ≤ (note_at self.new.notes.items j).waiter }
         ensures size { self.new.opened ≡ self.old.opened }
     {
         if !self.is_on(q, file) {
             return false;
         }
-        self.measure(session, queue, q);
-        self.place(queue, q);
-        self.resizes(q, file)
+        let resizes = self.resizes(session, q, file);
+        self.place(session, queue, q);
+        resizes
     }
 
     /// Whether, by its note, the request at this position is pending and on the file.
@@ -277,49 +301,31 @@ impl Readiness {
         note.pending && touches_file(&note.touch, file)
     }
 
-    /// Notes the range that the request at this position keeps to now.
-    fn measure(&mut self, session: &Session<SlabTable>, queue: &Queue, q: usize)
-        requires within { q < length queue.now }
-        requires same { length self.old.notes.items ≡ length queue.now }
-        ensures notes { words.IsMeasured session.now queue.now q self.old.notes.items self.new.notes.items }
-        ensures first_pending { self.new.first_pending ≡ self.old.first_pending }
-        ensures size { self.new.opened ≡ self.old.opened }
-        ensures writers { self.new.writers ≡ self.old.writers }
-        ensures possible { self.new.possible ≡ self.old.possible }
-    {
-        let note = &mut self.notes[q];
-        note.range = range_of(session, queue, q);
-    }
-
-    /// Whether the request at this position may change the length of the file, by its note.
-    fn resizes(&self, q: usize, file: FileNo) -> bool
+    /// Whether the request at this position may change the length of the file.
+    fn resizes(&self, session: &Session<SlabTable>, q: usize, file: FileNo) -> bool
         requires { q < length self.now.notes.items }
-        ensures { result ≡ words.resizes_noted file (note_at self.now.notes.items q).touch
-            (note_at self.now.notes.items q).range }
+        ensures { (ask : Asked) → result ≡ portions.is_of
+            (resized_by (touched_as (note_at self.now.notes.items q).touch ask)
+            (range_now session.now (file_in (touched_as (note_at self.now.notes.items q).touch ask))
+            (ends_of (note_at self.now.notes.items q).span))) (writes_file file) }
     {
-        let note = &self.notes[q];
-        match &note.touch {
-            Touch::WritesFile(number) => match &note.range {
-                Some(_) => false,
-                None => *number == file,
-            },
-            Touch::Nothing => false,
-            Touch::ReadsFile(_) => false,
-            Touch::TakesNames => false,
-            Touch::Everything => false,
+        match self.resized(session, q) {
+            Some(number) => file == number,
+            None => false,
         }
     }
 
     /// Looks again at the open requests that waited for the one at this position.
-    fn wake(&mut self, queue: &Queue, k: usize)
+    fn wake(&mut self, session: &Session<SlabTable>, queue: &Queue, k: usize)
         requires within { k < self.old.opened }
-        requires noted { IsNoted queue.now self.old.notes.items self.old.first_pending self.old.opened self.old.writers
-            self.old.possible }
-        requires blocked { AreBlockedBut queue.now self.old.notes.items self.old.opened k (suc k)
+        requires noted { IsNoted session.now queue.now self.old.notes.items self.old.first_pending self.old.opened
+            self.old.writers self.old.possible }
+        requires marks { IsMarked session.now queue.now self.old.notes.items self.old.opened }
+        requires blocked { AreBlockedBut session.now queue.now self.old.notes.items self.old.opened k (suc k)
             (k + (note_at self.old.notes.items k).waiter) }
-        ensures noted { IsNoted queue.now self.new.notes.items self.new.first_pending self.new.opened self.new.writers
-            self.new.possible }
-        ensures blocked { AreBlocked queue.now self.new.notes.items self.new.opened }
+        ensures noted { IsNoted session.now queue.now self.new.notes.items self.new.first_pending self.new.opened
+            self.new.writers self.new.possible }
+        ensures blocked { AreBlocked session.now queue.now self.new.notes.items self.new.opened }
         ensures alike { AreAlike self.old.notes.items self.new.notes.items }
         ensures size { self.new.opened ≡ self.old.opened }
     {
@@ -328,7 +334,7 @@ impl Readiness {
         'each: while q < end {
             q += 1;
             if self.is_waiting(q, k) {
-                self.place(queue, q);
+                self.place(session, queue, q);
             }
         }
     }
@@ -414,7 +420,7 @@ impl Readiness {
     {
         let k = self.opened;
         self.touch(session, queue, k);
-        self.place(queue, k);
+        self.place(session, queue, k);
     }
 
     /// Notes what the request at this position touches. It is then open.
@@ -428,10 +434,10 @@ impl Readiness {
         ensures size { self.new.opened ≡ suc self.old.opened }
         ensures possible { self.new.possible ≡ self.old.possible }
     {
-        let (touch, range) = portion_of(session, queue, k);
+        let (touch, span) = aim_of(session, queue, k);
         let note = &mut self.notes[k];
         note.touch = touch;
-        note.range = range;
+        note.span = span;
         if !only_reads(&touch) {
             self.writers = k + 1;
         }
@@ -447,18 +453,19 @@ impl Readiness {
     }
 
     /// Decides whether the open request at this position, which is pending, is ready.
-    fn place(&mut self, queue: &Queue, k: usize)
+    fn place(&mut self, session: &Session<SlabTable>, queue: &Queue, k: usize)
         requires within { k < self.old.opened }
-        requires noted { IsNoted queue.now self.old.notes.items self.old.first_pending self.old.opened self.old.writers
-            self.old.possible }
+        requires noted { IsNoted session.now queue.now self.old.notes.items self.old.first_pending self.old.opened
+            self.old.writers self.old.possible }
+        requires marks { IsMarked session.now queue.now self.old.notes.items self.old.opened }
         requires pending { (note_at self.old.notes.items k).pending ≡ true }
         requires waits { (note_at self.old.notes.items k).possible ≡ false }
-        ensures noted { IsNoted queue.now self.new.notes.items self.new.first_pending self.new.opened self.new.writers
-            self.new.possible }
-        ensures placed { IsPlaced queue.now self.old.notes.items self.new.notes.items k }
+        ensures noted { IsNoted session.now queue.now self.new.notes.items self.new.first_pending self.new.opened
+            self.new.writers self.new.possible }
+        ensures placed { IsPlaced session.now queue.now self.old.notes.items self.new.notes.items k }
         ensures size { self.new.opened ≡ self.old.opened }
     {
-        let back = self.look(queue, k);
+        let back = self.look(session, queue, k);
         if back == 0 {
             self.allow(k);
         } else {
@@ -499,37 +506,64 @@ impl Readiness {
 
     /// How many positions back some pending request is that conflicts with the open one at this position, or 0 if none
     /// does.
-    fn look(&self, queue: &Queue, k: usize) -> usize
+    fn look(&self, session: &Session<SlabTable>, queue: &Queue, k: usize) -> usize
         requires within { k < self.now.opened }
-        requires noted { IsNoted queue.now self.now.notes.items self.now.first_pending self.now.opened self.now.writers
-            self.now.possible }
-        ensures free { result ≡ 0 → IsFree queue.now self.now.notes.items k }
-        ensures blocked { result ≢ 0 → IsBlockedBack queue.now self.now.notes.items k result }
+        requires noted { IsNoted session.now queue.now self.now.notes.items self.now.first_pending self.now.opened
+            self.now.writers self.now.possible }
+        requires marks { IsMarked session.now queue.now self.now.notes.items self.now.opened }
+        requires pending { (note_at self.now.notes.items k).pending ≡ true }
+        ensures free { result ≡ 0 → IsFree session.now queue.now k }
+        ensures blocked { result ≢ 0 → IsBlockedBack session.now queue.now k result }
     {
         if k <= self.first_pending {
             return 0;
         }
+        let own = self.extent(session, k);
         if self.only_reads(k) {
-            self.look_for_writer(queue, k)
+            self.look_for_writer(session, queue, k, own)
         } else {
-            self.look_for_any(queue, k)
+            self.look_for_any(session, queue, k, own)
+        }
+    }
+
+    /// The range that the request at this position keeps to now, and how long its file is.
+    fn extent(&self, session: &Session<SlabTable>, k: usize) -> Option<Extent>
+        requires { k < length self.now.notes.items }
+        ensures { (ask : Asked) → result ≡ extent_now session.now
+            (file_in (touched_as (note_at self.now.notes.items k).touch ask))
+            (ends_of (note_at self.now.notes.items k).span) }
+    {
+        let note = &self.notes[k];
+        match note.touch.file() {
+            Some(file) => extent_of(session, file, note.span),
+            None => None,
         }
     }
 
     /// The same as `look`, where the request at `k` only reads: others that only read are not in its way.
-    fn look_for_writer(&self, queue: &Queue, k: usize) -> usize
+    fn look_for_writer(
+        &self,
+        session: &Session<SlabTable>,
+        queue: &Queue,
+        k: usize,
+        own: Option<Extent>,
+    ) -> usize
         requires within { k < self.now.opened }
-        requires noted { IsNoted queue.now self.now.notes.items self.now.first_pending self.now.opened self.now.writers
-            self.now.possible }
+        requires noted { IsNoted session.now queue.now self.now.notes.items self.now.first_pending self.now.opened
+            self.now.writers self.now.possible }
+        requires marks { IsMarked session.now queue.now self.now.notes.items self.now.opened }
+        requires pending { (note_at self.now.notes.items k).pending ≡ true }
         requires reads { words.only_reads (note_at self.now.notes.items k).touch ≡ true }
-        ensures free { result ≡ 0 → IsFree queue.now self.now.notes.items k }
-        ensures blocked { result ≢ 0 → IsBlockedBack queue.now self.now.notes.items k result }
+        requires own { own ≡ extent_now session.now (file_in (touched_at queue.now self.now.notes.items k))
+            (ends_of (note_at self.now.notes.items k).span) }
+        ensures free { result ≡ 0 → IsFree session.now queue.now k }
+        ensures blocked { result ≢ 0 → IsBlockedBack session.now queue.now k result }
     {
         let later = self.notes[k];
         let mut j = self.start(k);
         'down: while j > self.first_pending {
             j -= 1;
-            if self.is_pending_writer(j) && self.conflict(queue, j, k, &later) {
+            if self.is_pending_writer(j) && self.conflict(queue, j, k, &later, own) {
                 return k - j;
             }
         }
@@ -537,18 +571,28 @@ impl Readiness {
     }
 
     /// The same as `look`, whatever the request at `k` touches.
-    fn look_for_any(&self, queue: &Queue, k: usize) -> usize
+    fn look_for_any(
+        &self,
+        session: &Session<SlabTable>,
+        queue: &Queue,
+        k: usize,
+        own: Option<Extent>,
+    ) -> usize
         requires within { k < self.now.opened }
-        requires noted { IsNoted queue.now self.now.notes.items self.now.first_pending self.now.opened self.now.writers
-            self.now.possible }
-        ensures free { result ≡ 0 → IsFree queue.now self.now.notes.items k }
-        ensures blocked { result ≢ 0 → IsBlockedBack queue.now self.now.notes.items k result }
+        requires noted { IsNoted session.now queue.now self.now.notes.items self.now.first_pending self.now.opened
+            self.now.writers self.now.possible }
+        requires marks { IsMarked session.now queue.now self.now.notes.items self.now.opened }
+        requires pending { (note_at self.now.notes.items k).pending ≡ true }
+        requires own { own ≡ extent_now session.now (file_in (touched_at queue.now self.now.notes.items k))
+            (ends_of (note_at self.now.notes.items k).span) }
+        ensures free { result ≡ 0 → IsFree session.now queue.now k }
+        ensures blocked { result ≢ 0 → IsBlockedBack session.now queue.now k result }
     {
         let later = self.notes[k];
         let mut j = k;
         'down: while j > self.first_pending {
             j -= 1;
-            if self.notes[j].pending && self.conflict(queue, j, k, &later) {
+            if self.notes[j].pending && self.conflict(queue, j, k, &later, own) {
                 return k - j;
             }
         }
@@ -574,19 +618,21 @@ impl Readiness {
         note.pending & !only_reads(&note.touch)
     }
 
-    /// Whether the requests at two positions conflict, where `later` is the note of the one at `k`.
+    /// Whether the requests at two positions conflict by their notes, where `later` is the note of the one at `k`, and
+    /// `own` the range that this one keeps to.
     #[inline(always)]
-    fn conflict(&self, queue: &Queue, j: usize, k: usize, later: &Note) -> bool
+    fn conflict(&self, queue: &Queue, j: usize, k: usize, later: &Note, own: Option<Extent>) -> bool
         requires within { j < length queue.now }
         requires there { k < length queue.now }
         requires same { length self.now.notes.items ≡ length queue.now }
         requires later { later.now ≡ note_at self.now.notes.items k }
-        ensures { result ≡ portions_clash (portion_at queue.now self.now.notes.items j)
-            (portion_at queue.now self.now.notes.items k) }
+        ensures { result ≡ (share (touched_at queue.now self.now.notes.items j)
+            (touched_at queue.now self.now.notes.items k)
+            && not (portions.is_clear own (ends_of (note_at self.now.notes.items j).span))) }
     {
         let earlier = &self.notes[j];
         // Ranges are compared first: while one file is transferred, most of them are apart.
-        !are_apart(earlier.range, later.range) && shares(queue, j, k, earlier.touch, later.touch)
+        !is_clear(own, earlier.span) && shares(queue, j, k, earlier.touch, later.touch)
     }
 
     /// Moves the first pending position past the requests at the front that are not pending.
@@ -627,14 +673,26 @@ impl Readiness {
     }
 }
 
-/// What the request at this position touches, and the range of its file that it keeps to.
-fn portion_of(session: &Session<SlabTable>, queue: &Queue, k: usize) -> (Touch, Option<ByteRange>)
+impl Extent {
+    /// Whether a span, if it is one of the same file, ends within that and has no byte in common with the range.
+    fn is_clear_of(self, span: Span) -> bool
+        ensures { result ≡ portions.is_clear (Some self) (ends_of (Some span)) }
+    {
+        match span.within(self.range.number, self.size) {
+            Some(range) => range.is_apart(self.range),
+            None => false,
+        }
+    }
+}
+
+/// What the request at this position touches, and its span, if it has one.
+fn aim_of(session: &Session<SlabTable>, queue: &Queue, k: usize) -> (Touch, Option<Span>)
     requires { k < length queue.now }
     ensures touch { touched_as result.0 (ask_at queue.now k) ≡ touched session.now (ask_at queue.now k) }
-    ensures range { result.1 ≡ range session.now (ask_at queue.now k) }
+    ensures span { ends_of result.1 ≡ spanned session.now (ask_at queue.now k) }
 {
     match queue.ask(k) {
-        Some(ask) => (session.touch(ask), session.range(ask)),
+        Some(ask) => (session.touch(ask), session.span(ask)),
         None => unreachable!(),
     }
 }
@@ -671,24 +729,25 @@ fn shares_by_asks(queue: &Queue, j: usize, k: usize, earlier: Touch, later: Touc
     }
 }
 
-/// The range of its file that the request at this position keeps to.
-fn range_of(session: &Session<SlabTable>, queue: &Queue, k: usize) -> Option<ByteRange>
-    requires { k < length queue.now }
-    ensures { result ≡ range session.now (ask_at queue.now k) }
+/// The range of a file that a span is, if it ends within the file as it is now, and how long the file is.
+fn extent_of(session: &Session<SlabTable>, file: FileNo, span: Option<Span>) -> Option<Extent>
+    ensures { result ≡ extent_now session.now (Some file) (ends_of span) }
 {
-    match queue.ask(k) {
-        Some(ask) => session.range(ask),
-        None => unreachable!(),
+    let span = span?;
+    let size = session.size(file)?;
+    match span.within(file, size) {
+        Some(range) => Some(Extent { range, size }),
+        None => None,
     }
 }
 
-/// Whether both are ranges of one file, with no byte in common.
-fn are_apart(range: Option<ByteRange>, other: Option<ByteRange>) -> bool
-    ensures { result ≡ ranges.are_apart range other }
+/// Whether a span, if it is one of the file of `own`, ends within that and has no byte in common with its range.
+fn is_clear(own: Option<Extent>, span: Option<Span>) -> bool
+    ensures { result ≡ portions.is_clear own (ends_of span) }
 {
-    match range {
-        Some(range) => match other {
-            Some(other) => range.is_apart(other),
+    match own {
+        Some(own) => match span {
+            Some(span) => own.is_clear_of(span),
             None => false,
         },
         None => false,

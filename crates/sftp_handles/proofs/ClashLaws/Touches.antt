@@ -186,35 +186,39 @@ seen-stays s ask h k at change asked is apart =
 
 -- ---- what requests touch
 
--- a listing that gave names is still a listing
-through-listing : (needed : Needed) (changes : Bool) (h : List ℕ) (before left : Left)
-    → touched_through needed changes h (Some (Listing left)) ≡ touched_through needed changes h (Some (Listing before))
-through-listing anything changes h before left = refl
-through-listing a_file changes h before left = refl
-through-listing a_listing changes h before left = refl
+-- a part of what is open that is the same of all listings stays, unless everything is touched
+module _ {X : Type 0} (part : Option Open → X)
+    (alike : (left before : Left) → part (Some (Listing left)) ≡ part (Some (Listing before))) where
+  pub part-taken : (handles : Handles) (h k : List ℕ) (before left : Left) (b : Bool) → same_bytes h k ≡ b
+      → open_at handles k ≡ Some (Listing before)
+      → part (open_at (with_open handles k (Listing left)) h) ≡ part (open_at handles h)
+  part-taken handles h k before left true same there =
+      let e : h ≡ k = (bytes_decides h k).0 same in
+      ap part (ap (open_at (with_open handles k (Listing left))) e
+      ∙ get-put_here bytes_cmp nat_list_cmp_total handles k (Listing left))
+      ∙ (alike left before ∙ ap part (sym (ap (open_at handles) e ∙ there)))
+  part-taken handles h k before left false same there = ap part (open-stays handles h k (Listing left) same)
 
-touched-taken : (s : State) (needed : Needed) (changes : Bool) (h k : List ℕ) (before left : Left) (b : Bool)
-    → same_bytes h k ≡ b → open_at s.handles k ≡ Some (Listing before)
-    → touched_through needed changes h (open_at (with_open s.handles k (Listing left)) h)
-    ≡ touched_through needed changes h (open_at s.handles h)
-touched-taken s needed changes h k before left true same there =
-    let e : h ≡ k = (bytes_decides h k).0 same in
-    ap (touched_through needed changes h)
-    (ap (open_at (with_open s.handles k (Listing left))) e
-    ∙ get-put_here bytes_cmp nat_list_cmp_total s.handles k (Listing left))
-    ∙ (through-listing needed changes h before left
-    ∙ ap (touched_through needed changes h) (sym (ap (open_at s.handles) e ∙ there)))
-touched-taken s needed changes h k before left false same there =
-    ap (touched_through needed changes h) (open-stays s.handles h k (Listing left) same)
+  pub part-stays : (s : State) (h k : List ℕ) (at : Touched) (change : Change) → IsChangeTo s k at change
+      → at ≢ everything → part (open_at (applied s k change).handles h) ≡ part (open_at s.handles h)
+  part-stays s h k at nothing is apart = refl
+  part-stays s h k at (rewrites n next) is apart = refl
+  part-stays s h k at (leaves left) is apart = part-taken s.handles h k is.1.0 left (same_bytes h k) refl is.1.1
+  part-stays s h k at closes is apart = absurd (apart is)
+
+-- a listing that gave names is still a listing
+through-listing : (needed : Needed) (changes : Bool) (h : List ℕ) (left before : Left)
+    → touched_through needed changes h (Some (Listing left)) ≡ touched_through needed changes h (Some (Listing before))
+through-listing anything changes h left before = refl
+through-listing a_file changes h left before = refl
+through-listing a_listing changes h left before = refl
 
 touched-by : (s : State) (ask : Ask) (k : List ℕ) (at : Touched) (change : Change) (named : Option (List ℕ))
     → IsChangeTo s k at change → at ≢ everything → touched_by (applied s k change) ask named ≡ touched_by s ask named
 touched-by s ask k at change None is apart = refl
-touched-by s ask k at nothing (Some h) is apart = refl
-touched-by s ask k at (rewrites n next) (Some h) is apart = refl
-touched-by s ask k at (leaves left) (Some h) is apart =
-    touched-taken s (row_of ask).needed (may_change ask) h k is.1.0 left (same_bytes h k) refl is.1.1
-touched-by s ask k at closes (Some h) is apart = absurd (apart is)
+touched-by s ask k at change (Some h) is apart =
+    part-stays (touched_through (row_of ask).needed (may_change ask) h) (through-listing (row_of ask).needed
+    (may_change ask) h) s h k at change is apart
 
 pub touched-stays : (s : State) (ask : Ask) (k : List ℕ) (at : Touched) (change : Change)
     → IsChangeTo s k at change → at ≢ everything → touched (applied s k change) ask ≡ touched s ask

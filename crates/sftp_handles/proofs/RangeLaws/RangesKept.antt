@@ -13,7 +13,7 @@ use Rattle.sftp_handles.proofs.Imports.{change_of, change_file, changed, after, 
 use Rattle.sftp_handles.proofs.Imports.{writes_file, everything, share, touched, may_change, touched_through}
 use Rattle.sftp_handles.specs.Ranges.{range_of, range_by, range, may_resize}
 use Rattle.sftp_handles.proofs.ClashLaws.Touches.{applied, IsChangeTo, change-touches, share-mutual, seen-stays}
-use Rattle.sftp_handles.proofs.ClashLaws.Touches.{open-stays, touched-is}
+use Rattle.sftp_handles.proofs.ClashLaws.Touches.{part-taken, touched-is}
 use Rattle.sftp_handles.proofs.ClashLaws.Exchanges.{handle-of, not-everything, limits-stay}
 use Rattle.sftp_handles.proofs.Good.Pins.{pins-times}
 use Rattle.sftp_handles.proofs.RangeLaws.RangedAsks.{Ranged, ranged-of, ranged-sees}
@@ -32,27 +32,14 @@ of-listing bounds ask files a_listing left before = refl
 
 module _ (s : State) (ask : Ask) (k : List ℕ) (left before : Left)
     (there : open_at s.handles k ≡ Some (Listing before)) where
-  by-handle : (h : List ℕ) (b : Bool) → same_bytes h k ≡ b
-      → range_of (limits s.tree) ask
-      (seen_among s.tree.files (row_of ask).needed (open_at (with_open s.handles k (Listing left)) h))
-      ≡ range_of (limits s.tree) ask (seen_among s.tree.files (row_of ask).needed (open_at s.handles h))
-  by-handle h true same =
-      let e : h ≡ k = (bytes_decides h k).0 same in
-      ap (λ found. range_of (limits s.tree) ask (seen_among s.tree.files (row_of ask).needed found))
-      (ap (open_at (with_open s.handles k (Listing left))) e
-      ∙ get-put_here bytes_cmp nat_list_cmp_total s.handles k (Listing left))
-      ∙ (of-listing (limits s.tree) ask s.tree.files (row_of ask).needed left before
-      ∙ ap (λ found. range_of (limits s.tree) ask (seen_among s.tree.files (row_of ask).needed found))
-      (sym (ap (open_at s.handles) e ∙ there)))
-  by-handle h false same =
-      ap (λ found. range_of (limits s.tree) ask (seen_among s.tree.files (row_of ask).needed found))
-      (open-stays s.handles h k (Listing left) same)
-
   by-named : (named : Option (List ℕ))
       → range_by (applied s k (leaves left)) ask named ≡ range_by s ask named
   unfolding seen
   by-named None = refl
-  by-named (Some h) = by-handle h (same_bytes h k) refl
+  by-named (Some h) =
+      part-taken (λ found. range_of (limits s.tree) ask (seen_among s.tree.files (row_of ask).needed found))
+      (of-listing (limits s.tree) ask s.tree.files (row_of ask).needed) s.handles h k before left (same_bytes h k) refl
+      there
 
   range-left : range (applied s k (leaves left)) ask ≡ range s ask
   unfolding range

@@ -25,14 +25,20 @@ mark_done-requires c =
     ready-inside old.session old.queue old.readiness c.args.k c.self.invariant.1
     (was-ready c.args.k c.self.view_is (sym c.ready.ensures ∙ c.if-not-ready.false))
 
+pub resized-file-requires : goal.resized-file-requires
+resized-file-requires c =
+    let old = c.self.inside in
+    ready-inside old.session old.queue old.readiness c.args.k c.self.invariant.1
+    (was-ready c.args.k c.self.view_is (sym c.ready.ensures ∙ c.if-not-ready.false))
+
 pub refresh-requires : goal.refresh-requires
 refresh-requires c =
     let old = c.self.inside in
     keeps-done old.session c.answer.new.self old.queue c.complete.new.self old.readiness c.mark_done.new.self c.args.k
-    c.in-Some.request.now c.in_ok-reply.reply c.self.invariant.1
+    c.in-Some.request.now c.in_ok-reply.reply c.resized-file.result c.self.invariant.1
     (was-ready c.args.k c.self.view_is (sym c.ready.ensures ∙ c.if-not-ready.false))
     (sym c.pending.ensures ∙ rw c.in-Some.is refl) c.in_ok-reply.ensures.allowed c.complete.ensures
-    c.mark_done.ensures.notes c.mark_done.ensures.first_pending c.mark_done.ensures.size c.mark_done.ensures.writers
+    c.resized-file.ensures c.mark_done.ensures.notes c.mark_done.ensures.first_pending c.mark_done.ensures.size c.mark_done.ensures.writers
     c.mark_done.ensures.possible
 
 pub invariant_of-self-2 : goal.invariant_of-self-2

@@ -1,12 +1,10 @@
-use Rattle.sftp_server.proofs.Imports.{◌&&◌, sym, ap, ◌∙◌, note_at, ask_at}
-use Rattle.sftp_server.proofs.Settling.{on-touch, resizes-by_note, passed-over, looked-noted, looked-pending}
-use Rattle.sftp_server.proofs.Settling.{looked-waits, looked-reach, looked-settling}
+use Rattle.sftp_server.proofs.Imports.{sym, ◌∙◌, and_parts, note_at, ask_at, touches_file}
+use Rattle.sftp_server.proofs.Settling.{on-noted, resized-noted, file-is, judged, passed-over}
 use Rattle.sftp_server.proofs.readiness.Readiness.look_again.Goals as goal
 
 -- the request is not pending, or not on the file
 pub returns-then-not-is_on-clause-settling : goal.returns-then-not-is_on-clause-settling
 returns-then-not-is_on-clause-settling c done to blocked =
-    let note = note_at c.args.self.now.notes.items c.args.q in
     passed-over {done = done} {to = to}
     (record {
       noted = c.requires.noted;
@@ -14,43 +12,35 @@ returns-then-not-is_on-clause-settling c done to blocked =
       waits = c.requires.waits;
       marks = c.requires.marks;
     })
-    (ap (λ b. note.pending && b) (on-touch c.args.file note.touch (ask_at c.args.queue.now c.args.q))
-    ∙ (sym c.is_on.ensures ∙ c.if-not-is_on.true))
+    c.requires.within (sym c.is_on.ensures ∙ c.if-not-is_on.true)
 
 -- it is both
-pub place-requires-clause-noted : goal.place-requires-clause-noted
-place-requires-clause-noted c =
-    rw (c.measure.ensures.first_pending, c.measure.ensures.size, c.measure.ensures.writers, c.measure.ensures.possible)
-    (looked-noted c.requires.noted c.requires.waits c.requires.marks c.requires.within
-    (sym c.is_on.ensures ∙ c.if-not-is_on.false) c.measure.ensures.notes)
-
 pub place-requires-clause-pending : goal.place-requires-clause-pending
 place-requires-clause-pending c =
-    looked-pending c.requires.noted c.requires.waits c.requires.marks c.requires.within
-    (sym c.is_on.ensures ∙ c.if-not-is_on.false) c.measure.ensures.notes
+    let note = note_at c.args.self.now.notes.items c.args.q in
+    (and_parts note.pending (touches_file c.args.file note.touch) (sym c.is_on.ensures ∙ c.if-not-is_on.false)).0
 
 pub place-requires-clause-waits : goal.place-requires-clause-waits
 place-requires-clause-waits c =
-    looked-waits c.requires.noted c.requires.waits c.requires.marks c.requires.within
-    (sym c.is_on.ensures ∙ c.if-not-is_on.false) c.measure.ensures.notes
+    let note = note_at c.args.self.now.notes.items c.args.q in
+    let both = and_parts note.pending (touches_file c.args.file note.touch) (sym c.is_on.ensures ∙ c.if-not-is_on.false)
+    in
+    c.requires.waits c.args.q (omega arith) c.requires.within both.0
+    (on-noted c.args.file c.requires.marks c.requires.within both.0 ∙ both.1)
 
 pub returns-clause-settling : goal.returns-clause-settling
-returns-clause-settling c =
-    looked-settling c.requires.noted c.requires.waits c.requires.marks c.requires.within
-    (sym c.is_on.ensures ∙ c.if-not-is_on.false) c.measure.ensures.notes (c.place.ensures.size ∙ c.measure.ensures.size)
-    c.place.ensures.placed c.place.ensures.noted
+returns-clause-settling c done to blocked =
+    judged c.place.ensures.placed c.place.ensures.noted c.requires.marks blocked c.requires.waits
 
 pub returns-clause-reach : goal.returns-clause-reach
-returns-clause-reach c =
-    looked-reach c.requires.noted c.requires.waits c.requires.marks c.requires.within
-    (sym c.is_on.ensures ∙ c.if-not-is_on.false) c.measure.ensures.notes c.place.ensures.placed
+returns-clause-reach c = c.place.ensures.placed.waiter
 
 pub returns-clause-stops : goal.returns-clause-stops
 returns-clause-stops c still =
-    let new = note_at c.place.new.self.notes.items c.args.q in (
-      c.place.ensures.placed.alike.pending c.args.q
-          ∙ looked-pending c.requires.noted c.requires.waits c.requires.marks c.requires.within
-          (sym c.is_on.ensures ∙ c.if-not-is_on.false) c.measure.ensures.notes,
-      resizes-by_note new.touch (ask_at c.args.queue.now c.args.q) new.range c.args.file
-          ∙ (sym c.resizes.ensures ∙ still),
+    let note = note_at c.args.self.now.notes.items c.args.q in
+    let both = and_parts note.pending (touches_file c.args.file note.touch) (sym c.is_on.ensures ∙ c.if-not-is_on.false)
+    in (
+      c.place.ensures.placed.alike.pending c.args.q ∙ both.0,
+      sym (resized-noted c.requires.marks c.requires.within both.0)
+          ∙ file-is _ c.args.file (sym (c.resizes.ensures (ask_at c.args.queue.now c.args.q)) ∙ still),
     )

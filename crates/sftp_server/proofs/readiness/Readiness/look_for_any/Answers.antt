@@ -1,26 +1,28 @@
-use Rattle.sftp_server.proofs.Imports.{◌≡◌, ◌-◌, ◌<◌, length, false, sym, ap, ◌∙◌, arith, Note, is_in_way, portion_at}
-use Rattle.sftp_server.proofs.Notes.{free-lower, no-conflict, not-pending, note-read}
+use Rattle.sftp_server.proofs.Imports.{◌≡◌, ◌-◌, ◌<◌, length, false, sym, ap, ◌∙◌, arith, Note, is_in_way}
+use Rattle.sftp_server.proofs.Notes.{free-lower, way-noted, not-pending, note-read}
 use Rattle.sftp_server.proofs.readiness.Readiness.look_for_any.Goals.{else-index-via-then-index+else-conflict, else-index-via-else-index}
 use Rattle.sftp_server.proofs.readiness.Readiness.look_for_any.Goals as goal
 
 pub down-preserved : goal.down-preserved
 down-preserved c =
+    let s = c.args.session.now in
     let queue = c.args.queue.now in
     let notes = c.args.self.now.notes.items in
     let noted = c.requires.noted in
+    let j = c.down.j - 1 in
     let within = c.down.invariant.0 in
-    let there : c.down.j - 1 < length notes =
-    omega (arith, within, c.down-test.true, c.requires.within, noted.same_length, noted.within) in
-    let none : is_in_way queue notes (c.down.j - 1) (portion_at queue notes c.args.k) ≡ false =
-    elim c.else-index.branch [
+    let before : j < c.args.k = omega (arith, within, c.down-test.true) in
+    let there : j < length notes = omega (arith, before, c.requires.within, noted.same_length, noted.within) in
+    let pending = ap (λ (note : Note). note.pending)
+    (note-read notes j c.index-in-down.result.now there c.index-in-down.ensures) in
+    let none : is_in_way s queue j c.args.k ≡ false = elim c.else-index.branch [
       | else-index-via-then-index+else-conflict w ↦
-          no-conflict queue notes (c.down.j - 1) (portion_at queue notes c.args.k)
-          (sym w.conflict.ensures ∙ w.if-conflict.false)
+          way-noted noted c.requires.marks c.requires.within c.requires.pending j before c.args.own c.requires.own
+          (pending ∙ w.if-index.true)
+          ∙ (sym w.conflict.ensures ∙ w.if-conflict.false)
       | else-index-via-else-index w ↦
-          not-pending queue notes (c.down.j - 1) (portion_at queue notes c.args.k)
-          (ap (λ (note : Note). note.pending)
-          (note-read notes (c.down.j - 1) c.index-in-down.result.now there c.index-in-down.ensures) ∙ w.if-index.false)
+          not-pending noted c.requires.marks c.requires.within c.requires.pending j before (pending ∙ w.if-index.false)
     ] in (
       omega (arith, within),
-      free-lower queue notes c.args.k c.down.j (c.down.j - 1) (omega (arith, c.down-test.true)) c.down.invariant.1 none,
+      free-lower s queue c.args.k c.down.j j (omega (arith, c.down-test.true)) c.down.invariant.1 none,
     )

@@ -24,16 +24,21 @@ wake-requires-clause-noted c =
     front-passed c.pass.ensures.notes c.pass.ensures.size c.pass.ensures.writers c.pass.ensures.possible
     c.settle.ensures.settled.noted c.pass.ensures.front c.pass.ensures.passed
 
+pub wake-requires-clause-marks : goal.wake-requires-clause-marks
+wake-requires-clause-marks c =
+    rw (c.pass.ensures.notes, c.pass.ensures.size) c.settle.ensures.settled.marks
+
 pub wake-requires-clause-blocked : goal.wake-requires-clause-blocked
 wake-requires-clause-blocked c =
     let k = c.args.k in
+    let s = c.args.session.now in
     let queue = c.args.queue.now in
     let old = c.args.self.now in
     let settled = c.settle.new.self in
     let passed = c.pass.new.self in
-    blocked-by queue settled.notes.items passed.notes.items settled.opened passed.opened k (suc k) c.pass.ensures.notes
+    blocked-by s queue settled.notes.items passed.notes.items settled.opened passed.opened k (suc k) c.pass.ensures.notes
     c.pass.ensures.size
-    (but-farther queue settled.notes.items settled.opened k (suc k) (k + (note_at old.notes.items k).waiter)
+    (but-farther s queue settled.notes.items settled.opened k (suc k) (k + (note_at old.notes.items k).waiter)
     (k + (note_at settled.notes.items k).waiter) (let more = c.settle.ensures.reach in omega (arith, more))
     c.settle.ensures.settled.blocked)
 

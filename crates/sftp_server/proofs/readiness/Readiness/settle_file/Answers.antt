@@ -30,9 +30,9 @@ returns-then-look_again-clause-settled c =
     let to = c.args.k + (note_at c.args.self.now.notes.items c.args.k).waiter in
     let at = settling-at (suc c.each.q) (c.each.q + 1) (omega arith) c.each.invariant.0 in
     let stops = c.look_again.ensures.stops c.if-look_again.true in
-    settled-stopped (c.each.q + 1) (c.look_again.ensures.settling c.args.k to at.blocked) stops.0 stops.1
+    settled-stopped c.args.file (c.each.q + 1) (c.look_again.ensures.settling c.args.k to at.blocked) stops.0 stops.1
 
 -- it ends at the last open request
 pub returns-clause-settled : goal.returns-clause-settled
 returns-clause-settled c =
-    settled-ended (suc c.each.q) (let end = c.each-test.false in omega (arith, end)) c.each.invariant.0
+    settled-ended c.args.file (suc c.each.q) (let end = c.each-test.false in omega (arith, end)) c.each.invariant.0

@@ -3,8 +3,8 @@ use Rattle.sftp_server.proofs.readiness.Readiness.wake.Given as goal
 
 abbrev pub invariant-each : goal.invariant-each
 invariant-each l =
-    IsNoted l.queue l.self.notes.items l.self.first_pending l.self.opened l.self.writers l.self.possible
-    × AreBlockedBut l.queue l.self.notes.items l.self.opened l.k (suc l.q)
+    IsNoted l.session l.queue l.self.notes.items l.self.first_pending l.self.opened l.self.writers l.self.possible
+    × AreBlockedBut l.session l.queue l.self.notes.items l.self.opened l.k (suc l.q)
     (l.k + (note_at l.fn.self.notes.items l.k).waiter)
     × AreAlike l.fn.self.notes.items l.self.notes.items
     × (l.self.opened ≡ l.fn.self.opened)
