@@ -123,7 +123,7 @@ fn wrong_part(
     let mut at = offset;
     let mut left = len;
     for part in given.chunks(most as usize) {
-        let count = left.min(part.len() as u32);
+        let count = part.len().min(left as usize) as u32;
         if !has_part(judge, handle.as_slice(), at, count, part) {
             return Ok(Some(read_of(alloc, handle, at, count, part)?));
         }
