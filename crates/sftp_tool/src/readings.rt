@@ -123,9 +123,9 @@ fn wrong_part(
     let mut at = offset;
     let mut left = len;
     for part in given.chunks(most as usize) {
-        let count = left.min(part.len() as u32);
+        let count = part.len().min(left as usize) as u32;
         if !has_part(judge, handle.as_slice(), at, count, part) {
-            return Ok(Some(piece(alloc, handle, at, count, part)?));
+            return Ok(Some(read_of(alloc, handle, at, count, part)?));
         }
         at = at.saturating_add(u64::from(count));
         left = left.saturating_sub(count);
@@ -147,7 +147,7 @@ fn has_part(judge: &Judge, handle: &[u8], offset: u64, count: u32, part: &[u8]) 
 /// # Errors
 ///
 /// `NoMemory` if memory runs out.
-fn piece(
+fn read_of(
     alloc: Global,
     handle: &ByteString,
     offset: u64,
