@@ -56,7 +56,7 @@ impl<'a> World<'a> {
     }
 
     /// The bytes of all files of the start.
-    fn all_bytes(&self) -> u64 {
+    pub(crate) fn all_bytes(&self) -> u64 {
         let mut sum: u64 = 0;
         for entry in self.nodes.iter() {
             if entry.is_old && entry.sort == Sort::File {

@@ -20,6 +20,9 @@ const PROPOSALS: usize = 8;
 /// The most refusals for which another reason is tried after a contradiction.
 const GUESSES: usize = 8;
 
+/// The most bytes of the files of a tree that did not explain the session, which is kept as the one that came furthest.
+const BEST_BYTES: u64 = 1 << 24;
+
 /// A reason to take for a refusal.
 #[derive(Clone, Copy)]
 pub(crate) struct Take {
@@ -403,9 +406,10 @@ impl<'a> Search<'a> {
         }
         self.furthest = found;
         self.clash = world.clash.take();
-        self.best = match world.tree_file()? {
-            Some((tree, _)) => Some(tree),
-            None => None,
+        self.best = if world.all_bytes() > BEST_BYTES {
+            None
+        } else {
+            best_of(world)?
         };
         Ok(())
     }
@@ -427,5 +431,13 @@ impl<'a> Search<'a> {
                 what: What::Refused,
             });
         }
+    }
+}
+
+/// The tree file of what a pass found.
+fn best_of(world: &World<'_>) -> Result<Option<Vec<u8>>, NoMemory> {
+    match world.tree_file()? {
+        Some((tree, _)) => Ok(Some(tree)),
+        None => Ok(None),
     }
 }
