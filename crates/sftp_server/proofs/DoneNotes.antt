@@ -308,5 +308,5 @@ module _ {s : State} {queue : List Entry} {notes : List Note} {first opened writ
           → is_of file (at j) ≡ true → (b : Bool) → (note_at notes j).possible ≡ b
           → (note_at (done_notes notes k) j).possible ≡ false
       by j behind lt waits on false off = done-possible queue notes k reply j ∙ off
-      by j behind lt waits on true yes =
-          absurd (not-free j behind (are.noted.free j lt (was-pending queue notes k reply j waits) yes) on)
+      by j behind lt waits on true is =
+          absurd (not-free j behind (are.noted.free j lt (was-pending queue notes k reply j waits) is) on)

@@ -1,7 +1,7 @@
 -- What the notes of a queue say, and what stays when one of them changes.
 use Rattle.sftp_server.proofs.Imports.{◌≡◌, ◌≢◌, ◌==◌, ◌&&◌, ◌+◌, ◌-◌, ◌<◌, ◌≤◌, ℕ, suc, Bool, true, false, List, []}
-use Rattle.sftp_server.proofs.Imports.{◌∷◌, Option, inl, length, set, max, refl, sym, ap, subst, ◌∙◌, arith, not, nat_lt}
-use Rattle.sftp_server.proofs.Imports.{true≢false, and_left, and_right, ltb-true, ltb-false, eqb-true, eqb-false, length-set, get_or-set_same}
+use Rattle.sftp_server.proofs.Imports.{◌∷◌, Option, inl, length, set, max, refl, sym, ap, subst, ◌∙◌, arith, not}
+use Rattle.sftp_server.proofs.Imports.{true≢false, and_left, eqb-true, eqb-false, length-set, get_or-set_same}
 use Rattle.sftp_server.proofs.Imports.{get_or-set_other, sum_by-set, sum_by-cons, slice_get_read, get_or}
 use Rattle.sftp_server.proofs.Imports.{get_or_from_slice_get, Ask, Touch, touched, share, touched_as, State, Span}
 use Rattle.sftp_server.proofs.Imports.{spanned, ends_of, file_in, Entry, Note, Extent, is_pending_at, Aim, aim_in}
@@ -399,8 +399,8 @@ module _ {s : State} {queue : List Entry} {notes : List Note} {f o w p k : ℕ} 
       → portion_of s (aim_at queue notes i) ≡ portion_now s queue i
   portion-noted i lt pending = ap (portion_of s) (marks.aims i lt pending) ∙ sym (portion-is s (ask_at queue i))
 
-  inside : j < o
-  inside = omega (arith, before, within)
+  open_too : j < o
+  open_too = omega (arith, before, within)
 
   -- one that is pending is in its way as the code finds it
   pub way-noted : (own : Option Extent)
@@ -411,12 +411,12 @@ module _ {s : State} {queue : List Entry} {notes : List Note} {f o w p k : ℕ} 
   way-noted own is pending =
       (λ i. (sym (marks.asked.marked j) ∙ pending) i && portions_clash (portion_now s queue j) (portion_now s queue k))
       ∙ (sym (noted-clash s (aim_at queue notes j) (aim_at queue notes k) has
-      ∙ (λ i. portions_clash (portion-noted j inside pending i) (portion-noted k within pends i)))
+      ∙ (λ i. portions_clash (portion-noted j open_too pending i) (portion-noted k within pends i)))
       ∙ (λ i. share (touched_at queue notes j) (touched_at queue notes k)
       && not (is_clear (sym is i) (ends_of (note_at notes j).span))))
     where
       has : HasFileFor (touched_at queue notes j) (ends_of (note_at notes j).span)
-      has = subst (λ (aim : Aim). HasFileFor aim.0 aim.1) (sym (marks.aims j inside pending))
+      has = subst (λ (aim : Aim). HasFileFor aim.0 aim.1) (sym (marks.aims j open_too pending))
           (span-touches s (ask_at queue j))
 
   -- one that is not a pending writer is not in the way of one that only reads
@@ -437,29 +437,6 @@ module _ {s : State} {queue : List Entry} {notes : List Note} {f o w p k : ℕ} 
           (readers-share (note_at notes j).touch (note_at notes k).touch (ask_at queue j) (ask_at queue k) too reads)
       by true false is writes = absurd
           (true≢false (sym (ap (λ b. b && not (only_reads (note_at notes j).touch)) is ∙ ap not writes) ∙ none))
-
-module _ {s : State} {queue : List Entry} {notes : List Note} {f o w p k : ℕ} (noted : IsNoted s queue notes f o w p)
-    (marks : IsMarked s queue notes o) (within : k < o) (pends : (note_at notes k).pending ≡ true) where
-  -- none before the first pending one is in its way
-  pub free-found : (from : ℕ) → from ≤ f → IsFreeFrom s queue k from → IsFree s queue k
-  free-found from most free j before = by (nat_lt j f) refl
-    where
-      by : (b : Bool) → nat_lt j f ≡ b → is_in_way s queue j k ≡ false
-      by true less = not-pending noted marks within pends j before (noted.passed j (ltb-true j f less))
-      by false more = free j (let later = ltb-false j f more in omega (arith, most, later)) before
-
-  -- none that only reads is in the way of one that only reads
-  pub free-readers : (from : ℕ) → ((j : ℕ) → from ≤ j → j < k → w ≤ j) → only_reads (note_at notes k).touch ≡ true
-      → IsFreeFrom s queue k from
-  free-readers from past reads j later before =
-      no-writer noted marks within pends j before reads (by (note_at notes j).pending refl)
-    where
-      by : (b : Bool) → (note_at notes j).pending ≡ b
-          → ((note_at notes j).pending && not (only_reads (note_at notes j).touch)) ≡ false
-      by false is = and_left (note_at notes j).pending (not (only_reads (note_at notes j).touch)) is
-      by true is =
-          let too = noted.reads j (past j later before) (omega (arith, before, within)) is in
-          and_right (note_at notes j).pending (not (only_reads (note_at notes j).touch)) (ap not too)
 
 pub shut-at : (notes : List Note) (o : ℕ) (note : Note) → 0 < o → o ≤ length notes
     → note ≡ get_or notes (o - 1) note → note.pending ≡ true → is_all note.touch ≡ true → IsShut notes o

@@ -28,8 +28,8 @@ aims-same : (s t : State) (ask : Ask) → s.handles ≡ t.handles → limits s.t
 unfolding touched spanned
 aims-same s t ask same bounds = by (asked_handle ask)
   where
-    by : (named : Option (List ℕ)) → (touched_by s ask named, span_by s ask named)
-        ≡ (touched_by t ask named, span_by t ask named)
+    by : (named : Option (List ℕ)) → ◌≡◌ {A = Aim} (touched_by s ask named, span_by s ask named)
+        (touched_by t ask named, span_by t ask named)
     by None = refl
     by (Some handle) = λ i. (
       touched_through (row_of ask).needed (may_change ask) handle (open_at (same i) handle),

@@ -563,7 +563,7 @@ impl Readiness {
         let mut j = self.start(k);
         'down: while j > self.first_pending {
             j -= 1;
-            if self.is_pending_writer(j) && self.conflict(queue, j, k, &later, own) {
+            if self.is_pending_writer(j) && self.conflict(queue, j, k, &later, &own) {
                 return k - j;
             }
         }
@@ -592,7 +592,7 @@ impl Readiness {
         let mut j = k;
         'down: while j > self.first_pending {
             j -= 1;
-            if self.notes[j].pending && self.conflict(queue, j, k, &later, own) {
+            if self.notes[j].pending && self.conflict(queue, j, k, &later, &own) {
                 return k - j;
             }
         }
@@ -621,14 +621,14 @@ impl Readiness {
     /// Whether the requests at two positions conflict by their notes, where `later` is the note of the one at `k`, and
     /// `own` the range that this one keeps to.
     #[inline(always)]
-    fn conflict(&self, queue: &Queue, j: usize, k: usize, later: &Note, own: Option<Extent>) -> bool
+    fn conflict(&self, queue: &Queue, j: usize, k: usize, later: &Note, own: &Option<Extent>) -> bool
         requires within { j < length queue.now }
         requires there { k < length queue.now }
         requires same { length self.now.notes.items ≡ length queue.now }
         requires later { later.now ≡ note_at self.now.notes.items k }
         ensures { result ≡ (share (touched_at queue.now self.now.notes.items j)
             (touched_at queue.now self.now.notes.items k)
-            && not (portions.is_clear own (ends_of (note_at self.now.notes.items j).span))) }
+            && not (portions.is_clear own.now (ends_of (note_at self.now.notes.items j).span))) }
     {
         let earlier = &self.notes[j];
         // Ranges are compared first: while one file is transferred, most of them are apart.
@@ -675,8 +675,8 @@ impl Readiness {
 
 impl Extent {
     /// Whether a span, if it is one of the same file, ends within that and has no byte in common with the range.
-    fn is_clear_of(self, span: Span) -> bool
-        ensures { result ≡ portions.is_clear (Some self) (ends_of (Some span)) }
+    fn is_clear_of(&self, span: Span) -> bool
+        ensures { result ≡ portions.is_clear (Some self.now) (ends_of (Some span)) }
     {
         match span.within(self.range.number, self.size) {
             Some(range) => range.is_apart(self.range),
@@ -742,8 +742,8 @@ fn extent_of(session: &Session<SlabTable>, file: FileNo, span: Option<Span>) -> 
 }
 
 /// Whether a span, if it is one of the file of `own`, ends within that and has no byte in common with its range.
-fn is_clear(own: Option<Extent>, span: Option<Span>) -> bool
-    ensures { result ≡ portions.is_clear own (ends_of span) }
+fn is_clear(own: &Option<Extent>, span: Option<Span>) -> bool
+    ensures { result ≡ portions.is_clear own.now (ends_of span) }
 {
     match own {
         Some(own) => match span {

@@ -1,4 +1,4 @@
-use Rattle.sftp_server.proofs.Imports.{sym, ◌∙◌, and_parts, note_at, ask_at, touches_file}
+use Rattle.sftp_server.proofs.Imports.{sym, ◌∙◌, arith, and_parts, note_at, ask_at, touches_file}
 use Rattle.sftp_server.proofs.Settling.{on-noted, resized-noted, file-is, judged, passed-over}
 use Rattle.sftp_server.proofs.readiness.Readiness.look_again.Goals as goal
 
@@ -30,7 +30,9 @@ place-requires-clause-waits c =
 
 pub returns-clause-settling : goal.returns-clause-settling
 returns-clause-settling c done to blocked =
-    judged c.place.ensures.placed c.place.ensures.noted c.requires.marks blocked c.requires.waits
+    rw c.place.ensures.size
+    (judged c.place.ensures.placed (rw c.place.ensures.size at c.place.ensures.noted) c.requires.marks blocked
+    c.requires.waits)
 
 pub returns-clause-reach : goal.returns-clause-reach
 returns-clause-reach c = c.place.ensures.placed.waiter
@@ -42,5 +44,5 @@ returns-clause-stops c still =
     in (
       c.place.ensures.placed.alike.pending c.args.q ∙ both.0,
       sym (resized-noted c.requires.marks c.requires.within both.0)
-          ∙ file-is _ c.args.file (sym (c.resizes.ensures (ask_at c.args.queue.now c.args.q)) ∙ still),
+          ∙ file-is _ c.args.file (sym (c.resizes-resizes.ensures (ask_at c.args.queue.now c.args.q)) ∙ still),
     )

@@ -26,3 +26,21 @@ down-preserved c =
       omega (arith, within),
       free-lower s queue c.args.k c.down.j j (omega (arith, c.down-test.true)) c.down.invariant.1 none,
     )
+
+pub returns-then-conflict-clause-blocked : goal.returns-then-conflict-clause-blocked
+returns-then-conflict-clause-blocked c = λ _.
+    let notes = c.args.self.now.notes.items in
+    let noted = c.requires.noted in
+    let j = c.down.j - 1 in
+    let within = c.down.invariant.0 in
+    let before : j < c.args.k = omega (arith, within, c.down-test.true) in
+    let there : j < length notes = omega (arith, before, c.requires.within, noted.same_length, noted.within) in
+    let pending = ap (λ (note : Note). note.pending)
+    (note-read notes j c.index-in-down.result.now there c.index-in-down.ensures) in (
+      j,
+      omega (arith, within, c.down-test.true),
+      before,
+      way-noted noted c.requires.marks c.requires.within c.requires.pending j before c.args.own c.requires.own
+          (pending ∙ c.if-index.true)
+          ∙ (sym c.conflict.ensures ∙ c.if-conflict.true),
+    )

@@ -26,3 +26,19 @@ down-preserved c =
       omega (arith, within),
       free-lower s queue c.args.k c.down.j j (omega (arith, c.down-test.true)) c.down.invariant.1 none,
     )
+
+pub returns-then-conflict-clause-blocked : goal.returns-then-conflict-clause-blocked
+returns-then-conflict-clause-blocked c = λ _.
+    let j = c.down.j - 1 in
+    let within = c.down.invariant.0 in
+    let before : j < c.args.k = omega (arith, within, c.down-test.true) in
+    let note = note_at c.args.self.now.notes.items j in (
+      j,
+      omega (arith, within, c.down-test.true),
+      before,
+      way-noted c.requires.noted c.requires.marks c.requires.within c.requires.pending j before c.args.own
+          c.requires.own
+          (and_parts note.pending (not (only_reads note.touch)) (sym c.is_pending_writer.ensures
+          ∙ c.if-is_pending_writer.true)).0
+          ∙ (sym c.conflict.ensures ∙ c.if-conflict.true),
+    )
