@@ -28,8 +28,8 @@ pub(crate) struct Fed<J: Judges> {
 /// # Errors
 ///
 /// The first one: `Tree` if the bytes are not a tree file, and those of `feed_all`.
-// It has two callers, for sessions that are whole and for those that were cut. Called, and not inlined, it makes an audit
-// take 7 percent more instructions: the loop in it then copies each event more often.
+// It has two callers, for sessions that are whole and for those that were cut. Called, and not inlined, it makes an
+// audit take 7 percent more instructions: the loop in it then copies each event more often.
 #[inline(always)]
 pub(crate) fn begin_and_feed<J: Judges, R: Source>(
     alloc: Global,

@@ -192,8 +192,8 @@ impl Judge {
         permitted
     }
 
-    /// The request that `open-dir` judges in place of one on a directory; `None` if there is none, or the answer refuses
-    /// it.
+    /// The request that `open-dir` judges in place of one on a directory; `None` if there is none, or the answer
+    /// refuses it.
     ///
     /// # Errors
     ///

@@ -4,8 +4,8 @@ use sftp_tree::NoMemory;
 use sftp_wire::{Answer, Ask, ByteString, NameItem, Names};
 use std::alloc::Global;
 
-/// The request by which an answer to this one is explained: the one that the profile takes it for; `None` if that is the
-/// request itself.
+/// The request by which an answer to this one is explained: the one that the profile takes it for; `None` if that is
+/// the request itself.
 ///
 /// # Errors
 ///
