@@ -7,7 +7,7 @@ use Rattle.sftp_server.proofs.Imports.{share, untouched, everything, touched_as,
 use Rattle.sftp_server.proofs.Imports.{Note, is_pending_at, pending_in, reply_at, reply_in, with_progress, Aim, aim_in}
 use Rattle.sftp_server.proofs.Imports.{Portion, portion_in, portions_clash, is_of, resized, blank, note_at, ask_at}
 use Rattle.sftp_server.proofs.Imports.{portion_now, is_in_way, IsNoted, AreNotes, IsFree, IsBlocked, IsLinked, IsLate}
-use Rattle.sftp_server.proofs.Imports.{IsMarked, IsMarkedAsked, IsSettling}
+use Rattle.sftp_server.proofs.Imports.{IsMarkedAsked, IsSettling}
 use Rattle.sftp_server.specs.Readiness.{is_all}
 use Rattle.sftp_server.proofs.Queues.{length-progress}
 use Rattle.sftp_server.proofs.RangedNotes.{all-none, clash-right, clash-still, late-aside, resized-clashes}

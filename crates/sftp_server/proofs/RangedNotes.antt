@@ -5,9 +5,11 @@ use Rattle.sftp_server.proofs.Imports.{◌∙◌, ◌⊎◌, inl, inr, true≢fa
 use Rattle.sftp_server.proofs.Imports.{eq-eqb, same_Some, Ask, ByteRange, State, Touched, reads_file, writes_file}
 use Rattle.sftp_server.proofs.Imports.{everything, share, touched, range, are_apart, spanned, file_in, size_in, range_now}
 use Rattle.sftp_server.proofs.Imports.{Aim, aim_in, Portion, portion_in, portion_of, portions_clash, resized_by, resized}
-use Rattle.sftp_server.proofs.Imports.{is_on, is_of, is_clear, extent_now}
+use Rattle.sftp_server.proofs.Imports.{is_on, is_of, is_clear, extent_now, Extent, and_right, le-ltb, nat_lt, arith}
+use Rattle.sftp_server.proofs.Imports.{◌≤◌, ◌+◌}
 use Rattle.std.specs.Prelude.{nat_le}
-use Rattle.sftp_handles.specs.Ranges.{range_within, range_if, range_from}
+use Rattle.std.proofs.lemmas.Bool.{le-leb}
+use Rattle.sftp_handles.specs.Ranges.{range_within, range_if, range_from, meet}
 use Rattle.sftp_handles.specs.Spans.{range_sized}
 use Rattle.sftp_handles.proofs.RangeLaws.Spans.{range-is, HasFileFor}
 use Rattle.sftp_server.specs.RangedNotes.{extent_of, extent_sized}
@@ -165,6 +167,21 @@ module _ (s : State) (one two : Aim) (has : HasFileFor one.0 one.1) (shared : sh
       ap (λ extent. is_clear extent one.1) (extent-none s (file_in two.0))
       ∙ sym (ap (are_apart first) (range-none s (file_in two.0)) ∙ apart-none first)
   clear-is (Some ends) = clear-file (file_in two.0) refl ends
+
+-- a span that ends where the range starts, or before, is clear of it
+pub clear-before : (extent : Extent) (start count : ℕ) → extent.range.start ≤ extent.size
+    → start + count ≤ extent.range.start → is_clear (Some extent) (Some (start, start + count)) ≡ true
+clear-before extent start count fits before =
+    let number = extent.range.number in
+    let one = range_from number (start, start + count) in
+    let other = extent.range in
+    ap (λ b. are_apart (range_if b number (start, start + count)) (Some other))
+    (le-leb (start + count) extent.size (omega (arith, fits, before)))
+    ∙ and_from (number == number) (not (meet one other)) (eq-eqb number number refl)
+    (ap not (and_right (nat_lt one.start one.end && nat_lt other.start other.end)
+    (nat_lt one.start other.end && nat_lt other.start one.end)
+    (and_right (nat_lt one.start other.end) (nat_lt other.start one.end)
+    (le-ltb other.start one.end before))))
 
 pub noted-clash : (s : State) (one two : Aim) → HasFileFor one.0 one.1
     → (share one.0 two.0 && not (is_clear (extent_now s (file_in two.0) two.1) one.1))

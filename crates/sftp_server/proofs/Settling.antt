@@ -1,13 +1,13 @@
 -- How the requests on a file are looked at again, after a request was done that may have changed its length.
-use Rattle.sftp_server.proofs.Imports.{◌≡◌, ◌≢◌, ◌==◌, ◌&&◌, ◌+◌, ◌<◌, ◌≤◌, nat_lt, ℕ, suc, Bool, true, false, List}
+use Rattle.sftp_server.proofs.Imports.{◌≡◌, ◌≢◌, ◌&&◌, ◌+◌, ◌<◌, ◌≤◌, nat_lt, ℕ, suc, Bool, true, false, List}
 use Rattle.sftp_server.proofs.Imports.{Option, Some, None, refl, sym, ap, subst, ◌∙◌, inl, inr, arith, true≢false, ltb-true}
-use Rattle.sftp_server.proofs.Imports.{ltb-false, cases_Bool, and_parts, and_from, eqb-true, Ask, Touch, touched}
-use Rattle.sftp_server.proofs.Imports.{touched_as, writes_file, Nothing, State, Entry, Note, is_pending_at, Portion}
+use Rattle.sftp_server.proofs.Imports.{ltb-false, cases_Bool, and_from, eqb-true, Ask, Touch, touched}
+use Rattle.sftp_server.proofs.Imports.{touched_as, writes_file, Nothing, State, Entry, Note, is_pending_at}
 use Rattle.sftp_server.proofs.Imports.{portion_of, portions_clash, is_on, is_of, resized, note_at, ask_at, aim_at}
 use Rattle.sftp_server.proofs.Imports.{portion_now, IsNoted, IsMarked, IsPlaced, IsBlocked, IsSettling, AreBlockedBut}
 use Rattle.sftp_server.proofs.Imports.{AreBlockedButOn, AreNotReadyOn, touches_file, Aim}
 use Rattle.sftp_server.specs.Readiness.{IsSettled}
-use Rattle.sftp_server.proofs.Notes.{by_place, below, blocked-placed_other, marks-alike}
+use Rattle.sftp_server.proofs.Notes.{below, blocked-placed_other, marks-alike}
 use Rattle.sftp_server.proofs.RangedNotes.{portion-is, resized-clashes}
 
 -- ---- by the note

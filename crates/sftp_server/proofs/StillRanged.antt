@@ -1,5 +1,5 @@
 -- Which requests keep to the ranges that they kept to before a step.
-use Rattle.sftp_server.proofs.Imports.{◌≡◌, ◌≢◌, ◌==◌, ℕ, true, false, Option, Some, None, refl, sym, ap, ◌∙◌, ◌⊎◌}
+use Rattle.sftp_server.proofs.Imports.{◌≡◌, ◌≢◌, ℕ, false, Option, Some, None, refl, sym, ap, ◌∙◌, ◌⊎◌}
 use Rattle.sftp_server.proofs.Imports.{inl, inr, true≢false, Ask, Request, Reply, ByteRange, State, Allowed, Touched}
 use Rattle.sftp_server.proofs.Imports.{untouched, reads_file, writes_file, everything, share, touched, range, may_resize}
 use Rattle.sftp_server.proofs.Imports.{portion_in, is_on, is_of, resized_by, resized}

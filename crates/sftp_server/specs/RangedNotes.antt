@@ -1,7 +1,7 @@
 -- What the requests of a queue touch, and where. What a request touches and its span stay while requests are done that
 -- do not touch everything, and so a note may keep both. The range that it keeps to is its span, if its file is as long
 -- as that: that changes, and only by a request that may change the length of the file.
-use Rattle.std.specs.Prelude.{◌==◌, ◌&&◌, not, ℕ, Bool, true, false, Option, Some, None}
+use Rattle.std.specs.Prelude.{◌==◌, ◌&&◌, not, ℕ, Bool, false, Option, Some, None}
 use Rattle.sftp_packets.specs.declared.requests.Ask.{Ask}
 use Rattle.sftp_handles.specs.declared.byte_range.ByteRange.{ByteRange}
 use Rattle.sftp_handles.specs.State.{State}

@@ -621,7 +621,14 @@ impl Readiness {
     /// Whether the requests at two positions conflict by their notes, where `later` is the note of the one at `k`, and
     /// `own` the range that this one keeps to.
     #[inline(always)]
-    fn conflict(&self, queue: &Queue, j: usize, k: usize, later: &Note, own: &Option<Extent>) -> bool
+    fn conflict(
+        &self,
+        queue: &Queue,
+        j: usize,
+        k: usize,
+        later: &Note,
+        own: &Option<Extent>,
+    ) -> bool
         requires within { j < length queue.now }
         requires there { k < length queue.now }
         requires same { length self.now.notes.items ≡ length queue.now }
@@ -675,13 +682,28 @@ impl Readiness {
 
 impl Extent {
     /// Whether a span, if it is one of the same file, ends within that and has no byte in common with the range.
+    #[inline(always)]
     fn is_clear_of(&self, span: Span) -> bool
         ensures { result ≡ portions.is_clear (Some self.now) (ends_of (Some span)) }
     {
+        // Out of many most end before the range: what is asked in order.
+        if self.starts_behind(span) {
+            return true;
+        }
         match span.within(self.range.number, self.size) {
             Some(range) => range.is_apart(self.range),
             None => false,
         }
+    }
+
+    /// Whether the range starts within its file, and a span ends before it or where it starts.
+    #[inline(always)]
+    fn starts_behind(&self, span: Span) -> bool
+        ensures { result ≡ true → (self.now.range.start ≤ self.now.size)
+            × (span.start + span.count ≤ self.now.range.start) }
+    {
+        let start = self.range.start;
+        start <= self.size && span.start <= start && span.count <= start - span.start
     }
 }
 

@@ -1,4 +1,4 @@
-use Rattle.sftp_server.proofs.Imports.{◌+◌, ℕ, suc, Option, None, subst, note_at, IsSettling}
+use Rattle.sftp_server.proofs.Imports.{suc}
 use Rattle.sftp_server.proofs.Settling.{settled-none}
 use Rattle.sftp_server.proofs.readiness.Readiness.settle.Goals as goal
 
