@@ -64,7 +64,6 @@ fn show_file<'a, F: Read, O: Write>(
 }
 
 /// Shows a file whose bytes go into an empty buffer: the opening of a transcript, and the whole of any other file.
-// Slow to prove: two reads may fail, and a transcript is read from a reader made of two.
 fn show_by_opening<'a, F: Read, O: Write>(
     alloc: Global,
     name: &'a str,
@@ -72,17 +71,30 @@ fn show_by_opening<'a, F: Read, O: Write>(
     bytes: &mut Vec<u8>,
     output: &mut O,
 ) -> Result<(), Failure<'a>> {
-    append(name, &mut file.by_ref().take(OPENING.len() as u64), bytes)?;
-    if bytes.as_slice() == OPENING.as_slice() {
-        show_records(alloc, name, bytes.as_slice().chain(file), output)
-    } else {
-        append(name, file, bytes)?;
-        show_rows(alloc, bytes.as_slice(), output)
+    match is_transcript_read(name, file, bytes) {
+        Ok(true) => show_records(alloc, name, bytes.as_slice().chain(file), output),
+        Ok(false) => show_rows(alloc, bytes.as_slice(), output),
+        Err(failure) => Err(failure),
     }
 }
 
+/// Appends the opening of the file `name` to an empty buffer if it is a transcript, and else the whole file. Returns
+/// whether it is one.
+pub(crate) fn is_transcript_read<'a, F: Read>(
+    name: &'a str,
+    file: &mut F,
+    bytes: &mut Vec<u8>,
+) -> Result<bool, Failure<'a>> {
+    append(name, &mut file.by_ref().take(OPENING.len() as u64), bytes)?;
+    if bytes.as_slice() == OPENING.as_slice() {
+        return Ok(true);
+    }
+    append(name, file, bytes)?;
+    Ok(false)
+}
+
 /// Appends the rest of the file `name` to the bytes.
-pub(crate) fn append<'a, F: Read>(
+fn append<'a, F: Read>(
     name: &'a str,
     file: &mut F,
     bytes: &mut Vec<u8>,

@@ -4,9 +4,9 @@ ghost use Rattle.sftp_files.specs.declared.messages.Ending.TheVariants as ending
 
 use crate::cuts::limit_of;
 use crate::selecting::{Wanted, read_wanted};
-use crate::showing::{append, outcome};
+use crate::showing::{is_transcript_read, outcome};
 use sftp_files::{Ending, Failure, Named, STANDARD_OUTPUT, ShowOptions, open};
-use sftp_transcript::{OPENING, Reader, Tally};
+use sftp_transcript::{Reader, Tally};
 use sftp_treefile::{TreeError, TreeFile, read_rows};
 use sftp_views::{Clock, Form, View, ViewError, put_tree, show_records};
 use std::alloc::Global;
@@ -96,16 +96,10 @@ fn view_by_opening<'a, F: Read, R: Files + AllocGlobal, O: Write>(
     bytes: &mut Vec<u8>,
     output: &mut O,
 ) -> Result<(), Failure<'a>> {
-    append(
-        options.file,
-        &mut file.by_ref().take(OPENING.len() as u64),
-        bytes,
-    )?;
-    if bytes.as_slice() == OPENING.as_slice() {
-        view_timed(rt, options, view, bytes.as_slice().chain(file), output)
-    } else {
-        append(options.file, file, bytes)?;
-        view_rows(rt.alloc(), options, view.form, bytes.as_slice(), output)
+    match is_transcript_read(options.file, file, bytes) {
+        Ok(true) => view_timed(rt, options, view, bytes.as_slice().chain(file), output),
+        Ok(false) => view_rows(rt.alloc(), options, view.form, bytes.as_slice(), output),
+        Err(failure) => Err(failure),
     }
 }
 
