@@ -162,7 +162,7 @@ class Night:
             raise Failed(f"the folders were not read within {self.given.audit_seconds:g} seconds (--audit-seconds)"
                          ) from None
         if found.status:
-            hint = f" (the files may have a third of --memory, {self.given.memory} bytes)" \
+            hint = f" (a third of --memory, {self.given.memory} bytes)" \
                 if "--most" in found.last else ""
             raise Failed(f"{found.last}{hint}")
         return None if self.spool.records() else (now, found)
