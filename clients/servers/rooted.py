@@ -112,6 +112,40 @@ def libraries_of(program):
     return [] if "not a dynamic executable" in said else fail(f"every user has to be able to read {program}")
 
 
+@contextlib.contextmanager
+def eyes_of_nobody():
+    """In this block files are opened with the rights of the user `nobody`."""
+    group, groups = os.getegid(), os.getgroups()
+    os.setgroups([])
+    os.setegid(NOBODY)
+    os.seteuid(NOBODY)
+    try:
+        yield
+    finally:
+        os.seteuid(0)
+        os.setegid(group)
+        os.setgroups(groups)
+
+
+def opened_by_all(path):
+    """Opens a regular file that every user can read, or gives None."""
+    with contextlib.suppress(OSError), eyes_of_nobody():
+        held = os.open(path, os.O_RDONLY | os.O_NONBLOCK | os.O_CLOEXEC)
+        if stat.S_ISREG(os.fstat(held).st_mode):
+            return held
+        os.close(held)
+    return None
+
+
+def put_library(library, directory):
+    """Puts a library into a directory. Which ones are needed, the program says: so none is copied that is not every
+    user's to read, and no device or pipe."""
+    held = opened_by_all(library)
+    if held is None:
+        fail(f"{library}, which the program says that it needs, is no file that every user can read")
+    put_file(held, directory, os.path.basename(library))
+
+
 def put_program(folder, program):
     """Puts the program and its libraries aside in the folder. Gives the words that run it there."""
     try:
@@ -122,7 +156,7 @@ def put_program(folder, program):
     with directory_below(folder.root, ASIDE) as aside:
         put_file(program, aside, "server")
         for library in libraries:
-            put_file(library, aside, os.path.basename(library))
+            put_library(library, aside)
     loader = [os.path.basename(library) for library in libraries if "/ld-" in library]
     if not loader:
         return [f"/{ASIDE}/server"]
