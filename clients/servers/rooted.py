@@ -22,6 +22,7 @@ sys.path.insert(0, os.path.dirname(HERE))
 import apart  # noqa: E402 (the folder above is not searched before)
 import folders  # noqa: E402
 import mounts  # noqa: E402
+from recording import ending  # noqa: E402
 from recording.notices import printable  # noqa: E402
 from recording.standard import open_standard_files  # noqa: E402
 
@@ -37,7 +38,7 @@ ASIDE = ".sftpv3-start"
 
 
 def fail(text, status=3):
-    print(f"{os.path.basename(sys.argv[0])}: {printable(text)}", file=sys.stderr)
+    print(f"{os.path.basename(sys.argv[0])}: {printable(str(text))}", file=sys.stderr)
     sys.exit(status)
 
 
@@ -58,7 +59,6 @@ def folder_of(arguments, package, program):
         fail("needs root, to change its root folder and the owners of files")
     if not os.path.exists(program):
         fail(f"{program} is not there: apt-get install {package}")
-    signal.signal(signal.SIGTERM, lambda *_: sys.exit(1))
     try:
         return folders.Folder(arguments[1])
     except (OSError, folders.Bad) as error:
@@ -305,8 +305,23 @@ def end(status):
     os._exit(status)
 
 
+def serve_in_folder(package, program, session):
+    """Has a session of a server in the folder of the tree, by a function of it that gives the server's status, and ends
+    this process as the server did."""
+    ending.end_in_order()
+    try:
+        with folder_of(sys.argv, package, program) as folder:
+            try:
+                status = session(folder)
+            except OSError as error:
+                fail(error)
+            finally:
+                ending.hold_off()
+    except ending.Signalled as came:
+        sys.exit(came.status)
+    end(status)
+
+
 def serve(program, package, fixed=()):
     """The whole of a script behind `read_words`: `SCRIPT TREE [ARGUMENT ...]`."""
-    with folder_of(sys.argv, package, program) as folder:
-        status = run(folder, program, list(fixed) + sys.argv[2:])
-    end(status)
+    serve_in_folder(package, program, lambda folder: run(folder, program, list(fixed) + sys.argv[2:]))
