@@ -4,6 +4,7 @@ import os
 import subprocess
 import sys
 import time
+from contextlib import suppress
 
 from nights import told
 from nights.keeping import Copy
@@ -22,6 +23,8 @@ LEAST_SPACE = 1 << 28
 LEFT = ("tree.after", "tree.now", ".sftpv3-tree-", "record.new")
 # How many times it is looked again, if a session runs and ends meanwhile.
 LOOKS = 3
+# How many times records are looked for, of which each time nights.records.MOST are taken, before the rest has to wait.
+BATCHES = 10
 # How many sessions before and behind one are looked at, and how many named, that ran at the same time.
 NEAR, NAMED = 200, 5
 
@@ -83,44 +86,64 @@ class Night:
             self.say(f"  {line}")
 
     def audit(self, copy, name, note):
-        """Audits a session, and makes its last tree the one of the next. Returns whether it is accepted."""
+        """Audits a session, and makes its last tree the one of the next. What comes of it is said before the record is
+        taken from the spool, so nothing hides it."""
         after = f"{self.tree}.after"
         try:
             found = self.run_program(MOST_REASONS, "audit", *self.options, "--explain", "--tree", self.tree,
                                      "--transcript", f"/proc/self/fd/{copy.file}", "--out", after,
                                      pass_fds=[copy.file])
         except subprocess.TimeoutExpired:
-            return self.give_up(copy, name, f": the audit did not end within {self.given.audit_seconds:g} seconds "
-                                f"(--audit-seconds){note}")
+            self.give_up(copy, name, f": the audit did not end within {self.given.audit_seconds:g} seconds "
+                         f"(--audit-seconds){note}")
+            return
         # the record is named below, and not by its descriptor
         first, *more = [it for it in found.lines() if it != f"sftpv3: file: /proc/self/fd/{copy.file}"] or [""]
         if found.status == 0:
+            self.say(f"{name}: {first}{note}")
             copy.keep("accepted")
             os.replace(after, self.tree)
             self.accepted += 1
             self.cut += " unanswered" in first
-            self.say(f"{name}: {first}{note}")
-            return True
+            return
         if found.status == 3 and first.startswith("sftpv3: out of memory"):
-            return self.give_up(copy, name, f": the audit needs more than {self.given.memory} bytes of memory "
-                                f"(--memory){note}")
+            self.give_up(copy, name, f": the audit needs more than {self.given.memory} bytes of memory (--memory){note}")
+            return
         if found.status != 1 and not first.startswith("sftpv3: transcript: "):
             raise Failed(f"{name}: the audit ended with status {found.status}: {' '.join([first, *more]).strip()}")
-        with open(f"{copy.keep('refused')}.verdict", "w", encoding="utf-8") as file:
-            file.writelines(f"{line}\n" for line in [first, *more])
         self.say(f"{name}: {first}{note}", 1)
         self.say_lines(more)
-        return False
+        self.put_aside(copy, "refused", [first, *more])
 
     def give_up(self, copy, name, why):
-        """Puts a record aside that cannot be judged. Returns that it is not accepted."""
-        copy.keep("unjudged")
+        """Says that a record cannot be judged, and puts it aside."""
         self.say(f"{name}: not judged{why}", 1)
-        return False
+        self.put_aside(copy, "unjudged")
+
+    def put_aside(self, copy, kind, verdict=()):
+        """Keeps a record that is not accepted, with its verdict. What comes behind it has no tree to start from."""
+        with suppress(FileNotFoundError):
+            os.remove(self.tree)
+        place = copy.keep(kind)
+        try:
+            if verdict:
+                with open(f"{place}.verdict", "w", encoding="utf-8") as file:
+                    file.writelines(f"{line}\n" for line in verdict)
+        except OSError as error:
+            self.say(f"  which cannot be kept beside the record: {error.strerror}", 1)
 
     def audit_all(self):
-        """Audits what has ended, as far as there is a tree to start from. Returns whether a session still runs."""
-        records = self.spool.records()
+        """Audits what has ended, as far as there is a tree to start from. Returns whether something is left: a session
+        still runs, or there are too many."""
+        for _ in range(BATCHES):
+            records = self.spool.records()
+            if not records or self.audit_these(records):
+                return bool(records)
+        self.say("there are more records, which wait for the next run", 1)
+        return True
+
+    def audit_these(self, records):
+        """Audits these records. Returns whether one of them is of a session that still runs."""
         for place, record in enumerate(records):
             record.open()
             try:
@@ -134,7 +157,7 @@ class Night:
         return False
 
     def judge(self, record, note):
-        """Audits a copy of a record, if there is a tree to start from; behind one that is refused there is none."""
+        """Audits a copy of a record, if there is a tree to start from."""
         try:
             copy = Copy(self.folder, record)
         except OSError as error:
@@ -142,8 +165,8 @@ class Night:
         try:
             if not os.path.exists(self.tree):
                 self.give_up(copy, record.shown(), ", since there is no tree that it started from")
-            elif not self.audit(copy, record.shown(), note):
-                os.remove(self.tree)
+            else:
+                self.audit(copy, record.shown(), note)
         finally:
             copy.close()
             self.tidy()
@@ -159,10 +182,11 @@ class Night:
         try:
             found = told.run([*words, "--", *self.given.folders], MOST_LINES, self.given.audit_seconds)
         except subprocess.TimeoutExpired:
+            self.tidy()
             raise Failed(f"the folders were not read within {self.given.audit_seconds:g} seconds (--audit-seconds)"
                          ) from None
         if found.status:
-            hint = f" (the files may have a third of --memory, {self.given.memory} bytes)" \
+            hint = f" (a third of --memory, {self.given.memory} bytes)" \
                 if "--most" in found.last else ""
             raise Failed(f"{found.last}{hint}")
         return None if self.spool.records() else (now, found)

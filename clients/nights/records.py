@@ -4,6 +4,7 @@ What users can write is in the spool: names, times and locks are believed no fur
 """
 import calendar
 import fcntl
+import heapq
 import os
 import re
 import stat
@@ -16,6 +17,8 @@ RECORD = re.compile(r".*\.transcript(\.[0-9a-f]+)?")
 DATE = re.compile(r"[0-9]{8}T[0-9]{6}Z")
 # sftpv3-recordd writes the date first; what comes behind it is the address that a client named.
 DATE_OF_DAEMON = re.compile(r"([0-9]{8}T[0-9]{6}Z)-")
+# The most records that are held at a time: their users can make as many as they like.
+MOST = 10_000
 # A record this young, in seconds, may be one whose recorder has only just made it.
 YOUNG = 1
 FOLDER = os.O_RDONLY | os.O_DIRECTORY | os.O_CLOEXEC
@@ -33,11 +36,16 @@ def seconds_of(date):
         return None
 
 
+def identity_of(state):
+    return state.st_dev, state.st_ino
+
+
 class Record:
-    """A transcript in a folder that is open: its name, when it began, and when the last was written to it."""
+    """A transcript in a folder that is open: its name, which file it is, when it began, and when the last was written
+    to it."""
 
     def __init__(self, folder, name, state, date):
-        self.folder, self.name, self.state = folder, name, state
+        self.folder, self.name, self.identity = folder, name, identity_of(state)
         self.end = min(state.st_mtime_ns / 1e9, time.time())
         start = seconds_of(date) if date else None
         self.start = self.end if start is None else min(start, self.end)
@@ -54,7 +62,7 @@ class Record:
                                 dir_fd=self.folder)
         except OSError as error:
             raise Failed(f"{self.shown()}: {error.strerror}") from None
-        if not os.path.samestat(os.fstat(self.file), self.state):
+        if identity_of(os.fstat(self.file)) != self.identity:
             raise Failed(f"{self.shown()}: it was replaced meanwhile")
 
     def is_young(self):
@@ -76,7 +84,7 @@ class Record:
         """Removes it from its folder, unless something else has its name by now."""
         with suppress(FileNotFoundError):
             found = os.stat(self.name, dir_fd=self.folder, follow_symlinks=False)
-            if os.path.samestat(found, self.state):
+            if identity_of(found) == self.identity:
                 os.unlink(self.name, dir_fd=self.folder)
 
     def close(self):
@@ -135,14 +143,16 @@ class Spool:
             return
         os.close(own)
 
-    def records(self):
-        """The records in the order of their starts."""
-        self.look()
-        found = []
+    def found(self):
+        """All records, in no order."""
         for name, state in found_in(self.shared, lambda it: it.st_uid == self.number):
             date = DATE.search(name)
-            found.append(Record(self.shared, name, state, date and date[0]))
+            yield Record(self.shared, name, state, date and date[0])
         for name, state in found_in(self.own, lambda _: True) if self.own is not None else ():
             date = DATE_OF_DAEMON.match(name)
-            found.append(Record(self.own, name, state, date and date[1]))
-        return sorted(found, key=lambda it: (it.start, it.end, it.name))
+            yield Record(self.own, name, state, date and date[1])
+
+    def records(self):
+        """The first records in the order of their starts."""
+        self.look()
+        return heapq.nsmallest(MOST, self.found(), key=lambda it: (it.start, it.end, it.name))

@@ -15,11 +15,12 @@ import sys
 import tarfile
 import tempfile
 import time
+from typing import NamedTuple
 
 import mounts
 from probing import program
 
-PREFIX = "sftpv3-root-"
+PREFIX, ROOT = "sftpv3-root-", "root"
 SET_ID = stat.S_ISUID | stat.S_ISGID
 
 # How old, in seconds, a folder is at least that is taken for one that a killed run left.
@@ -31,6 +32,14 @@ NEW_FILE = os.O_WRONLY | os.O_CREAT | os.O_EXCL | os.O_NOFOLLOW
 
 class Bad(Exception):
     """A tree that cannot be made into a folder."""
+
+
+class Owned(NamedTuple):
+    """A directory whose owner and permissions are still to be set."""
+    name: str
+    uid: int
+    gid: int
+    mode: int
 
 
 class Builder:
@@ -124,15 +133,18 @@ def fill(builder, tree_file):
 def put_all(builder, members):
     """Makes the members of an archive, and gives those that are directories: they get their owners last."""
     directories = []
-    for member in members:
+    while (member := members.next()) is not None:
+        # tarfile would hold all of them
+        members.members.clear()
         builder.put(member, members.extractfile(member) if member.isreg() else None)
         if member.isdir():
-            directories.append(member)
+            directories.append(Owned(member.name, member.uid, member.gid, member.mode))
     return directories
 
 
 def remove_left(folder):
-    """Removes what killed runs of this user left: folders that no run holds locked."""
+    """Removes what killed runs of this user left: folders that no run holds locked, and that have nothing but a root.
+    """
     for name in os.listdir(folder):
         place = os.path.join(folder, name)
         try:
@@ -143,7 +155,8 @@ def remove_left(folder):
             continue
         try:
             state = os.fstat(held)
-            if state.st_uid == os.geteuid() and stat.S_IMODE(state.st_mode) == 0o700:
+            is_own = state.st_uid == os.geteuid() and stat.S_IMODE(state.st_mode) == 0o700
+            if is_own and os.listdir(held) in ([], [ROOT]):
                 fcntl.flock(held, fcntl.LOCK_EX | fcntl.LOCK_NB)
                 shutil.rmtree(place, ignore_errors=True)
         except OSError:
@@ -160,7 +173,7 @@ class Folder:
         self.above = tempfile.mkdtemp(prefix=PREFIX)
         self.lock = os.open(self.above, DIRECTORY)
         fcntl.flock(self.lock, fcntl.LOCK_EX)
-        self.name = os.path.join(self.above, "root")
+        self.name = os.path.join(self.above, ROOT)
         self.root = -1
         self.has_mount = False
         try:

@@ -22,6 +22,7 @@ sys.path.insert(0, os.path.dirname(HERE))
 import apart  # noqa: E402 (the folder above is not searched before)
 import folders  # noqa: E402
 import mounts  # noqa: E402
+from recording import ending  # noqa: E402
 from recording.notices import printable  # noqa: E402
 from recording.standard import open_standard_files  # noqa: E402
 
@@ -37,7 +38,7 @@ ASIDE = ".sftpv3-start"
 
 
 def fail(text, status=3):
-    print(f"{os.path.basename(sys.argv[0])}: {printable(text)}", file=sys.stderr)
+    print(f"{os.path.basename(sys.argv[0])}: {printable(str(text))}", file=sys.stderr)
     sys.exit(status)
 
 
@@ -58,7 +59,6 @@ def folder_of(arguments, package, program):
         fail("needs root, to change its root folder and the owners of files")
     if not os.path.exists(program):
         fail(f"{program} is not there: apt-get install {package}")
-    signal.signal(signal.SIGTERM, lambda *_: sys.exit(1))
     try:
         return folders.Folder(arguments[1])
     except (OSError, folders.Bad) as error:
@@ -112,6 +112,40 @@ def libraries_of(program):
     return [] if "not a dynamic executable" in said else fail(f"every user has to be able to read {program}")
 
 
+@contextlib.contextmanager
+def eyes_of_nobody():
+    """In this block files are opened with the rights of the user `nobody`."""
+    group, groups = os.getegid(), os.getgroups()
+    os.setgroups([])
+    os.setegid(NOBODY)
+    os.seteuid(NOBODY)
+    try:
+        yield
+    finally:
+        os.seteuid(0)
+        os.setegid(group)
+        os.setgroups(groups)
+
+
+def opened_by_all(path):
+    """Opens a regular file that every user can read, or gives None."""
+    with contextlib.suppress(OSError), eyes_of_nobody():
+        held = os.open(path, os.O_RDONLY | os.O_NONBLOCK | os.O_CLOEXEC)
+        if stat.S_ISREG(os.fstat(held).st_mode):
+            return held
+        os.close(held)
+    return None
+
+
+def put_library(library, directory):
+    """Puts a library into a directory. Which ones are needed, the program says: so none is copied that is not every
+    user's to read, and no device or pipe."""
+    held = opened_by_all(library)
+    if held is None:
+        fail(f"{library}, which the program says that it needs, is no file that every user can read")
+    put_file(held, directory, os.path.basename(library))
+
+
 def put_program(folder, program):
     """Puts the program and its libraries aside in the folder. Gives the words that run it there."""
     try:
@@ -122,7 +156,7 @@ def put_program(folder, program):
     with directory_below(folder.root, ASIDE) as aside:
         put_file(program, aside, "server")
         for library in libraries:
-            put_file(library, aside, os.path.basename(library))
+            put_library(library, aside)
     loader = [os.path.basename(library) for library in libraries if "/ld-" in library]
     if not loader:
         return [f"/{ASIDE}/server"]
@@ -271,8 +305,23 @@ def end(status):
     os._exit(status)
 
 
+def serve_in_folder(package, program, session):
+    """Has a session of a server in the folder of the tree, by a function of it that gives the server's status, and ends
+    this process as the server did."""
+    ending.end_in_order()
+    try:
+        with folder_of(sys.argv, package, program) as folder:
+            try:
+                status = session(folder)
+            except OSError as error:
+                fail(error)
+            finally:
+                ending.hold_off()
+    except ending.Signalled as came:
+        sys.exit(came.status)
+    end(status)
+
+
 def serve(program, package, fixed=()):
     """The whole of a script behind `read_words`: `SCRIPT TREE [ARGUMENT ...]`."""
-    with folder_of(sys.argv, package, program) as folder:
-        status = run(folder, program, list(fixed) + sys.argv[2:])
-    end(status)
+    serve_in_folder(package, program, lambda folder: run(folder, program, list(fixed) + sys.argv[2:]))

@@ -259,6 +259,19 @@ def try_memory(steps, folder):
                     f"{status}: {said}")
 
 
+def no_files():
+    resource.setrlimit(resource.RLIMIT_FSIZE, (0, 0))
+
+
+def try_full_disk(steps, folder):
+    """Where no file can be written, a walk and a probe fail: they do not tell of a tree or of differences."""
+    for name, words in (("walk", [WALK, "--to", "seen.tree", "--", *HOSTILE, "Right"]),
+                        ("probe", [os.path.join(TOP, "clients", "probe"), "--", program(), "serve", "--tree", "{tree}"])):
+        status, said = run(words, folder, preexec_fn=no_files)
+        steps.check(f"{name}: without a place for temporary files: status 3", status == 3 and "temporary" in said
+                    and is_clean(said), f"{status}: {said[-600:]}")
+
+
 def try_usage(steps, folder):
     for options, command, wanted in (
             (["--max-bytes", "x"], ["true"], 2), (["--timeout", "0"], ["true"], 2),

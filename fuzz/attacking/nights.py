@@ -53,22 +53,22 @@ class Nights:
     def __init__(self, field, user, *options):
         self.field, self.user, self.options = field, user, options
         self.home, self.spool, self.state = (field.path(it) for it in ("home", "spool", "state"))
-        self.peak = 0
+        self.peak, self.patience = 0, SECONDS
         for name, owner, mode in ((self.home, user.pw_uid, 0o755), (self.spool, 0, 0o1777)):
             os.mkdir(name)
             os.chown(name, owner, owner)
             os.chmod(name, mode)
         self.run()
 
-    def run(self, *options):
+    def run(self, *options, to=None):
         """Runs it. Returns its status, what it printed, and the greatest memory of what it started; `peak` is its own.
         """
         words = [self.field.script("nightly"), "--records", self.spool, "--state", self.state, "--home", self.home,
                  *self.options, *options, self.user.pw_name, self.home]
-        with open(self.field.path("said"), "wb+") as said:
+        with open(to or self.field.path("said"), "wb" if to else "wb+") as said:
             started = subprocess.Popen(words, stdin=subprocess.DEVNULL, stdout=said, stderr=subprocess.STDOUT,
                                        env={**os.environ, "SFTPV3": program()}, start_new_session=True)
-            end = time.monotonic() + SECONDS
+            end = time.monotonic() + self.patience
             while True:
                 ended, status, used = os.wait4(started.pid, os.WNOHANG)
                 if ended:
@@ -78,6 +78,8 @@ class Nights:
                 self.peak = max(self.peak, peak_of(started.pid))
                 time.sleep(0.02)
             started.returncode = os.waitstatus_to_exitcode(status)
+            if to:
+                return started.returncode, "", used.ru_maxrss * 1024
             said.seek(0)
             return started.returncode, said.read().decode(errors="surrogateescape"), used.ru_maxrss * 1024
 
@@ -359,6 +361,51 @@ def small_disk(folder, size):
         yield
     finally:
         subprocess.run(["umount", folder], check=True)
+
+
+@attack("user", "mount")
+def a_full_disk_hides_a_refusal(field):
+    """A refusal is told where there is room for the record and not for its verdict, and what is printed can be lost:
+    the next night starts from the folder, or judges the record again."""
+    with small_disk(field.path("state"), MEBI):
+        nights = Nights(field, field.user)
+        filling = os.path.join(nights.state, "filling")
+        refused = session(("REMOVE", b"/absent"))
+        for name, room, status in (("first", 4096, 3), ("second", MEBI, 1)):
+            path = nights.put(record_name(field.user), refused, field.user.pw_uid)
+            with open(filling, "wb", buffering=0) as file, suppress(OSError):
+                while file.write(bytes(4096)):
+                    pass
+            os.truncate(filling, os.path.getsize(filling) - min(room, os.path.getsize(filling)))
+            yield from wrong(nights.run(), status, "refused record 4: NotAllowed", without=["accepted 1 requests"])
+            if os.path.exists(path) or not nights.kept("refused"):
+                yield f"{name}: the record is not kept"
+            os.truncate(filling, 0)
+            yield from wrong(nights.run(), 0, "0 sessions accepted; the folder is as they left it") if name == "second" \
+                else wrong(nights.run(), 0, "the tree of the start has ")
+        path = nights.put(record_name(field.user), refused, field.user.pw_uid)
+        nights.run(to="/dev/full")
+        if not os.path.exists(path):
+            yield from wrong(nights.run(), 1, "refused record 4", without=["as they left it"])
+        else:
+            yield from wrong(nights.run(), 1, "refused record 4: NotAllowed")
+
+
+@attack("user")
+def many_records_take_all_memory(field):
+    """However many records a user puts into the spool, few of them are held."""
+    nights = Nights(field, field.user)
+    held = os.open(nights.spool, os.O_RDONLY)
+    for number in range(60_000):
+        os.mknod(f"{number}.transcript", dir_fd=held)
+        os.chown(f"{number}.transcript", field.user.pw_uid, field.user.pw_gid, dir_fd=held)
+    os.close(held)
+    nights.peak, nights.patience = 0, 20
+    nights.run()
+    if nights.peak > 50 * MEBI:
+        yield f"{nights.peak // MEBI} MiB"
+    if not nights.kept("unjudged") and not nights.kept("refused"):
+        yield "none is judged"
 
 
 @attack("user", "mount")

@@ -9,7 +9,7 @@ from attacking.saving import OPENED
 from programs import TOP, program
 from sftp3 import init
 
-COMMANDS = ("nightly", "page", "probe", "record", "recordd", "serve", "tree")
+COMMANDS = ("nightly", "page", "probe", "record", "recordd", "serve", "tree", "walk")
 SERVERS = ("servers/any", "servers/gesftpserver", "servers/openssh")
 OPTION = re.compile(r"(?m)^  (?:-\w(?: \w+)?, )?(--[a-z-]+)( [A-Z])?")
 
@@ -19,7 +19,7 @@ NAME = "x\naccepted 5 requests\n\x1b[2J\x7f\u009b\u202e\u2028\udcff"
 DIFFERING = ["--seeds", "1", "--requests", "3", "--jobs", "1", "--budget", "0", "--skip", "transfers", "--",
              "env", "GIVEN={tree}"]
 # What takes no options behind its arguments.
-BEFORE = ("probe", "record")
+BEFORE = ("probe", "record", "walk")
 SERVE = ["serve", "--tree", "start.tree"]
 CLOSED = ((0,), (1,), (2,), (0, 1, 2))
 
@@ -39,6 +39,7 @@ def ordinary(field):
         "recordd": ["live-not"],
         "serve": ["--program", program(), "--tree", "start.tree"],
         "tree": ["--chroot", "live", "--out", "live.tree"],
+        "walk": ["--to", "seen.tree", "--", *server],
     }
 
 
@@ -119,6 +120,7 @@ def writing(field):
     yield "serve", ["--program", program(), "--tree", "../start.tree", "--save", "none/saved", "--log", "log"]
     yield "tree", ["--chroot", "--out", "live.tree", "../live"]
     yield "tree", ["--chroot", "--out", "none/live.tree", "../live"]
+    yield "walk", ["--to", "seen.tree", "--session", "walked", "--", program(), "serve", "--tree", "../start.tree"]
 
 
 def left_by(field, script, words, shell_words):

@@ -43,6 +43,33 @@ unsigned la_version(unsigned version) {
 """
 
 
+# What says, where the libraries of a program are looked for, that it needs another file of the machine, too.
+WISHER = """
+#include <stdio.h>
+
+unsigned la_version(unsigned version) {
+    printf("\\tlibwish.so => " WISH " (0x00007f0000000000)\\n");
+    fflush(stdout);
+    return version;
+}
+"""
+
+# A server that shows, before its VERSION, the beginning of a file that stands beside its program.
+SHOWING = """
+#include <fcntl.h>
+#include <unistd.h>
+
+int main(int count, char **words) {
+    static char room[65536], version[] = {0, 0, 0, 5, 2, 0, 0, 0, 3};
+    int file = open(words[1], O_RDONLY);
+    ssize_t found = file < 0 ? 0 : read(file, room, 100);
+    if (found > 0 && write(2, room, found) < found) return 2;
+    if (read(0, room, sizeof room) < 1 || write(1, version, sizeof version) < 1) return 1;
+    while (read(0, room, sizeof room) > 0);
+    return 7;
+}
+"""
+
 # What types a line into the terminal of its session: a library for ld.so to run, or a server before its VERSION.
 TYPIST = """
 #include <fcntl.h>
@@ -80,11 +107,11 @@ def built(field, name, text, *options):
     return made
 
 
-def session(field, *words):
+def session(field, *words, seconds=SECONDS):
     """Plays a session with a server in a folder of its own. Returns how that ended."""
     environment = {**os.environ, "SFTPV3": program(), "TMPDIR": field.folder}
     return subprocess.run([field.script("servers/any"), field.blank(), *words], input=HELLO, capture_output=True,
-                          timeout=SECONDS, env=environment)
+                          timeout=seconds, env=environment)
 
 
 @attack("user", "cc")
@@ -164,6 +191,30 @@ def words_of(process):
             return file.read().split(b"\0")
     except OSError:
         return []
+
+
+@attack("user", "cc", "ldd")
+def a_program_names_files_of_root_as_libraries(field):
+    """What a program says that it needs is copied for its server only as far as every user can read it: no secret, no
+    device and no pipe is."""
+    private = field.path("private")
+    os.mkdir(private, 0o700)
+    secret = field.put("private/secret", b"the secret of root")
+    os.mkfifo(field.path("pipe"), 0o644)
+    for wish in (secret, "/dev/zero", field.path("pipe")):
+        auditor = built(field, "wisher.so", WISHER, "-shared", "-fPIC", f'-DWISH="{wish}"')
+        os.chmod(auditor, 0o755)
+        server = built(field, "showing", SHOWING, f"-Wl,--audit={auditor}")
+        os.chmod(server, 0o755)
+        try:
+            done = session(field, server, f"/.sftpv3-start/{os.path.basename(wish)}", seconds=20)
+        except subprocess.TimeoutExpired:
+            yield f"{wish}: the session does not start"
+            continue
+        if b"the secret" in done.stderr:
+            yield f"{wish}: the server reads it"
+        if done.returncode != 3 or wish.encode() not in done.stderr or b"Traceback" in done.stderr:
+            yield f"{wish}: status {done.returncode} {done.stderr[-300:]!r}"
 
 
 @attack("user", "cc", "ldd")
