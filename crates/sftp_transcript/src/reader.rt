@@ -170,7 +170,6 @@ impl<R: Source> Reader<R> {
     }
 
     /// Takes the next record, and before it the opening if that is next.
-    #[inline(always)]
     fn take_next_record(&mut self) -> Result<Option<(Side, Packet, usize)>, TranscriptError>
         ensures found { IfOk result (λ given. (before : List ℕ) → HasAhead self.old.ahead before
             → GivesNext self.old.stage before given self.new) }
@@ -274,7 +273,6 @@ impl<R: Source> Reader<R> {
     /// # Errors
     ///
     /// Those of `next`.
-    #[inline(always)]
     pub fn next_record(&mut self) -> Result<Option<(Side, Packet, usize)>, TranscriptError>
         // An error that was returned is returned again.
         ensures again { (error : TranscriptError) → self.old.fault ≡ Some error

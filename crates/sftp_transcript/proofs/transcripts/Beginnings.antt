@@ -1,8 +1,8 @@
 -- What begins the bytes begins each list of events that they record, and bytes with a fault record none.
 use Rattle.sftp_transcript.proofs.Imports.{◌≡◌, ◌≢◌, inl, inr, ℕ, List, [], ◌∷◌, ◌++◌, length, Option, Some, None}
 use Rattle.sftp_transcript.proofs.Imports.{Result, Ok, Err, refl, sym, ap, ◌∙◌, subst, append_assoc, arith, flat_map}
-use Rattle.sftp_transcript.proofs.Imports.{AllByRecursion, append_cancel_left, flat_map-cons, Fault, Packet, Init}
-use Rattle.sftp_transcript.proofs.Imports.{Version, Side, Client, Server, TranscriptError, Wire, Truncated, NoMemory}
+use Rattle.sftp_transcript.proofs.Imports.{AllByRecursion, append_cancel_left, flat_map-cons, Fault, Packet}
+use Rattle.sftp_transcript.proofs.Imports.{Side, Client, Server, TranscriptError, Wire, Truncated, NoMemory}
 use Rattle.sftp_transcript.proofs.Imports.{Event, Stage, BeginsRecord, ReadUpTo, FaultAhead, FaultAfter}
 use Rattle.sftp_transcript.proofs.Imports.{number_after_events, side_of_direction, Begins, IsInit, IsVersion}
 use Rattle.sftp_transcript.proofs.Imports.{transcript_opening, direction_of, packet_of, event_record}

@@ -1,7 +1,7 @@
 -- Bytes have one first fault, and what begins them agrees with it.
 use Rattle.sftp_transcript.proofs.Imports.{◌≡◌, ◌≢◌, ◌<◌, ◌≤◌, ◌⊎◌, inl, inr, ℕ, List, [], ◌∷◌, ◌++◌, Option, Some}
 use Rattle.sftp_transcript.proofs.Imports.{None, Result, Ok, Err, refl, sym, ap, ◌∙◌, subst, append-nil, arith}
-use Rattle.sftp_transcript.proofs.Imports.{flat_map, AllByRecursion, append_cancel_left, Fault, Packet, Init, Version}
+use Rattle.sftp_transcript.proofs.Imports.{flat_map, AllByRecursion, append_cancel_left, Fault, Packet}
 use Rattle.sftp_transcript.proofs.Imports.{Side, TranscriptError, Wire, Truncated, NoMemory, Event, Stage, BeginsRecord}
 use Rattle.sftp_transcript.proofs.Imports.{BeginsWithInit, ReadUpTo, FaultAhead, FaultAfter, number_after_events}
 use Rattle.sftp_transcript.proofs.Imports.{side_of_direction, Begins, IsInit, IsVersion, BeginsVersion, rank}

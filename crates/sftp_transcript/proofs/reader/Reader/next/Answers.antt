@@ -1,5 +1,5 @@
 -- A reader comes past INIT and VERSION to an event, to the end, or to an error.
-use Rattle.sftp_transcript.proofs.Imports.{◌≡◌, Some, None, refl, sym, ap, ◌∙◌, arith, err_from_is_err_and, IsKnown}
+use Rattle.sftp_transcript.proofs.Imports.{◌≡◌, Some, None, refl, ap, ◌∙◌, arith, err_from_is_err_and}
 use Rattle.sftp_transcript.proofs.Imports.{[]}
 use Rattle.sftp_transcript.specs.Packets.{event_in}
 use Rattle.std.proofs.Common.{rules}
