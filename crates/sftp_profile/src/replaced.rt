@@ -69,16 +69,12 @@ pub(crate) fn put(
 ) -> Result<Ask, NoMemory>
     ensures { IfOk result (λ other. other ≡ spec.put profile session.now ask) }
 {
-    match replaced(profile, session, &ask) {
-        Ok(Some(other)) => {
+    match replaced(profile, session, &ask)? {
+        Some(other) => {
             drop(ask);
             Ok(other)
         }
-        Ok(None) => Ok(ask),
-        Err(error) => {
-            drop(ask);
-            Err(error)
-        }
+        None => Ok(ask),
     }
 }
 
