@@ -31,8 +31,8 @@ pub(crate) struct Fed<J: Judges> {
 /// # Errors
 ///
 /// The first one: `Tree` if the bytes are not a tree file, and those of `feed_all`.
-// It has two callers, for sessions that are whole and for those that were cut. Called, and not inlined, it makes an audit
-// take 7 percent more instructions: the loop in it then copies each event more often.
+// It has two callers, for sessions that are whole and for those that were cut. Called, and not inlined, it makes an
+// audit take 7 percent more instructions: the loop in it then copies each event more often.
 #[inline(always)]
 pub(crate) fn begin_and_feed<J: Judges, R: Source>(
     alloc: Global,
@@ -75,11 +75,12 @@ pub(crate) fn begin_and_feed<J: Judges, R: Source>(
     }
 }
 
-/// Has the allocator keep up to 8 MiB that were freed, for later, in the place of giving them back to the system: it takes
-/// a block of memory and frees it. It takes no memory that stays, and needs none.
+/// Has the allocator keep up to 8 MiB that were freed, for later, in the place of giving them back to the system: it
+/// takes a block of memory and frees it. It takes no memory that stays, and needs none.
 // The GNU C library gives memory at the end of its heap back once that is twice the largest block of its own that was
-// freed, 128 KiB at first. WRITEs of 32 KiB wait for their replies 64 at a time: each window of them was given back, and
-// taken again page by page, which was half of the time of their audit. `mallopt` would say it, but is not to be had.
+// freed, 128 KiB at first. WRITEs of 32 KiB wait for their replies 64 at a time: each window of them was given back,
+// and taken again page by page, which was half of the time of their audit. `mallopt` would say it, but is not to be
+// had.
 fn keep_freed_memory(alloc: Global) {
     match Vec::<u8>::with_capacity(alloc, FREED_BLOCK) {
         Ok(block) => drop(block),
