@@ -3,7 +3,7 @@
 starting    the tree that a probe starts from
 model       what the planner believes the server's tree to be
 spelling    many paths that lead to one place
-plans       the steps of a plan; contents: the bytes in them
+plans       the steps of a plan, or of a session that was recorded; the bytes in them
 planner     the plan of a session: draws scenes, and keeps the account of handles
 features    what `--skip` may name in a plan
 weights     how often each scene is drawn, and which seeds have which large scenes
@@ -18,11 +18,10 @@ verdicts    asks `sftpv3 audit`, and goes on after a difference
 groups      differences that are alike; causes: those that have one cause
 shrinking   the shortest session that still shows a difference; guessing: which requests and entries it may need
 options     the command line, and the exit statuses
-limits      what ends a run early; workers: what plays sessions side by side; progress: says how far the probe is
+limits      what ends a run early; workers: what plays sessions side by side
 unseen      sessions with a server whose files nobody can see, which look first
-runs        one run of the probe; tally: what was played
-recorded    the plan of a session that was recorded
-reports     what is printed, kept and reported; keeping: what is kept of the server
+runs        one run of the probe; tally: what was played, and how far the probe is
+reports     what is printed, kept and reported; printed: a difference as pages and reports show it
 planted     servers with bugs, for clients/test-probe
 faults      servers with one fault each, for clients/test-probe-faults: faulty_writes, faulty_reads, faulty_names,
             faulty_replies and faulty_order have them, faulty what they are made of

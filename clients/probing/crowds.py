@@ -1,7 +1,7 @@
 """Scenes with many names, unusual names, deep paths and many handles. Each has names of its own, as those of transfers
 have."""
 import sftp3
-from probing.contents import Content
+from probing.plans import Content
 from probing.transfers import download, upload
 
 READ, WRITE, CREAT, TRUNC, EXCL = sftp3.READ, sftp3.WRITE, sftp3.CREAT, sftp3.TRUNC, sftp3.EXCL

@@ -9,8 +9,23 @@ import time
 
 import sftp3
 from paging import document, packets, runs
-from probing import files, junit, keeping, printed, program, shown
+from probing import files, junit, printed, program
 from sftp3 import trees
+
+
+def keep_server(place, difference):
+    """Writes into the folder what the server wrote to standard error, how it ended, and the whole session, if the one
+    that was judged lacks some of it."""
+    session = difference.session
+    files.write(os.path.join(place, "standard-error.txt"), session.errors)
+    files.write_text(os.path.join(place, "server.txt"),
+                     f"in flight: {session.in_flight}\nseed: {difference.seed}\n"
+                     f"session: {session.end or 'each request had its reply'}\nended: {session.ending()}\n")
+    whole = os.path.join(place, "whole.transcript")
+    if session.records != difference.records:
+        files.write(whole, sftp3.put_records(session.records))
+    elif os.path.lexists(whole):
+        os.remove(whole)
 
 
 def text_of(judge, name):
@@ -24,7 +39,7 @@ def keep(judge, folder, number, group, kept):
     place = os.path.join(folder, f"{number:02}-{name}")
     files.folder(folder)
     files.folder(place)
-    keeping.of_server(place, kept.difference)
+    keep_server(place, kept.difference)
     files.write(os.path.join(place, "start.tree"), kept.difference.session.start or trees.put(kept.tree))
     files.write(os.path.join(place, "session.transcript"), sftp3.put_records(kept.difference.records))
     texts = {kind: text_of(judge, os.path.join(place, kind)) for kind in ("start.tree", "session.transcript")}
@@ -33,7 +48,7 @@ def keep(judge, folder, number, group, kept):
     verdict = kept.difference.verdict
     files.write_text(os.path.join(place, "verdict.txt"), "\n".join(
         [verdict.text] + [f"{label}: {words}" for label, words in verdict.lines.items()]) + "\n")
-    session = shown.judged(kept.difference, "")
+    session = printed.judged(kept.difference, "")
     lines = printed.session(session, texts["session.transcript"].splitlines()) + printed.byte(verdict.lines, session)
     return place, lines
 
@@ -76,7 +91,7 @@ def summary(tally, found):
 def of_group(number, group):
     """What a JSON line says of a group."""
     difference = group.shortest.difference if group.shortest else group.first
-    byte = printed.byte_of(difference.verdict.lines, shown.judged(difference, ""))
+    byte = printed.byte_of(difference.verdict.lines, printed.judged(difference, ""))
     return {"kind": number, "group": group.leader.number if group.leader else number, "request": group.request,
             "causes": list(group.causes), "expected": group.expected, "found": group.found,
             "allowed_by": group.allowed, "count": group.count, "seeds": group.seeds,
@@ -104,7 +119,7 @@ def clean(value):
 def write_page(name, given, tally, found):
     """The page of the run."""
     seeds = [(one.seed, [group.number for group in one.groups]) for one in tally.judged]
-    differences = [shown.of_group(number, group, notes_of(group)) for number, group in enumerate(found, 1)]
+    differences = [printed.of_group(number, group, notes_of(group)) for number, group in enumerate(found, 1)]
     facts = [("server", shlex.join(given.command)), ("its VERSION", tally.version or "none came"),
              ("sftpv3", subprocess.run([program.program(), "--version"], stdout=subprocess.PIPE, check=False)
               .stdout.decode(errors="replace").splitlines() or "unknown"),

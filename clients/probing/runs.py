@@ -6,7 +6,7 @@ from dataclasses import dataclass, field
 from typing import List, Optional
 
 from paging import single
-from probing import (causes, features, groups, limits, options, ownfiles, planner, program, progress, recorded, reports,
+from probing import (causes, features, groups, limits, options, ownfiles, planner, plans, program, reports,
                      sessions, shrinking, starting, tally, unseen, verdicts, workers)
 from probing.sessions import NotStarted
 from sftp3 import trees
@@ -113,7 +113,7 @@ class Run:
             options.can_write("--report", given.report)
         usual = starting.usual if given.look_first is None else starting.few
         self.tree = options.read("--tree", given.tree, trees.get) if given.tree else usual()
-        self.recorded = options.read("--session", given.session, recorded.steps_of) if given.session else None
+        self.recorded = options.read("--session", given.session, plans.steps_of) if given.session else None
         self.program = program.program()
         auditor = verdicts.Auditor(self.program, folder)
         auditor.options = self.profile(auditor)
@@ -127,7 +127,7 @@ class Run:
         if not is_known and (why := ownfiles.trouble(server, players[0], self.tree, halt)):
             raise options.Wrong(why)
         self.playing = limits.Halt(self.until)
-        self.groups, self.tally, self.progress = groups.Groups(), tally.Tally(), progress.Progress()
+        self.groups, self.tally, self.progress = groups.Groups(), tally.Tally(), tally.Progress()
 
     def workers(self, folder, server, auditor):
         """What plays the sessions, one for each that is played at a time."""

@@ -1,7 +1,7 @@
 """Scenes that move files as clients do: uploads and downloads in blocks, and what follows them on the same files. Each
 scene has names of its own, directly below the root, so that no other scene meets them; `p.blank` makes one."""
 import sftp3
-from probing.contents import Content
+from probing.plans import Content
 
 READ, WRITE, APPEND, CREAT, TRUNC, EXCL = (
     sftp3.READ, sftp3.WRITE, sftp3.APPEND, sftp3.CREAT, sftp3.TRUNC, sftp3.EXCL)

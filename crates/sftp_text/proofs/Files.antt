@@ -180,3 +180,5 @@ tree-back bytes text are e =
     ∙ ap tree_of_lines (said_lines-shown head_text bytes h.line head.1 (r.line ++ (10 ∷ all.0)) h.line_is
     ∙ ap (λ l. h.line ∷ l) (said_lines-shown root_text head.1 r.line root.1 all.0 r.line_is))
     ∙ bytes_and-shown head_text bytes h.line head.1 (bytes_and root_text r.line (entries_read (said_lines [] all.0))) h.line_is below)))
+
+pub ruleset file_laws = (tree-back)

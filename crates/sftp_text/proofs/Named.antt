@@ -178,3 +178,5 @@ unfolding packets.spelling
 packet-shown packet has =
     shown_by_name (packets.side_of packet) (packet_shape packet) (packets.contents packet) (short (packets.contents packet) has.whole)
     (packet_layout packet has.fields has.canonical) (packet-takes packet has.fields)
+
+pub ruleset named_laws = (packet-shown)

@@ -62,3 +62,5 @@ text_read-text_of (r ∷ records) all =
     ap (lines_read []) (append_assoc line (10 ∷ []) others) ∙ lines_read-line [] line others known.printable
     ∙ cond-false (is_blank line) (lines_read [] others) (and_others (line_read line) (lines_read [] others)) (not_blank line (r.0, r.1) known.back)
     ∙ ap (λ o. and_others o (lines_read [] others)) known.back ∙ ap (add (r.0, r.1)) (text_read-text_of records all.1)
+
+pub ruleset session_laws = (text_read-text_of)

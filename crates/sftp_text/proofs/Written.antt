@@ -158,3 +158,5 @@ line-IsLine side bytes are = by_layout (layout_of_bytes side bytes) refl
     by_layout (Some layout) some =
         subst (λ o. IsLine side bytes (if_found (option_and_then (show_packet side bytes) o) (λ line. line) (side_letter side ∷ raw_text bytes)))
         (sym some) (by_line layout some (show_packet side bytes layout) refl)
+
+pub ruleset line_laws = (line-IsLine)
