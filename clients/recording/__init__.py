@@ -18,6 +18,7 @@ shares    what each user has of a spool
 keeping   the daemon that keeps records in a spool
 options   the commands
 complaints  about command lines
+links       links that lead where another user likes
 ending      signals that end other scripts in order
 parsers   their options, with help and complaints
 """

@@ -107,6 +107,14 @@ def links(steps, room):
     finish(server)
     steps.check("a link: the file that it leads to is replaced", (room.folder / "t").is_symlink() and
                 room.names("d/real") == ["/a"] and os.listdir(room.folder / "d") == ["real"])
+    if os.geteuid() == 0:
+        (room.folder / "theirs").symlink_to("t")
+        os.chown(room.folder / "theirs", 65534, 65534, follow_symlinks=False)
+        (room.folder / "through").symlink_to("theirs")
+        for words in (["--save", "theirs"], ["--save", "through"], ["--record", "theirs"]):
+            server = room.serve(*words)
+            steps.check(f"{' '.join(words)}: a link of another user: status 3 before the session", not server.open() and
+                        server.status() == 3 and "a symbolic link of another user" in server.errors())
     (room.folder / "none").symlink_to("absent")
     server = room.serve("--save", "none")
     steps.check("a link to no file: status 3 before the session", not server.open() and server.status() == 3)

@@ -4,6 +4,7 @@ import select
 import time
 
 from recording import naming
+from recording.links import refuse_link_of_another
 from recording.notices import Notices, write_error
 from recording.standard import open_standard_files
 from serving.inputs import Filled, Given, is_local_socket, shut_output
@@ -219,9 +220,19 @@ def finish(saving: Saving, log: Log, status: int) -> int:
     return status
 
 
+def look_at_record(name: str):
+    """Raises Unfit if the record would go where a link of another user leads."""
+    try:
+        refuse_link_of_another(name)
+    except OSError as error:
+        raise Unfit(f"cannot write {name}: {naming.reason(error)}") from None
+
+
 def play(options: Options, log: Log, signs: Signals) -> int:
     """Runs a session. Returns its status."""
     saving = None
+    if options.record is not None:
+        look_at_record(options.record)
     if options.save is not None:
         saving = Saving(options.save, options.tree, options.mode, options.is_synced)
     try:

@@ -259,6 +259,20 @@ def try_memory(steps, folder):
                     f"{status}: {said}")
 
 
+def try_link(steps, folder):
+    """A link of another user does not say where the tree goes."""
+    if os.geteuid() != 0:
+        steps.skip("a link of another user", "needs root")
+        return
+    link, target = os.path.join(folder, "theirs"), executable(os.path.join(folder, "target"), "dear")
+    os.symlink(target, link)
+    os.chown(link, 65534, 65534, follow_symlinks=False)
+    status, said = walk(folder, ["--to", link], [*HOSTILE, "Right"])
+    with open(target, encoding="ascii") as file:
+        steps.check("--to: a link of another user is not followed", status == 3 and file.read() == "dear"
+                    and "a symbolic link of another user" in said, f"{status}: {said}")
+
+
 def no_files():
     resource.setrlimit(resource.RLIMIT_FSIZE, (0, 0))
 
