@@ -169,8 +169,8 @@ const HARDLINK: &[Reason] = &[
     Reason(None, Some(Asks::Blocked), Codes::Either),
 ];
 
-/// The paths of a request and the reasons to refuse it; `None` of a request without a path. `link_first` says which path
-/// of SYMLINK is that of the link.
+/// The paths of a request and the reasons to refuse it; `None` of a request without a path. `link_first` says which
+/// path of SYMLINK is that of the link.
 pub(crate) fn case_of(ask: &Ask, link_first: bool) -> Option<Case<'_>> {
     match ask {
         Ask::Open { path, pflags, .. } => Some(case_of_open(path.as_slice(), *pflags)),

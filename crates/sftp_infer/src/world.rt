@@ -107,7 +107,8 @@ impl<'a> World<'a> {
         })
     }
 
-    /// Adds the components that a walk looked at to the work of the pass. Those of usual paths are no work of their own.
+    /// Adds the components that a walk looked at to the work of the pass. Those of usual paths are no work of their
+    /// own.
     pub(crate) fn count_steps(&mut self, steps: u64) {
         self.work = self.work.saturating_add(steps / FREE_STEPS);
     }
