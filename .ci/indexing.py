@@ -12,9 +12,9 @@ HEAD = """# The files of the crates
 
 Each file with the first sentence of its own comment, and its public functions that have a contract, with the names of
 their clauses; a function without names in brackets has one clause. Below a file stands what clauses say where the
-comment of the function does not, behind their names in square brackets (`crates/promises.txt`). The files of `specs` come in the order of
-`specs/Lib.antt`, and the subjects of the proofs, which are files and folders, in that of `proofs/Lib.antt`: each builds
-on those before it. `.ci/pages --write` makes this page, and `.ci/pages` compares it.
+comment of the function does not, behind their names in square brackets (`crates/promises.txt`). The files of `specs`
+come in the order of `specs/Lib.antt`, and the subjects of the proofs, which are files and folders, in that of
+`proofs/Lib.antt`: each builds on those before it. `.ci/pages --write` makes this page, and `.ci/pages` compares it.
 [ARCHITECTURE.md](../docs/ARCHITECTURE.md) says how the crates stand on each other, and
 [PROMISES.md](../docs/PROMISES.md) what the promises come to.
 """
