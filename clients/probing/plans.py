@@ -6,7 +6,8 @@ import sftp3
 from probing import features
 
 # Contents are cut out of this text without order, at a place that the plan names, so that no two blocks of a file are
-# alike, and a plan costs no more time and memory than its WRITEs. The length is a prime: no block of a file comes again where a number of bits or a block ends.
+# alike, and a plan costs no more time and memory than its WRITEs. The length is a prime: no block of a file comes again
+# where a number of bits or a block ends.
 TEXT = random.Random(57).randbytes(1_000_003)
 
 
