@@ -107,7 +107,8 @@ class Night:
             self.cut += " unanswered" in first
             return
         if found.status == 3 and first.startswith("sftpv3: out of memory"):
-            self.give_up(copy, name, f": the audit needs more than {self.given.memory} bytes of memory (--memory){note}")
+            self.give_up(copy, name, f": the audit needs more than {self.given.memory} bytes of memory "
+                         f"(--memory){note}")
             return
         if found.status != 1 and not first.startswith("sftpv3: transcript: "):
             raise Failed(f"{name}: the audit ended with status {found.status}: {' '.join([first, *more]).strip()}")
