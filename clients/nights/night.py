@@ -131,7 +131,7 @@ class Night:
                 with open(f"{place}.verdict", "w", encoding="utf-8") as file:
                     file.writelines(f"{line}\n" for line in verdict)
         except OSError as error:
-            self.say(f"  which cannot be kept beside the record: {error.strerror}", 1)
+            self.say(f"  the verdict cannot be kept beside the record: {error.strerror}", 1)
 
     def audit_all(self):
         """Audits what has ended, as far as there is a tree to start from. Returns whether something is left: a session
