@@ -181,10 +181,10 @@ class Night:
             words += [f"--{name}", getattr(self.given, name)] if getattr(self.given, name) else []
         words += [f"--{it.replace('_', '-')}" for it in ("chroot", "without_mounts") if getattr(self.given, it)]
         try:
-            found = told.run([*words, "--", *self.given.folders], MOST_LINES, self.given.audit_seconds)
+            found = told.run([*words, "--", *self.given.folders], MOST_LINES, self.given.look_seconds)
         except subprocess.TimeoutExpired:
             self.tidy()
-            raise Failed(f"the folders were not read within {self.given.audit_seconds:g} seconds (--audit-seconds)"
+            raise Failed(f"the folders were not read within {self.given.look_seconds:g} seconds (--look-seconds)"
                          ) from None
         if found.status:
             hint = f" (a third of --memory, {self.given.memory} bytes)" \
