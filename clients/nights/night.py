@@ -107,7 +107,8 @@ class Night:
             self.cut += " unanswered" in first
             return
         if found.status == 3 and first.startswith("sftpv3: out of memory"):
-            self.give_up(copy, name, f": the audit needs more than {self.given.memory} bytes of memory (--memory){note}")
+            self.give_up(copy, name, f": the audit needs more than {self.given.memory} bytes of memory "
+                         f"(--memory){note}")
             return
         if found.status != 1 and not first.startswith("sftpv3: transcript: "):
             raise Failed(f"{name}: the audit ended with status {found.status}: {' '.join([first, *more]).strip()}")
@@ -130,7 +131,7 @@ class Night:
                 with open(f"{place}.verdict", "w", encoding="utf-8") as file:
                     file.writelines(f"{line}\n" for line in verdict)
         except OSError as error:
-            self.say(f"  which cannot be kept beside the record: {error.strerror}", 1)
+            self.say(f"  the verdict cannot be kept beside the record: {error.strerror}", 1)
 
     def audit_all(self):
         """Audits what has ended, as far as there is a tree to start from. Returns whether something is left: a session
@@ -180,10 +181,10 @@ class Night:
             words += [f"--{name}", getattr(self.given, name)] if getattr(self.given, name) else []
         words += [f"--{it.replace('_', '-')}" for it in ("chroot", "without_mounts") if getattr(self.given, it)]
         try:
-            found = told.run([*words, "--", *self.given.folders], MOST_LINES, self.given.audit_seconds)
+            found = told.run([*words, "--", *self.given.folders], MOST_LINES, self.given.look_seconds)
         except subprocess.TimeoutExpired:
             self.tidy()
-            raise Failed(f"the folders were not read within {self.given.audit_seconds:g} seconds (--audit-seconds)"
+            raise Failed(f"the folders were not read within {self.given.look_seconds:g} seconds (--look-seconds)"
                          ) from None
         if found.status:
             hint = f" (a third of --memory, {self.given.memory} bytes)" \

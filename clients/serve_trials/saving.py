@@ -205,6 +205,8 @@ def other_users(steps, room):
         status = finish(server)
         steps.check("a file of another user that may be replaced: it is", status == 0 and room.names() == ["/a"] and
                     room.left() == ["log", "t"], f"{status} {room.left()}")
+        mode = (room.folder / "t").stat().st_mode & 0o777
+        steps.check("the new file is not the other user's: nobody else can read it", mode == 0o600, f"{mode:o}")
         (room.folder / "t").chmod(0o600)
         os.chown(room.folder / "t", 0, 0)
         server = room.serve("--save", "t", **more)

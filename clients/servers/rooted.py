@@ -33,6 +33,9 @@ LOOKING, NOBODY = 10, 65534
 # How much of a packet is read before it is passed on.
 LONGEST = 1 << 18
 
+# The most bytes that all libraries of a program may have.
+LARGEST = 1 << 30
+
 # Where the program stands for a moment.
 ASIDE = ".sftpv3-start"
 
@@ -137,13 +140,18 @@ def opened_by_all(path):
     return None
 
 
-def put_library(library, directory):
-    """Puts a library into a directory. Which ones are needed, the program says: so none is copied that is not every
-    user's to read, and no device or pipe."""
-    held = opened_by_all(library)
-    if held is None:
-        fail(f"{library}, which the program says that it needs, is no file that every user can read")
-    put_file(held, directory, os.path.basename(library))
+def put_libraries(libraries, directory):
+    """Puts libraries into a directory. Which ones are needed, the program says: so none is copied that is not every
+    user's to read, no device or pipe, and no more than LARGEST bytes together."""
+    room = LARGEST
+    for library in libraries:
+        held = opened_by_all(library)
+        if held is None:
+            fail(f"{library}, which the program says that it needs, is no file that every user can read")
+        room -= os.fstat(held).st_size
+        if room < 0:
+            fail(f"{library}, which the program says that it needs, has too many bytes")
+        put_file(held, directory, os.path.basename(library))
 
 
 def put_program(folder, program):
@@ -155,8 +163,7 @@ def put_program(folder, program):
     libraries = libraries_of(program)
     with directory_below(folder.root, ASIDE) as aside:
         put_file(program, aside, "server")
-        for library in libraries:
-            put_library(library, aside)
+        put_libraries(libraries, aside)
     loader = [os.path.basename(library) for library in libraries if "/ld-" in library]
     if not loader:
         return [f"/{ASIDE}/server"]

@@ -124,8 +124,8 @@ class Saving:
         return f"{self.given} {why}; the tree of this session is in {name}"
 
     def replace(self):
-        """Puts the tree in the place of the original, with its permissions and its owner."""
-        keep_rights(self.side, os.fstat(self.original.file))
+        """Puts the tree in the place of the original, with its permissions and its owner, or else with its own."""
+        keep_rights(self.side, os.fstat(self.original.file), self.mode)
         os.rename(self.side, self.name)
         self.sync()
 
@@ -190,8 +190,9 @@ def take_room(file: int, tree: str):
     os.ftruncate(file, 0)
 
 
-def keep_rights(name: str, found: os.stat_result):
-    """Gives a file the owner, the group and the permissions of another, as far as the system lets it."""
+def keep_rights(name: str, found: os.stat_result, own_mode: int):
+    """Gives a file the owner, the group and the permissions of another, as far as the system lets it. If it stays this
+    user's own, it gets permissions of its own: the other user chose those of the other file."""
     file = os.open(name, os.O_RDONLY | os.O_NOFOLLOW | os.O_CLOEXEC)
     mode = stat.S_IMODE(found.st_mode) & 0o777
     for user in (found.st_uid, -1):
@@ -200,9 +201,10 @@ def keep_rights(name: str, found: os.stat_result):
             break
         except OSError:
             pass
-    if os.fstat(file).st_gid != found.st_gid:
+    now = os.fstat(file)
+    if now.st_gid != found.st_gid:
         mode &= ~0o070
-    os.fchmod(file, mode)
+    os.fchmod(file, mode if now.st_uid == found.st_uid else own_mode)
     os.close(file)
 
 

@@ -279,8 +279,8 @@ def no_files():
 
 def try_full_disk(steps, folder):
     """Where no file can be written, a walk and a probe fail: they do not tell of a tree or of differences."""
-    for name, words in (("walk", [WALK, "--to", "seen.tree", "--", *HOSTILE, "Right"]),
-                        ("probe", [os.path.join(TOP, "clients", "probe"), "--", program(), "serve", "--tree", "{tree}"])):
+    probe = [os.path.join(TOP, "clients", "probe"), "--", program(), "serve", "--tree", "{tree}"]
+    for name, words in (("walk", [WALK, "--to", "seen.tree", "--", *HOSTILE, "Right"]), ("probe", probe)):
         status, said = run(words, folder, preexec_fn=no_files)
         steps.check(f"{name}: without a place for temporary files: status 3", status == 3 and "temporary" in said
                     and is_clean(said), f"{status}: {said[-600:]}")

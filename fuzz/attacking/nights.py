@@ -371,18 +371,18 @@ def a_full_disk_hides_a_refusal(field):
         nights = Nights(field, field.user)
         filling = os.path.join(nights.state, "filling")
         refused = session(("REMOVE", b"/absent"))
-        for name, room, status in (("first", 4096, 3), ("second", MEBI, 1)):
+        for name, room, wanted in (("first", 4096, 3), ("second", MEBI, 1)):
             path = nights.put(record_name(field.user), refused, field.user.pw_uid)
             with open(filling, "wb", buffering=0) as file, suppress(OSError):
                 while file.write(bytes(4096)):
                     pass
             os.truncate(filling, os.path.getsize(filling) - min(room, os.path.getsize(filling)))
-            yield from wrong(nights.run(), status, "refused record 4: NotAllowed", without=["accepted 1 requests"])
+            yield from wrong(nights.run(), wanted, "refused record 4: NotAllowed", without=["accepted 1 requests"])
             if os.path.exists(path) or not nights.kept("refused"):
                 yield f"{name}: the record is not kept"
             os.truncate(filling, 0)
-            yield from wrong(nights.run(), 0, "0 sessions accepted; the folder is as they left it") if name == "second" \
-                else wrong(nights.run(), 0, "the tree of the start has ")
+            next_day = "the folder is as they left it" if name == "second" else "the tree of the start has "
+            yield from wrong(nights.run(), 0, next_day)
         path = nights.put(record_name(field.user), refused, field.user.pw_uid)
         nights.run(to="/dev/full")
         if not os.path.exists(path):

@@ -201,7 +201,9 @@ def a_program_names_files_of_root_as_libraries(field):
     os.mkdir(private, 0o700)
     secret = field.put("private/secret", b"the secret of root")
     os.mkfifo(field.path("pipe"), 0o644)
-    for wish in (secret, "/dev/zero", field.path("pipe")):
+    huge = field.put("huge", b"")
+    os.truncate(huge, 1 << 40)
+    for wish in (secret, "/dev/zero", field.path("pipe"), huge):
         auditor = built(field, "wisher.so", WISHER, "-shared", "-fPIC", f'-DWISH="{wish}"')
         os.chmod(auditor, 0o755)
         server = built(field, "showing", SHOWING, f"-Wl,--audit={auditor}")
