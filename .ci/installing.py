@@ -85,7 +85,7 @@ def wrong_scripts(prefix, room):
     yield from wrong_tree(prefix, room)
     for name in ("any", "gesftpserver", "openssh"):
         status, printed = alone([prefix / "lib/sftpv3/servers" / name], room)
-        if status != 3 or f"servers/{name} TREE" not in printed:
+        if status != 2 or f"servers/{name} TREE" not in printed:
             yield f"install: servers/{name} ended with status {status}: {printed}"
     if (room / "sprung").exists():
         yield "install: a script ran a module of the user's"
