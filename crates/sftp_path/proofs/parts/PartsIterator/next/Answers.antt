@@ -1,5 +1,5 @@
 use Rattle.sftp_path.proofs.Imports.{arith}
-use Rattle.sftp_path.proofs.PathTexts.Splitting.{components-next, components-end}
+use Rattle.sftp_path.proofs.PathTexts.{components-next, components-end}
 use Rattle.sftp_path.proofs.parts.PartsIterator.next.Goals as goal
 
 pub returns-in_err-start-clause-steps : goal.returns-in_err-start-clause-steps
