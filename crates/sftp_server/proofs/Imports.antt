@@ -111,6 +111,6 @@ pub use Rattle.sftp_server.specs.declared.queue.Entry.{Entry}
 pub use Rattle.sftp_server.specs.declared.queue.Progress.{Progress}
 pub use Rattle.sftp_server.specs.declared.queue.Progress.TheVariants.{Pending, Done, Sent}
 pub use Rattle.sftp_server.specs.declared.readiness.Note.{Note}
-pub use Rattle.sftp_server.specs.declared.readiness.Extent.{Extent}
+pub use Rattle.sftp_server.specs.declared.extents.Extent.{Extent}
 pub use Rattle.sftp_server.specs.declared.refusals.Refuse.{Refuse}
 pub use Rattle.sftp_server.specs.declared.taking.Front.{Front}

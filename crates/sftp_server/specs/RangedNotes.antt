@@ -8,7 +8,7 @@ use Rattle.sftp_handles.specs.State.{State}
 use Rattle.sftp_handles.specs.Clash.{Touched, reads_file, writes_file, share, touched}
 use Rattle.sftp_handles.specs.Ranges.{range, range_within, are_apart}
 use Rattle.sftp_handles.specs.Spans.{spanned, file_in, size_in, range_now}
-use Rattle.sftp_server.specs.declared.readiness.Extent.{Extent}
+use Rattle.sftp_server.specs.declared.extents.Extent.{Extent}
 
 -- ---- what a request touches, and where
 

@@ -6,6 +6,7 @@ mod acts;
 mod cores;
 mod ends;
 pub mod examples;
+mod extents;
 mod input;
 pub mod laws;
 mod opening;

@@ -4,7 +4,6 @@ ghost use Rattle.std.specs.Prelude.{OnOk, not, length, take, drop, set};
 ghost use Rattle.std.specs.VecDeque.{deque_len, deque_capacity};
 ghost use Rattle.sftp_packets.specs.declared.requests.Ask.{Ask as Asked};
 ghost use Rattle.sftp_handles.specs.Clash.{touched, share, writes_file};
-ghost use Rattle.sftp_handles.specs.Ranges as ranges;
 ghost use Rattle.sftp_handles.specs.Spans.{spanned, ends_of, file_in, range_now};
 ghost use Rattle.sftp_handles.specs.Touch.{touched_as};
 ghost use Rattle.sftp_server.specs.Readiness.{blank, note_at, touched_at, portion_now, ask_at, IsFree, IsBlockedBack};
@@ -16,8 +15,9 @@ ghost use Rattle.sftp_server.specs.Readiness as words;
 ghost use Rattle.sftp_server.specs.RangedNotes.{resized, resized_by, extent_now};
 ghost use Rattle.sftp_server.specs.RangedNotes as portions;
 
+use crate::extents::{Extent, extent_of, is_clear};
 use crate::queue::Queue;
-use sftp_handles::{ByteRange, Session, SlabTable, Span, Touch};
+use sftp_handles::{Session, SlabTable, Span, Touch};
 use sftp_tree::FileNo;
 use std::alloc::{AllocError, Global};
 use std::collections::VecDeque;
@@ -37,14 +37,6 @@ pub struct Note {
     pub blocker: usize,
     /// How many positions further on, at most, the requests are that wait for this one.
     pub waiter: usize,
-}
-
-/// The range of its file that a request keeps to, and how long that file is.
-#[derive(Clone, Copy)]
-pub struct Extent {
-    pub range: ByteRange,
-    /// How many bytes the file has.
-    pub size: u64,
 }
 
 /// A note for each request of a queue. The requests up to the first pending one that touches everything are open. Until
@@ -680,33 +672,6 @@ impl Readiness {
     }
 }
 
-impl Extent {
-    /// Whether a span, if it is one of the same file, ends within that and has no byte in common with the range.
-    #[inline(always)]
-    fn is_clear_of(&self, span: Span) -> bool
-        ensures { result ≡ portions.is_clear (Some self.now) (ends_of (Some span)) }
-    {
-        // Out of many most end before the range: what is asked in order.
-        if self.starts_behind(span) {
-            return true;
-        }
-        match span.within(self.range.number, self.size) {
-            Some(range) => range.is_apart(self.range),
-            None => false,
-        }
-    }
-
-    /// Whether the range starts within its file, and a span ends before it or where it starts.
-    #[inline(always)]
-    fn starts_behind(&self, span: Span) -> bool
-        ensures { result ≡ true → (self.now.range.start ≤ self.now.size)
-            × (span.start + span.count ≤ self.now.range.start) }
-    {
-        let start = self.range.start;
-        start <= self.size && span.start <= start && span.count <= start - span.start
-    }
-}
-
 /// What the request at this position touches, and its span, if it has one.
 fn aim_of(session: &Session<SlabTable>, queue: &Queue, k: usize) -> (Touch, Option<Span>)
     requires { k < length queue.now }
@@ -748,31 +713,6 @@ fn shares_by_asks(queue: &Queue, j: usize, k: usize, earlier: Touch, later: Touc
             None => unreachable!(),
         },
         None => unreachable!(),
-    }
-}
-
-/// The range of a file that a span is, if it ends within the file as it is now, and how long the file is.
-fn extent_of(session: &Session<SlabTable>, file: FileNo, span: Option<Span>) -> Option<Extent>
-    ensures { result ≡ extent_now session.now (Some file) (ends_of span) }
-{
-    let span = span?;
-    let size = session.size(file)?;
-    match span.within(file, size) {
-        Some(range) => Some(Extent { range, size }),
-        None => None,
-    }
-}
-
-/// Whether a span, if it is one of the file of `own`, ends within that and has no byte in common with its range.
-fn is_clear(own: &Option<Extent>, span: Option<Span>) -> bool
-    ensures { result ≡ portions.is_clear own.now (ends_of span) }
-{
-    match own {
-        Some(own) => match span {
-            Some(span) => own.is_clear_of(span),
-            None => false,
-        },
-        None => false,
     }
 }
 

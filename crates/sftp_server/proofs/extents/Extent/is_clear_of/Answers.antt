@@ -1,6 +1,6 @@
 use Rattle.sftp_server.proofs.Imports.{sym}
 use Rattle.sftp_server.proofs.RangedNotes.{clear-before}
-use Rattle.sftp_server.proofs.readiness.Extent.is_clear_of.Goals as goal
+use Rattle.sftp_server.proofs.extents.Extent.is_clear_of.Goals as goal
 
 pub returns-then-starts_behind : goal.returns-then-starts_behind
 returns-then-starts_behind c =

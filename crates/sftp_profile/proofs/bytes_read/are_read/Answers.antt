@@ -1,9 +1,9 @@
 use Rattle.std.proofs.Common.{IsTrue, length, ap, subst, sym, ◌∙◌}
 use Rattle.sftp_treefile.specs.declared.limits.TreeLimits.{TreeLimits}
 use Rattle.sftp_tree.specs.Tree.{limits}
-use Rattle.sftp_profile.specs.Reads.{is_count}
+use Rattle.sftp_profile.specs.BytesRead.{is_count}
 use Rattle.sftp_profile.proofs.Pieces.{readable-file}
-use Rattle.sftp_profile.proofs.reads.are_read.Goals as goal
+use Rattle.sftp_profile.proofs.bytes_read.are_read.Goals as goal
 
 pub stand_in-requires-clause-there : goal.stand_in-requires-clause-there
 stand_in-requires-clause-there c =

@@ -1,5 +1,5 @@
 use Rattle.sftp_profile.proofs.Pieces.{refused-size}
-use Rattle.sftp_profile.proofs.reads.size_of.Goals as goal
+use Rattle.sftp_profile.proofs.bytes_read.size_of.Goals as goal
 
 pub returns-in-Err : goal.returns-in-Err
 returns-in-Err c =

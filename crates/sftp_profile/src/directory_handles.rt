@@ -5,13 +5,13 @@ ghost use Rattle.sftp_handles.specs.Replies.{has_code};
 ghost use Rattle.std.specs.Option.{option_map};
 ghost use Rattle.sftp_packets.specs.declared.requests.Ask.TheVariants as asks;
 ghost use Rattle.sftp_profile.specs.Refusals.{is_handle};
-ghost use Rattle.sftp_profile.specs.Through as spec;
+ghost use Rattle.sftp_profile.specs.DirectoryHandles as spec;
 
 use crate::directories::{Directory, directory_at};
 use crate::flags::{READ, TRUNC, has, mended_flags};
 use crate::profiles::Profile;
 use crate::refusals::{has_code, is_handle, is_refusal};
-use crate::tellings::{DIRECTORY, is_type};
+use crate::strict_answers::{DIRECTORY, is_type};
 use sftp_path::absolute;
 use sftp_tree::NoMemory;
 use sftp_wire::status::{EOF, FAILURE, NO_SUCH_FILE, OK};

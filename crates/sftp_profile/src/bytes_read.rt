@@ -6,7 +6,7 @@ ghost use Rattle.sftp_tree.specs.Tree.{limits};
 ghost use Rattle.sftp_tree.specs.Causes.{is_none};
 ghost use Rattle.sftp_handles.specs.Requests.{causes};
 ghost use Rattle.sftp_handles.specs.Seen.{a_file, seen};
-ghost use Rattle.sftp_profile.specs.Reads as spec;
+ghost use Rattle.sftp_profile.specs.BytesRead as spec;
 
 use crate::refusals::has_code;
 use sftp_handles::{GivenTable, Session};

@@ -2,7 +2,7 @@
 ghost use Rattle.std.specs.Prelude.{◌≡◌, IsTrue, IfOk, OnErr};
 ghost use Rattle.std.specs.Option.{option_map};
 ghost use Rattle.sftp_packets.specs.declared.requests.Ask.TheVariants as asks;
-ghost use Rattle.sftp_profile.specs.Readings as spec;
+ghost use Rattle.sftp_profile.specs.Interpretations as spec;
 
 use crate::copies::copied_as;
 use crate::flags::{empties, mended_flags};

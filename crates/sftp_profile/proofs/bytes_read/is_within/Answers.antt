@@ -1,6 +1,6 @@
 use Rattle.std.proofs.Common.{arith, sym, ◌∙◌}
 use Rattle.sftp_profile.proofs.Pieces.{counted-fits}
-use Rattle.sftp_profile.proofs.reads.is_within.Goals as goal
+use Rattle.sftp_profile.proofs.bytes_read.is_within.Goals as goal
 
 pub returns-clause-fits : goal.returns-clause-fits
 returns-clause-fits c =

@@ -16,7 +16,7 @@ use Rattle.sftp_profile.specs.declared.directories.Directory.{Directory}
 use Rattle.sftp_profile.specs.Directories.{directory_at}
 use Rattle.sftp_profile.specs.Flags.{mended_flags}
 use Rattle.sftp_profile.specs.Refusals.{is_refusal, is_handle}
-use Rattle.sftp_profile.specs.Tellings.{is_directory}
+use Rattle.sftp_profile.specs.StrictAnswers.{is_directory}
 
 -- ---- which directory
 

@@ -1,8 +1,8 @@
 use Rattle.std.proofs.Common.{◌≡◌, take}
 use Rattle.std.specs.Prelude.{option_copied}
 use Rattle.std.specs.List.{flat_map}
-use Rattle.sftp_profile.specs.Tellings.{mended_item}
-use Rattle.sftp_profile.proofs.tellings.mended_items.Given as goal
+use Rattle.sftp_profile.specs.StrictAnswers.{mended_item}
+use Rattle.sftp_profile.proofs.strict_answers.mended_items.Given as goal
 
 -- the items so far, mended
 abbrev pub invariant-loop-item : goal.invariant-loop-item

@@ -1,7 +1,7 @@
 use Rattle.std.proofs.Common.{◌≡◌, ◌+◌, length, IsTrue}
 use Rattle.sftp_handles.specs.Seen.{a_file, seen}
-use Rattle.sftp_profile.specs.Reads.{is_readable, stand_in}
-use Rattle.sftp_profile.proofs.reads.stand_in.Given as goal
+use Rattle.sftp_profile.specs.BytesRead.{is_readable, stand_in}
+use Rattle.sftp_profile.proofs.bytes_read.stand_in.Given as goal
 
 -- as many bytes are left as are to be compared, and these decide
 abbrev pub invariant-pieces : goal.invariant-pieces

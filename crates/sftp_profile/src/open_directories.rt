@@ -6,18 +6,20 @@ ghost use Rattle.sftp_profile.specs.Profiles.{is_stateless};
 ghost use Rattle.sftp_profile.specs.Notes.{note_of, noted};
 ghost use Rattle.sftp_profile.specs.Permitted.{standing_for};
 ghost use Rattle.sftp_profile.specs.Replaced.{put};
-ghost use Rattle.sftp_profile.specs.Tellings.{told};
-ghost use Rattle.sftp_profile.specs.Through as through;
+ghost use Rattle.sftp_profile.specs.StrictAnswers.{told};
+ghost use Rattle.sftp_profile.specs.DirectoryHandles as handles;
 ghost use Rattle.sftp_profile.specs.Listed.{due_items};
 ghost use Rattle.sftp_profile.specs.Judged.{IsStrict, IsJudged, IsNoted, IsMet, IsByDirectory, IsStanding, IsListed};
 ghost use Rattle.sftp_profile.specs.Judged.{IsGiven};
 
+use crate::directory_handles::{
+    directory_of, is_barred, passes_directory, refuses_kind, stands_for,
+};
 use crate::judges::Judge;
 use crate::listed::due_items;
 use crate::notes::{Note, note_of, put_note};
 use crate::replaced::put;
-use crate::tellings::told;
-use crate::through::{directory_of, is_barred, passes_directory, refuses_kind, stands_for};
+use crate::strict_answers::told;
 use sftp_tree::NoMemory;
 use sftp_wire::{Answer, Ask, NameItem, Names, Reply, Request};
 
@@ -119,14 +121,14 @@ impl Judge {
 
     /// Whether the request is READDIR through the handle of OPEN, which has to be refused.
     pub fn is_barred(&self, ask: &Ask) -> bool
-        ensures { result ≡ through.is_barred (through.directory_of self.now.directories ask.now) ask.now }
+        ensures { result ≡ handles.is_barred (handles.directory_of self.now.directories ask.now) ask.now }
     {
         is_barred(directory_of(self.directories.as_slice(), ask), ask)
     }
 
     /// Whether an answer refuses READDIR through the handle of OPEN.
     fn refuses_kind(&self, answer: &Answer) -> bool
-        ensures { result ≡ through.refuses_kind self.now.profile answer.now }
+        ensures { result ≡ handles.refuses_kind self.now.profile answer.now }
     {
         refuses_kind(self.profile, answer)
     }
@@ -165,8 +167,8 @@ impl Judge {
 
     /// Whether an answer passes that leaves the session unchanged.
     fn passes_directory(&self, ask: &Ask, answer: &Answer) -> bool
-        ensures { result ≡ through.passes_directory self.now.profile
-            (through.directory_of self.now.directories ask.now) ask.now answer.now }
+        ensures { result ≡ handles.passes_directory self.now.profile
+            (handles.directory_of self.now.directories ask.now) ask.now answer.now }
     {
         let found = directory_of(self.directories.as_slice(), ask);
         passes_directory(self.profile, found, ask, answer)
@@ -200,7 +202,7 @@ impl Judge {
     /// `NoMemory` if memory runs out.
     pub fn standing(&self, ask: &Ask, answer: &Answer) -> Result<Option<Ask>, NoMemory>
         ensures { IfOk result (λ other. other ≡ standing_for self.now.profile self.now.session
-            (through.directory_of self.now.directories ask.now) ask.now answer.now) }
+            (handles.directory_of self.now.directories ask.now) ask.now answer.now) }
     {
         let Some(ask) = self.stands_for(ask, answer)? else {
             return Ok(None);
@@ -226,8 +228,8 @@ impl Judge {
     ///
     /// `NoMemory` if memory runs out.
     fn stands_for(&self, ask: &Ask, answer: &Answer) -> Result<Option<Ask>, NoMemory>
-        ensures { IfOk result (λ other. other ≡ through.stands_for self.now.profile
-            (through.directory_of self.now.directories ask.now) ask.now answer.now) }
+        ensures { IfOk result (λ other. other ≡ handles.stands_for self.now.profile
+            (handles.directory_of self.now.directories ask.now) ask.now answer.now) }
     {
         let found = directory_of(self.directories.as_slice(), ask);
         stands_for(self.alloc, self.profile, found, ask, answer)
@@ -289,7 +291,7 @@ impl Judge {
     /// `NoMemory` if memory runs out.
     pub fn due(&self, ask: &Ask, answer: &Answer) -> Result<Option<Vec<NameItem>>, NoMemory>
         ensures { IfOk result (λ due. option_map (λ v. v.items) due ≡ due_items self.now.profile self.now.session
-            (through.directory_of self.now.directories ask.now) ask.now
+            (handles.directory_of self.now.directories ask.now) ask.now
             (unwrap_or (told self.now.profile self.now.session ask.now answer.now) answer.now)) }
     {
         match told(&self.session, self.profile, ask, answer)? {
@@ -309,7 +311,7 @@ impl Judge {
     /// `NoMemory` if memory runs out.
     fn due_as(&self, ask: &Ask, answer: &Answer) -> Result<Option<Vec<NameItem>>, NoMemory>
         ensures { IfOk result (λ due. option_map (λ v. v.items) due ≡ due_items self.now.profile self.now.session
-            (through.directory_of self.now.directories ask.now) ask.now answer.now) }
+            (handles.directory_of self.now.directories ask.now) ask.now answer.now) }
     {
         let found = directory_of(self.directories.as_slice(), ask);
         due_items(self.alloc, self.profile, &self.session, found, ask, answer)

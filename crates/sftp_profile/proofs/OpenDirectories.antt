@@ -11,7 +11,7 @@ use Rattle.sftp_profile.specs.declared.notes.Note.{Note}
 use Rattle.sftp_profile.specs.State.{State}
 use Rattle.sftp_profile.specs.Profiles.{is_stateless}
 use Rattle.sftp_profile.specs.Notes.{note_of, noted}
-use Rattle.sftp_profile.specs.Through.{directory_of, is_barred, refuses_kind}
+use Rattle.sftp_profile.specs.DirectoryHandles.{directory_of, is_barred, refuses_kind}
 use Rattle.sftp_profile.specs.Permitted.{first_of, forgiven_by, permitted, taken_as, with_given, under, with_note}
 use Rattle.sftp_profile.specs.Permitted.{by_directory, met, judged}
 use Rattle.sftp_profile.specs.Judged.{Outcome, IsStrict, IsPermitted, IsJudged, IsNoted, IsMet, IsGiven}

@@ -2,7 +2,7 @@ use Rattle.std.proofs.Common.{sym, ◌∙◌, length}
 use Rattle.sftp_tree.specs.Tree.{limits}
 use Rattle.sftp_handles.specs.Seen.{a_file, seen}
 use Rattle.sftp_profile.proofs.Pieces.{readable-fewer, piece-goes, pieces-wrong}
-use Rattle.sftp_profile.proofs.reads.same_count.Goals as goal
+use Rattle.sftp_profile.proofs.bytes_read.same_count.Goals as goal
 
 pub piece_at-piece-requires : goal.piece_at-piece-requires
 piece_at-piece-requires c =

@@ -1,7 +1,7 @@
 //! Answers as they would be strictly, where a profile leaves a part of them free (draft, sections 5 and 7).
 ghost use Rattle.std.specs.Prelude.{◌≡◌, ◌++◌, IfOk, OnOk, option_copied};
 ghost use Rattle.sftp_packets.specs.declared.replies.Answer.TheVariants as replies;
-ghost use Rattle.sftp_profile.specs.Tellings as spec;
+ghost use Rattle.sftp_profile.specs.StrictAnswers as spec;
 
 use crate::profiles::Profile;
 use crate::shown::{left_of, shown_in, shown_left};

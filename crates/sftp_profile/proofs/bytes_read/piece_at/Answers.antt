@@ -1,6 +1,6 @@
 use Rattle.std.proofs.Common.{◌+◌}
 use Rattle.sftp_profile.proofs.Pieces.{pieces-free}
-use Rattle.sftp_profile.proofs.reads.piece_at.Goals as goal
+use Rattle.sftp_profile.proofs.bytes_read.piece_at.Goals as goal
 
 pub unreachable-requires-in-Err : goal.unreachable-requires-in-Err
 unreachable-requires-in-Err c =
