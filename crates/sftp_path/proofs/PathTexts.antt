@@ -211,3 +211,7 @@ parts-with_slashes w [] h = parts-whole w (and_parts (list_all is_inner w) true 
 parts-with_slashes w (v ∷ vs) h = grind (arith, and_parts, parts-append, parts-with_slashes v vs)
 
 pub ruleset part_laws = (with_slashes-parts, parts-with_slashes)
+
+pub ruleset part_steps = (parts-found)
+
+pub ruleset component_steps = (components-next, components-end)
