@@ -136,3 +136,5 @@ balanced start (Paired request reply ∷ calls) end run =
     one_paired start request reply run.0 calls end run.1 (balanced run.0 calls end run.2)
 balanced start (Refused ∷ calls) end run =
     same_open start run.0 calls end (ap (λ (c : Client). c.open_requests) run.1) (balanced run.0 calls end run.2)
+
+pub ruleset kept_laws = (kept_new, kept_run)

@@ -55,3 +55,7 @@ bytes_cmp-same = slice_cmp-IsAntisymmetric nat_cmp-IsAntisymmetric
 
 pub place_cmp-same : IsAntisymmetric place_cmp
 place_cmp-same = slice_cmp-IsAntisymmetric bytes_cmp-same
+
+pub ruleset front_laws = (begins-front, begins-append, below-begins)
+
+pub ruleset front_tests = (begins-is)

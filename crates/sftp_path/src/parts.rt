@@ -51,6 +51,7 @@ impl<'a> Iterator for Parts<'a> {
 
     ghost remaining = { item_count (λ p. p.left) };
 
+    #[tactic(auto, using(crate::proofs::PathTexts::component_steps))]
     fn next(&mut self) -> Option<&'a [u8]>
         ensures steps { YieldsFirstRef (λ p. p.left) self.old result self.new }
         ensures goes { MakesProgress (λ _. ⊤) (item_count (λ p. p.left)) self.old result self.new }
@@ -78,6 +79,7 @@ fn first_inner(path: &[u8]) -> Option<usize>
 }
 
 /// The bytes before the first `/`, and the bytes from that `/` on; without a `/`, all bytes and none.
+#[tactic(auto, using(crate::proofs::PathTexts::part_steps))]
 pub(crate) fn cut(bytes: &[u8]) -> (&[u8], &[u8])
     ensures whole { bytes.now ≡ result.0.now ++ result.1.now }
     ensures parts { spec.parts bytes.now ≡ result.0.now ∷ parts_after result.1.now }

@@ -124,6 +124,7 @@ impl Place {
     }
 
     /// Whether this place is the other one, or is below it.
+    #[tactic(auto, using(crate::proofs::Order::front_tests))]
     pub fn starts_with(&self, top: &Place) -> bool
         ensures { result ≡ spec.begins top.now self.now }
     {

@@ -9,6 +9,7 @@ ghost use Rattle.sftp_path.specs.Rekeying.{renamed, renamed_entry, rekeyed, Noth
 /// The entries at and below the old place come to the new place and below it, if there were none; none is left at or
 /// below the old place; and all other entries stay. That none is left at a place needs no premise on the table if the
 /// new place does not begin that place.
+#[tactic(auto, using(crate::proofs::Move::move_laws))]
 pub fn answers_after_rekeying<X>()
     ensures moved { (old new rest : Place) (table : Table Place X) → get place_cmp table (new ++ rest) ≡ None →
         get place_cmp (rekeyed old new table) (new ++ rest) ≡ get place_cmp table (old ++ rest) }
@@ -23,6 +24,7 @@ pub fn answers_after_rekeying<X>()
 {}
 
 /// The places are in order after the move, and if there was no entry at the new place or below it, none is lost.
+#[tactic(auto, using(crate::proofs::Move::move_laws))]
 pub fn order_and_size_after_rekeying<X>()
     ensures order { (old new : Place) (table : Table Place X) → InOrder place_cmp (rekeyed old new table) }
     ensures size { (old new : Place) (table : Table Place X) → InOrder place_cmp table → NothingFrom table new →
@@ -30,6 +32,7 @@ pub fn order_and_size_after_rekeying<X>()
 {}
 
 /// A renamed place has as many names more, or fewer, as the new place has than the old one.
+#[tactic(auto, using(crate::proofs::Move::move_laws))]
 pub fn depth_after_renaming()
     ensures { (old new place : Place) → begins old place ≡ true →
         length (renamed old new place) + length old ≡ length place + length new }
@@ -37,6 +40,7 @@ pub fn depth_after_renaming()
 
 /// A table in order that answers as the moved directory does is that table: with nothing at the old place or
 /// below it, or with nothing where the old place begins and the new one does not.
+#[tactic(auto, using(crate::proofs::Move::move_laws))]
 pub fn rekeyed_is_one<X>()
     ensures left { (old new : Place) (table other : Table Place X) → InOrder place_cmp other → NothingFrom table new →
         ((rest : Place) → get place_cmp other (new ++ rest) ≡ get place_cmp table (old ++ rest)) →
@@ -54,6 +58,7 @@ pub fn rekeyed_is_one<X>()
 {}
 
 /// As many values pass a test after the move as before it.
+#[tactic(auto, using(crate::proofs::Move::Entries::entry_laws))]
 pub fn counts_after_rekeying<X>()
     ensures { (old new : Place) (table : Table Place X) (passes : X → Bool) → InOrder place_cmp table →
         NothingFrom table new →
@@ -61,6 +66,7 @@ pub fn counts_after_rekeying<X>()
 {}
 
 /// All entries pass a test after the move exactly if each one before it passes the test with its place renamed.
+#[tactic(auto, using(crate::proofs::Move::Tests::moved_tests))]
 pub fn tests_after_rekeying<X>()
     ensures { (old new : Place) (table : Table Place X) (keeps : Place × X → Bool) → InOrder place_cmp table →
         NothingFrom table new →
@@ -69,6 +75,7 @@ pub fn tests_after_rekeying<X>()
 
 /// If there is no entry below the old place, the move removes the one entry and puts it at the new place, in either
 /// order.
+#[tactic(auto, using(crate::proofs::Move::Entries::entry_laws))]
 pub fn moving_what_stands_alone<X>()
     ensures away_first { (old new : Place) (table : Table Place X) (value : X) → InOrder place_cmp table →
         get place_cmp table old ≡ Some value →
@@ -85,6 +92,7 @@ pub fn moving_what_stands_alone<X>()
 /// The move entry by entry: from the first to the last, each one is put at its renamed place, which none of those
 /// before it has taken. The clauses that end in `_of` say the same of a table that is given as the entries before, the
 /// entry and the rest.
+#[tactic(auto, using(crate::proofs::Move::Entries::entry_laws))]
 pub fn moving_entry_by_entry<X>()
     ensures none { (old new : Place) → rekeyed {X = X} old new [] ≡ [] }
     ensures one_more { (old new : Place) (before rest : Table Place X) (entry : Place × X) →

@@ -10,6 +10,7 @@ ghost use Rattle.sftp_path.specs.Table.{Table, InOrder, get, put, without, retai
 ghost use Rattle.sftp_path.specs.Table.{from_entries, size, count, kept, with_values};
 
 /// What a key has after each operation, for keys of any order and any values.
+#[tactic(auto, using(crate::proofs::Table::Laws::key_laws))]
 pub fn answers<K: Ord, X>()
     ensures empty { (key : K) → get {X = X} K.cmp [] key ≡ None }
     ensures put_here { (table : Table K X) (key : K) (value : X) →
@@ -25,6 +26,7 @@ pub fn answers<K: Ord, X>()
 {}
 
 /// Each operation leaves the keys in order; entries in any order are sorted.
+#[tactic(auto, using(crate::proofs::Table::Laws::order_laws))]
 pub fn order_stays<K: Ord, X>()
     ensures empty { InOrder {X = X} K.cmp [] }
     ensures put { (table : Table K X) (key : K) (value : X) → InOrder K.cmp table →
@@ -36,6 +38,7 @@ pub fn order_stays<K: Ord, X>()
 {}
 
 /// A new key adds one entry, a new value of a key adds none, and removing a key removes one.
+#[tactic(auto, using(crate::proofs::Table::Laws::size_laws))]
 pub fn sizes<K: Ord, X>()
     ensures put_new { (table : Table K X) (key : K) (value : X) → get K.cmp table key ≡ None →
         size (put K.cmp table key value) ≡ size table + 1 }
@@ -48,6 +51,7 @@ pub fn sizes<K: Ord, X>()
 
 /// How many values pass a test: a new key adds its value to the count, a new value of a key takes the place of the old
 /// one, a removed key takes its value from the count, and the count is not 0 if some value passes.
+#[tactic(auto, using(crate::proofs::Table::Counts::count_laws))]
 pub fn counts<K: Ord, X>()
     ensures put_new { (table : Table K X) (key : K) (value : X) (passes : X → Bool) → get K.cmp table key ≡ None →
         count (put K.cmp table key value) passes ≡ count table passes + (if passes value then 1 else 0) }
@@ -62,11 +66,13 @@ pub fn counts<K: Ord, X>()
 {}
 
 /// Removing a key that does not exist changes nothing.
+#[tactic(auto, using(crate::proofs::Table::Entries::absent_laws))]
 pub fn absent_keys<K: Ord, X>()
     ensures without { (table : Table K X) (key : K) → get K.cmp table key ≡ None → without K.cmp table key ≡ table }
 {}
 
 /// Where each value is replaced by one made of it, each operation does the same as before, on the new values.
+#[tactic(auto, using(crate::proofs::Table::Values::value_laws))]
 pub fn other_values<K: Ord, X, Y>()
     ensures get { (f : X → Y) (table : Table K X) (key : K) →
         get K.cmp (with_values f table) key ≡ option_map f (get K.cmp table key) }
@@ -81,6 +87,7 @@ pub fn other_values<K: Ord, X, Y>()
 /// A test that all entries pass: a new key asks it of its entry too; removing a key keeps it passed, as does a new
 /// value of a key if the test is on values alone and the value passes it; if the test is on keys alone, a new value
 /// changes nothing.
+#[tactic(auto, using(crate::proofs::Table::Tests::test_laws))]
 pub fn passing_tests<K: Ord, X>()
     ensures put_new { (table : Table K X) (key : K) (value : X) (keeps : K × X → Bool) → get K.cmp table key ≡ None →
         list_all keeps (put K.cmp table key value) ≡ (keeps (key, value) && list_all keeps table) }

@@ -15,7 +15,7 @@ use Rattle.sftp_handles.specs.State.{State}
 use Rattle.sftp_handles.specs.Seen.{Seen, absent, other_kind, something, file, listing, a_file, seen}
 use Rattle.sftp_handles.specs.RequestRows.{row_of, causes_of, may_read}
 use Rattle.sftp_handles.specs.Requests.{causes}
-use Rattle.sftp_profile.specs.Reads.{is_readable, piece_of, size_of}
+use Rattle.sftp_profile.specs.BytesRead.{is_readable, piece_of, size_of}
 use Rattle.sftp_profile.specs.Copies.{bytes_from, bytes_within, copied_count}
 use Rattle.sftp_profile.proofs.Pieces.{drop-of_drop, not-both, some-is}
 

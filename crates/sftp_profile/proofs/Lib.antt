@@ -1,5 +1,5 @@
 pub mod DirectoryLists
-pub mod Meetings
+pub mod OpenDirectories
 pub mod NotesByAsk
 pub mod Permissions
 pub mod Pieces

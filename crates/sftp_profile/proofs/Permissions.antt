@@ -22,11 +22,11 @@ use Rattle.sftp_profile.specs.Shown.{shown_at, shown_open}
 use Rattle.sftp_profile.specs.State.{State, bare}
 use Rattle.sftp_profile.specs.declared.notes.Note.{Note}
 use Rattle.sftp_profile.specs.Notes.{note_of, led_to}
-use Rattle.sftp_profile.specs.Through.{directory_of}
+use Rattle.sftp_profile.specs.DirectoryHandles.{directory_of}
 use Rattle.sftp_profile.specs.Departures.{is_forgiven}
-use Rattle.sftp_profile.specs.Readings.{asked, followed}
+use Rattle.sftp_profile.specs.Interpretations.{asked, followed}
 use Rattle.sftp_profile.specs.Shown.{left_of}
-use Rattle.sftp_profile.specs.Tellings.{told, mended_items, is_readdir}
+use Rattle.sftp_profile.specs.StrictAnswers.{told, mended_items, is_readdir}
 use Rattle.sftp_profile.specs.Judged.{Outcome, IsStrict, IsTaken, IsFollowed, IsTakenFor}
 use Rattle.sftp_profile.specs.Judged.{IsForgiven, IsJudged, IsStep}
 use Rattle.sftp_profile.specs.Permitted.{Permitted, taken, taken_for, retold, with_followed, first_of, forgiven}

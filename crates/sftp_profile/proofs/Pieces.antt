@@ -18,7 +18,7 @@ use Rattle.sftp_handles.specs.State.{State}
 use Rattle.sftp_handles.specs.Seen.{Seen, absent, other_kind, something, file, listing, a_file, seen}
 use Rattle.sftp_handles.specs.RequestRows.{row_of, causes_of, may_read}
 use Rattle.sftp_handles.specs.Requests.{causes}
-use Rattle.sftp_profile.specs.Reads.{Goes, is_count, most, is_readable, stand_in, piece_of, size_of}
+use Rattle.sftp_profile.specs.BytesRead.{Goes, is_count, most, is_readable, stand_in, piece_of, size_of}
 
 -- ---- lists
 

@@ -15,7 +15,7 @@ use Rattle.sftp_handles.specs.Replies.{has_code}
 use Rattle.sftp_handles.specs.Clash.{share, touched}
 use Rattle.sftp_profile.specs.declared.copies.Copying.{Copying}
 use Rattle.sftp_profile.specs.Data.{whole}
-use Rattle.sftp_profile.specs.Reads.{most}
+use Rattle.sftp_profile.specs.BytesRead.{most}
 
 -- ---- the request
 

@@ -16,9 +16,9 @@ use Rattle.sftp_profile.specs.declared.profiles.Profile.{Profile}
 use Rattle.sftp_profile.specs.Paths.{walks_loosely}
 use Rattle.sftp_profile.specs.Limits.{is_beyond}
 use Rattle.sftp_profile.specs.Extensions.{is_unknown, is_looked_at, only_looks}
-use Rattle.sftp_profile.specs.Tellings.{is_dots, is_readdir}
+use Rattle.sftp_profile.specs.StrictAnswers.{is_dots, is_readdir}
 use Rattle.sftp_profile.specs.Refusals.{is_refusal}
-use Rattle.sftp_profile.specs.Reads.{passes_read}
+use Rattle.sftp_profile.specs.BytesRead.{passes_read}
 use Rattle.sftp_profile.specs.Realpaths.{passes_realpath}
 use Rattle.sftp_profile.specs.Settings.{setstat_of, sets_nothing, passes_lsetstat}
 use Rattle.sftp_profile.specs.Copies.{copying_of, passes_copy_data}

@@ -5,14 +5,14 @@ use Rattle.sftp_packets.specs.declared.requests.Ask.{Ask}
 use Rattle.sftp_packets.specs.declared.replies.Answer.{Answer}
 use Rattle.sftp_handles.specs.Allowed as strictly
 use Rattle.sftp_profile.specs.State.{State}
-use Rattle.sftp_profile.specs.Readings.{asked, followed}
-use Rattle.sftp_profile.specs.Tellings.{told}
+use Rattle.sftp_profile.specs.Interpretations.{asked, followed}
+use Rattle.sftp_profile.specs.StrictAnswers.{told}
 use Rattle.sftp_profile.specs.Permitted.{forgiven, taken, taken_for, read_as, retold, set_after, with_followed}
 use Rattle.sftp_profile.specs.Refusals.{is_handle}
 use Rattle.sftp_profile.specs.Permitted.{under, permitted, step}
 use Rattle.sftp_profile.specs.Permitted.{met, by_directory, judged, taken_as, listed_as, with_given, with_note}
 use Rattle.sftp_profile.specs.Permitted.{standing_for}
-use Rattle.sftp_profile.specs.Through.{directory_of}
+use Rattle.sftp_profile.specs.DirectoryHandles.{directory_of}
 use Rattle.sftp_profile.specs.declared.notes.Note.{Note}
 
 -- `ok` says whether a state was found, and `end` is this state; without one it is as before

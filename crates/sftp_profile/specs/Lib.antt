@@ -7,7 +7,7 @@ pub mod Limits
 pub mod Extensions
 pub mod Flags
 pub mod Refusals
-pub mod Reads
+pub mod BytesRead
 pub mod Realpaths
 pub mod Shown
 pub mod Notes
@@ -16,10 +16,10 @@ pub mod Data
 pub mod Settings
 pub mod Copies
 pub mod Departures
-pub mod Readings
+pub mod Interpretations
 pub mod Room
-pub mod Tellings
-pub mod Through
+pub mod StrictAnswers
+pub mod DirectoryHandles
 pub mod Listed
 pub mod Permitted
 pub mod OneEnd

@@ -18,7 +18,7 @@ use Rattle.sftp_handles.specs.Replies.{same_attributes, has_attributes, are_dist
 use Rattle.sftp_profile.specs.declared.profiles.Profile.{Profile}
 use Rattle.sftp_profile.specs.declared.directories.Directory.{Directory}
 use Rattle.sftp_profile.specs.Shown.{shown_at}
-use Rattle.sftp_profile.specs.Tellings.{mended}
+use Rattle.sftp_profile.specs.StrictAnswers.{mended}
 
 -- the attributes that LSTAT shows now of a name in the directory
 abbrev pub shown_now : Tree → Option Place → Name → Option Attrs

@@ -17,13 +17,13 @@ use Rattle.sftp_profile.specs.Departures.{is_forgiven, is_modelled}
 use Rattle.sftp_profile.specs.Refusals.{is_handle}
 use Rattle.sftp_profile.specs.Room.{is_outgrown}
 use Rattle.sftp_profile.specs.Replaced.{put}
-use Rattle.sftp_profile.specs.Readings.{asked, followed}
-use Rattle.sftp_profile.specs.Tellings.{told}
+use Rattle.sftp_profile.specs.Interpretations.{asked, followed}
+use Rattle.sftp_profile.specs.StrictAnswers.{told}
 use Rattle.sftp_profile.specs.declared.directories.Directory.{Directory}
 use Rattle.sftp_profile.specs.declared.notes.Note.{Note}
 use Rattle.sftp_profile.specs.Profiles.{is_stateless}
 use Rattle.sftp_profile.specs.Notes.{note_of, noted}
-use Rattle.sftp_profile.specs.Through.{directory_of, is_barred, refuses_kind, stands_for, passes_directory}
+use Rattle.sftp_profile.specs.DirectoryHandles.{directory_of, is_barred, refuses_kind, stands_for, passes_directory}
 use Rattle.sftp_profile.specs.Listed.{due_items}
 
 abbrev pub forgiven_by : sessions.State → Bool → Option sessions.State

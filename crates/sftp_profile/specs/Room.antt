@@ -15,7 +15,7 @@ use Rattle.sftp_handles.specs.Requests.{causes}
 use Rattle.sftp_handles.specs.Replies.{has_code}
 use Rattle.sftp_profile.specs.declared.profiles.Profile.{Profile}
 use Rattle.sftp_profile.specs.Refusals.{is_handle}
-use Rattle.sftp_profile.specs.Readings.{asked}
+use Rattle.sftp_profile.specs.Interpretations.{asked}
 
 -- ---- what the answer says
 

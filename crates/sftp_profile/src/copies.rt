@@ -6,12 +6,12 @@ ghost use Rattle.sftp_tree.specs.Causes.{is_none};
 ghost use Rattle.sftp_handles.specs.Clash.{share, touched};
 ghost use Rattle.sftp_handles.specs.Requests.{causes};
 ghost use Rattle.sftp_handles.specs.Seen.{a_file, seen};
-ghost use Rattle.sftp_profile.specs.Reads.{is_readable};
+ghost use Rattle.sftp_profile.specs.BytesRead.{is_readable};
 ghost use Rattle.sftp_profile.specs.Data.{whole};
 ghost use Rattle.sftp_profile.specs.Copies as spec;
 
+use crate::bytes_read::{piece_at, size_of};
 use crate::data::{long_number, string};
-use crate::reads::{piece_at, size_of};
 use crate::refusals::has_code;
 use sftp_handles::{GivenTable, Session};
 use sftp_packets::ReadError;

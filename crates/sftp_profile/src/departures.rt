@@ -1,17 +1,20 @@
-//! What a profile lets pass by the request and its answer alone.
+//! What a profile lets pass by the request and its answer alone, or by what the session has.
 ghost use Rattle.std.specs.Prelude.{◌≡◌, IfOk, is_some};
 ghost use Rattle.sftp_profile.specs.Copies.{copying_of as copying_asked};
 ghost use Rattle.sftp_profile.specs.Settings.{setstat_of as setstat_asked};
 ghost use Rattle.sftp_profile.specs.Departures as spec;
 
-use crate::copies::copying_of;
+use crate::bytes_read::passes_read;
+use crate::copies::{copying_of, passes_copy_data};
 use crate::extensions::{is_looked_at, is_unknown, only_looks};
 use crate::flags::{CREAT, has};
 use crate::limits::is_beyond;
 use crate::paths::walks_loosely;
 use crate::profiles::Profile;
+use crate::realpaths::passes_realpath;
 use crate::refusals::{has_code, has_code_or, is_refusal};
-use crate::settings::{sets_nothing, setstat_of};
+use crate::settings::{passes_lsetstat, sets_nothing, setstat_of};
+use sftp_handles::{GivenTable, Session};
 use sftp_tree::NoMemory;
 use sftp_wire::status::{EOF, FAILURE, NO_SUCH_FILE, OK, PERMISSION_DENIED};
 use sftp_wire::{Answer, Ask};
@@ -179,4 +182,48 @@ fn is_empty_setstat(ask: &Ask) -> bool
         Ask::Setstat { attrs, .. } => sets_nothing(attrs),
         _ => false,
     }
+}
+
+/// Whether the profile lets a READ or a REALPATH be answered so.
+///
+/// # Errors
+///
+/// `NoMemory` if memory runs out.
+pub(crate) fn passes_looking(
+    session: &Session<GivenTable>,
+    profile: Profile,
+    ask: &Ask,
+    answer: &Answer,
+) -> Result<bool, NoMemory>
+    ensures { IfOk result (λ ok. ok ≡ spec.passes_looking profile session.now ask.now answer.now) }
+{
+    if profile.read && passes_read(session, ask, answer)? {
+        return Ok(true);
+    }
+    if !profile.realpath {
+        return Ok(false);
+    }
+    passes_realpath(session.tree(), profile.codes, ask, answer)
+}
+
+/// Whether the profile lets an extension whose fields it knows be answered so.
+///
+/// # Errors
+///
+/// `NoMemory` if memory runs out.
+pub(crate) fn passes_fields(
+    session: &Session<GivenTable>,
+    profile: Profile,
+    ask: &Ask,
+    answer: &Answer,
+) -> Result<bool, NoMemory>
+    ensures { IfOk result (λ ok. ok ≡ spec.passes_fields profile session.now ask.now answer.now) }
+{
+    if profile.lsetstat && passes_lsetstat(profile, session.tree(), ask, answer)? {
+        return Ok(true);
+    }
+    if !profile.copy_data {
+        return Ok(false);
+    }
+    passes_copy_data(session, ask, answer)
 }

@@ -29,7 +29,7 @@ ghost use Rattle.sftp_profile.specs.Examples.{with_room_for_one, with_no_room};
 ghost use Rattle.sftp_profile.specs.Examples.{owned_by_bit, with_set_group, set_group_directory};
 ghost use Rattle.sftp_profile.specs.Examples.{kept_owners, owned_by, open_of_another, denied_requests, full_disks};
 ghost use Rattle.sftp_profile.specs.Flags.{empties};
-ghost use Rattle.sftp_profile.specs.Reads.{is_count};
+ghost use Rattle.sftp_profile.specs.BytesRead.{is_count};
 ghost use Rattle.sftp_treefile.specs.Limits.{usual_limits};
 
 /// The name `hardlink-link` switches the departure of a hardlink of a link, and `hardlink` none.

@@ -2,35 +2,34 @@
 //! it. A judge is a session under a profile.
 #![tactic(auto)]
 
+mod bytes_read;
 mod copies;
 mod data;
 mod departures;
 mod directories;
+mod directory_handles;
 pub mod examples;
 mod extensions;
 pub mod field_examples;
 mod flags;
+mod interpretations;
 mod judges;
 mod judging;
 pub mod laws;
 mod limits;
 mod listed;
-mod meeting;
 mod names;
 mod notes;
-mod passing;
+mod open_directories;
 mod paths;
 mod profiles;
-mod readings;
-mod reads;
 mod realpaths;
 mod refusals;
 mod replaced;
 mod room;
 mod settings;
 mod shown;
-mod tellings;
-mod through;
+mod strict_answers;
 
 pub use judges::Judge;
 pub use names::NAMES;

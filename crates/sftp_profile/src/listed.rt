@@ -10,7 +10,7 @@ ghost use Rattle.sftp_profile.specs.Listed as spec;
 
 use crate::directories::Directory;
 use crate::profiles::Profile;
-use crate::tellings::mended;
+use crate::strict_answers::mended;
 use sftp_handles::{GivenTable, Listing, Session, same_attributes};
 use sftp_path::{Name, Place, absolute};
 use sftp_tree::{NoMemory, Refused, Tree};

@@ -3,7 +3,7 @@ ghost use Rattle.std.specs.Prelude.{◌≡◌};
 ghost use Rattle.sftp_profile.specs.Profiles as spec;
 
 /// Who owns what is made.
-#[derive(Clone, Copy, Debug, PartialEq, Eq)]
+#[derive(Clone, Copy, PartialEq, Eq)]
 pub enum NewOwner {
     /// The tree's user and group.
     User,
@@ -18,7 +18,7 @@ pub enum NewOwner {
 
 /// Which departures from the strict reading are accepted, each a field. What is accepted strictly, each profile
 /// accepts that has neither `made`, `keep_owner` nor `symlink_draft`.
-#[derive(Clone, Copy, Debug, PartialEq, Eq)]
+#[derive(Clone, Copy, PartialEq, Eq)]
 pub struct Profile {
     /// A request that some cause refuses may be refused with any of the codes 2, 3, 4, 5 and 8.
     pub codes: bool,

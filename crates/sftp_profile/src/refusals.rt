@@ -1,13 +1,13 @@
 //! Answers that say that a request was refused (draft, section 7), or that it opened something.
 ghost use Rattle.std.specs.Prelude.{◌≡◌, ◌&&◌, ◌||◌, nat_lt, length};
 ghost use Rattle.std.specs.List.{list_all};
-ghost use Rattle.sftp_profile.specs.Tellings.{is_dots};
+ghost use Rattle.sftp_profile.specs.StrictAnswers.{is_dots};
 ghost use Rattle.sftp_handles.specs.Replies.{has_code};
 ghost use Rattle.sftp_profile.specs.Departures as spec;
 ghost use Rattle.sftp_profile.specs.Refusals as words;
 ghost use Rattle.sftp_profile.specs.Permitted.{done_status};
 
-use crate::tellings::is_dots;
+use crate::strict_answers::is_dots;
 use sftp_wire::status::{
     BAD_MESSAGE, FAILURE, NO_SUCH_FILE, OK, OP_UNSUPPORTED, PERMISSION_DENIED,
 };

@@ -69,12 +69,16 @@ pub(crate) fn put(
 ) -> Result<Ask, NoMemory>
     ensures { IfOk result (λ other. other ≡ spec.put profile session.now ask) }
 {
-    match replaced(profile, session, &ask)? {
-        Some(other) => {
+    match replaced(profile, session, &ask) {
+        Ok(Some(other)) => {
             drop(ask);
             Ok(other)
         }
-        None => Ok(ask),
+        Ok(None) => Ok(ask),
+        Err(error) => {
+            drop(ask);
+            Err(error)
+        }
     }
 }
 

@@ -4,8 +4,8 @@ ghost use Rattle.sftp_treefile.specs.TreeFile.{is_target};
 ghost use Rattle.sftp_tree.specs.Refusals.{in_set};
 ghost use Rattle.sftp_profile.specs.Room as spec;
 
+use crate::interpretations::asked;
 use crate::profiles::Profile;
-use crate::readings::asked;
 use crate::refusals::{has_code, is_handle};
 use sftp_handles::{GivenTable, Session};
 use sftp_path::good_path;

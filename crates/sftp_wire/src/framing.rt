@@ -208,6 +208,7 @@ impl FrameBuf {
 
 /// The law of streams: after any calls on an empty buffer, the encodings of the packets that it returned, and then the
 /// bytes that it holds, are the bytes that it took, in their order.
+#[tactic(auto, using(crate::proofs::StreamLaws::buffer_laws))]
 pub fn streams()
     // The packets returned and the bytes held are the bytes taken.
     ensures kept { (steps : List (Step × Frames)) (t : Frames) → AreSteps no_frames steps t

@@ -10,8 +10,8 @@ use Rattle.sftp_path.proofs.Table.Laws.{get-put_here, get-put_elsewhere, get-wit
 use Rattle.sftp_path.proofs.Table.Laws.{get-without_elsewhere, get-from_entries, InOrder-put, InOrder-without}
 use Rattle.sftp_path.proofs.Table.Entries.{get-none_front, get-none_behind, get-front, from_entries-last, put-without}
 use Rattle.sftp_path.proofs.Table.Counts.{one_if, count-step, count-put_new}
-use Rattle.sftp_path.proofs.Move.Laws.{renamed-inside, renamed-outside, get-moved, get-elsewhere, nothing-behind}
-use Rattle.sftp_path.proofs.Move.Laws.{first-outside, first-alone, get-rekeyed, rekeyed-unique}
+use Rattle.sftp_path.proofs.Move.{renamed-inside, renamed-outside, get-moved, get-elsewhere, nothing-behind}
+use Rattle.sftp_path.proofs.Move.{first-outside, first-alone, get-rekeyed, rekeyed-unique}
 
 -- places that differ do not tie
 differ : (p q : Place) → (p ≡ q → ⊥) → place_cmp p q ≢ Equal
@@ -161,3 +161,5 @@ module _ {X : Type 0} (old new : Place) where
             let none : get place_cmp table old ≡ None =
             ap (get place_cmp table) (is ∙ sym (append-nil new)) ∙ nothing [] in
             cc
+
+pub ruleset entry_laws = (count-rekeyed, rekeyed-alone, rekeyed-alone_put_first, rekeyed-empty, rekeyed-last, rekeyed-free, rekeyed-last_of, rekeyed-free_of)

@@ -5,7 +5,7 @@ use Rattle.sftp_path.specs.Place.{Place, place_cmp}
 use Rattle.sftp_path.proofs.Order.{place_cmp-total}
 use Rattle.sftp_path.proofs.Table.Laws.{get-from_entries}
 use Rattle.sftp_path.proofs.Table.Tests.{all-put_new}
-use Rattle.sftp_path.proofs.Move.Laws.{nothing-behind, first-alone}
+use Rattle.sftp_path.proofs.Move.{nothing-behind, first-alone}
 
 module _ {X : Type 0} (old new : Place) where
   all-made : (keeps : Place × X → Bool) (es : Table Place X) → InOrder place_cmp es → NothingFrom es new
@@ -23,3 +23,5 @@ module _ {X : Type 0} (old new : Place) where
       → list_all keeps (rekeyed old new table) ≡ list_all (λ e. keeps (renamed_entry old new e)) table
   unfolding rekeyed
   all-rekeyed table keeps = all-made keeps table
+
+pub ruleset moved_tests = (all-rekeyed)

@@ -5,8 +5,8 @@ use Rattle.sftp_path.proofs.Imports.{IsTextOf, begins_at_slash, parts_after}
 use Rattle.std.specs.Option.{IfSome, IfNone}
 use Rattle.sftp_path.specs.Place.{is_inner, is_name, are_names, absolute, parts, components, is_nonempty, is_absolute}
 use Rattle.sftp_path.specs.Place.{Name, Place}
-use Rattle.sftp_path.proofs.PathTexts.Splitting.{parts-whole, parts-append, parts-from_slash, parts-slash}
-use Rattle.sftp_path.proofs.PathTexts.Splitting.{components-slash, components-nil, components-are}
+use Rattle.sftp_path.proofs.PathTexts.{parts-whole, parts-append, parts-from_slash, parts-slash}
+use Rattle.sftp_path.proofs.PathTexts.{components-slash, components-nil, components-are}
 use Rattle.sftp_path.proofs.PathTexts.GoodPaths.{list_all-weaker, list_all-between, filter_all}
 
 -- ---- absolute texts
@@ -64,3 +64,5 @@ pub found-absolute : (place : Place) (found : Option Place) → are_names place 
     → found ≡ Some place
 found-absolute place None names some none = absurd (none place (names, refl))
 found-absolute place (Some p) names some none = ap (λ q. Some q) (absolute-injective p place some.0 names (sym some.1))
+
+pub ruleset absolute_laws = (absolute-injective, found-absolute, is_absolute-absolute, components-absolute)

@@ -9,8 +9,8 @@ use Rattle.std.proofs.lemmas.Bool.{leb-true, le-leb, lt-leb, cond_both, leb-fals
 use Rattle.std.proofs.lemmas.List.Folds.{list_all-append}
 use Rattle.sftp_path.specs.Place.{is_step, is_inner, is_dot, is_dot_dot, is_name_byte, is_name, name_limit, path_limit}
 use Rattle.sftp_path.specs.Place.{with_first, parts, components, is_nonempty, is_good_path}
-use Rattle.sftp_path.proofs.PathTexts.Splitting.{is_nonzero, is_short, parts-nil, parts-slash, parts-inner}
-use Rattle.sftp_path.proofs.PathTexts.Splitting.{components-are, filter-nonempty}
+use Rattle.sftp_path.proofs.PathTexts.{is_nonzero, is_short, parts-nil, parts-slash, parts-inner}
+use Rattle.sftp_path.proofs.PathTexts.{components-are, filter-nonempty}
 
 -- ---- tests of each element
 
@@ -209,3 +209,7 @@ steps (c ∷ cs) good bytes = grind (arith, and_parts, and_from, step, steps cs)
 pub components-steps : (path : List ℕ) → is_good_path path ≡ true → list_all is_octet path ≡ true
     → list_all is_step (components path) ≡ true
 components-steps path good bytes = grind (arith, steps, components-good, list_all-components)
+
+pub ruleset component_laws = (components-steps)
+
+pub ruleset inner_laws = (list_all-inner-parts)

@@ -100,3 +100,5 @@ module _ {K X : Type 0} where
         → count (put cmp es key value) passes + one_if (passes old) ≡ count es passes + one_if (passes value)
     unfolding get put retain
     count-put_again total es key value old passes = count-insert_again passes cmp total es key value old
+
+pub ruleset count_laws = (count-put_new, count-put_again, count-without, count-found)

@@ -104,3 +104,5 @@ pub without-absent : {K X : Type 0} (cmp : K → K → Ordering) (es : Table K X
     → without cmp es key ≡ es
 unfolding get without
 without-absent cmp es key = remove-absent (is_at (cmp key)) es
+
+pub ruleset absent_laws = (without-absent)

@@ -271,3 +271,9 @@ module _ {K X : Type 0} (cmp : K → K → Ordering) where
               ≡ lookup (is_at (cmp key)) (filter keeps es)
           there true miss = ap (λ c. cond c (Some e.1) (lookup (is_at (cmp key)) (filter keeps es))) miss
           there false miss = refl
+
+pub ruleset key_laws = (get-empty, get-put_here, get-put_elsewhere, get-without_here, get-without_elsewhere, get-from_entries)
+
+pub ruleset order_laws = (InOrder-empty, InOrder-put, InOrder-without, InOrder-retain, InOrder-from_entries)
+
+pub ruleset size_laws = (size-put, size-put_present, size-without)

@@ -129,3 +129,5 @@ module _ {K X : Type 0} (cmp : K → K → Ordering) where
         → get cmp es key ≡ Some old → list_all (λ e. test e.0) (put cmp es key value) ≡ list_all (λ e. test e.0) es
     unfolding get put
     keys-put_in_order es key value old test = keys-insert_in_order test es key value old
+
+pub ruleset test_laws = (all-put_new, all-without, values-put, keys-put_in_order)

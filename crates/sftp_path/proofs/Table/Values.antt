@@ -46,3 +46,5 @@ module _ {K X Y : Type 0} (cmp : K → K → Ordering) (f : X → Y) where
 
   pub InOrder-with_values : (es : Table K X) → InOrder cmp es → InOrder cmp (with_values f es)
   InOrder-with_values es = subst (IsStrictlySortedBy cmp) (sym (keys_of-map_values f es))
+
+pub ruleset value_laws = (get-with_values, with_values-put, with_values-without, InOrder-with_values, size-with_values)

@@ -187,3 +187,6 @@ pub is_only : (side : Side) (bytes : List ℕ) (r : Result (Option (Packet × �
 is_only side bytes r given packet rest has sent spelled =
     let read : front_of side bytes ≡ Ok (Some (packet, length (spelling packet))) = ap (front_of side) spelled ∙ ap (λ (s : Side). front_of s (spelling packet ++ rest)) (sym sent) ∙ front_again packet rest has in
     given_or_no_memory r (Some (packet, length (spelling packet))) (subst (λ (f : Result (Option (Packet × ℕ)) Fault). IsReading r f) read given)
+
+-- the law of `src/laws.rt`
+pub ruleset front_laws = (all-spellings-apart)

@@ -1,6 +1,6 @@
 use Rattle.sftp_path.proofs.Imports.{◌==◌, length, ap, ◌∙◌}
 use Rattle.sftp_path.specs.Split.{Split}
-use Rattle.sftp_path.proofs.PathTexts.Splitting.{components-none_left}
+use Rattle.sftp_path.proofs.PathTexts.{components-none_left}
 use Rattle.sftp_path.proofs.parts.Parts.is_empty.Goals as goal
 
 pub returns : goal.returns

@@ -1,5 +1,5 @@
 use Rattle.sftp_handles.specs.Allowed as strictly
-use Rattle.sftp_profile.specs.Tellings.{told}
+use Rattle.sftp_profile.specs.StrictAnswers.{told}
 use Rattle.sftp_profile.specs.Permitted.{retold}
 use Rattle.sftp_profile.proofs.Permissions.{first-outcome, second-result}
 use Rattle.sftp_profile.proofs.judges.Judge.read.Goals as goal

@@ -2,11 +2,11 @@ use Rattle.std.proofs.Common.{sym, ap, ◌∙◌}
 use Rattle.std.specs.Prelude.{unwrap_or}
 use Rattle.std.specs.Option.{option_map}
 use Rattle.std.proofs.lemmas.Result.{IfOk-weaker}
-use Rattle.sftp_profile.specs.Tellings.{told}
-use Rattle.sftp_profile.specs.Through.{directory_of}
+use Rattle.sftp_profile.specs.StrictAnswers.{told}
+use Rattle.sftp_profile.specs.DirectoryHandles.{directory_of}
 use Rattle.sftp_profile.specs.Listed.{due_items}
 use Rattle.sftp_profile.specs.Judged.{IsListed, IsGiven}
-use Rattle.sftp_profile.proofs.Meetings.{off-outcome, on-outcome, no-given, given-outcome}
+use Rattle.sftp_profile.proofs.OpenDirectories.{off-outcome, on-outcome, no-given, given-outcome}
 use Rattle.sftp_profile.proofs.judges.Judge.take_listed.Goals as goal
 
 pub returns-then-not-lists_changes : goal.returns-then-not-lists_changes

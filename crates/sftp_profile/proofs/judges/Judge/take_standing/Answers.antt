@@ -1,9 +1,9 @@
 use Rattle.std.proofs.Common.{sym, ◌∙◌}
 use Rattle.std.proofs.lemmas.Result.{IfOk-weaker}
-use Rattle.sftp_profile.specs.Through.{directory_of}
+use Rattle.sftp_profile.specs.DirectoryHandles.{directory_of}
 use Rattle.sftp_profile.specs.Permitted.{standing_for}
 use Rattle.sftp_profile.specs.Judged.{IsPermitted, IsStanding}
-use Rattle.sftp_profile.proofs.Meetings.{off-outcome, on-outcome, standing-outcome, no-standing}
+use Rattle.sftp_profile.proofs.OpenDirectories.{off-outcome, on-outcome, standing-outcome, no-standing}
 use Rattle.sftp_profile.proofs.judges.Judge.take_standing.Goals as goal
 
 pub returns-then-not-opens_directories : goal.returns-then-not-opens_directories

@@ -1,7 +1,7 @@
 use Rattle.std.proofs.Common.{ap, sym, ◌∙◌, Ok}
 use Rattle.sftp_wire.specs.Framing.{Frames}
 use Rattle.sftp_wire.specs.Fronts.{front_of}
-use Rattle.sftp_wire.proofs.StreamLaws.Buffer.{room-left}
+use Rattle.sftp_wire.proofs.StreamLaws.{room-left}
 use Rattle.sftp_wire.proofs.framing.FrameBuf.next.Goals as goal
 
 pub returns-in-Ok-None-clause-room : goal.returns-in-Ok-None-clause-room
