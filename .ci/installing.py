@@ -91,8 +91,9 @@ def wrong_scripts(prefix, room):
         yield "install: a script ran a module of the user's"
     servers = [it for it in prefix.glob("lib/sftpv3/servers/*") if it.is_file() and not it.suffix]
     for script in [*prefix.glob("bin/sftpv3-*"), *servers]:
-        if not re.match(rb"#!/usr/bin/python3 -IS?\n", script.read_bytes()):
-            yield f"install: {script} does not start with a fixed interpreter and -I"
+        options = b"-I" if script.name == "asyncssh" else b"-IS"
+        if not script.read_bytes().startswith(b"#!/usr/bin/python3 " + options + b"\n"):
+            yield f"install: {script} does not start with a fixed interpreter and {options.decode()}"
 
 
 def wrong_tree(prefix, room):
