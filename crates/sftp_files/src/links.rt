@@ -73,7 +73,10 @@ pub(crate) fn is_link<R: Files>(rt: &R, name: &str) -> bool {
 
 /// Whether a link is followed that is in this place.
 fn is_followed<R: Files>(rt: &R, link: &str) -> bool {
-    match (fs::symlink_metadata(rt, link), fs::metadata(rt, folder_of(link))) {
+    match (
+        fs::symlink_metadata(rt, link),
+        fs::metadata(rt, folder_of(link)),
+    ) {
         (Ok(found), Ok(folder)) => is_trusted(found.uid(), owner_of(&folder), geteuid()),
         _ => false,
     }
