@@ -186,7 +186,8 @@ def links_without_an_end(field):
     os.symlink("loop", field.path("loop"))
     os.symlink("around/around", field.path("around"))
     for run, given in writing(field).items():
-        for name, wanted in (("file-40", 0), ("file-41", 3), ("loop", 3), ("loop/x", 3), ("around", 3), ("file-1/x", 3)):
+        for name, wanted in (("file-40", 0), ("file-41", 3), ("loop", 3), ("loop/x", 3), ("around", 3),
+                             ("file-1/x", 3)):
             yield from (f"{run} {name}: {it}" for it in wrong_status(write(field, given, name), wanted))
 
 

@@ -54,7 +54,8 @@ enum Place {
 
 /// Writes these bytes to the file `name`, which is made or replaced. If that fails, the file is unchanged.
 ///
-/// Links are followed, and stay, but for one that another user may have put there. What is no regular file is written to only if it is standard output.
+/// Links are followed, and stay, but for one that another user may have put there. What is no regular file is written
+/// to only if it is standard output.
 pub fn write<'a, R: System>(
     rt: &R,
     name: &'a str,
