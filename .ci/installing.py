@@ -91,9 +91,8 @@ def wrong_scripts(prefix, room):
         yield "install: a script ran a module of the user's"
     servers = [it for it in prefix.glob("lib/sftpv3/servers/*") if it.is_file() and not it.suffix]
     for script in [*prefix.glob("bin/sftpv3-*"), *servers]:
-        options = b"-I" if script.name == "asyncssh" else b"-IS"
-        if not script.read_bytes().startswith(b"#!/usr/bin/python3 " + options + b"\n"):
-            yield f"install: {script} does not start with a fixed interpreter and {options.decode()}"
+        if not script.read_bytes().startswith(b"#!/usr/bin/python3 -IS\n"):
+            yield f"install: {script} does not start with a fixed interpreter and -IS"
 
 
 def wrong_tree(prefix, room):
