@@ -11,15 +11,22 @@ MOST = 40
 def refuse_link_of_another(name: str) -> None:
     """Raises OSError if another user may have put a link on the way that this name leads, as the program does: what it
     leads to, that user chose."""
+    given = name
     for _ in range(MOST + 1):
         link, rest = first_link(name)
         if link is None:
             return
         folder = os.path.dirname(link)
         if not is_trusted(os.lstat(link).st_uid, os.stat(folder or "."), os.geteuid()):
-            raise OSError(errno.EPERM, "a symbolic link of another user is on the way")
+            raise OSError(errno.EPERM, "a symbolic link of another user is on the way", given)
         name = os.path.join(folder, os.readlink(link)) + rest
-    raise OSError(errno.ELOOP, os.strerror(errno.ELOOP))
+    raise OSError(errno.ELOOP, os.strerror(errno.ELOOP), given)
+
+
+def refuse_way_of_another(name: str) -> None:
+    """So for the folders of a name whose last part is never followed."""
+    if folder := os.path.dirname(name):
+        refuse_link_of_another(folder)
 
 
 def first_link(path: str) -> tuple[str | None, str]:

@@ -4,8 +4,9 @@ import signal
 import subprocess
 import time
 
-from attacking.ground import SECONDS, attack, wrong_status
+from attacking.ground import CLIENTS, SECONDS, attack, wrong_status
 from attacking.saving import HELLO, OPENED
+from attacking.scripts import DIFFERING, ordinary
 from programs import program
 
 SAID = b"a symbolic link of another user"
@@ -45,7 +46,7 @@ def shared(field, name, mode, owner=0):
     return path
 
 
-def planted(field, folder, mode, owner):
+def planted(field, folder):
     """Names in this folder that lead through a link of the other user to files of root, which are made anew."""
     target = shared(field, f"of-root-{os.path.basename(folder)}", 0o700)
     victim = os.path.join(target, "victim")
@@ -64,7 +65,7 @@ def a_link_of_another_user_says_what_root_writes(field):
     for number, mode in enumerate(FOLDERS):
         owner = field.user.pw_uid if mode == 0o755 else 0
         folder = shared(field, f"shared-{number}", mode, owner)
-        target, victim, names = planted(field, folder, mode, owner)
+        target, victim, names = planted(field, folder)
         for run, given in runs.items():
             for name in names:
                 with open(victim, "wb") as file:
@@ -113,6 +114,48 @@ def a_link_that_nobody_can_have_planted(field):
         yield from wrong_status(write(field, given, name), 0)
         if os.path.getsize(saved) == 0 or not os.path.islink(name):
             yield f"{run}: nothing is saved"
+
+
+def by_scripts(field):
+    """What the scripts write, as words with SAVED for the name."""
+    server = [program(), "serve", "--tree", "start.tree"]
+    return [("tree", ["--chroot", "--out", "SAVED", "live"]), ("page", ["--tree", "start.tree", "-o", "SAVED", "opened"]),
+            ("walk", ["--to", "SAVED", "--", *server]), ("walk", ["--session", "SAVED", "--", *server]),
+            ("record", ["SAVED", *server]), ("record", ["--overwrite", "SAVED", *server]),
+            ("record", ["--log", "SAVED", "own", *server]), ("record", ["--times", "SAVED", "own", *server]),
+            ("record", ["--audit", "--tree", "start.tree", "--program", program(), "--out", "SAVED", "own", *server]),
+            ("serve", ["--program", program(), "--tree", "start.tree", "--save", "SAVED"]),
+            ("serve", ["--program", program(), "--tree", "start.tree", "--record", "SAVED"]),
+            ("serve", ["--program", program(), "--tree", "start.tree", "--log", "SAVED"]),
+            ("probe", ["--report", "SAVED", *DIFFERING, *server]), ("probe", ["--keep", "SAVED", *DIFFERING, *server])]
+
+
+@attack("user")
+def a_link_of_another_user_says_what_a_script_writes(field):
+    """So for the scripts: none leads what root writes by them anywhere."""
+    ordinary(field)
+    field.put("opened", OPENED)
+    folder = shared(field, "shared", 0o1777)
+    target, victim, names = planted(field, folder)
+    environment = {**os.environ, "SFTPV3": program()}
+    for script, words in by_scripts(field):
+        for name in names:
+            if not os.path.islink(os.path.join(folder, "x")):
+                # what is replaced under its own name is written where it was asked for
+                os.remove(os.path.join(folder, "x"))
+                link(victim, os.path.join(folder, "x"), field.user.pw_uid)
+            with open(victim, "wb") as file:
+                file.write(b"of root")
+            done = subprocess.run([os.path.join(CLIENTS, script), *[name if it == "SAVED" else it for it in words]],
+                                  cwd=field.folder, env=environment, input=HELLO, capture_output=True, timeout=SECONDS)
+            with open(victim, "rb") as file:
+                if file.read() != b"of root" or os.listdir(target) != ["victim"]:
+                    yield f"{script} {words[0]} {name}: root's folder has {os.listdir(target)}"
+            if "way" in name and SAID not in done.stderr:
+                yield f"{script} {words[0]} {name}: status {done.returncode}, {done.stderr[-200:]!r}"
+            for it in os.listdir(target):
+                if it != "victim":
+                    subprocess.run(["rm", "-r", os.path.join(target, it)], check=True)
 
 
 def take_turns(folder, victim):
