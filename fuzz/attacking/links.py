@@ -116,6 +116,43 @@ def a_link_that_nobody_can_have_planted(field):
             yield f"{run}: nothing is saved"
 
 
+@attack("user")
+def a_file_is_planted_for_what_root_writes(field):
+    """What root writes onto a file that another user made in a folder of all is root's, and a record is refused. In a
+    folder of that user's own, the file stays that user's."""
+    for run, given in writing(field).items():
+        for mode, owner, wanted in ((0o1777, 0, 0), (0o755, field.user.pw_uid, field.user.pw_uid)):
+            name = os.path.join(shared(field, f"{run}-{mode:o}", mode, owner), "planted")
+            with open(name, "wb"):
+                pass
+            os.chmod(name, 0o666)
+            os.chown(name, field.user.pw_uid, field.user.pw_gid)
+            is_refused = run == "--record" and wanted == 0
+            yield from (f"{run}, {mode:o}: {it}" for it in wrong_status(write(field, given, name), 3 * is_refused))
+            found = os.stat(name)
+            if is_refused:
+                if found.st_size:
+                    yield f"{run}, {mode:o}: {found.st_size} bytes are in a file of {found.st_uid}"
+            elif (found.st_uid, found.st_mode & 0o777) != (wanted, 0o666 if wanted else 0o600) or not found.st_size:
+                yield f"{run}, {mode:o}: uid {found.st_uid}, mode {found.st_mode:o}, {found.st_size} bytes"
+
+
+@attack("user")
+def a_file_is_planted_for_a_session(field):
+    """So for the script, which saves by itself."""
+    field.blank()
+    name = os.path.join(shared(field, "shared", 0o1777), "planted")
+    with open(name, "wb"):
+        pass
+    os.chown(name, field.user.pw_uid, field.user.pw_gid)
+    done = subprocess.run([os.path.join(CLIENTS, "serve"), "--program", program(), "--tree", "start.tree", "--save",
+                           name], cwd=field.folder, input=HELLO, capture_output=True, timeout=SECONDS)
+    yield from wrong_status(done, 0)
+    found = os.stat(name)
+    if (found.st_uid, found.st_mode & 0o777) != (0, 0o600) or not found.st_size:
+        yield f"uid {found.st_uid}, mode {found.st_mode:o}, {found.st_size} bytes"
+
+
 def by_scripts(field):
     """What the scripts write, as words with SAVED for the name."""
     server = [program(), "serve", "--tree", "start.tree"]
@@ -187,7 +224,11 @@ def a_link_appears_after_the_look(field):
             seen = set()
             until = time.monotonic() + 15
             while len(seen) < 2 and time.monotonic() < until or len(seen) == 2 and time.monotonic() < until - 8:
-                seen.add(write(field, runs[run], os.path.join(folder, "x")).returncode)
+                name = os.path.join(folder, "x")
+                seen.add(write(field, runs[run], name).returncode)
+                if os.lstat(name).st_uid == 0:
+                    # what root saved is root's, and the user goes on where it is gone
+                    os.remove(name)
                 if field.read("victim") != b"of root" or os.stat(victim).st_ino != inode:
                     yield f"{run} wrote root's file"
                     return

@@ -1,7 +1,7 @@
 //! Symbolic links on the way to a file that is written. They are followed one at a time, but for those that another
 //! user may have put there.
 ghost use Rattle.std.specs.Prelude.{◌↔◌, IsTrue};
-ghost use Rattle.sftp_files.specs.Links.{IsTrusted};
+ghost use Rattle.sftp_files.specs.Links.{IsPlanted, IsTrusted};
 
 use crate::system::System;
 use libc::{ELOOP, geteuid};
@@ -17,6 +17,9 @@ const MOST: usize = 40;
 
 /// The permissions by which others than its owner write to a folder.
 const OTHERS_WRITE: u32 = 0o022;
+
+/// The bit of a folder in which nobody renames what is another user's.
+const STICKY: u32 = 0o1000;
 
 /// Whose a file is, and its permissions.
 #[derive(Clone, Copy)]
@@ -89,6 +92,24 @@ fn is_trusted(link: u32, folder: Owned, user: u32) -> bool
 {
     let is_theirs = folder.uid == user || folder.uid == 0;
     link == user || link == 0 || is_theirs && folder.permissions & OTHERS_WRITE == 0
+}
+
+/// Whether another user may have put this file at this path, so as to have what the user of this run writes there.
+pub(crate) fn is_planted_at<R: Files>(rt: &R, path: &str, file: &Metadata) -> bool {
+    match fs::metadata(rt, folder_of(path)) {
+        Ok(folder) => is_planted(file.uid(), owner_of(&folder), geteuid()),
+        Err(_) => true,
+    }
+}
+
+/// Whether a file of this owner in this folder is neither this user's nor that of the folder's owner, and the folder is
+/// one in which others make files of their own.
+fn is_planted(file: u32, folder: Owned, user: u32) -> bool
+    ensures { IsTrue result ↔ IsPlanted user file folder }
+{
+    let is_theirs = file == user || file == folder.uid;
+    let is_shared = folder.permissions & STICKY != 0 && folder.permissions & OTHERS_WRITE != 0;
+    is_shared && !is_theirs
 }
 
 /// The path behind a link, with what comes behind it.

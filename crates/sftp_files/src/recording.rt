@@ -1,5 +1,5 @@
 //! Where the record of a session goes.
-use crate::links::{UNTRUSTED, is_link, path_of};
+use crate::links::{UNTRUSTED, is_link, is_planted_at, path_of};
 use crate::messages::{Failure, MORE};
 use crate::options::ServeOptions;
 use crate::saving::{Keeping, is_file_of, is_own, new_file, sync_folder};
@@ -80,7 +80,7 @@ fn record_at<'a, R: System>(
     match open(rt, name, path, options.keeping) {
         Ok(opened) => {
             let Opened { file, is_new } = opened;
-            match claim(rt, name, &file, options) {
+            match claim(rt, name, path, &file, options) {
                 Ok(()) => recording_to(rt, name, path, file, is_new, options.keeping),
                 Err(failure) => {
                     drop(file);
@@ -158,6 +158,7 @@ fn is_open(file: &File, found: &Metadata) -> bool {
 fn claim<'a, R: System>(
     rt: &R,
     name: &'a str,
+    path: &str,
     file: &File,
     options: &ServeOptions<'a>,
 ) -> Result<(), Failure<'a>> {
@@ -166,7 +167,7 @@ fn claim<'a, R: System>(
             if is_named_twice(rt, &found, options) {
                 return Err(Failure::of_usage(named_twice(rt.alloc())));
             }
-            if is_of_another(&found, file) {
+            if is_of_another(rt, path, &found, file) {
                 return Err(Failure::Unfit(name, ANOTHERS));
             }
             lock(name, file)
@@ -175,10 +176,10 @@ fn claim<'a, R: System>(
     }
 }
 
-/// Whether an open file or pipe is another user's, who says who reads it. A device is nobody's.
-fn is_of_another(found: &Metadata, file: &File) -> bool {
+/// Whether an open file or pipe at this path is another user's, who says who reads it. A device is nobody's.
+fn is_of_another<R: Files>(rt: &R, path: &str, found: &Metadata, file: &File) -> bool {
     let keeps = found.is_file() || found.file_type().is_fifo();
-    keeps && !is_own(file)
+    keeps && (!is_own(file) || is_planted_at(rt, path, found))
 }
 
 /// Whether the file is also that of the tree, or the one to save it to.

@@ -5,7 +5,7 @@ ghost use Rattle.std.specs.Int.RustNames.{bit_and};
 ghost use Rattle.sftp_files.specs.declared.messages.Ending.TheVariants as endings;
 ghost use Rattle.sftp_files.specs.Failures.{IsUnwritten};
 
-use crate::links::{Owned, UNTRUSTED, folder_of, is_link, owner_of, path_of};
+use crate::links::{Owned, UNTRUSTED, folder_of, is_link, is_planted_at, owner_of, path_of};
 use crate::messages::{Ending, Failure};
 use crate::system::System;
 use std::fs::{File, Files, Metadata, OpenOptions, Permissions};
@@ -261,11 +261,12 @@ fn fill_open<R: Files<File = File>>(
     }
 }
 
-/// The permissions that the file at this path has or is to have. If it is there, the new one takes its owner.
+/// The permissions that the file at this path has or is to have. If it is there, the new one takes its owner, unless
+/// that user may have put it there for this.
 fn mode_of<R: Files>(rt: &R, path: &str, file: &File, mode: u32) -> u32 {
     match fs::symlink_metadata(rt, path) {
         Ok(old) => {
-            if old.is_file() {
+            if old.is_file() && !is_planted_at(rt, path, &old) {
                 take_owner(&old, file, mode)
             } else {
                 mode
