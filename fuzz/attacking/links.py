@@ -156,7 +156,8 @@ def a_file_is_planted_for_a_session(field):
 def by_scripts(field):
     """What the scripts write, as words with SAVED for the name."""
     server = [program(), "serve", "--tree", "start.tree"]
-    return [("tree", ["--chroot", "--out", "SAVED", "live"]), ("page", ["--tree", "start.tree", "-o", "SAVED", "opened"]),
+    return [("tree", ["--chroot", "--out", "SAVED", "live"]),
+            ("page", ["--tree", "start.tree", "-o", "SAVED", "opened"]),
             ("walk", ["--to", "SAVED", "--", *server]), ("walk", ["--session", "SAVED", "--", *server]),
             ("record", ["SAVED", *server]), ("record", ["--overwrite", "SAVED", *server]),
             ("record", ["--log", "SAVED", "own", *server]), ("record", ["--times", "SAVED", "own", *server]),
