@@ -267,7 +267,10 @@ def try_link(steps, folder):
     if os.geteuid() != 0:
         steps.skip("a link of another user", "needs root")
         return
-    link, target = os.path.join(folder, "theirs"), executable(os.path.join(folder, "target"), "dear")
+    shared = os.path.join(folder, "shared")
+    os.mkdir(shared)
+    os.chmod(shared, 0o1777)
+    link, target = os.path.join(shared, "theirs"), executable(os.path.join(folder, "target"), "dear")
     os.symlink(target, link)
     os.chown(link, 65534, 65534, follow_symlinks=False)
     status, said = walk(folder, ["--to", link], [*HOSTILE, "Right"])
