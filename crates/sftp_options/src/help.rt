@@ -258,5 +258,6 @@ With --json, standard output has one JSON object in every case: the verdict with
 failure; with --keep-going one for each finding, and one for the last line. The statuses are the same.
 
 With --memory, a tree file of more than BYTES is not read, and the audit ends with status 3 once the process has more
-than BYTES. That is looked at before each request, which may take as much as a file or a listing has; and the tree at
-the end is encoded once more. With '--tree unknown' it bounds the transcript alone, as that of 'infer' does.";
+than BYTES. That is looked at as the transcript is read; one request may take as much as a file or a listing has before
+that, and the tree at the end is encoded once more. With '--tree unknown' it bounds the transcript alone, as that of
+'infer' does.";
