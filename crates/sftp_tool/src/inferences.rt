@@ -104,7 +104,8 @@ fn judge_by<J: Judges>(
     match feed::<J>(how.alloc, &mut auditor, session) {
         Ok(requests) => {
             let end = auditor.end()?;
-            end_of(how, end, requests)
+            let tree = written_end(how, end)?;
+            Ok(Ended { requests, tree })
         }
         Err(error) => {
             drop(auditor);
@@ -128,19 +129,18 @@ fn feed<J: Judges>(
     fed
 }
 
-/// What is said of a session that ends in this tree.
-fn end_of(how: Judging, end: Tree, requests: u64) -> Result<Ended, AuditError> {
+/// The tree file of the tree at the end, if it is wanted.
+fn written_end(how: Judging, end: Tree) -> Result<Option<Vec<u8>>, NoMemory> {
     let written = if how.wants_end {
         Some(end.write())
     } else {
         None
     };
     drop(end);
-    let tree = match written {
-        Some(tree) => Some(tree?),
-        None => None,
-    };
-    Ok(Ended { requests, tree })
+    match written {
+        Some(tree) => Ok(Some(tree?)),
+        None => Ok(None),
+    }
 }
 
 /// Judges a session with the tree that a search gave.
