@@ -1,11 +1,10 @@
 //! Where the record of a session goes.
-use crate::links::{UNTRUSTED, is_link, is_planted_at, path_of};
+use crate::links::{TOO_MANY_LINKS, UNTRUSTED, is_link, is_planted_at, path_of};
 use crate::messages::{Failure, MORE};
 use crate::options::ServeOptions;
 use crate::saving::{Keeping, is_file_of, is_own, new_file, sync_folder};
 use crate::system::System;
 use crate::watching::{Flow, Watched};
-use libc::ELOOP;
 use std::alloc::{AllocError, Global};
 use std::fs::{File, Files, Metadata, OpenOptions, TryLockError};
 use std::io::{BufWriter, ErrorKind, Write};
@@ -142,7 +141,7 @@ fn opened_if(is_wanted: bool, file: File) -> io::Result<Opened> {
         })
     } else {
         drop(file);
-        Err(io::Error::from_raw_os_error(ELOOP))
+        Err(io::Error::from_raw_os_error(TOO_MANY_LINKS))
     }
 }
 
