@@ -91,8 +91,8 @@ def wrong_scripts(prefix, room):
         yield "install: a script ran a module of the user's"
     servers = [it for it in prefix.glob("lib/sftpv3/servers/*") if it.is_file() and not it.suffix]
     for script in [*prefix.glob("bin/sftpv3-*"), *servers]:
-        if not re.match(rb"#!/usr/bin/python3 -IS?\n", script.read_bytes()):
-            yield f"install: {script} does not start with a fixed interpreter and -I"
+        if not script.read_bytes().startswith(b"#!/usr/bin/python3 -IS\n"):
+            yield f"install: {script} does not start with a fixed interpreter and -IS"
 
 
 def wrong_tree(prefix, room):

@@ -1,12 +1,14 @@
 """Files that are written where another user may have put something in the way.
 
-A file is made under a name that nobody can foresee, for its user alone, and then gets its name: no link is followed.
+A file is made under a name that nobody can foresee, for its user alone, and then gets its name: no link is followed
+there, and none of another user on the way.
 """
 import errno
 import os
 import stat
 
 from recording import naming
+from recording.links import refuse_way_of_another
 
 MADE = os.O_WRONLY | os.O_CREAT | os.O_EXCL | os.O_NOFOLLOW | os.O_CLOEXEC
 
@@ -18,6 +20,7 @@ def write(name, data):
             os.set_blocking(file.fileno(), True)
             file.write(data)
         return
+    refuse_way_of_another(name)
     if os.path.lexists(name) and not stat.S_ISREG(os.lstat(name).st_mode) and not os.path.islink(name):
         raise OSError(errno.EINVAL, "not a regular file", name)
     beside = f"{name}.{os.urandom(8).hex()}"
@@ -37,6 +40,7 @@ def write_text(name, text):
 
 def folder(name):
     """Makes a folder for its user alone, with those above it, or takes one of this user that no other can write to."""
+    refuse_way_of_another(name)
     above = os.path.dirname(os.path.abspath(name))
     if not os.path.isdir(above):
         folder(above)

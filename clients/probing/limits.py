@@ -19,9 +19,10 @@ class Halt:
         return self.event.is_set() or bool(self.other and self.other.is_set())
 
     def on_signals(self):
-        """SIGINT and SIGTERM set it."""
-        for number in (signal.SIGINT, signal.SIGTERM):
-            signal.signal(number, lambda which, _: self.set(signal.Signals(which).name))
+        """SIGINT and SIGTERM set it, and SIGHUP, unless that was ignored at the start, as by `nohup`."""
+        for number in (signal.SIGHUP, signal.SIGINT, signal.SIGTERM):
+            if number != signal.SIGHUP or signal.getsignal(number) != signal.SIG_IGN:
+                signal.signal(number, lambda which, _: self.set(signal.Signals(which).name))
 
 
 class Late:

@@ -6,6 +6,7 @@ import textwrap
 import sftp3
 from probing import features, files, program, refusals, sessions, shrinking, verdicts
 from recording.complaints import Parser
+from recording.links import refuse_way_of_another
 
 # The exit statuses: all sessions were accepted; there are differences; the command line is wrong, or plans nothing; the
 # server, the command of --reset or the program could not be started; no difference was found, and not all was played.
@@ -150,6 +151,10 @@ def read(option, name, reader):
 
 def can_write(option, name):
     """Refuses what could not be written after all has been played."""
+    try:
+        refuse_way_of_another(name)
+    except OSError as error:
+        raise Wrong(f"{option}: {name!r}: {error.strerror}") from None
     folder = os.path.dirname(os.path.abspath(name))
     while not os.path.lexists(folder) and option == "--keep":
         folder = os.path.dirname(folder)

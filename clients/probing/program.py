@@ -52,3 +52,11 @@ def complain(name, why, status):
     """Says in a line why a command of clients/ ends, and gives the status."""
     say(f"{os.path.basename(called(name))}: {why}", sys.stderr)
     return status
+
+
+def told(error):
+    """Why something failed. Of a call of the system: the file that it names, and the reason in words."""
+    if not isinstance(error, OSError) or not error.strerror:
+        return str(error)
+    name = error.filename if error.filename2 is None else error.filename2
+    return error.strerror if name is None else f"{os.fsdecode(name)}: {error.strerror}"

@@ -59,7 +59,7 @@ def started(words, environment=None):
         return subprocess.Popen(words, stdin=subprocess.PIPE, stdout=subprocess.PIPE, stderr=subprocess.PIPE, bufsize=0,
                                 env=environment, start_new_session=True)
     except (OSError, ValueError) as error:
-        raise NotStarted(str(error)) from error
+        raise NotStarted(f"cannot run {words[0]}: {getattr(error, 'strerror', None) or error}") from error
 
 
 def run_reset(command, environment, seconds, stop):

@@ -1,6 +1,7 @@
 """What was played, and how far the probe is."""
 import sys
 import time
+from contextlib import suppress
 from dataclasses import dataclass, field
 from typing import List
 
@@ -80,11 +81,13 @@ class Progress:
         self.last = time.monotonic()
 
     def say(self, text):
-        if self.terminal:
-            print(f"\r\x1b[K{text}", end="", file=self.stream, flush=True)
-        elif time.monotonic() - self.last >= self.pause:
-            self.last = time.monotonic()
-            print(f"probe: {text}", file=self.stream, flush=True)
+        # a terminal may be gone, and what is said here is not missed
+        with suppress(OSError):
+            if self.terminal:
+                print(f"\r\x1b[K{text}", end="", file=self.stream, flush=True)
+            elif time.monotonic() - self.last >= self.pause:
+                self.last = time.monotonic()
+                print(f"probe: {text}", file=self.stream, flush=True)
 
     def clear(self):
         if self.terminal:

@@ -1,4 +1,6 @@
-"""Links in folders that others can write to."""
+"""Links on the way to a file that is written, in folders that others can write to."""
+from __future__ import annotations
+
 import errno
 import os
 
@@ -7,11 +9,35 @@ MOST = 40
 
 
 def refuse_link_of_another(name: str) -> None:
-    """Raises OSError if a name is a link of another user than this one and root, or leads through one: what it leads
-    to, that user chose."""
-    for _ in range(MOST):
-        if not os.path.islink(name):
+    """Raises OSError if another user may have put a link on the way that this name leads, as the program does: what it
+    leads to, that user chose."""
+    given = name
+    for _ in range(MOST + 1):
+        link, rest = first_link(name)
+        if link is None:
             return
-        if os.lstat(name).st_uid not in (0, os.geteuid()):
-            raise OSError(errno.EPERM, "it is a symbolic link of another user")
-        name = os.path.join(os.path.dirname(name), os.readlink(name))
+        folder = os.path.dirname(link)
+        if not is_trusted(os.lstat(link).st_uid, os.stat(folder or "."), os.geteuid()):
+            raise OSError(errno.EPERM, "a symbolic link of another user is on the way", given)
+        name = os.path.join(folder, os.readlink(link)) + rest
+    raise OSError(errno.ELOOP, os.strerror(errno.ELOOP), given)
+
+
+def refuse_way_of_another(name: str) -> None:
+    """So for the folders of a name whose last part is never followed."""
+    if folder := os.path.dirname(name):
+        refuse_link_of_another(folder)
+
+
+def first_link(path: str) -> tuple[str | None, str]:
+    """The part of a path that is its first link, if there is one, and what comes behind it."""
+    for end in range(1, len(path) + 1):
+        part, rest = path[:end], path[end:]
+        if rest[:1] in ("", "/") and not part.endswith("/") and os.path.islink(part):
+            return part, rest
+    return None, ""
+
+
+def is_trusted(link: int, folder: os.stat_result, user: int) -> bool:
+    """Whether a link of this owner in this folder is the user's or root's, or nobody else writes to the folder."""
+    return link in (user, 0) or folder.st_uid in (user, 0) and not folder.st_mode & 0o022

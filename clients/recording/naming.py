@@ -7,6 +7,7 @@ import stat
 import time
 
 from recording import folders
+from recording.links import refuse_way_of_another
 
 # How long a pipe may be without a reader.
 PATIENCE = 5
@@ -158,6 +159,8 @@ class Opened:
     def __init__(self, name, overwrite, is_wanted):
         self.name, self.is_made = name, False
         try:
+            if not is_inherited(name):
+                refuse_way_of_another(name)
             self.is_regular = not is_stream(name)
             if not self.is_regular:
                 self.file = open_stream(name, is_wanted)

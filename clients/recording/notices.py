@@ -5,6 +5,8 @@ import select
 import syslog
 import time
 
+from recording.links import refuse_way_of_another
+
 
 def printable(text):
     """A text without line feeds and other characters that a terminal acts on."""
@@ -35,7 +37,9 @@ class Notices:
         self.is_syslog = True
 
     def open_log(self, path):
-        """Opens the log to append to it. No link is followed, and nothing of another user but root is taken."""
+        """Opens the log to append to it. No link of another user is followed on the way, and none at its end, and
+        nothing of another user but root is taken."""
+        refuse_way_of_another(path)
         flags = os.O_WRONLY | os.O_CREAT | os.O_APPEND | os.O_NOFOLLOW | os.O_CLOEXEC | os.O_NONBLOCK
         log = os.open(path, flags, 0o600)
         if os.fstat(log).st_uid not in (0, os.geteuid()):

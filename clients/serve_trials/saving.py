@@ -98,6 +98,12 @@ def changed_meanwhile(steps, room):
                 f"{room.left()}")
 
 
+def plant(link, target):
+    """Makes a link of another user."""
+    link.symlink_to(target)
+    os.chown(link, 65534, 65534, follow_symlinks=False)
+
+
 def links(steps, room):
     (room.folder / "d").mkdir()
     (room.folder / "t").rename(room.folder / "d/real")
@@ -108,13 +114,21 @@ def links(steps, room):
     steps.check("a link: the file that it leads to is replaced", (room.folder / "t").is_symlink() and
                 room.names("d/real") == ["/a"] and os.listdir(room.folder / "d") == ["real"])
     if os.geteuid() == 0:
-        (room.folder / "theirs").symlink_to("t")
-        os.chown(room.folder / "theirs", 65534, 65534, follow_symlinks=False)
+        plant(room.folder / "theirs", "t")
         (room.folder / "through").symlink_to("theirs")
-        for words in (["--save", "theirs"], ["--save", "through"], ["--record", "theirs"]):
-            server = room.serve(*words)
-            steps.check(f"{' '.join(words)}: a link of another user: status 3 before the session", not server.open() and
-                        server.status() == 3 and "a symbolic link of another user" in server.errors())
+        plant(room.folder / "way", "d")
+        for mode, names in ((0o1777, ("theirs", "through", "way/real")), (0o755, ())):
+            room.folder.chmod(mode)
+            for words in (it for name in names for it in (["--save", name], ["--record", name])):
+                server = room.serve(*words)
+                steps.check(f"{' '.join(words)}: a link of another user: status 3 before the session",
+                            not server.open() and server.status() == 3 and
+                            "a symbolic link of another user" in server.errors())
+        server = room.serve("--save", "through")
+        server.open()
+        finish(server)
+        steps.check("a link of another user that only root can have put there is followed", server.status() == 0)
+        (room.folder / "way").unlink()
     (room.folder / "none").symlink_to("absent")
     server = room.serve("--save", "none")
     steps.check("a link to no file: status 3 before the session", not server.open() and server.status() == 3)

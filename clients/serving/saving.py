@@ -125,7 +125,11 @@ class Saving:
 
     def replace(self):
         """Puts the tree in the place of the original, with its permissions and its owner, or else with its own."""
-        keep_rights(self.side, os.fstat(self.original.file), self.mode)
+        found = os.fstat(self.original.file)
+        if is_planted(found, os.stat(os.path.dirname(self.name)), os.geteuid()):
+            give_mode(self.side, self.mode)
+        else:
+            keep_rights(self.side, found, self.mode)
         os.rename(self.side, self.name)
         self.sync()
 
@@ -206,6 +210,12 @@ def keep_rights(name: str, found: os.stat_result, own_mode: int):
         mode &= ~0o070
     os.fchmod(file, mode if now.st_uid == found.st_uid else own_mode)
     os.close(file)
+
+
+def is_planted(file: os.stat_result, folder: os.stat_result, user: int) -> bool:
+    """Whether others make files of their own in the folder, and this one is neither this user's nor of its owner."""
+    is_shared = folder.st_mode & stat.S_ISVTX and folder.st_mode & 0o022
+    return bool(is_shared) and file.st_uid not in (user, folder.st_uid)
 
 
 def give_mode(name: str, mode: int):

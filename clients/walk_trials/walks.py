@@ -96,7 +96,7 @@ def is_clean(said):
 def try_hostile(steps, folder):
     for kind, wanted in TOLD:
         to = os.path.join(tempfile.mkdtemp(dir=folder), "seen.tree")
-        status, said = walk(folder, ["--timeout", "1", "--max-bytes", "5000000", *POSIX, "--to", to],
+        status, said = walk(folder, ["--timeout", "1", "--max-bytes", "5000000", "--to", to],
                             [*HOSTILE, kind])
         steps.check(f"{kind.replace('_', ' ')}: {wanted or 'it ends'}",
                     status in (0, 1) and wanted in said and is_clean(said) and os.path.exists(to) == (status == 0),
@@ -159,14 +159,17 @@ def try_posix(steps, folder):
             file.write(content)
     os.symlink("../f", os.path.join(live, "d", "up"))
     os.symlink("nowhere", os.path.join(live, "dangling"))
-    status, said = walk(folder, ["--below", live, "--to", seen, *POSIX], [SFTP_SERVER])
+    status, said = walk(folder, ["--below", live, "--to", seen], [SFTP_SERVER])
     run([os.path.join(TOP, "clients", "tree"), "--out", other, live], folder)
     steps.check("OpenSSH's server: the tree that is seen is that of clients/tree, but for home and links above",
                 status == 0 and entries_below(seen, live) == entries_below(other, live) != [], said)
-    done = subprocess.run([WALK, "--below", live, *POSIX, "--", SFTP_SERVER], cwd=folder, capture_output=True,
+    done = subprocess.run([WALK, "--below", live, "--", SFTP_SERVER], cwd=folder, capture_output=True,
                           check=False)
     with open(seen, "rb") as file:
         steps.check("the same to standard output", done.returncode == 0 and done.stdout == file.read(), done.stderr)
+    status, said = walk(folder, ["--below", live, "--profile", "strict", "--to", "strict.tree"], [SFTP_SERVER])
+    steps.check("--profile strict: none, since its directories have sizes",
+                status == 1 and "no tree found" in said, said)
 
 
 def entries_below(name, place):
@@ -264,7 +267,10 @@ def try_link(steps, folder):
     if os.geteuid() != 0:
         steps.skip("a link of another user", "needs root")
         return
-    link, target = os.path.join(folder, "theirs"), executable(os.path.join(folder, "target"), "dear")
+    shared = os.path.join(folder, "shared")
+    os.mkdir(shared)
+    os.chmod(shared, 0o1777)
+    link, target = os.path.join(shared, "theirs"), executable(os.path.join(folder, "target"), "dear")
     os.symlink(target, link)
     os.chown(link, 65534, 65534, follow_symlinks=False)
     status, said = walk(folder, ["--to", link], [*HOSTILE, "Right"])
@@ -284,6 +290,17 @@ def try_full_disk(steps, folder):
         status, said = run(words, folder, preexec_fn=no_files)
         steps.check(f"{name}: without a place for temporary files: status 3", status == 3 and "temporary" in said
                     and is_clean(said), f"{status}: {said[-600:]}")
+
+
+def try_mistakes(steps, folder):
+    """What a user gets wrong is told in words, before the server starts."""
+    for options, command, wanted in (
+            (["--to", "x"], ["nowhere"], "cannot run nowhere: No such file or directory"),
+            (["--to", "x"], [folder], f"cannot run {folder}: Permission denied"),
+            (["--to", "nodir/x"], ["touch", "started"], "cannot write nodir/x: there is no folder nodir")):
+        status, said = walk(folder, options, command)
+        steps.check(wanted, status == 3 and said == f"walk: {wanted}\n", f"{status}: {said}")
+    steps.check("nothing was started", not os.path.exists(os.path.join(folder, "started")))
 
 
 def try_usage(steps, folder):

@@ -14,6 +14,9 @@ WRITTEN, NO_TREE, BAD_USAGE, NOT_WRITTEN = range(4)
 # How many requests are in flight, unless it is told otherwise.
 IN_FLIGHT = 64
 
+# The profile that says what a server may do, unless it is told otherwise, and the word for none.
+PROFILE, STRICT = "posix", "strict"
+
 
 def count(text):
     if not (text.isascii() and text.isdigit()):
@@ -39,8 +42,11 @@ def parser(about):
         help=f"the most requests without a reply ({IN_FLIGHT})")
     add("--timeout", metavar="S", type=seconds, default=sessions.TIMEOUT,
         help=f"seconds to wait for a reply ({sessions.TIMEOUT}), and {sessions.OPENING} times as long for VERSION")
+    add("--profile", metavar="WORD", default=PROFILE,
+        help=f"for `sftpv3 infer`: a profile of `sftpv3 audit`, or {STRICT} for none ({PROFILE})")
     for option in verdicts.PROFILE_OPTIONS:
-        add(option, metavar="WORD", help=f"for `sftpv3 infer`, as of `sftpv3 audit {option}`")
+        if option != "--profile":
+            add(option, metavar="WORD", help=f"for `sftpv3 infer`, as of `sftpv3 audit {option}`")
     add("command", nargs="+", help=argparse.SUPPRESS)
     return found
 
@@ -59,4 +65,6 @@ def options(about):
 def profile_words(given):
     """The options of a profile, for the program."""
     values = {option: getattr(given, option[2:].replace("-", "_")) for option in verdicts.PROFILE_OPTIONS}
+    if values["--profile"] == STRICT:
+        del values["--profile"]
     return [word for option, value in values.items() if value is not None for word in (option, value)]

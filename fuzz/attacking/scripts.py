@@ -1,6 +1,7 @@
 """Attacks by the command lines of the installed scripts, and by standard descriptors that are closed at their start."""
 import os
 import re
+import resource
 import subprocess
 import sys
 
@@ -151,6 +152,26 @@ def a_closed_descriptor_takes_a_file(field):
             found = left_by(field, script, words, lambda it: redirected(it, files, "&-"))
             if found != wanted:
                 yield f"{script} {' '.join(words[:3])} without {files}: {found} in place of {wanted}"[:600]
+
+
+@attack()
+def a_limit_of_open_files_ends_in_a_traceback(field):
+    """Where the system lets a script open few files, it says so in a line, as its interpreter does that starts it."""
+    os.mkdir(field.path("made"))
+    lines = [(script, words, field.folder) for script, words in ordinary(field).items()]
+    lines += [(script, words, field.path("made")) for script, words in writing(field)]
+    lines += [(script, ["start.tree", "/bin/cat"], field.folder) for script in SERVERS]
+    environment = {**os.environ, "SFTPV3": program()}
+    for most in (4, 5, 6, 7, 9):
+        for script, words, folder in lines:
+            # as the installed ones start
+            call_of = ["/usr/bin/python3", "-IS", os.path.join(CLIENTS, script), *words]
+            done = subprocess.run(call_of, cwd=folder, env=environment, input=init(), capture_output=True,
+                                  timeout=SECONDS, preexec_fn=lambda it=most: resource.setrlimit(resource.RLIMIT_NOFILE,
+                                                                                                 (it, it)))
+            is_said = done.stderr or "--log" in words or not done.returncode
+            if b"Traceback" in done.stderr or b"Fatal" in done.stderr or not is_said:
+                yield f"{script} {' '.join(words[:3])}, {most} files: {done.returncode}, {done.stderr[-200:]!r}"
 
 
 @attack(is_small=True)

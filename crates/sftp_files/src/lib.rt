@@ -2,6 +2,7 @@
 //! the messages that say why.
 #![tactic(auto)]
 
+mod links;
 mod memory;
 mod messages;
 mod names;

@@ -1,13 +1,15 @@
 //! Where the record of a session goes.
+use crate::links::{UNTRUSTED, is_link, is_planted_at, path_of};
 use crate::messages::{Failure, MORE};
 use crate::options::ServeOptions;
 use crate::saving::{Keeping, is_file_of, is_own, new_file, sync_folder};
 use crate::system::System;
 use crate::watching::{Flow, Watched};
+use libc::ELOOP;
 use std::alloc::{AllocError, Global};
 use std::fs::{File, Files, Metadata, OpenOptions, TryLockError};
 use std::io::{BufWriter, ErrorKind, Write};
-use std::os::unix::fs::FileTypeExt;
+use std::os::unix::fs::{FileTypeExt, MetadataExt};
 use std::{fs, io};
 
 /// What precedes a packet of the client in a transcript. The record of a session is written in pieces, and this is one
@@ -57,14 +59,32 @@ fn record_in<'a, R: System>(
     name: &'a str,
     options: &ServeOptions<'a>,
 ) -> Result<Recording, Failure<'a>> {
-    match open(rt, name, options.keeping) {
+    match path_of(rt, name) {
+        Ok(Some(path)) => {
+            let recording = record_at(rt, name, path.as_str(), options);
+            drop(path);
+            recording
+        }
+        Ok(None) => Err(Failure::Unfit(name, UNTRUSTED)),
+        Err(error) => Err(Failure::writing(name, &error)),
+    }
+}
+
+/// To the file `name`, which leads to this path.
+fn record_at<'a, R: System>(
+    rt: &R,
+    name: &'a str,
+    path: &str,
+    options: &ServeOptions<'a>,
+) -> Result<Recording, Failure<'a>> {
+    match open(rt, name, path, options.keeping) {
         Ok(opened) => {
             let Opened { file, is_new } = opened;
-            match claim(rt, name, &file, options) {
-                Ok(()) => recording_to(rt, name, file, is_new, options.keeping),
+            match claim(rt, name, path, &file, options) {
+                Ok(()) => recording_to(rt, name, path, file, is_new, options.keeping),
                 Err(failure) => {
                     drop(file);
-                    remove_new(rt, name, is_new);
+                    remove_new(rt, path, is_new);
                     Err(failure)
                 }
             }
@@ -74,30 +94,63 @@ fn record_in<'a, R: System>(
 }
 
 /// Removes a file that was made in vain.
-fn remove_new<R: Files>(rt: &R, name: &str, is_new: bool) {
+fn remove_new<R: Files>(rt: &R, path: &str, is_new: bool) {
     if is_new {
-        let _ = fs::remove_file(rt, name);
+        let _ = fs::remove_file(rt, path);
     }
 }
 
-/// Opens the file of this name, which is made if there is none, and unchanged otherwise.
-fn open<R: System>(rt: &R, name: &str, keeping: Keeping) -> io::Result<Opened> {
-    match new_file(rt, name, keeping.mode) {
+/// Opens the file of this name, which leads to this path. It is made if there is none, unless the name is a link, and
+/// unchanged otherwise.
+fn open<R: System>(rt: &R, name: &str, path: &str, keeping: Keeping) -> io::Result<Opened> {
+    if is_link(rt, name) {
+        return open_old(rt, name, path);
+    }
+    match new_file(rt, path, keeping.mode) {
         Ok(file) => Ok(Opened { file, is_new: true }),
         Err(error) => match error.kind() {
-            ErrorKind::AlreadyExists => open_old(rt, name),
+            ErrorKind::AlreadyExists => open_old(rt, name, path),
             _ => Err(error),
         },
     }
 }
 
-fn open_old<R: System>(rt: &R, name: &str) -> io::Result<Opened> {
-    match OpenOptions::new().write(true).open(rt, name) {
-        Ok(file) => Ok(Opened {
+/// Opens what is at this path. What the caller has open may have a name and no path, as a pipe has.
+fn open_old<R: System>(rt: &R, name: &str, path: &str) -> io::Result<Opened> {
+    match fs::symlink_metadata(rt, path) {
+        Ok(found) => {
+            let file = open_to_write(rt, path)?;
+            opened_if(is_open(&file, &found), file)
+        }
+        Err(_) => {
+            let file = open_to_write(rt, name)?;
+            opened_if(!is_regular(&file), file)
+        }
+    }
+}
+
+fn open_to_write<R: System>(rt: &R, path: &str) -> io::Result<File> {
+    OpenOptions::new().write(true).open(rt, path)
+}
+
+/// An open file, unless a link that appeared meanwhile led to it.
+fn opened_if(is_wanted: bool, file: File) -> io::Result<Opened> {
+    if is_wanted {
+        Ok(Opened {
             file,
             is_new: false,
-        }),
-        Err(error) => Err(error),
+        })
+    } else {
+        drop(file);
+        Err(io::Error::from_raw_os_error(ELOOP))
+    }
+}
+
+/// Whether an open file is the one that was found.
+fn is_open(file: &File, found: &Metadata) -> bool {
+    match file.metadata() {
+        Ok(opened) => opened.dev() == found.dev() && opened.ino() == found.ino(),
+        Err(_) => false,
     }
 }
 
@@ -105,6 +158,7 @@ fn open_old<R: System>(rt: &R, name: &str) -> io::Result<Opened> {
 fn claim<'a, R: System>(
     rt: &R,
     name: &'a str,
+    path: &str,
     file: &File,
     options: &ServeOptions<'a>,
 ) -> Result<(), Failure<'a>> {
@@ -113,7 +167,7 @@ fn claim<'a, R: System>(
             if is_named_twice(rt, &found, options) {
                 return Err(Failure::of_usage(named_twice(rt.alloc())));
             }
-            if is_of_another(&found, file) {
+            if is_of_another(rt, path, &found, file) {
                 return Err(Failure::Unfit(name, ANOTHERS));
             }
             lock(name, file)
@@ -122,10 +176,10 @@ fn claim<'a, R: System>(
     }
 }
 
-/// Whether an open file or pipe is another user's, who says who reads it. A device is nobody's.
-fn is_of_another(found: &Metadata, file: &File) -> bool {
+/// Whether an open file or pipe at this path is another user's, who says who reads it. A device is nobody's.
+fn is_of_another<R: Files>(rt: &R, path: &str, found: &Metadata, file: &File) -> bool {
     let keeps = found.is_file() || found.file_type().is_fifo();
-    keeps && !is_own(file)
+    keeps && (!is_own(file) || is_planted_at(rt, path, found))
 }
 
 /// Whether the file is also that of the tree, or the one to save it to.
@@ -157,12 +211,13 @@ fn lock<'a>(name: &'a str, file: &File) -> Result<(), Failure<'a>> {
 fn recording_to<'a, R: System>(
     rt: &R,
     name: &'a str,
+    path: &str,
     file: File,
     is_new: bool,
     keeping: Keeping,
 ) -> Result<Recording, Failure<'a>> {
     let is_file = is_regular(&file);
-    match prepare(rt, name, &file, is_file, is_new, keeping) {
+    match prepare(rt, path, &file, is_file, is_new, keeping) {
         Ok(()) => match BufWriter::new(rt.alloc(), file) {
             Ok(writer) if keeping.is_synced && is_file => Ok(Recording::Synced(writer)),
             Ok(writer) => Ok(Recording::File(writer)),
@@ -185,7 +240,7 @@ fn is_regular(file: &File) -> bool {
 /// Empties a regular file, and has the name of a new one on the disk.
 fn prepare<R: System>(
     rt: &R,
-    name: &str,
+    path: &str,
     file: &File,
     is_file: bool,
     is_new: bool,
@@ -195,7 +250,7 @@ fn prepare<R: System>(
         file.set_len(0)?;
     }
     if is_new {
-        sync_folder(rt, name, keeping)
+        sync_folder(rt, path, keeping)
     } else {
         Ok(())
     }

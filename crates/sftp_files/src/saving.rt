@@ -5,13 +5,13 @@ ghost use Rattle.std.specs.Int.RustNames.{bit_and};
 ghost use Rattle.sftp_files.specs.declared.messages.Ending.TheVariants as endings;
 ghost use Rattle.sftp_files.specs.Failures.{IsUnwritten};
 
+use crate::links::{Owned, UNTRUSTED, folder_of, is_link, is_planted_at, owner_of, path_of};
 use crate::messages::{Ending, Failure};
 use crate::system::System;
 use std::fs::{File, Files, Metadata, OpenOptions, Permissions};
 use std::io::{ErrorKind, Write};
 use std::os::fd::AsFd;
 use std::os::unix::fs::{MetadataExt, OpenOptionsExt, PermissionsExt, fchown};
-use std::path::PathBuf;
 use std::{fs, io};
 
 /// The permissions of a file that is made, without an option, and of every new file until it is complete.
@@ -54,7 +54,8 @@ enum Place {
 
 /// Writes these bytes to the file `name`, which is made or replaced. If that fails, the file is unchanged.
 ///
-/// A link is followed, and stays. What is no regular file is written to only if it is standard output.
+/// Links are followed, and stay, but for one that another user may have put there. What is no regular file is written
+/// to only if it is standard output.
 pub fn write<'a, R: System>(
     rt: &R,
     name: &'a str,
@@ -63,8 +64,29 @@ pub fn write<'a, R: System>(
 ) -> Result<(), Failure<'a>>
     ensures { IfErr result IsUnwritten }
 {
+    match path_of(rt, name) {
+        Ok(Some(path)) => {
+            let written = write_to(rt, name, path.as_str(), keeping, bytes);
+            drop(path);
+            written
+        }
+        Ok(None) => Err(Failure::Unfit(name, UNTRUSTED)),
+        Err(error) => Err(Failure::replacing(name, &error)),
+    }
+}
+
+/// Writes these bytes to the file `name`, which leads to this path.
+fn write_to<'a, R: System>(
+    rt: &R,
+    name: &'a str,
+    path: &str,
+    keeping: Keeping,
+    bytes: &[u8],
+) -> Result<(), Failure<'a>>
+    ensures { IfErr result IsUnwritten }
+{
     match place_of(rt, name) {
-        Place::File => write_file(rt, name, keeping, bytes),
+        Place::File => write_at(rt, name, path, keeping, bytes),
         Place::Output => match write_output(rt, bytes) {
             Ok(()) => Ok(()),
             Err(error) => Err(Failure::writing(name, &error)),
@@ -92,9 +114,14 @@ pub fn write_last<'a, R: System>(
 }
 
 /// Fails if the name is that of something that is never written to.
-pub fn require_fit<'a, R: Files>(rt: &R, name: &'a str) -> Result<(), Failure<'a>>
+pub fn require_fit<'a, R: System>(rt: &R, name: &'a str) -> Result<(), Failure<'a>>
     ensures { IfErr result IsUnwritten }
 {
+    match path_of(rt, name) {
+        Ok(Some(path)) => drop(path),
+        Ok(None) => return Err(Failure::Unfit(name, UNTRUSTED)),
+        Err(error) => return Err(Failure::writing(name, &error)),
+    }
     match place_of(rt, name) {
         Place::File => Ok(()),
         Place::Output => Ok(()),
@@ -134,46 +161,11 @@ pub(crate) fn is_file_of<R: Files>(rt: &R, name: &str, file: &Metadata) -> bool 
     }
 }
 
-fn is_link<R: Files>(rt: &R, name: &str) -> bool {
-    match fs::symlink_metadata(rt, name) {
-        Ok(metadata) => metadata.is_symlink(),
-        Err(_) => false,
-    }
-}
-
 fn write_output<R: Files<File = File>>(rt: &R, bytes: &[u8]) -> io::Result<()> {
     let mut file = OpenOptions::new().write(true).open(rt, OUTPUT)?;
     let written = file.write_all(bytes);
     drop(file);
     written
-}
-
-/// Replaces the file to which the name leads, or makes it.
-fn write_file<'a, R: System>(
-    rt: &R,
-    name: &'a str,
-    keeping: Keeping,
-    bytes: &[u8],
-) -> Result<(), Failure<'a>>
-    ensures { IfErr result IsUnwritten }
-{
-    match path_of(rt, name) {
-        Ok(path) => {
-            let written = write_at(rt, name, path.as_str(), keeping, bytes);
-            drop(path);
-            written
-        }
-        Err(error) => Err(Failure::replacing(name, &error)),
-    }
-}
-
-/// The path to which the name leads. That of a link is looked up once.
-fn path_of<R: System>(rt: &R, name: &str) -> io::Result<PathBuf> {
-    if is_link(rt, name) {
-        fs::canonicalize(rt, name)
-    } else {
-        Ok(PathBuf::from_str(rt.alloc(), name)?)
-    }
 }
 
 /// Replaces the file at the path to which the name leads, or makes it. Then the folder is on the disk, too.
@@ -269,11 +261,12 @@ fn fill_open<R: Files<File = File>>(
     }
 }
 
-/// The permissions that the file at this path has or is to have. If it is there, the new one takes its owner.
+/// The permissions that the file at this path has or is to have. If it is there, the new one takes its owner, unless
+/// that user may have put it there for this.
 fn mode_of<R: Files>(rt: &R, path: &str, file: &File, mode: u32) -> u32 {
     match fs::symlink_metadata(rt, path) {
         Ok(old) => {
-            if old.is_file() {
+            if old.is_file() && !is_planted_at(rt, path, &old) {
                 take_owner(&old, file, mode)
             } else {
                 mode
@@ -302,22 +295,6 @@ fn is_owned_as(old: &Metadata, file: &File) -> bool {
     match file.metadata() {
         Ok(new) => new.uid() == old.uid(),
         Err(_) => false,
-    }
-}
-
-/// Whose a file is, and its permissions.
-#[derive(Clone, Copy)]
-struct Owned {
-    uid: u32,
-    gid: u32,
-    permissions: u32,
-}
-
-fn owner_of(file: &Metadata) -> Owned {
-    Owned {
-        uid: file.uid(),
-        gid: file.gid(),
-        permissions: file.mode(),
     }
 }
 
@@ -381,14 +358,5 @@ fn unless_unknown(done: io::Result<()>) -> io::Result<()> {
             ErrorKind::InvalidInput | ErrorKind::Unsupported => Ok(()),
             _ => Err(error),
         },
-    }
-}
-
-/// The folder of the file at this path.
-fn folder_of(path: &str) -> &str {
-    match path.rsplit_once('/') {
-        Some(("", _)) => "/",
-        Some((folder, _)) => folder,
-        None => ".",
     }
 }

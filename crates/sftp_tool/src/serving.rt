@@ -17,7 +17,6 @@ use sftp_transcript::{Tally, Writer};
 use sftp_tree::Tree;
 use sftp_treefile::TreeLimits;
 use sftp_wire::{take_number, take_string};
-use std::fs::Files;
 use std::io::{Read, Write};
 
 /// Why a session was not served to the end of its input.
@@ -67,7 +66,7 @@ pub(crate) fn serve<'a, R: System, I: Read, O: Write, E: Write>(
 }
 
 /// Fails if the tree could not be saved to this file for what it is.
-fn require_place<'a, R: Files>(rt: &R, save: Option<&'a str>) -> Result<(), Failure<'a>> {
+fn require_place<'a, R: System>(rt: &R, save: Option<&'a str>) -> Result<(), Failure<'a>> {
     match save {
         Some(name) => require_fit(rt, name),
         None => Ok(()),

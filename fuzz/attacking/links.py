@@ -1,0 +1,299 @@
+"""Attacks by symbolic links on the way to a file that is written: whose they are says whether they are followed."""
+import os
+import signal
+import subprocess
+import time
+
+from attacking.ground import CLIENTS, SECONDS, attack, wrong_status
+from attacking.saving import HELLO, OPENED
+from attacking.scripts import DIFFERING, ordinary
+from programs import program
+
+SAID = b"a symbolic link of another user"
+FOLDERS = (0o1777, 0o777, 0o755)
+
+
+def writing(field):
+    """What the program writes, as words with SAVED for the name, and what they read."""
+    start = field.blank()
+    text = field.run("show", "--full", "--data", "all", start).stdout
+    archive = field.run("export", start).stdout
+    record = field.put("opened", OPENED)
+    return {"blank": (["blank", "SAVED"], b""), "raise": (["raise", start, "SAVED"], b""),
+            "make": (["make", "SAVED"], text), "import": (["import", "SAVED"], archive),
+            "--out": (["audit", "--tree", start, "--transcript", record, "--out", "SAVED"], b""),
+            "infer": (["infer", "--transcript", record, "SAVED"], b""),
+            "--save": (["serve", "--tree", start, "--save", "SAVED"], HELLO),
+            "--record": (["serve", "--tree", start, "--record", "SAVED"], HELLO)}
+
+
+def write(field, given, name, **options):
+    words, asked = given
+    return field.run(*[name if it == "SAVED" else it for it in words], input=asked, **options)
+
+
+def link(target, path, owner):
+    os.symlink(target, path)
+    os.lchown(path, owner, owner)
+
+
+def shared(field, name, mode, owner=0):
+    """Makes a folder with these permissions, and returns its path."""
+    path = field.path(name)
+    os.mkdir(path)
+    os.chmod(path, mode)
+    os.chown(path, owner, owner)
+    return path
+
+
+def planted(field, folder):
+    """Names in this folder that lead through a link of the other user to files of root, which are made anew."""
+    target = shared(field, f"of-root-{os.path.basename(folder)}", 0o700)
+    victim = os.path.join(target, "victim")
+    user = field.user.pw_uid
+    link(victim, os.path.join(folder, "x"), user)
+    link("x", os.path.join(folder, "own"), 0)
+    link(target, os.path.join(folder, "way"), user)
+    names = [os.path.join(folder, it) for it in ("x", "own", "way/victim", "way/new", "way/../x")]
+    return target, victim, names
+
+
+@attack("user")
+def a_link_of_another_user_says_what_root_writes(field):
+    """A link of another user leads nothing that root writes anywhere, wherever that user may have put it."""
+    runs = writing(field)
+    for number, mode in enumerate(FOLDERS):
+        owner = field.user.pw_uid if mode == 0o755 else 0
+        folder = shared(field, f"shared-{number}", mode, owner)
+        target, victim, names = planted(field, folder)
+        for run, given in runs.items():
+            for name in names:
+                with open(victim, "wb") as file:
+                    file.write(b"of root")
+                before = os.stat(victim)
+                done = write(field, given, name)
+                yield from (f"{run} {name}: {it}" for it in wrong_status(done, 3))
+                if SAID not in done.stderr or done.stdout:
+                    yield f"{run} {name}: says {done.stderr[-200:]!r}, prints {done.stdout[:20]!r}"
+                with open(victim, "rb") as file:
+                    if (file.read(), os.stat(victim).st_ino) != (b"of root", before.st_ino):
+                        yield f"{run} {name}, mode {mode:o}: root's file is replaced"
+                if os.listdir(target) != ["victim"]:
+                    yield f"{run} {name}, mode {mode:o}: root's folder has {os.listdir(target)}"
+
+
+@attack("user")
+def a_link_of_another_user_says_what_a_user_writes(field):
+    """So for a user who is not root, who follows links of root and of their own."""
+    runs = writing(field)
+    folder = shared(field, "shared", 0o1777)
+    own = shared(field, "own", 0o700, field.user.pw_uid)
+    for owner, wanted in ((65534, 3), (0, 0), (field.user.pw_uid, 0)):
+        for run, given in runs.items():
+            saved = os.path.join(own, f"{run}-{owner}")
+            with open(saved, "wb"):
+                pass
+            os.chown(saved, field.user.pw_uid, field.user.pw_gid)
+            name = os.path.join(folder, f"{run}-{owner}")
+            link(saved, name, owner)
+            done = write(field, given, name, as_user=True)
+            yield from (f"{run}, link of {owner}: {it}" for it in wrong_status(done, wanted))
+            if (os.path.getsize(saved) > 0) != (wanted == 0) or not os.path.islink(name):
+                yield f"{run}, link of {owner}: {os.path.getsize(saved)} bytes"
+
+
+@attack("user")
+def a_link_that_nobody_can_have_planted(field):
+    """A link of another user in a folder that only root can write is followed: nobody else put it there."""
+    folder = shared(field, "of-root", 0o755)
+    for run, given in writing(field).items():
+        saved, name = os.path.join(folder, f"{run}.tree"), os.path.join(folder, f"{run}.link")
+        with open(saved, "wb"):
+            pass
+        link(f"{run}.tree", name, field.user.pw_uid)
+        yield from wrong_status(write(field, given, name), 0)
+        if os.path.getsize(saved) == 0 or not os.path.islink(name):
+            yield f"{run}: nothing is saved"
+
+
+@attack("user")
+def a_file_is_planted_for_what_root_writes(field):
+    """What root writes onto a file that another user made in a folder of all is root's, and a record is refused. In a
+    folder of that user's own, the file stays that user's."""
+    for run, given in writing(field).items():
+        for mode, owner, wanted in ((0o1777, 0, 0), (0o755, field.user.pw_uid, field.user.pw_uid)):
+            name = os.path.join(shared(field, f"{run}-{mode:o}", mode, owner), "planted")
+            with open(name, "wb"):
+                pass
+            os.chmod(name, 0o666)
+            os.chown(name, field.user.pw_uid, field.user.pw_gid)
+            is_refused = run == "--record" and wanted == 0
+            yield from (f"{run}, {mode:o}: {it}" for it in wrong_status(write(field, given, name), 3 * is_refused))
+            found = os.stat(name)
+            if is_refused:
+                if found.st_size:
+                    yield f"{run}, {mode:o}: {found.st_size} bytes are in a file of {found.st_uid}"
+            elif (found.st_uid, found.st_mode & 0o777) != (wanted, 0o666 if wanted else 0o600) or not found.st_size:
+                yield f"{run}, {mode:o}: uid {found.st_uid}, mode {found.st_mode:o}, {found.st_size} bytes"
+
+
+@attack("user")
+def a_file_is_planted_for_a_session(field):
+    """So for the script, which saves by itself."""
+    field.blank()
+    name = os.path.join(shared(field, "shared", 0o1777), "planted")
+    with open(name, "wb"):
+        pass
+    os.chown(name, field.user.pw_uid, field.user.pw_gid)
+    done = subprocess.run([os.path.join(CLIENTS, "serve"), "--program", program(), "--tree", "start.tree", "--save",
+                           name], cwd=field.folder, input=HELLO, capture_output=True, timeout=SECONDS)
+    yield from wrong_status(done, 0)
+    found = os.stat(name)
+    if (found.st_uid, found.st_mode & 0o777) != (0, 0o600) or not found.st_size:
+        yield f"uid {found.st_uid}, mode {found.st_mode:o}, {found.st_size} bytes"
+
+
+def by_scripts(field):
+    """What the scripts write, as words with SAVED for the name."""
+    server = [program(), "serve", "--tree", "start.tree"]
+    return [("tree", ["--chroot", "--out", "SAVED", "live"]),
+            ("page", ["--tree", "start.tree", "-o", "SAVED", "opened"]),
+            ("walk", ["--to", "SAVED", "--", *server]), ("walk", ["--session", "SAVED", "--", *server]),
+            ("record", ["SAVED", *server]), ("record", ["--overwrite", "SAVED", *server]),
+            ("record", ["--log", "SAVED", "own", *server]), ("record", ["--times", "SAVED", "own", *server]),
+            ("record", ["--audit", "--tree", "start.tree", "--program", program(), "--out", "SAVED", "own", *server]),
+            ("serve", ["--program", program(), "--tree", "start.tree", "--save", "SAVED"]),
+            ("serve", ["--program", program(), "--tree", "start.tree", "--record", "SAVED"]),
+            ("serve", ["--program", program(), "--tree", "start.tree", "--log", "SAVED"]),
+            ("probe", ["--report", "SAVED", *DIFFERING, *server]), ("probe", ["--keep", "SAVED", *DIFFERING, *server])]
+
+
+@attack("user")
+def a_link_of_another_user_says_what_a_script_writes(field):
+    """So for the scripts: none leads what root writes by them anywhere."""
+    ordinary(field)
+    field.put("opened", OPENED)
+    folder = shared(field, "shared", 0o1777)
+    target, victim, names = planted(field, folder)
+    environment = {**os.environ, "SFTPV3": program()}
+    for script, words in by_scripts(field):
+        for name in names:
+            if not os.path.islink(os.path.join(folder, "x")):
+                # what is replaced under its own name is written where it was asked for
+                os.remove(os.path.join(folder, "x"))
+                link(victim, os.path.join(folder, "x"), field.user.pw_uid)
+            with open(victim, "wb") as file:
+                file.write(b"of root")
+            done = subprocess.run([os.path.join(CLIENTS, script), *[name if it == "SAVED" else it for it in words]],
+                                  cwd=field.folder, env=environment, input=HELLO, capture_output=True, timeout=SECONDS)
+            with open(victim, "rb") as file:
+                if file.read() != b"of root" or os.listdir(target) != ["victim"]:
+                    yield f"{script} {words[0]} {name}: root's folder has {os.listdir(target)}"
+            if "way" in name and SAID not in done.stderr:
+                yield f"{script} {words[0]} {name}: status {done.returncode}, {done.stderr[-200:]!r}"
+            for it in os.listdir(target):
+                if it != "victim":
+                    subprocess.run(["rm", "-r", os.path.join(target, it)], check=True)
+
+
+def take_turns(folder, victim):
+    """Lets a name be a file and a link to the victim in turns."""
+    os.chdir(folder)
+    while True:
+        try:
+            os.symlink(victim, ".link")
+            os.rename(".link", "x")
+            with open(".file", "wb"):
+                pass
+            os.chmod(".file", 0o666)
+            os.rename(".file", "x")
+        except OSError:
+            pass
+
+
+@attack("user")
+def a_link_appears_after_the_look(field):
+    """In a folder with the sticky bit, where a user's name is a file and a link in turns, root's file stays."""
+    runs = writing(field)
+    folder, victim = shared(field, "shared", 0o1777), field.put("victim", b"of root", 0o600)
+    inode = os.stat(victim).st_ino
+    swapper = field.start_as_user(take_turns, folder, victim)
+    try:
+        while not os.path.lexists(os.path.join(folder, "x")):
+            time.sleep(0.01)
+        for run in ("blank", "--record"):
+            seen = set()
+            until = time.monotonic() + 15
+            while len(seen) < 2 and time.monotonic() < until or len(seen) == 2 and time.monotonic() < until - 8:
+                name = os.path.join(folder, "x")
+                seen.add(write(field, runs[run], name).returncode)
+                if os.lstat(name).st_uid == 0:
+                    # what root saved is root's, and the user goes on where it is gone
+                    os.remove(name)
+                if field.read("victim") != b"of root" or os.stat(victim).st_ino != inode:
+                    yield f"{run} wrote root's file"
+                    return
+            if seen - {0, 3}:
+                yield f"{run}: status {seen}"
+    finally:
+        os.kill(swapper, signal.SIGKILL)
+        os.waitpid(swapper, 0)
+
+
+@attack(is_small=True)
+def an_own_link_is_not_followed(field):
+    """A user's own links are followed, in each part of a name, and stay; what they lead to is replaced."""
+    runs = writing(field)
+    os.makedirs(field.path("a/b/c"))
+    os.symlink("a/b", field.path("down"))
+    os.symlink(field.path("a"), field.path("absolute"))
+    os.symlink("down/c/..//kept", field.path("far"))
+    os.symlink("far", field.path("farther"))
+    for run, given in runs.items():
+        for name in ("far", "farther", "down/kept", "down/../b/kept", "absolute/b/kept", "down//kept", "./down/./kept",
+                     field.path("down/kept")):
+            kept = field.put("a/b/kept", b"")
+            yield from (f"{run} {name}: {it}" for it in wrong_status(write(field, given, name), 0))
+            if os.path.getsize(kept) == 0 or os.listdir(field.path("a/b")) not in (["kept", "c"], ["c", "kept"]):
+                yield f"{run} {name}: {os.path.getsize(kept)} bytes, {os.listdir(field.path('a/b'))}"
+        yield from wrong_status(write(field, given, "down/made"), 0)
+        os.remove(field.path("a/b/made"))
+    if not all(os.path.islink(field.path(it)) for it in ("down", "absolute", "far", "farther")):
+        yield "a link is replaced"
+
+
+@attack(is_small=True)
+def links_without_an_end(field):
+    """Forty links are followed, as the system does. More, and links that lead to each other, end with status 3."""
+    field.put("file-0", b"")
+    for number in range(45):
+        os.symlink(f"file-{number}", field.path(f"file-{number + 1}"))
+    os.symlink("loop", field.path("loop"))
+    os.symlink("around/around", field.path("around"))
+    for run, given in writing(field).items():
+        for name, wanted in (("file-40", 0), ("file-41", 3), ("loop", 3), ("loop/x", 3), ("around", 3),
+                             ("file-1/x", 3)):
+            yield from (f"{run} {name}: {it}" for it in wrong_status(write(field, given, name), wanted))
+
+
+@attack(is_small=True)
+def a_record_into_an_open_pipe(field):
+    """A pipe that the caller opened has a name and no path: a session is recorded in it, and a tree in none."""
+    start = field.blank()
+    reader, writer = os.pipe()
+    try:
+        done = field.run("serve", "--tree", start, "--record", f"/dev/fd/{writer}", input=HELLO, pass_fds=[writer])
+        yield from wrong_status(done, 0)
+        if not os.read(reader, 8) == b"SFTPTR01":
+            yield "the record is not in the pipe"
+        yield from wrong_status(field.run("blank", f"/dev/fd/{writer}", pass_fds=[writer]), 3)
+    finally:
+        os.close(reader)
+        os.close(writer)
+    for words in (["blank", "/dev/stdout"], ["serve", "--tree", start, "--save", "/dev/stdout"]):
+        with open(field.path("out"), "wb") as out:
+            done = subprocess.run([program(), *words], cwd=field.folder, input=HELLO, stdout=out, timeout=SECONDS,
+                                  stderr=subprocess.PIPE)
+        yield from wrong_status(done, 0)
+        if os.path.getsize(field.path("out")) == 0:
+            yield f"{words[0]}: nothing in the file that standard output is"
