@@ -37,7 +37,7 @@ def parser(about):
         help=f"the most bytes of files to read, all together; a line names each file that is left ({bounds.READ})")
     add("--session", metavar="FILE", help="keep the transcript of the session, which is made anew")
     add("--memory", metavar="BYTES", type=count, default=inferring.MEMORY,
-        help=f"the most memory of `sftpv3 infer`, which takes four times that of the record ({inferring.MEMORY})")
+        help=f"the most memory of `sftpv3 infer`, which takes three times that of the record ({inferring.MEMORY})")
     add("--in-flight", metavar="N", type=flying, default=IN_FLIGHT,
         help=f"the most requests without a reply ({IN_FLIGHT})")
     add("--timeout", metavar="S", type=seconds, default=sessions.TIMEOUT,

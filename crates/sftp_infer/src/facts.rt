@@ -3,6 +3,9 @@
 use sftp_path::NoMemory;
 use std::alloc::Global;
 
+/// What a fact takes beside its texts.
+const FACT_BYTES: u64 = 128;
+
 /// What a fact says of a place at the start.
 #[derive(Debug, Drop)]
 pub enum Says {
@@ -47,6 +50,17 @@ pub struct Fact {
 }
 
 impl Fact {
+    /// How much memory it takes, about, in units of 64 bytes.
+    pub(crate) fn units(&self) -> u64 {
+        let text = match &self.says {
+            Says::Link(target) => target.len(),
+            Says::SameFile(place) => place.len(),
+            _ => 0,
+        };
+        let texts = self.place.len().saturating_add(text) as u64;
+        texts.saturating_add(FACT_BYTES) / 64
+    }
+
     pub(crate) fn try_clone(&self, alloc: Global) -> Result<Fact, NoMemory> {
         Ok(Fact {
             place: Vec::from_slice(alloc, self.place.as_slice())?,

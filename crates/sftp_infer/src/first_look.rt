@@ -7,7 +7,7 @@ use sftp_path::NoMemory;
 use sftp_wire::{Answer, Ask};
 
 impl<'a> Search<'a> {
-    /// Counts the requests, and looks for the home.
+    /// Counts the requests and the names in replies, and looks for the home.
     pub(crate) fn look_first(&mut self) -> Result<(), NoMemory> {
         let mut exchanges = Exchanges::new(self.alloc, self.session)?;
         for _ in 0..u64::MAX {
@@ -15,7 +15,11 @@ impl<'a> Search<'a> {
                 Some(exchange) => {
                     self.requests = self.requests.saturating_add(1);
                     let told = match &exchange.reply {
-                        Some(reply) => self.look_at(&exchange.ask, &reply.answer),
+                        Some(reply) => {
+                            let names = count_of_names(&reply.answer);
+                            self.requests = self.requests.saturating_add(names);
+                            self.look_at(&exchange.ask, &reply.answer)
+                        }
                         None => Ok(()),
                     };
                     drop(exchange);
@@ -41,5 +45,13 @@ impl<'a> Search<'a> {
             }
         }
         Ok(())
+    }
+}
+
+/// How many names a reply has.
+fn count_of_names(answer: &Answer) -> u64 {
+    match answer {
+        Answer::Name(names) => names.as_slice().len() as u64,
+        _ => 0,
     }
 }

@@ -16,17 +16,17 @@ pub(crate) fn home_of<'t>(path: &[u8], text: &'t [u8]) -> Option<&'t [u8]> {
     if path.first() == Some(&b'/') || path.iter().any(|byte| *byte == b'.') {
         return None;
     }
+    before(path, text)
+}
+
+/// The text before a path and its slash, if it ends in them. That of the root is a slash.
+fn before<'t>(path: &[u8], text: &'t [u8]) -> Option<&'t [u8]> {
     let length = text.len().checked_sub(path.len())?;
-    let behind = text.get(length..)?;
-    if behind != path {
+    let home = length.checked_sub(1)?;
+    if text.get(length..) != Some(path) {
         return None;
     }
-    let home = length.checked_sub(1)?;
-    if home == 0 {
-        text.get(..1)
-    } else {
-        text.get(..home)
-    }
+    text.get(..home.max(1))
 }
 
 impl<'a> World<'a> {

@@ -8,6 +8,9 @@ use sftp_path::NoMemory;
 /// How often a session is gone through at most with what was told of the start before.
 const ROUNDS: u32 = 12;
 
+/// What the facts of any session may take.
+const FREE_BYTES: u64 = 1 << 20;
+
 /// What a pass comes to.
 #[derive(Clone, Copy, Debug, PartialEq, Eq)]
 pub(crate) enum Passed {
@@ -82,8 +85,9 @@ impl<'a> World<'a> {
 
     /// Whether what is known takes more memory than it may: as many bytes as the session has, and some for each place.
     fn is_over(&self) -> bool {
-        let pieces = self.taken.saturating_mul(64);
+        let facts = self.taken.saturating_mul(64);
         let places = (self.nodes.len() as u64).saturating_mul(512);
-        pieces > (self.session.len() as u64).saturating_add(places)
+        let most = (self.session.len() as u64).saturating_add(places);
+        facts > most.saturating_add(FREE_BYTES)
     }
 }

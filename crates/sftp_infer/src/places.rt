@@ -12,7 +12,9 @@ impl<'a> World<'a> {
         match self.old_place(parent, name) {
             Ok(place) => {
                 let told = self.replied;
-                self.learned.push(Fact { place, says, told })?;
+                let fact = Fact { place, says, told };
+                self.taken = self.taken.saturating_add(fact.units());
+                self.learned.push(fact)?;
                 Ok(())
             }
             Err(error) => {
@@ -20,6 +22,15 @@ impl<'a> World<'a> {
                 Err(error)
             }
         }
+    }
+
+    /// Keeps what is made up.
+    pub(crate) fn invent(&mut self, place: Vec<u8>, says: Says) -> Result<(), NoMemory> {
+        let told = self.replied;
+        let fact = Fact { place, says, told };
+        self.taken = self.taken.saturating_add(fact.units());
+        self.invented.push(fact)?;
+        Ok(())
     }
 
     /// Proposes a fact about a place of the start.

@@ -1,5 +1,6 @@
 //! Back to the start of the session, with what is known of it.
 
+use crate::facts::Fact;
 use crate::files::File;
 use crate::nodes::{Node, Rights, Slot};
 use crate::pieces::Pieces;
@@ -53,13 +54,27 @@ impl Node {
         if self.name.as_slice() != self.old_name.as_slice() {
             self.name = Vec::from_slice(alloc, self.old_name.as_slice())?;
         }
+        self.rewind_inside(alloc);
+        Ok(())
+    }
+
+    /// The same of what it has beside its name.
+    fn rewind_inside(&mut self, alloc: Global) {
         self.rights.rewind();
         self.file.rewind(alloc);
         for slot in self.names.values_mut() {
             slot.rewind();
         }
-        Ok(())
     }
+}
+
+/// How much memory facts take, about, in units of 64 bytes.
+fn units_of(facts: &[Fact]) -> u64 {
+    let mut sum: u64 = 0;
+    for fact in facts {
+        sum = sum.saturating_add(fact.units());
+    }
+    sum
 }
 
 impl<'a> World<'a> {
@@ -69,7 +84,10 @@ impl<'a> World<'a> {
         self.asked = 0;
         self.replied = 0;
         self.teller = 0;
-        self.taken = 0;
+        self.taken = units_of(self.learned.as_slice());
+        self.taken = self
+            .taken
+            .saturating_add(units_of(self.invented.as_slice()));
         self.owner = None;
         self.owner_by = 0;
         self.skipped = false;

@@ -19,14 +19,31 @@ const ALL_BYTES: u64 = 1 << 30;
 /// Zeros that are written at once.
 const ZEROS: &[u8] = &[0; 4_096];
 
+/// The bytes of the field that says how long a file is.
+const LENGTH_BYTES: usize = 4;
+
 /// The longest text of a field.
 const LONGEST: usize = 4_294_967_295;
 
-/// A place of the start.
-#[derive(Drop)]
-struct Listed {
+/// The bytes of an entry in a tree file beside its path and what it has: at most so many.
+const ENTRY_BYTES: usize = 32;
+
+/// The bytes of the head of a tree file beside the home: at most so many.
+const HEAD_BYTES: usize = 64;
+
+/// A place of the start: the entry, its name, and how long the path of its directory is.
+#[derive(Clone, Copy)]
+struct Listed<'w> {
     at: usize,
-    path: Vec<u8>,
+    name: &'w [u8],
+    above: usize,
+}
+
+impl Listed<'_> {
+    /// How long its path is.
+    fn length(&self) -> usize {
+        self.above.saturating_add(self.name.len()).saturating_add(1)
+    }
 }
 
 /// The number between two bounds that is closest to this one.
@@ -47,12 +64,37 @@ impl<'a> World<'a> {
             drop(rows);
             return Ok(None);
         }
-        let mut out = Vec::new(self.alloc);
         let entries = rows.len() as u64;
+        let mut out = Vec::with_capacity(self.alloc, self.length_of(rows.as_slice()))?;
         let done = self.put_tree(rows.as_slice(), &mut out);
         drop(rows);
         done?;
         Ok(Some((out, entries)))
+    }
+
+    /// How many bytes a tree file of these places takes at most.
+    fn length_of(&self, rows: &[Listed<'_>]) -> usize {
+        let mut sum = HEAD_BYTES.saturating_add(self.home.len());
+        for listed in rows {
+            sum = sum
+                .saturating_add(listed.length())
+                .saturating_add(ENTRY_BYTES);
+            sum = sum.saturating_add(self.target_length(listed.at));
+        }
+        sum.saturating_add(self.all_bytes() as usize)
+    }
+
+    /// How long the target of an entry is, if it has one that is known.
+    fn target_length(&self, at: usize) -> usize {
+        match self.entry(at) {
+            Some(
+                Node {
+                    target: Some(target),
+                    ..
+                },
+            ) => target.len(),
+            _ => 0,
+        }
     }
 
     /// The bytes of all files of the start.
@@ -67,13 +109,18 @@ impl<'a> World<'a> {
     }
 
     /// The places of the start in the order of a tree file.
-    fn rows(&self) -> Result<Option<Vec<Listed>>, NoMemory> {
+    fn rows(&self) -> Result<Option<Vec<Listed<'_>>>, NoMemory> {
         let mut rows = Vec::new(self.alloc);
         let mut waiting = Vec::new(self.alloc);
-        self.push_names(0, &[], &mut waiting)?;
+        self.push_names(0, 0, &mut waiting)?;
         for _ in 0..=ENTRIES {
             match waiting.pop() {
-                Some(listed) => self.take_row(listed, &mut rows, &mut waiting)?,
+                Some(listed) => {
+                    if self.sort(listed.at) == Sort::Directory {
+                        self.push_names(listed.at, listed.length(), &mut waiting)?;
+                    }
+                    rows.push(listed)?;
+                }
                 None => {
                     drop(waiting);
                     return Ok(Some(rows));
@@ -85,54 +132,41 @@ impl<'a> World<'a> {
         Ok(None)
     }
 
-    fn take_row(
-        &self,
-        listed: Listed,
-        rows: &mut Vec<Listed>,
-        waiting: &mut Vec<Listed>,
-    ) -> Result<(), NoMemory> {
-        if self.sort(listed.at) == Sort::Directory {
-            if let Err(error) = self.push_names(listed.at, listed.path.as_slice(), waiting) {
-                drop(listed);
-                return Err(error);
-            }
-        }
-        rows.push(listed)?;
-        Ok(())
-    }
-
     /// Pushes what a directory had at the start, the last name first.
-    fn push_names(
-        &self,
+    fn push_names<'w>(
+        &'w self,
         at: usize,
-        path: &[u8],
-        waiting: &mut Vec<Listed>,
+        above: usize,
+        waiting: &mut Vec<Listed<'w>>,
     ) -> Result<(), NoMemory> {
         let Some(directory) = self.entry(at) else {
             return Ok(());
         };
         for (name, slot) in directory.names.iter().rev() {
             if let Some(Held::Entry(child)) = slot.start {
-                let mut text = Vec::from_slice(self.alloc, path)?;
-                text.push(b'/')?;
-                text.extend_from_slice(name.as_slice())?;
                 waiting.push(Listed {
                     at: child,
-                    path: text,
+                    name: name.as_slice(),
+                    above,
                 })?;
             }
         }
         Ok(())
     }
 
-    fn put_tree(&self, rows: &[Listed], out: &mut Vec<u8>) -> Result<(), NoMemory> {
+    fn put_tree(&self, rows: &[Listed<'_>], out: &mut Vec<u8>) -> Result<(), NoMemory> {
         self.put_start(rows.len(), out)?;
         let mut firsts: Vec<u32> = vec![in self.alloc; 0; self.nodes.len()]?;
+        let mut path = Vec::new(self.alloc);
         let mut number: u32 = 0;
         for listed in rows {
             number = number.saturating_add(1);
-            self.put_row(listed, number, &mut firsts, out)?;
+            path.truncate(listed.above);
+            path.push(b'/')?;
+            path.extend_from_slice(listed.name)?;
+            self.put_row(path.as_slice(), listed.at, number, &mut firsts, out)?;
         }
+        drop(path);
         drop(firsts);
         Ok(())
     }
@@ -192,24 +226,24 @@ impl<'a> World<'a> {
 
     fn put_row(
         &self,
-        listed: &Listed,
+        path: &[u8],
+        at: usize,
         number: u32,
         firsts: &mut Vec<u32>,
         out: &mut Vec<u8>,
     ) -> Result<(), NoMemory> {
-        let path = listed.path.as_slice();
         if path.len() > LONGEST {
             return Err(NoMemory);
         }
-        let Some(entry) = self.entry(listed.at) else {
+        let Some(entry) = self.entry(at) else {
             return Ok(());
         };
         match entry.sort {
-            Sort::Directory => put_directory(out, path, &self.owner_of(listed.at, 0o755)),
-            Sort::Link => self.put_link_row(path, listed.at, out),
-            _ => match take_first(firsts, listed.at, number) {
+            Sort::Directory => put_directory(out, path, &self.owner_of(at, 0o755)),
+            Sort::Link => self.put_link_row(path, at, out),
+            _ => match take_first(firsts, at, number) {
                 Some(first) => put_further_name(out, path, first),
-                None => self.put_file_row(path, listed.at, entry, out),
+                None => self.put_file_row(path, at, entry, out),
             },
         }
     }
@@ -229,6 +263,8 @@ impl<'a> World<'a> {
         }
     }
 
+    /// Appends the entry of a file: that of an empty one, then its length in the place of the last field, and its bytes
+    /// from where the transcript has them.
     fn put_file_row(
         &self,
         path: &[u8],
@@ -237,26 +273,28 @@ impl<'a> World<'a> {
         out: &mut Vec<u8>,
     ) -> Result<(), NoMemory> {
         let owner = self.owner_of(at, 0o644);
-        let bytes = self.bytes_of(entry)?;
-        if path.len() > LONGEST || bytes.len() > LONGEST {
-            drop(bytes);
+        let size = entry.file.least;
+        let Ok(length) = u32::try_from(size) else {
+            return Err(NoMemory);
+        };
+        if path.len() > LONGEST {
             return Err(NoMemory);
         }
-        let done = put_file(out, path, &owner, bytes.as_slice());
-        drop(bytes);
-        done
+        put_file(out, path, &owner, &[])?;
+        out.truncate(out.len().saturating_sub(LENGTH_BYTES));
+        out.extend_from_slice(&length.to_be_bytes())?;
+        self.put_bytes(entry, out)
     }
 
-    /// The bytes of a file at the start: those that were shown, and zeros.
-    fn bytes_of(&self, entry: &Node) -> Result<Vec<u8>, NoMemory> {
-        let mut bytes = Vec::new(self.alloc);
+    /// Appends the bytes of a file at the start: those that were shown, and zeros.
+    fn put_bytes(&self, entry: &Node, out: &mut Vec<u8>) -> Result<(), NoMemory> {
         let size = entry.file.least;
+        let start = out.len();
         for (offset, piece) in entry.file.shown.iter() {
-            put_zeros(&mut bytes, (*offset).min(size))?;
-            bytes.extend_from_slice(self.text_of(piece, size.saturating_sub(*offset)))?;
+            put_zeros(out, start, (*offset).min(size))?;
+            out.extend_from_slice(self.text_of(piece, size.saturating_sub(*offset)))?;
         }
-        put_zeros(&mut bytes, size)?;
-        Ok(bytes)
+        put_zeros(out, start, size)
     }
 
     /// The bytes of a piece, at most so many.
@@ -281,10 +319,11 @@ fn take_first(firsts: &mut Vec<u32>, at: usize, number: u32) -> Option<u32> {
     }
 }
 
-/// Appends zeros until there are so many bytes.
-fn put_zeros(bytes: &mut Vec<u8>, size: u64) -> Result<(), NoMemory> {
+/// Appends zeros until there are so many bytes from a place on.
+fn put_zeros(bytes: &mut Vec<u8>, start: usize, size: u64) -> Result<(), NoMemory> {
+    let end = start.saturating_add(size as usize);
     for _ in 0..u64::MAX {
-        let left = (size as usize).saturating_sub(bytes.len());
+        let left = end.saturating_sub(bytes.len());
         if left == 0 {
             return Ok(());
         }

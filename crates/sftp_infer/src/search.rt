@@ -11,7 +11,7 @@ use crate::world::World;
 use sftp_path::NoMemory;
 use std::alloc::Global;
 
-/// How many steps all passes may take for each record of the session.
+/// How many steps all passes may take for each record of the session, and for each name in a reply.
 const WORK: u64 = 64;
 
 /// The most proposals that a contradiction adds to the search.
@@ -22,6 +22,12 @@ const GUESSES: usize = 8;
 
 /// The most bytes of the files of a tree that did not explain the session, which is kept as the one that came furthest.
 const BEST_BYTES: u64 = 1 << 24;
+
+/// How much memory a choice takes beside its facts, in units of 64 bytes.
+const CHOICE_UNITS: u64 = 2;
+
+/// How much memory all choices may take beside as many bytes as the session has.
+const FREE_BYTES: u64 = 1 << 22;
 
 /// A reason to take for a refusal.
 #[derive(Clone, Copy)]
@@ -44,6 +50,17 @@ pub(crate) struct Choice {
     pub(crate) is_waiting: bool,
 }
 
+impl Choice {
+    /// How much memory it takes, about, in units of 64 bytes.
+    fn units(&self) -> u64 {
+        let mut sum = CHOICE_UNITS;
+        for fact in self.facts.iter() {
+            sum = sum.saturating_add(fact.units());
+        }
+        sum
+    }
+}
+
 /// What a step of the search comes to.
 #[derive(Drop)]
 pub enum Step {
@@ -62,7 +79,7 @@ pub struct Search<'a> {
     pub(crate) home: Vec<u8>,
     /// Whether a reply told the home, or the caller.
     pub(crate) is_home_told: bool,
-    /// The requests of the session that have replies, and its records.
+    /// How many requests of the session have replies, and how many names these have.
     pub(crate) requests: u64,
     pub(crate) choices: Vec<Choice>,
     pub(crate) passes: u32,
@@ -121,11 +138,6 @@ impl<'a> Search<'a> {
         }
     }
 
-    /// How many requests of the session have replies.
-    pub fn requests(&self) -> u64 {
-        self.requests
-    }
-
     /// How many passes were made.
     pub fn passes(&self) -> u32 {
         self.passes
@@ -151,7 +163,7 @@ impl<'a> Search<'a> {
     /// `NoMemory` if memory runs out.
     pub fn next(&mut self) -> Result<Step, NoMemory> {
         for _ in 0..self.settings.passes {
-            if self.passes >= self.settings.passes || self.work_left() == 0 {
+            if self.passes >= self.settings.passes || self.work_left() == 0 || self.is_full() {
                 return Ok(Step::Nothing);
             }
             match self.cheapest() {
@@ -164,6 +176,15 @@ impl<'a> Search<'a> {
             }
         }
         Ok(Step::Nothing)
+    }
+
+    /// Whether the choices take more memory than they may: as many bytes as the session has, and some.
+    fn is_full(&self) -> bool {
+        let mut units: u64 = 0;
+        for choice in self.choices.iter() {
+            units = units.saturating_add(choice.units());
+        }
+        units.saturating_mul(64) > (self.session.len() as u64).saturating_add(FREE_BYTES)
     }
 
     fn work_left(&self) -> u64 {

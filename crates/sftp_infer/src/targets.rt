@@ -15,7 +15,7 @@ const LOOKED_AT: usize = 256;
 const SAME: u32 = 4;
 
 /// How many fresh names are tried.
-const TRIES: u32 = 100_000;
+const TRIES: u32 = 64;
 
 /// The letters of fresh names.
 const LETTERS: &[u8] = b"abcdefghijklmnopqrstuvwxyz0123456789";
@@ -120,17 +120,25 @@ impl<'a> World<'a> {
         self.fresh_name(parent, length.unwrap_or(8))
     }
 
-    /// A name of this length of which nothing is known in a directory.
+    /// A name of this length that nothing mentions in a directory.
     pub(crate) fn fresh_name(&self, parent: usize, length: u64) -> Result<Vec<u8>, NoMemory> {
         let mut name = Vec::new(self.alloc);
         for number in 0..TRIES {
             name.clear();
             spell(&mut name, number, length.min(NAME_LIMIT).max(1))?;
-            if self.held(parent, name.as_slice()).is_none() {
+            if !self.is_mentioned(parent, name.as_slice()) {
                 return Ok(name);
             }
         }
         Ok(name)
+    }
+
+    /// Whether anything told of a name in a directory.
+    fn is_mentioned(&self, parent: usize, name: &[u8]) -> bool {
+        match self.entry(parent) {
+            Some(directory) => directory.names.get(name).is_some(),
+            None => false,
+        }
     }
 
     /// Gives a link whose target is not known one that leads to a name that nothing mentions.
@@ -140,10 +148,9 @@ impl<'a> World<'a> {
             None => None,
         };
         let target = self.invented(at, length)?;
-        let told = self.replied;
         let place = self.place_now(at)?;
         let says = Says::Link(Vec::from_slice(self.alloc, target.as_slice())?);
-        self.invented.push(Fact { place, says, told })?;
+        self.invent(place, says)?;
         self.lead(at, target);
         Ok(())
     }
@@ -169,8 +176,7 @@ impl<'a> World<'a> {
         target.extend_from_slice(b"/x")?;
         let place = self.place_now(at)?;
         let says = Says::Link(Vec::from_slice(self.alloc, target.as_slice())?);
-        let told = self.replied;
-        self.invented.push(Fact { place, says, told })?;
+        self.invent(place, says)?;
         self.lead(at, target);
         Ok(())
     }
@@ -204,14 +210,7 @@ impl<'a> World<'a> {
         let place = self.place(parent, name.as_slice(), false);
         drop(name);
         told?;
-        let told = self.replied;
-        let place = place?;
-        self.invented.push(Fact {
-            place,
-            says: Says::File,
-            told,
-        })?;
-        Ok(())
+        Ok(self.invent(place?, Says::File)?)
     }
 
     /// Whether a directory has an entry now, and whether that is known: `None` if it is not.

@@ -59,7 +59,7 @@ pub(crate) struct World<'a> {
     pub(crate) replied: u64,
     /// The one of them that says what the exchange tells: the reply if it has more than a code or a handle.
     pub(crate) teller: u64,
-    /// The steps of the pass, and the bytes that its facts take.
+    /// The steps of the pass, and how much memory its facts take, in units of 64 bytes.
     pub(crate) work: u64,
     pub(crate) taken: u64,
 }

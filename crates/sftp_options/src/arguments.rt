@@ -175,7 +175,7 @@ pub(crate) const INFER: &[Argument] = &[
     (
         "memory",
         Form::Number("BYTES"),
-        "Read no transcript of more than these bytes; what else is taken is not bounded",
+        "The most bytes of a transcript that is read; the run takes more, which is not bounded",
     ),
     MODE,
     NO_SYNC,

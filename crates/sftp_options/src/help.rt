@@ -58,7 +58,9 @@ If no tree is found, the exit status is 1, and the two records are named that co
 This is no proof that there is none. With --explain, standard error has both records, what each told, and how many
 passes were tried. A pass begins anew with what an earlier one learned.
 
-With --memory, no transcript of more than BYTES is read. What the inference and the audit take besides is not bounded.
+With --memory, a transcript of more than BYTES is not read, and the status is 3. It bounds nothing else. The transcript,
+the tree file and the tree are in memory at once: up to three times the bytes of the transcript, 1 KB for each place,
+and twice the size of a file of which replies told the size alone, up to 2 GiB for all files.
 
 'sftpv3 audit --tree unknown' does the same, and writes no tree at the start. A tree file of that name is './unknown'.";
 
@@ -255,5 +257,7 @@ server got wrong before.
 With --json, standard output has one JSON object in every case: the verdict with the parts of the explanation, or the
 failure; with --keep-going one for each finding, and one for the last line. The statuses are the same.
 
-With --memory, the transcript is judged only as long as the process has at most BYTES. One request may take as much as a
-file or a listing has before that, and the tree at the end is encoded once more.";
+With --memory, a tree file of more than BYTES is not read, and the audit ends with status 3 once the process has more
+than BYTES. That is looked at as the transcript is read; one request may take as much as a file or a listing has before
+that, and the tree at the end is encoded once more. With '--tree unknown' it bounds the transcript alone, as that of
+'infer' does.";

@@ -6,13 +6,13 @@ use Rattle.sftp_server.proofs.Imports.{eq-eqb, same_Some, Ask, ByteRange, State,
 use Rattle.sftp_server.proofs.Imports.{everything, share, touched, range, are_apart, spanned, file_in, size_in, range_now}
 use Rattle.sftp_server.proofs.Imports.{Aim, aim_in, Portion, portion_in, portion_of, portions_clash, resized_by, resized}
 use Rattle.sftp_server.proofs.Imports.{is_on, is_of, is_clear, extent_now, Extent, and_right, le-ltb, nat_lt, arith}
-use Rattle.sftp_server.proofs.Imports.{◌≤◌, ◌+◌}
+use Rattle.sftp_server.proofs.Imports.{◌≤◌, ◌+◌, IfSome, Span, ends_of, subst}
 use Rattle.std.specs.Prelude.{nat_le}
-use Rattle.std.proofs.lemmas.Bool.{le-leb}
+use Rattle.std.proofs.lemmas.Bool.{le-leb, leb-true}
 use Rattle.sftp_handles.specs.Ranges.{range_within, range_if, range_from, meet}
 use Rattle.sftp_handles.specs.Spans.{range_sized}
 use Rattle.sftp_handles.proofs.RangeLaws.Spans.{range-is, HasFileFor}
-use Rattle.sftp_server.specs.RangedNotes.{extent_of, extent_sized}
+use Rattle.sftp_server.specs.RangedNotes.{extent_of, extent_sized, StartsWithin}
 
 -- ---- the portion of a request
 
@@ -167,6 +167,27 @@ module _ (s : State) (one two : Aim) (has : HasFileFor one.0 one.1) (shared : sh
       ap (λ extent. is_clear extent one.1) (extent-none s (file_in two.0))
       ∙ sym (ap (are_apart first) (range-none s (file_in two.0)) ∙ apart-none first)
   clear-is (Some ends) = clear-file (file_in two.0) refl ends
+
+-- the range that a request keeps to starts within its file
+sized-starts : (number : ℕ) (span : Span) (size : Option ℕ)
+    → IfSome (extent_sized number (ends_of (Some span)) size) StartsWithin
+sized-starts number span None = tt
+sized-starts number span (Some size) = by (nat_le (span.start + span.count) size) refl
+  where
+    by : (b : Bool) → nat_le (span.start + span.count) size ≡ b
+        → IfSome (extent_of size (range_if b number (span.start, span.start + span.count))) StartsWithin
+    by true fits = omega (arith, leb-true (span.start + span.count) size fits)
+    by false fits = tt
+
+now-starts : (s : State) (file : Option ℕ) (span : Option Span)
+    → IfSome (extent_now s file (ends_of span)) StartsWithin
+now-starts s None span = tt
+now-starts s (Some number) None = tt
+now-starts s (Some number) (Some span) = sized-starts number span (size_in s number)
+
+pub starts-within : (s : State) (file : Option ℕ) (span : Option Span) (own : Option Extent)
+    → own ≡ extent_now s file (ends_of span) → IfSome own StartsWithin
+starts-within s file span own is = subst (λ o. IfSome o StartsWithin) (sym is) (now-starts s file span)
 
 -- a span that ends where the range starts, or before, is clear of it
 pub clear-before : (extent : Extent) (start count : ℕ) → extent.range.start ≤ extent.size

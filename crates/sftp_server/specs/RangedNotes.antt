@@ -1,7 +1,7 @@
 -- What the requests of a queue touch, and where. What a request touches and its span stay while requests are done that
 -- do not touch everything, and so a note may keep both. The range that it keeps to is its span, if its file is as long
 -- as that: that changes, and only by a request that may change the length of the file.
-use Rattle.std.specs.Prelude.{◌==◌, ◌&&◌, not, ℕ, Bool, false, Option, Some, None}
+use Rattle.std.specs.Prelude.{◌==◌, ◌&&◌, ◌≤◌, not, ℕ, Bool, false, Option, Some, None}
 use Rattle.sftp_packets.specs.declared.requests.Ask.{Ask}
 use Rattle.sftp_handles.specs.declared.byte_range.ByteRange.{ByteRange}
 use Rattle.sftp_handles.specs.State.{State}
@@ -71,6 +71,10 @@ extent_sized number (Some ends) (Some size) = extent_of size (range_within numbe
 abbrev pub extent_now : State → Option ℕ → Option (ℕ × ℕ) → Option Extent
 extent_now s None ends = None
 extent_now s (Some number) ends = extent_sized number ends (size_in s number)
+
+-- the range starts within its file
+abbrev pub StartsWithin : Extent → Type 0
+StartsWithin extent = extent.range.start ≤ extent.size
 
 -- whether a span, if it is one of that file, ends within it and does not meet the range
 abbrev pub is_clear : Option Extent → Option (ℕ × ℕ) → Bool

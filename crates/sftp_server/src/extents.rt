@@ -1,5 +1,5 @@
 //! What part of its file a request keeps to, and which spans are clear of that.
-ghost use Rattle.std.specs.Prelude.{◌≡◌, ◌+◌, ◌≤◌, true, Some};
+ghost use Rattle.std.specs.Prelude.{◌≡◌, ◌+◌, ◌≤◌, true, Some, IfSome};
 ghost use Rattle.sftp_handles.specs.Spans.{ends_of};
 ghost use Rattle.sftp_server.specs.RangedNotes.{extent_now};
 ghost use Rattle.sftp_server.specs.RangedNotes as portions;
@@ -19,6 +19,7 @@ impl Extent {
     /// Whether a span, if it is one of the same file, ends within that and has no byte in common with the range.
     #[inline(always)]
     fn is_clear_of(&self, span: Span) -> bool
+        requires { portions.StartsWithin self.now }
         ensures { result ≡ portions.is_clear (Some self.now) (ends_of (Some span)) }
     {
         // Out of many most end before the range: what is asked in order.
@@ -31,14 +32,15 @@ impl Extent {
         }
     }
 
-    /// Whether the range starts within its file, and a span ends before it or where it starts.
+    /// Whether a span ends before the range or where it starts.
     #[inline(always)]
     fn starts_behind(&self, span: Span) -> bool
+        requires { portions.StartsWithin self.now }
         ensures { result ≡ true → (self.now.range.start ≤ self.now.size)
             × (span.start + span.count ≤ self.now.range.start) }
     {
         let start = self.range.start;
-        start <= self.size && span.start <= start && span.count <= start - span.start
+        span.start <= start && span.count <= start - span.start
     }
 }
 
@@ -60,6 +62,7 @@ pub(crate) fn extent_of(
 
 /// Whether a span, if it is one of the file of `own`, ends within that and has no byte in common with its range.
 pub(crate) fn is_clear(own: &Option<Extent>, span: Option<Span>) -> bool
+    requires { IfSome own.now portions.StartsWithin }
     ensures { result ≡ portions.is_clear own.now (ends_of span) }
 {
     match own {

@@ -1,6 +1,6 @@
 //! Which requests of a queue are ready, without a search through the requests before each.
 ghost use Rattle.std.specs.Prelude.{◌≡◌, ◌≢◌, ◌+◌, ◌-◌, ◌<◌, ◌≤◌, ◌&&◌, ◌++◌, ℕ, suc, [], ◌∷◌, true, false, Some};
-ghost use Rattle.std.specs.Prelude.{OnOk, not, length, take, drop, set};
+ghost use Rattle.std.specs.Prelude.{OnOk, IfSome, not, length, take, drop, set};
 ghost use Rattle.std.specs.VecDeque.{deque_len, deque_capacity};
 ghost use Rattle.sftp_packets.specs.declared.requests.Ask.{Ask as Asked};
 ghost use Rattle.sftp_handles.specs.Clash.{touched, share, writes_file};
@@ -625,6 +625,7 @@ impl Readiness {
         requires there { k < length queue.now }
         requires same { length self.now.notes.items ≡ length queue.now }
         requires later { later.now ≡ note_at self.now.notes.items k }
+        requires own { IfSome own.now portions.StartsWithin }
         ensures { result ≡ (share (touched_at queue.now self.now.notes.items j)
             (touched_at queue.now self.now.notes.items k)
             && not (portions.is_clear own.now (ends_of (note_at self.now.notes.items j).span))) }

@@ -1,24 +1,48 @@
 //! Trees that are inferred from a session, each judged by the audit before it is believed.
-ghost use Rattle.std.specs.Prelude.{◌≡◌, List, ℕ, None, Some, IfOk};
-ghost use Rattle.sftp_audit.specs.Audit.{Accounts};
+ghost use Rattle.std.specs.Prelude.{◌≡◌, List, [], ℕ, None, Some, IfOk};
+ghost use Rattle.sftp_audit.specs.Audit.{Accounts, AccountsBy, WasFed};
+ghost use Rattle.sftp_audit.specs.Auditor.{StandsFor};
 ghost use Rattle.sftp_profile.specs.declared.profiles.Profile.{Profile as profile};
 ghost use Rattle.sftp_tool.specs.Verdicts.{AccountsUnder};
 ghost use Rattle.sftp_tool.specs.Inferences.{IsJudged, IsExplained};
 
-use sftp_audit::{Accepted, AuditError, Refusal, TranscriptError};
+use sftp_audit::{AuditError, Auditor, Refusal, TranscriptError, feed_all};
+use sftp_handles::{GivenTable, Session};
 use sftp_infer::{Candidate, Search, Step};
+use sftp_judges::Judges;
 use sftp_path::NoMemory;
 use sftp_profile::{Judge, Profile};
+use sftp_transcript::{Memory, Reader};
+use sftp_tree::Tree;
 use std::alloc::Global;
 
 /// How many trees are judged at most.
 const TREES: u32 = 1_000;
 
+/// What the audit of a session gave that is accepted.
+#[derive(Drop)]
+pub(crate) struct Ended {
+    /// How many requests there were.
+    pub(crate) requests: u64,
+    /// The tree file of the tree at the end, if it was asked for.
+    pub(crate) tree: Option<Vec<u8>>,
+}
+
 /// A tree that explains a session, and what the audit of the session with it gave.
 #[derive(Drop)]
 pub(crate) struct Inferred {
     pub(crate) candidate: Candidate,
-    pub(crate) accepted: Accepted,
+    pub(crate) ended: Ended,
+}
+
+/// How trees are judged.
+#[derive(Clone, Copy)]
+pub(crate) struct Judging {
+    pub(crate) alloc: Global,
+    /// The profile, if replies are not judged strictly.
+    pub(crate) by: Option<Profile>,
+    /// Whether the tree at the end is wanted.
+    pub(crate) wants_end: bool,
 }
 
 /// What a search for a tree comes to.
@@ -39,48 +63,93 @@ pub(crate) enum Found {
 }
 
 /// Audits a session with a tree: strictly, or under a profile.
-pub(crate) fn judge(
-    alloc: Global,
-    by: Option<Profile>,
-    tree: &[u8],
-    session: &[u8],
-) -> Result<Accepted, AuditError>
-    ensures strictly { by ≡ None → IsJudged Accounts tree.now session.now result }
-    ensures under { (it : profile) → by ≡ Some it → IsJudged (AccountsUnder it) tree.now session.now result }
+pub(crate) fn judge(how: Judging, tree: &[u8], session: &[u8]) -> Result<Ended, AuditError>
+    ensures strictly { how.by ≡ None → IsJudged Accounts tree.now session.now result }
+    ensures under { (it : profile) → how.by ≡ Some it → IsJudged (AccountsUnder it) tree.now session.now result }
 {
-    match by {
-        None => judge_strictly(alloc, tree, session),
-        Some(profile) => judge_under(alloc, profile, tree, session),
+    match how.by {
+        None => judge_strictly(how, tree, session),
+        Some(profile) => judge_under(how, profile, tree, session),
     }
 }
 
-fn judge_strictly(alloc: Global, tree: &[u8], session: &[u8]) -> Result<Accepted, AuditError>
+fn judge_strictly(how: Judging, tree: &[u8], session: &[u8]) -> Result<Ended, AuditError>
     ensures { IsJudged Accounts tree.now session.now result }
 {
-    sftp_audit::audit(alloc, tree, session)
+    judge_by::<Session<GivenTable>>(how, (), tree, session)
 }
 
 fn judge_under(
-    alloc: Global,
+    how: Judging,
     profile: Profile,
     tree: &[u8],
     session: &[u8],
-) -> Result<Accepted, AuditError>
+) -> Result<Ended, AuditError>
     ensures { IsJudged (AccountsUnder profile) tree.now session.now result }
 {
-    sftp_audit::audit_by::<Judge>(alloc, profile, tree, session)
+    judge_by::<Judge>(how, profile, tree, session)
+}
+
+/// Audits a session as `audit_by` does. Unlike there, the tree at the end is only made if it is wanted: it has as many
+/// bytes as the session may have written.
+fn judge_by<J: Judges>(
+    how: Judging,
+    by: J::By,
+    tree: &[u8],
+    session: &[u8],
+) -> Result<Ended, AuditError>
+    ensures { IsJudged (AccountsBy J.allowed (J.begun by) J.closed) tree.now session.now result }
+{
+    let mut auditor = Auditor::<J>::by(by, Tree::read(how.alloc, tree)?)?;
+    match feed::<J>(how.alloc, &mut auditor, session) {
+        Ok(requests) => {
+            let end = auditor.end()?;
+            let tree = written_end(how, end)?;
+            Ok(Ended { requests, tree })
+        }
+        Err(error) => {
+            drop(auditor);
+            Err(error)
+        }
+    }
+}
+
+/// Feeds an auditor, which has seen no event yet, those of a session.
+fn feed<J: Judges>(
+    alloc: Global,
+    auditor: &mut Auditor<J>,
+    session: &[u8],
+) -> Result<u64, AuditError>
+    ensures { IfOk result (λ requests. (start : J) → StandsFor J.allowed start [] auditor.old
+        → WasFed J.allowed start session.now requests auditor.new) }
+{
+    let mut records = Reader::new(alloc, Memory::new(session))?;
+    let fed = feed_all(auditor, &mut records);
+    drop(records);
+    fed
+}
+
+/// The tree file of the tree at the end, if it is wanted.
+fn written_end(how: Judging, end: Tree) -> Result<Option<Vec<u8>>, NoMemory> {
+    let written = if how.wants_end {
+        Some(end.write())
+    } else {
+        None
+    };
+    drop(end);
+    match written {
+        Some(tree) => Ok(Some(tree?)),
+        None => Ok(None),
+    }
 }
 
 /// Judges a session with the tree that a search gave.
-fn judged(alloc: Global, by: Option<Profile>, session: &[u8], candidate: Candidate) -> Found
-    ensures strictly { by ≡ None → IsExplained Accounts session.now result }
-    ensures under { (it : profile) → by ≡ Some it → IsExplained (AccountsUnder it) session.now result }
+fn judged(how: Judging, session: &[u8], candidate: Candidate) -> Found
+    ensures strictly { how.by ≡ None → IsExplained Accounts session.now result }
+    ensures under { (it : profile) → how.by ≡ Some it → IsExplained (AccountsUnder it) session.now result }
 {
-    match judge(alloc, by, candidate.tree.as_slice(), session) {
-        Ok(accepted) => Found::Inferred(Inferred {
-            candidate,
-            accepted,
-        }),
+    match judge(how, candidate.tree.as_slice(), session) {
+        Ok(ended) => Found::Inferred(Inferred { candidate, ended }),
         Err(error) => {
             drop(candidate);
             found_by(error)
@@ -103,33 +172,23 @@ fn found_by(error: AuditError) -> Found
 }
 
 /// The next tree of a search, judged.
-fn next_judged(
-    alloc: Global,
-    by: Option<Profile>,
-    session: &[u8],
-    search: &mut Search<'_>,
-) -> Result<Found, NoMemory>
-    ensures strictly { by ≡ None → IfOk result (IsExplained Accounts session.now) }
-    ensures under { (it : profile) → by ≡ Some it → IfOk result (IsExplained (AccountsUnder it) session.now) }
+fn next_judged(how: Judging, session: &[u8], search: &mut Search<'_>) -> Result<Found, NoMemory>
+    ensures strictly { how.by ≡ None → IfOk result (IsExplained Accounts session.now) }
+    ensures under { (it : profile) → how.by ≡ Some it → IfOk result (IsExplained (AccountsUnder it) session.now) }
 {
     match search.next()? {
-        Step::Tree(candidate) => Ok(judged(alloc, by, session, candidate)),
+        Step::Tree(candidate) => Ok(judged(how, session, candidate)),
         Step::Nothing => Ok(Found::Nothing),
     }
 }
 
 /// A tree with which a session is accepted, if the search finds one: each tree that it gives is judged by the audit.
-pub(crate) fn find(
-    alloc: Global,
-    by: Option<Profile>,
-    session: &[u8],
-    search: &mut Search<'_>,
-) -> Result<Found, NoMemory>
-    ensures strictly { by ≡ None → IfOk result (IsExplained Accounts session.now) }
-    ensures under { (it : profile) → by ≡ Some it → IfOk result (IsExplained (AccountsUnder it) session.now) }
+pub(crate) fn find(how: Judging, session: &[u8], search: &mut Search<'_>) -> Result<Found, NoMemory>
+    ensures strictly { how.by ≡ None → IfOk result (IsExplained Accounts session.now) }
+    ensures under { (it : profile) → how.by ≡ Some it → IfOk result (IsExplained (AccountsUnder it) session.now) }
 {
     for _ in 0..TREES {
-        match next_judged(alloc, by, session, search)? {
+        match next_judged(how, session, search)? {
             Found::Unfit(number) => search.refuse(number),
             found => return Ok(found),
         }

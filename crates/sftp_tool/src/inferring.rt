@@ -1,14 +1,15 @@
 //! `infer`, and `audit --tree unknown`: audits of sessions whose tree nobody knows.
 ghost use Rattle.sftp_tool.specs.Outcomes.{IsAuditStatus};
 
-use crate::inferences::{Found, Inferred, find};
+use crate::inferences::{Found, Inferred, Judging, find};
 use crate::inferred_lines::{put_assumed, put_clash, put_refusal};
 use crate::subcommands;
-use crate::verdict_objects::{print_accepted, print_untold};
+use crate::verdict_objects::{print_inferred, print_untold};
 use sftp_files::{Ending, Failure, System, print, read_at_most, write};
 use sftp_infer::{Search, Settings};
 use sftp_options::{AuditOptions, InferOptions, umask_of, with_umask};
 use sftp_profile::Profile;
+use std::alloc::Global;
 use std::io::Write;
 
 /// The name that stands for a tree that nobody knows.
@@ -116,7 +117,12 @@ fn infer_from<'a, R: System, O: Write, E: Write>(
         None => None,
     };
     let mut search = Search::new(rt.alloc(), session, settings)?;
-    let found = find(rt.alloc(), options.profile, session, &mut search);
+    let how = Judging {
+        alloc: rt.alloc(),
+        by: options.profile,
+        wants_end: options.out.is_some(),
+    };
+    let found = find(how, session, &mut search);
     let ending = match found {
         Ok(found) => report(rt, options, session, &search, found, output, errors),
         Err(_) => Err(Failure::OutOfMemory),
@@ -186,20 +192,40 @@ fn accept<'a, R: System, O: Write, E: Write>(
             inferred.candidate.tree.as_slice(),
         )?;
     }
-    if let Some(name) = options.out {
-        write(rt, name, options.keeping, inferred.accepted.tree.as_slice())?;
+    if let (Some(name), Some(tree)) = (options.out, &inferred.ended.tree) {
+        write(rt, name, options.keeping, tree.as_slice())?;
     }
     put_assumed(&inferred.candidate, errors);
-    let requests = inferred.accepted.requests;
-    let entries = inferred.candidate.entries;
     if options.is_json {
-        return print_accepted(requests, None, output);
+        return print_object(rt.alloc(), inferred, output);
     }
+    let requests = inferred.ended.requests;
+    let entries = inferred.candidate.entries;
     print(
         output,
         format_args!("inferred {entries} entries from {requests} requests; accepted\n"),
         Ending::Done,
     )
+}
+
+/// Prints the object of an accepted session, with what its tree assumes.
+fn print_object<'a, O: Write>(
+    alloc: Global,
+    inferred: &Inferred,
+    output: &mut O,
+) -> Result<Ending, Failure<'a>>
+    ensures { IsAuditStatus result }
+{
+    let mut lines = Vec::new(alloc);
+    put_assumed(&inferred.candidate, &mut lines);
+    let printed = print_inferred(
+        inferred.ended.requests,
+        inferred.candidate.entries,
+        lines.as_slice(),
+        output,
+    );
+    drop(lines);
+    printed
 }
 
 /// Says that no tree was found, and which records contradict each other.

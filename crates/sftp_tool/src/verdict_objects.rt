@@ -74,6 +74,39 @@ pub(crate) fn print_untold<'a, O: Write>(
     ended(json.finish(), Ending::Refused)
 }
 
+/// Prints the object of a session for which a tree was found, as the last step of a run. `assumed` has a line for each
+/// thing that the tree assumes beyond what replies tell.
+pub(crate) fn print_inferred<'a, O: Write>(
+    requests: u64,
+    entries: u64,
+    assumed: &[u8],
+    output: &mut O,
+) -> Result<Ending, Failure<'a>>
+    ensures ok { IfOk result (λ ending. ending ≡ endings.Done) }
+    ensures err { IfErr result IsUnwritten }
+{
+    let mut json = JsonLines::new(output, usize::MAX);
+    json.open();
+    json.word("verdict", "accepted");
+    json.number("requests", requests);
+    json.number("entries", entries);
+    json.open_list("assumed");
+    put_assumptions(assumed, &mut json);
+    json.close_list();
+    json.end_line();
+    ended(json.finish(), Ending::Done)
+}
+
+/// Writes what stands behind the colon of each whole line as an item. If memory ran out, the last may be cut off.
+fn put_assumptions<O: Write>(lines: &[u8], json: &mut JsonLines<'_, O>) {
+    let text = str::from_utf8(lines).unwrap_or("");
+    let (whole, _) = text.rsplit_once('\n').unwrap_or(("", ""));
+    for line in whole.lines() {
+        let (_, assumption) = line.split_once(": ").unwrap_or(("", line));
+        json.item(assumption);
+    }
+}
+
 /// The record that a refusal names, and its kind.
 fn parts_of(refusal: Refusal, follows: bool) -> (u64, &'static str) {
     match refusal {

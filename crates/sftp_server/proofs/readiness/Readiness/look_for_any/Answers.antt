@@ -1,7 +1,14 @@
 use Rattle.sftp_server.proofs.Imports.{◌≡◌, ◌-◌, ◌<◌, length, false, sym, ap, ◌∙◌, arith, Note, is_in_way}
+use Rattle.sftp_server.proofs.Imports.{file_in, touched_at, note_at}
+use Rattle.sftp_server.proofs.RangedNotes.{starts-within}
 use Rattle.sftp_server.proofs.Notes.{free-lower, way-noted, not-pending, note-read}
 use Rattle.sftp_server.proofs.readiness.Readiness.look_for_any.Goals.{else-index-via-then-index+else-conflict, else-index-via-else-index}
 use Rattle.sftp_server.proofs.readiness.Readiness.look_for_any.Goals as goal
+
+pub conflict-requires-clause-own : goal.conflict-requires-clause-own
+conflict-requires-clause-own c =
+    starts-within c.args.session.now (file_in (touched_at c.args.queue.now c.args.self.now.notes.items c.args.k))
+    (note_at c.args.self.now.notes.items c.args.k).span c.args.own c.requires.own
 
 pub down-preserved : goal.down-preserved
 down-preserved c =

@@ -1,8 +1,15 @@
 use Rattle.sftp_server.proofs.Imports.{◌≡◌, ◌-◌, ◌<◌, false, true, sym, ◌∙◌, arith, and_parts, is_in_way, note_at, not}
 use Rattle.sftp_server.proofs.Imports.{only_reads}
+use Rattle.sftp_server.proofs.Imports.{file_in, touched_at}
+use Rattle.sftp_server.proofs.RangedNotes.{starts-within}
 use Rattle.sftp_server.proofs.Notes.{free-lower, way-noted, no-writer}
 use Rattle.sftp_server.proofs.readiness.Readiness.look_for_writer.Goals.{else-is_pending_writer-via-then-is_pending_writer+else-conflict, else-is_pending_writer-via-else-is_pending_writer}
 use Rattle.sftp_server.proofs.readiness.Readiness.look_for_writer.Goals as goal
+
+pub conflict-requires-clause-own : goal.conflict-requires-clause-own
+conflict-requires-clause-own c =
+    starts-within c.args.session.now (file_in (touched_at c.args.queue.now c.args.self.now.notes.items c.args.k))
+    (note_at c.args.self.now.notes.items c.args.k).span c.args.own c.requires.own
 
 pub down-preserved : goal.down-preserved
 down-preserved c =
