@@ -7,6 +7,7 @@ ghost use Rattle.sftp_tree.specs.Refusals.{in_set};
 ghost use Rattle.sftp_tree.specs.Found.{IsThere, IsFoundIn};
 ghost use Rattle.sftp_tree.specs.Asks as spec;
 ghost use Rattle.sftp_tree.specs.Asks.{asked};
+ghost use Rattle.sftp_tree.specs.Plans.{planned, AreAny};
 
 use crate::causes::{Cause, Causes};
 use crate::flags::{are_good, excludes};
@@ -336,14 +337,13 @@ impl Tree {
         found: Found<'_>,
     ) -> Result<Plan<'a>, NoMemory>
         requires { IsFoundIn self.now found }
-        ensures plan { IfOk result (spec.IsPlanAt self.now (asked ask.entry) found.entry.place) }
-        ensures node { IfOk result (λ plan. spec.HasNode self.now (asked ask.entry)) }
+        ensures plan { IfOk result
+            (λ plan. planned plan ≡ requests.plan_at self.now (asked ask.entry) found.entry.place) }
+        ensures node { IfOk result (λ plan. spec.HasNode AreAny self.now (asked ask.entry) found.entry.place) }
     {
         let Found { place, node } = found;
         Ok(match ask {
-            PathAsk::Mkdir(_, attrs) => {
-                Plan::Put(place, Node::Dir(self.directory_owner(attrs)))
-            }
+            PathAsk::Mkdir(_, attrs) => { Plan::Put(place, Node::Dir(self.directory_owner(attrs))) }
             PathAsk::Rmdir(..) => Plan::Remove(place),
             PathAsk::Remove(..) => Plan::Remove(place),
             PathAsk::Setstat(_, attrs) => self.plan_to_set(place, &node, attrs),
@@ -370,7 +370,8 @@ impl Tree {
         requires old { IsThere self.now.names old }
         requires new { IsThere self.now.names new }
         requires file { spec.IsFileAt self.now (asked ask) old.place }
-        ensures { spec.IsPlanBetween self.now (asked ask.entry) old.entry.place new.entry.place result }
+        ensures { planned result
+            ≡ requests.plan_between self.now (asked ask.entry) old.entry.place new.entry.place }
     {
         match ask {
             PathAsk::Rename(..) => Plan::Move(old.place, new.place),
