@@ -91,14 +91,38 @@ pub fn write_last<'a, R: System>(
     }
 }
 
-/// Fails if the name is that of something that is never written to.
-pub fn require_fit<'a, R: Files>(rt: &R, name: &'a str) -> Result<(), Failure<'a>>
+/// Fails if the name is that of something that is never written to, or no file can be made beside the one that it leads
+/// to, so that it could not be replaced.
+pub fn require_fit<'a, R: System>(rt: &R, name: &'a str) -> Result<(), Failure<'a>>
     ensures { IfErr result IsUnwritten }
 {
     match place_of(rt, name) {
-        Place::File => Ok(()),
+        Place::File => match try_beside(rt, name) {
+            Ok(()) => Ok(()),
+            Err(error) => Err(Failure::replacing(name, &error)),
+        },
         Place::Output => Ok(()),
         Place::Unfit => Err(Failure::Unfit(name, UNFIT)),
+    }
+}
+
+/// Makes a file beside the one to which the name leads, and removes it.
+fn try_beside<R: System>(rt: &R, name: &str) -> io::Result<()> {
+    let path = path_of(rt, name)?;
+    let fresh = fresh_path(rt, path.as_str());
+    drop(path);
+    let fresh = fresh?;
+    let made = new_file(rt, fresh.as_str(), PRIVATE);
+    if made.is_ok() {
+        let _ = fs::remove_file(rt, fresh.as_str());
+    }
+    drop(fresh);
+    match made {
+        Ok(file) => {
+            drop(file);
+            Ok(())
+        }
+        Err(error) => Err(error),
     }
 }
 
