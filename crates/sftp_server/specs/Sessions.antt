@@ -162,8 +162,8 @@ FailsToSend packet written0 written1 log0 log1 stops.NoMemory =
 
 -- From a running session, whatever the reader has left and whatever fault was found, a call that sends packets leads to
 -- a running session, or stops it.
-abbrev pub SendsOn : {A : Type 0} → Machine State → Machine State → Option (List ℕ) → Option (List ℕ)
-    → Option (List ℕ) → Option (List ℕ) → Result A Stop → Type 0
+abbrev pub SendsOn : Machine State → Machine State → Option (List ℕ) → Option (List ℕ) → Option (List ℕ)
+    → Option (List ℕ) → Result (Unit {0}) Stop → Type 0
 SendsOn core0 core1 written0 written1 logged0 logged1 result =
     (start : Tree) (past : StreamBytes) (left : Option (List ℕ)) (ahead : Ahead) (fault : Option SessionFault)
     → IsRunning start past (stream_bytes left written0 logged0) ahead core0 fault

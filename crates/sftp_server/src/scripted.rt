@@ -1,12 +1,11 @@
 //! Follows the script of a schedule, as far as the client and the core let it.
-ghost use Rattle.std.specs.Prelude.{◌≡◌, ◌<◌, ◌≤◌, ℕ, List, Option, [], true, length, IsTrue, IfOk, IfErr, OnOk};
-ghost use Rattle.sftp_server.specs.declared.cores.Choice.TheVariants as choices;
+ghost use Rattle.std.specs.Prelude.{◌≡◌, ◌<◌, ◌≤◌, [], true, IfOk, IfErr, OnOk};
 ghost use Rattle.sftp_server.specs.declared.ends.Stop.TheVariants as stops;
 ghost use Rattle.sftp_server.specs.declared.ends.Stream.TheVariants as streams;
 ghost use Rattle.sftp_server.specs.Choices.{owed};
 ghost use Rattle.sftp_server.specs.Served.{stream_bytes};
-ghost use Rattle.sftp_server.specs.Sessions.{IsLogging, SendsOn, CountsCall, Spares};
-ghost use Rattle.sftp_server.specs.Scripted.{FollowsOn, Works, bytes_ahead};
+ghost use Rattle.sftp_server.specs.Sessions.{IsLogging, CountsCall, Spares};
+ghost use Rattle.sftp_server.specs.Scripted.{FollowsOn, RepliesOn, Works, bytes_ahead};
 
 use crate::cores::Core;
 use crate::ends::Stop;
@@ -44,16 +43,39 @@ pub(crate) fn follow_script<R: Source, W: Sink, L: Sink, S: Schedule>(
     ensures counts_writer { CountsCall streams.Writer result (W.failures writer.old) (W.failures writer.new) }
     ensures counts_log { CountsCall streams.Log result log.old.failures log.new.failures }
 {
-    let alloc = *output.allocator();
     'script: loop {
-        if !send_replies(core, output, writer, log, schedule)? {
-            break;
-        }
-        if !await_request(alloc, input, core, reader, writer, log, schedule)? {
-            break;
+        if !take_next(input, core, output, reader, writer, log, schedule)? {
+            return work_off(core, output, writer, log, schedule);
         }
     }
-    work_off(core, output, writer, log, schedule)
+}
+
+/// Follows the script up to the next request, takes that, and returns whether the script goes on.
+fn take_next<R: Source, W: Sink, L: Sink, S: Schedule>(
+    input: &mut Input,
+    core: &mut Core,
+    output: &mut Vec<u8>,
+    reader: &mut R,
+    writer: &mut W,
+    log: &mut Writer<L>,
+    schedule: &mut S,
+) -> Result<bool, Stop>
+    requires { IsLogging log.old }
+    ensures running { FollowsOn (stream_bytes (R.left reader.old) (W.written writer.old) log.old.bytes)
+        (stream_bytes (R.left reader.new) (W.written writer.new) log.new.bytes) input.old input.new core.old core.new
+        result }
+    ensures falls { IfOk result (λ more. more ≡ true →
+        bytes_ahead (R.reads_left reader.new) input.new < bytes_ahead (R.reads_left reader.old) input.old) }
+    ensures logging { OnOk result (IsLogging log.new) }
+    ensures counts_reader { CountsCall streams.Reader result (R.failures reader.old) (R.failures reader.new) }
+    ensures counts_writer { CountsCall streams.Writer result (W.failures writer.old) (W.failures writer.new) }
+    ensures counts_log { CountsCall streams.Log result log.old.failures log.new.failures }
+{
+    let alloc = *output.allocator();
+    if !send_replies(core, output, writer, log, schedule)? {
+        return Ok(false);
+    }
+    await_request(alloc, input, core, reader, writer, log, schedule)
 }
 
 /// Sends the replies that the script has before the next request. Returns whether it has one; if not, the script is
@@ -66,7 +88,7 @@ fn send_replies<W: Sink, L: Sink, S: Schedule>(
     schedule: &mut S,
 ) -> Result<bool, Stop>
     requires { IsLogging log.old }
-    ensures running { SendsOn core.old core.new (W.written writer.old) (W.written writer.new) log.old.bytes
+    ensures running { RepliesOn core.old core.new (W.written writer.old) (W.written writer.new) log.old.bytes
         log.new.bytes result }
     ensures logging { OnOk result (IsLogging log.new) }
     ensures counts_writer { CountsCall streams.Writer result (W.failures writer.old) (W.failures writer.new) }
@@ -95,7 +117,7 @@ fn answer<W: Sink, L: Sink>(
     log: &mut Writer<L>,
 ) -> Result<bool, Stop>
     requires { IsLogging log.old }
-    ensures running { SendsOn core.old core.new (W.written writer.old) (W.written writer.new) log.old.bytes
+    ensures running { RepliesOn core.old core.new (W.written writer.old) (W.written writer.new) log.old.bytes
         log.new.bytes result }
     ensures falls { IfOk result (λ sent. sent ≡ true → owed core.new.queue < owed core.old.queue) }
     ensures logging { OnOk result (IsLogging log.new) }
