@@ -1,8 +1,9 @@
 -- What a session does that follows a script.
-use Rattle.sftp_server.proofs.Imports.{◌≡◌, ℕ, List, Option, None, Err, refl, sym, subst, Tree, State, Machine}
-use Rattle.sftp_server.proofs.Imports.{SessionFault, StreamBytes, SendsOn, Ahead, IsRunning}
+use Rattle.sftp_server.proofs.Imports.{◌≡◌, ◌<◌, ◌≤◌, ℕ, length, List, Option, None, Err, refl, sym, subst, arith}
+use Rattle.sftp_server.proofs.Imports.{Tree, State, Machine, SessionFault, StreamBytes, SendsOn, Ahead, IsRunning}
+use Rattle.sftp_server.proofs.Imports.{input_limit}
 use Rattle.sftp_server.specs.declared.ends.Stop.TheVariants as stops
-use Rattle.sftp_server.specs.Scripted.{Works}
+use Rattle.sftp_server.specs.Scripted.{Works, bytes_ahead}
 use Rattle.sftp_server.proofs.Sessions.Replied.{sends-nothing}
 use Rattle.sftp_server.proofs.Sessions.Stops.{running-on}
 
@@ -17,3 +18,8 @@ pub running-sound : {start : Tree} {past now : StreamBytes} {ahead : Ahead} {cor
     {fault : Option SessionFault} → IsRunning start past now ahead core fault
     → IsRunning start past now ahead core None
 running-sound running = running-on running running.passed refl tt
+
+-- a read that gave bytes leaves less to take
+pub ahead-falls : (reads0 reads1 : ℕ) (old new : Ahead) → reads1 < reads0 → length new.held ≤ input_limit
+    → bytes_ahead reads1 new ≤ bytes_ahead reads0 old
+ahead-falls reads0 reads1 old new fewer fits = omega (arith, fewer, fits)
