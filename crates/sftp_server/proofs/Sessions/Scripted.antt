@@ -1,5 +1,5 @@
 -- What a session does that follows a script.
-use Rattle.sftp_server.proofs.Imports.{◌≡◌, ◌<◌, ◌≤◌, ℕ, length, List, Option, None, Err, refl, sym, subst, arith}
+use Rattle.sftp_server.proofs.Imports.{◌≡◌, ◌<◌, ◌≤◌, ℕ, length, Option, None, Err, refl, sym, subst, arith}
 use Rattle.sftp_server.proofs.Imports.{Tree, State, Machine, SessionFault, StreamBytes, SendsOn, Ahead, IsRunning}
 use Rattle.sftp_server.proofs.Imports.{input_limit}
 use Rattle.sftp_server.specs.declared.ends.Stop.TheVariants as stops

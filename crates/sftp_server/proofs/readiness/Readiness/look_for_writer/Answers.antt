@@ -1,4 +1,4 @@
-use Rattle.sftp_server.proofs.Imports.{◌≡◌, ◌-◌, ◌<◌, false, true, sym, ◌∙◌, arith, and_parts, is_in_way, note_at, not}
+use Rattle.sftp_server.proofs.Imports.{◌≡◌, ◌-◌, ◌<◌, false, sym, ◌∙◌, arith, and_parts, is_in_way, note_at, not}
 use Rattle.sftp_server.proofs.Imports.{only_reads}
 use Rattle.sftp_server.proofs.Notes.{free-lower, way-noted, no-writer}
 use Rattle.sftp_server.proofs.readiness.Readiness.look_for_writer.Goals.{else-is_pending_writer-via-then-is_pending_writer+else-conflict, else-is_pending_writer-via-else-is_pending_writer}
