@@ -4,6 +4,7 @@ ghost use Rattle.sftp_server.specs.Served.{IsUnused};
 ghost use Rattle.sftp_files.specs.declared.messages.Ending.TheVariants as endings;
 ghost use Rattle.sftp_tool.specs.declared.serving.Unserved.TheVariants as unserveds;
 
+use crate::replaying::{Parting, Replay};
 use crate::summaries::{Close, Summary, Traffic};
 use sftp_files::{
     Announcing, Bounded, Ending, Failure, Keeping, Meter, Record, Recording, STANDARD_INPUT,
@@ -11,13 +12,16 @@ use sftp_files::{
     write_flushed,
 };
 use sftp_server::{
-    Ended, InOrder, Schedule, SessionEnd, SessionFault, Shuffle, Stream, serve_keeping_tree,
+    Ended, InOrder, Schedule, SessionEnd, SessionFault, Shuffle, Step, Stream, serve_keeping_tree,
 };
 use sftp_transcript::{Tally, Writer};
 use sftp_tree::Tree;
 use sftp_treefile::TreeLimits;
-use sftp_wire::{take_number, take_string};
+use sftp_wire::{Request, take_number, take_string};
 use std::io::{Read, Write};
+
+/// Why there cannot be two orders.
+const TWO_ORDERS: &str = "'--shuffle' and '--replay' cannot be used together";
 
 /// Why a session was not served to the end of its input.
 #[derive(Drop)]
@@ -65,7 +69,7 @@ pub(crate) fn serve<'a, R: System, I: Read, O: Write, E: Write>(
     }
 }
 
-/// Fails if the tree could not be saved to this file for what it is.
+/// Fails if the tree could not be saved to this file.
 fn require_place<'a, R: System>(rt: &R, save: Option<&'a str>) -> Result<(), Failure<'a>> {
     match save {
         Some(name) => require_fit(rt, name),
@@ -119,6 +123,7 @@ fn session<I: Read, O: Write + Drop>(
         output: writer.flow(),
         record: record.flow(),
         is_over: false,
+        parting: order.parting(),
     };
     drop(reader);
     drop(writer);
@@ -140,6 +145,7 @@ fn conclude<'a, R: System, E: Write>(
     ensures { IfOk result (λ ending. ending ≡ endings.Done) }
 {
     let (tree, close) = parts(end, traffic.is_over);
+    say_parting(traffic, options.is_verbose, errors);
     let saved = save_any(rt, &tree, options);
     let has_tree = tree.is_some();
     drop(tree);
@@ -157,6 +163,17 @@ fn conclude<'a, R: System, E: Write>(
 
 fn say_summary<E: Write>(summary: Summary, errors: &mut E) {
     let _ = write_flushed(errors, format_args!("sftpv3: {summary}\n"));
+}
+
+/// Says where the session left its script; that it followed it to the end if lines are wanted.
+fn say_parting<E: Write>(traffic: Traffic, is_verbose: bool, errors: &mut E) {
+    if let Some(parting) = traffic.parting {
+        if !parting.is_whole(traffic.requests) {
+            let _ = write_flushed(errors, format_args!("sftpv3: replay: {parting}\n"));
+        } else if is_verbose {
+            let _ = write_flushed(errors, "sftpv3: replay: followed to the end\n");
+        }
+    }
 }
 
 /// The tree that a session left, if it is to be saved, and how the session ended.
@@ -345,23 +362,36 @@ fn stream_failure<'a>(stream: Stream, traffic: Traffic, options: &ServeOptions<'
     }
 }
 
-/// The order in which replies are sent.
+/// The order in which requests are done and replies are sent.
 #[derive(Drop)]
 enum Order {
     /// The order in which the requests were asked.
     Asked(InOrder),
     /// A pseudorandom one, as long as the process may have more memory.
     Shuffled(Shuffle, Meter),
+    /// That of a recorded session.
+    Replayed(Replay),
 }
 
 impl Order {
     fn new<'a, R: System>(rt: &R, options: &ServeOptions<'a>) -> Result<Order, Failure<'a>> {
-        match options.shuffle {
-            Some(state) => {
+        match (options.shuffle, options.replay) {
+            (Some(_), Some(_)) => Err(Failure::of_misuse(rt.alloc(), TWO_ORDERS)),
+            (Some(state), None) => {
                 let meter = Meter::new(rt, options.memory)?;
                 Ok(Order::Shuffled(Shuffle(state), meter))
             }
-            None => Ok(Order::Asked(InOrder)),
+            (None, Some(name)) => Ok(Order::Replayed(Replay::new(rt, name)?)),
+            (None, None) => Ok(Order::Asked(InOrder)),
+        }
+    }
+
+    /// How far the session followed the recorded one, if there is one.
+    fn parting(&self) -> Option<Parting> {
+        match self {
+            Order::Replayed(replay) => Some(replay.parting()),
+            Order::Asked(_) => None,
+            Order::Shuffled(..) => None,
         }
     }
 }
@@ -376,6 +406,23 @@ impl Schedule for Order {
                 Ok(_) => order.pick(count),
                 Err(_) => 0,
             },
+            Order::Replayed(replay) => replay.pick(count),
+        }
+    }
+
+    fn step(&mut self) -> Option<Step> {
+        match self {
+            Order::Replayed(replay) => replay.step(),
+            Order::Asked(_) => None,
+            Order::Shuffled(..) => None,
+        }
+    }
+
+    fn expects(&mut self, request: &Request) -> bool {
+        match self {
+            Order::Replayed(replay) => replay.expects(request),
+            Order::Asked(_) => true,
+            Order::Shuffled(..) => true,
         }
     }
 }
