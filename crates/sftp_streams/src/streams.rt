@@ -1,7 +1,7 @@
 //! Streams of bytes that may fail: where a session's packets come from and go to, and where a transcript is written.
 ghost use Rattle.std.specs.Prelude.{◌≡◌, ℕ, List, Option, Bool, ◌<◌, ◌≤◌, length, IfOk, OnErr, IsTrue};
 ghost use Rattle.std.specs.Io.KnownBytes.{ReadConsumes, WriteAppends, Keeps};
-ghost use Rattle.sftp_transcript.specs.Streams.{Counts};
+ghost use Rattle.sftp_streams.specs.Streams.{Counts};
 
 use thiserror::Error;
 

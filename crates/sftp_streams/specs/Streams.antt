@@ -2,7 +2,7 @@
 -- (`Rattle.std.specs.Io.KnownBytes`). This profile's own.
 use Rattle.std.specs.Prelude.{◌≡◌, ℕ, ◌+◌, ◌-◌, ◌^◌, min, List, ◌++◌, Option, Result, MatchResult}
 use Rattle.std.specs.Io.KnownBytes.{Appends}
-use Rattle.sftp_transcript.specs.declared.streams.Failed.{Failed}
+use Rattle.sftp_streams.specs.declared.streams.Failed.{Failed}
 
 -- the largest count
 abbrev pub largest_count : ℕ

@@ -1,8 +1,8 @@
 -- Bytes that are written in several calls.
-use Rattle.sftp_transcript.proofs.Imports.{◌≡◌, ℕ, List, ◌++◌, Option, None, Some, take, drop, sym, ap, ◌∙◌}
-use Rattle.sftp_transcript.proofs.Imports.{append_assoc, take-append-drop, Result, Ok, Err, OnErr}
+use Rattle.sftp_streams.proofs.Imports.{◌≡◌, ℕ, List, ◌++◌, Option, None, Some, take, drop, sym, ap, ◌∙◌}
+use Rattle.sftp_streams.proofs.Imports.{append_assoc, take-append-drop, Result, Ok, Err, OnErr}
 use Rattle.std.specs.Io.KnownBytes.{Appends}
-use Rattle.sftp_transcript.specs.Streams.{AppendsPart}
+use Rattle.sftp_streams.specs.Streams.{AppendsPart}
 
 pub on_err : {A E P : Type 0} (result : Result A E) → P → OnErr result P
 on_err (Ok value) holds = tt

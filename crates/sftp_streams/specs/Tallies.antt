@@ -1,6 +1,6 @@
 -- What a `Tally` wraps, how many calls of it failed, and how many more reads it passes on.
 use Rattle.std.specs.Prelude.{ℕ}
-use Rattle.sftp_transcript.specs.declared.tally.Tally.{Tally}
+use Rattle.sftp_streams.specs.declared.tally.Tally.{Tally}
 
 abbrev pub inner_of : {T : Type 0} → Tally T → T
 inner_of tally = tally.inner

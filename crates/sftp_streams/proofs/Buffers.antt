@@ -1,7 +1,7 @@
 -- The bytes between two places of a room.
-use Rattle.sftp_transcript.proofs.Imports.{◌≡◌, ℕ, ◌+◌, ◌-◌, ◌≤◌, List, ◌++◌, take, drop, length, sym, ap, ◌∙◌, arith}
-use Rattle.sftp_transcript.proofs.Imports.{append_assoc, take-append-drop, min, drop-drop, drop-take, take_at}
-use Rattle.sftp_transcript.proofs.Imports.{length-append, length-take, length-take-le}
+use Rattle.sftp_streams.proofs.Imports.{◌≡◌, ℕ, ◌+◌, ◌-◌, ◌≤◌, List, ◌++◌, take, drop, length, sym, ap, ◌∙◌, arith}
+use Rattle.sftp_streams.proofs.Imports.{append_assoc, take-append-drop, min, drop-drop, drop-take, take_at}
+use Rattle.sftp_streams.proofs.Imports.{length-append, length-take, length-take-le}
 
 pub taken : (start end count : ℕ) (room held : List ℕ) → held ≡ take (end - start) (drop start room) → start ≤ end
     → count ≤ length held → take (end - (start + count)) (drop (start + count) room) ≡ drop count held
