@@ -1,5 +1,5 @@
-//! Recorded sessions of SFTP: events, transcript files, and what it means that a session is explained. The crate knows no tree: a step of a session is a parameter of its
-//! definitions.
+//! Recorded sessions of SFTP: events, transcript files, and what it means that a session is explained. The crate knows
+//! no tree: a step of a session is a parameter of its definitions.
 #![tactic(auto)]
 
 mod errors;
