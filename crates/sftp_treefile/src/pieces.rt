@@ -1,5 +1,6 @@
 //! What a reader of tree files takes from its input, piece by piece: heads, paths and kinds.
-ghost use Rattle.std.specs.Prelude.{◌≡◌, ◌<◌, ◌≤◌, List, ◌∷◌, length, IfOk, IfErr, OnOk, IsTrue, false};
+ghost use Rattle.std.specs.Prelude.{◌≡◌, ◌<◌, ◌≤◌, ℕ, List, ◌∷◌, length, IfOk, IfErr, OnOk, IsTrue};
+ghost use Rattle.std.specs.Prelude.{false};
 ghost use Rattle.sftp_packets.specs.Spelling.{uint32, string};
 ghost use Rattle.sftp_treefile.specs.TreeFile.{place_of, kind_text, are_bytes, IsKind};
 ghost use Rattle.sftp_treefile.specs.TreeFileParts.{Reads, ReadsNone, IsAt, Follows, IsLast, IsFile, IsHead};

@@ -20,7 +20,7 @@ use Rattle.sftp_treefile.specs.TreeFileParts.{IsAt}
 use Rattle.sftp_treefile.specs.Streamed.{IsIn, IsAmong, MayFail, GivesUnless}
 use Rattle.sftp_treefile.specs.TreeFile.{IsTreeFile, IsSpelled, GivesFile}
 use Rattle.sftp_treefile.proofs.Texts.Files.{no_file_head, no_file_entries, no_file_trailing, file_read}
-use Rattle.sftp_treefile.proofs.Imports.{IsHead, head_bytes, Head}
+use Rattle.sftp_treefile.proofs.Imports.{IsHead, head_bytes, Head, IsNumber}
 use Rattle.sftp_treefile.proofs.Texts.Fields.{owner_front, number_front, file_bytes_length, first_none}
 
 -- ---- a part of the bytes held
@@ -151,6 +151,24 @@ start_front x y r s x-fits y-fits e =
     (sym (append_assoc (owner_text x.0) (uint32 x.1) r) ∙ ap (drop 1) e ∙ append_assoc (owner_text y.0) (uint32 y.1) s) in
     number_front x.1 y.1 r s x-fits.1 y-fits.1 owners.1
 
+start_rest : (start : Owner × ℕ) (bytes rest r : List ℕ) (letter : ℕ) → bytes ≡ letter ∷ rest
+    → bytes ≡ file_start_text start ++ r → rest ≡ owner_text start.0 ++ (uint32 start.1 ++ r)
+start_rest start bytes rest r letter is e =
+    ap (drop 1) (sym is ∙ e) ∙ append_assoc (owner_text start.0) (uint32 start.1) r
+
+pub owner_none_start : (bytes rest : List ℕ) (letter : ℕ) → bytes ≡ letter ∷ rest → ReadsNone IsOwner owner_text rest
+    → ReadsNone IsFileStart file_start_text bytes
+owner_none_start bytes rest letter is none start r fits e =
+    none start.0 (uint32 start.1 ++ r) fits.0 (start_rest start bytes rest r letter is e)
+
+pub count_none_start : (bytes rest middle : List ℕ) (letter : ℕ) (owner : Owner) → bytes ≡ letter ∷ rest
+    → Reads IsOwner owner_text rest owner middle → ReadsNone IsNumber uint32 middle
+    → ReadsNone IsFileStart file_start_text bytes
+count_none_start bytes rest middle letter owner is read none start r fits e =
+    let same = owner_front owner start.0 middle (uint32 start.1 ++ r) read.0 fits.0
+    (sym read.1 ∙ start_rest start bytes rest r letter is e) in
+    none start.1 r fits.1 same.1
+
 module _ (limits : TreeLimits) (bound : limits.file_bytes < 2 ^ 32) where
   pub no_start : (old : Ahead) → Lacks IsFileStart file_start_text old → Lacks (IsFile limits) file_kind_text old
   no_start old none before known file r fits e =
@@ -220,7 +238,7 @@ pub file_kind_taken : (limits : TreeLimits) (rows : List Row) (old m new : Ahead
     (bytes : List ℕ) → Takes (IsFile limits) file_kind_text m (owner, bytes) new
     → Takes (IsKind limits rows) kind_text old (First owner bytes) new
 file_kind_taken limits rows old m new same owner bytes t =
-    ((t.0.0, (t.0.1.0, t.0.1.1)), λ before known. t.1 before (known_kept (bytes_ahead old) (bytes_ahead m) before same known))
+    ((t.0.0, t.0.1.0, t.0.1.1), λ before known. t.1 before (known_kept (bytes_ahead old) (bytes_ahead m) before same known))
 
 abbrev pub IsOther : TreeLimits → List Row → Kind → Type 0
 IsOther limits rows kind = IsKind limits rows kind × (is_first kind ≡ false)

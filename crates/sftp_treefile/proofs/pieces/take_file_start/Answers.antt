@@ -1,6 +1,6 @@
 -- What is read of the bytes held is read of the bytes ahead.
 use Rattle.sftp_treefile.proofs.Imports.{◌≡◌, ◌-◌, length, rules, sym, subst, err_from_is_err_and, Ahead, ahead_without, Reads}
-use Rattle.sftp_treefile.proofs.Imports.{ReadsNone, Takes, IsFileStart, file_start_text, inr}
+use Rattle.sftp_treefile.proofs.Imports.{ReadsNone, Takes, IsFileStart, file_start_text, inr, Owner, ℕ}
 use Rattle.sftp_treefile.proofs.Texts.Bounds.{start_bound}
 use Rattle.sftp_treefile.proofs.Texts.Front.{at_in, lacks_filled, takes_part}
 use Rattle.sftp_treefile.proofs.pieces.take_file_start.Goals as goal
@@ -15,7 +15,7 @@ returns-in_err-owner-clause-none g c =
 pub returns-clause-found : goal.returns-clause-found
 returns-clause-found g c =
     let m = c.fill.new.self in
-    let start = (c.in_ok-owner.owner, c.in_ok-owner.count) in
+    let start : Owner × ℕ = (c.in_ok-owner.owner, c.in_ok-owner.count) in
     let rest = c.in_ok-owner.rest.now in
     let new : c.take.new.self ≡ ahead_without (length m.held - length rest) m = search rules in
     let read : Reads IsFileStart file_start_text m.held start rest = rw (← c.held.ensures) c.in_ok-owner.ensures.found in

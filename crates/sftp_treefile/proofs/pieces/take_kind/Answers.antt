@@ -12,7 +12,7 @@ returns-in_err-owner-clause-none g c =
     (file_kind_lacks c.args.limits c.args.rows.now c.args.input.now m c.fill.ensures.same letter.0 (sym c.held.ensures ∙ letter.1)))
 
 pub returns-clause-found : goal.returns-clause-found
-returns-clause-found g c = file_kind_taken c.args.limits c.args.rows.now c.args.input.now c.fill.new.self c.take_file-owner.new.input
+returns-clause-found g c = file_kind_taken c.args.limits c.args.rows.now c.args.input.now c.fill.new.self c.take_file.new.input
     c.fill.ensures.same c.in_ok-owner.owner c.in_ok-owner.bytes c.in_ok-owner.ensures.found
 
 pub returns-in-Ok-clause-found : goal.returns-in-Ok-clause-found
