@@ -8,7 +8,7 @@ use crate::replaying::{Parting, Replay};
 use crate::summaries::{Close, Summary, Traffic};
 use sftp_files::{
     Announcing, Bounded, Ending, Failure, Keeping, Meter, Record, Recording, STANDARD_INPUT,
-    STANDARD_OUTPUT, ServeOptions, System, Watched, read_at_most, report, require_fit, write,
+    STANDARD_OUTPUT, ServeOptions, System, Watched, open, report, require_fit, write,
     write_flushed,
 };
 use sftp_server::{
@@ -16,8 +16,8 @@ use sftp_server::{
 };
 use sftp_transcript::{Tally, Writer};
 use sftp_tree::Tree;
-use sftp_treefile::TreeLimits;
-use sftp_wire::{Request, take_number, take_string};
+use sftp_treefile::TreeError;
+use sftp_wire::Request;
 use std::io::{Read, Write};
 
 /// Why there cannot be two orders.
@@ -77,12 +77,23 @@ fn require_place<'a, R: System>(rt: &R, save: Option<&'a str>) -> Result<(), Fai
     }
 }
 
-/// The tree that the session starts from.
+/// The tree that the session starts from. No more of its file is held than the tree and a buffer.
 fn read_tree<'a, R: System>(rt: &R, options: &ServeOptions<'a>) -> Result<Tree, Failure<'a>> {
-    let bytes = read_at_most(rt, options.tree, options.memory)?;
-    let tree = Tree::read(rt.alloc(), bytes.as_slice());
+    let file = open(rt, options.tree)?;
+    let most = options.memory.unwrap_or(u64::MAX);
+    let mut bytes = Watched::new(file.take(most.saturating_add(1)));
+    let tree = Tree::read_from(rt.alloc(), Tally::new(&mut bytes));
+    let flow = bytes.flow();
     drop(bytes);
-    Ok(tree?)
+    if flow.bytes > most {
+        drop(tree);
+        return Err(Failure::OverLimit(options.tree));
+    }
+    match tree {
+        Ok(tree) => Ok(tree),
+        Err(TreeError::Io { .. }) => Err(Failure::CannotRead(options.tree, flow.code)),
+        Err(error) => Err(Failure::from(error)),
+    }
 }
 
 /// The writer of a new record.
@@ -280,7 +291,7 @@ fn save_any<'a, R: System>(
 ) -> Result<Option<u32>, Failure<'a>> {
     match (tree, options.save) {
         (Some(tree), Some(name)) => save(rt, tree, name, options.keeping),
-        (Some(tree), None) if options.is_verbose => Ok(counted(tree)),
+        (Some(tree), None) if options.is_verbose => Ok(Some(tree.entry_count())),
         _ => Ok(None),
     }
 }
@@ -294,60 +305,12 @@ fn save<'a, R: System>(
 ) -> Result<Option<u32>, Failure<'a>> {
     let bytes = tree.write()?;
     let written = write(rt, name, keeping, bytes.as_slice());
-    let entries = entry_count(bytes.as_slice(), tree.tree_limits());
     drop(bytes);
     match written {
-        Ok(()) => Ok(Some(entries)),
+        Ok(()) => Ok(Some(tree.entry_count())),
         Err(failure) => Err(failure),
     }
 }
-
-/// How many entries a tree has, unless memory runs out.
-fn counted(tree: &Tree) -> Option<u32> {
-    match tree.write() {
-        Ok(bytes) => {
-            let entries = entry_count(bytes.as_slice(), tree.tree_limits());
-            drop(bytes);
-            Some(entries)
-        }
-        Err(_no_memory) => None,
-    }
-}
-
-/// The number of entries that the file of a tree with these limits says it has.
-fn entry_count(file: &[u8], limits: TreeLimits) -> u32 {
-    match take_string(behind(file, OPENING_LENGTH)) {
-        Some((_home, rest)) => match take_number(behind(rest, count_place(limits))) {
-            Some((count, _rest)) => count,
-            None => 0,
-        },
-        None => 0,
-    }
-}
-
-/// How many bytes are between the home and the number of entries: the owner of new entries, and the limits if they are
-/// the tree's own.
-fn count_place(limits: TreeLimits) -> usize {
-    if limits.are_own() {
-        OWNER_LENGTH + LIMITS_LENGTH
-    } else {
-        OWNER_LENGTH
-    }
-}
-
-/// The bytes after the first `count`.
-fn behind(bytes: &[u8], count: usize) -> &[u8] {
-    bytes.get(count..).unwrap_or(&[])
-}
-
-/// The length of the opening of a tree file.
-const OPENING_LENGTH: usize = 8;
-
-/// The length of the owner of new entries in a tree file: a user and a group.
-const OWNER_LENGTH: usize = 8;
-
-/// The length of the limits in a tree file: four numbers.
-const LIMITS_LENGTH: usize = 16;
 
 /// Why a session could not go on when this stream failed.
 fn stream_failure<'a>(stream: Stream, traffic: Traffic, options: &ServeOptions<'a>) -> Failure<'a> {
