@@ -24,3 +24,4 @@ pub mod Kinds
 pub mod Answered
 pub mod Payloads
 pub mod Opening
+pub mod Proposals

@@ -14,13 +14,12 @@ mod names;
 use crate::answer::forms::status;
 use crate::requests::{Kind, kind_of};
 use crate::sessions::Session;
-use crate::slab_table::SlabTable;
 use crate::tables::HandleTable;
 use sftp_tree::{Cause, NoMemory, Refused};
 use sftp_wire::status::OK;
 use sftp_wire::{Answer, Ask, Reply, Request};
 
-impl Session<SlabTable> {
+impl<T: HandleTable> Session<T> {
     /// Answers a request: does it, or refuses it, and returns its reply. A refusal is a status with the `Cause::code`
     /// of a cause of the request, of several the earliest (`docs/DECISIONS.md` has their order). Its strings are empty.
     ///
@@ -35,16 +34,13 @@ impl Session<SlabTable> {
         let answer = self.answer_to(&request.ask)?;
         Ok(reply_with(request.id, answer))
     }
-}
 
-impl<T: HandleTable> Session<T> {
     /// Answers a request without its id.
     ///
     /// # Errors
     ///
     /// `NoMemory` if memory runs out; the session is unchanged.
     fn answer_to(&mut self, ask: &Ask) -> Result<Answer, NoMemory>
-        requires { T.takes_want ≡ false }
         ensures answered { IfOk result (λ answer. step self.old ask.now answer ≡ Some self.new) }
         ensures spelled { IfOk result IsSpelledAnswer }
         ensures err { OnErr result (self.new ≡ self.old) }
@@ -63,7 +59,6 @@ impl<T: HandleTable> Session<T> {
     ///
     /// A cause that refuses the request, or `NoMemory` if memory runs out. On error the session is unchanged.
     fn do_free(&mut self, ask: &Ask) -> Result<Answer, Refused>
-        requires { T.takes_want ≡ false }
         ensures done { IfOk result (λ answer. IsAnswered self.old ask.now answer self.new) }
         ensures refused { IfErr result (IsRefusal self.old ask.now) }
         ensures kept { OnErr result (self.new ≡ self.old) }

@@ -6,13 +6,15 @@ ghost use Rattle.sftp_packets.specs.Spelling.{AreBytes};
 ghost use Rattle.sftp_path.specs.Place.{bytes_cmp};
 ghost use Rattle.sftp_path.specs.Table.{from_entries, size};
 ghost use Rattle.sftp_path.proofs.Table.Laws.{InOrder-from_entries};
-ghost use Rattle.sftp_handles.specs.declared.tables.PutError.TheVariants.{Taken, NoMemory};
+ghost use Rattle.sftp_handles.specs.declared.tables.PutError.TheVariants.{Taken, NoMemory as no_memory};
 ghost use Rattle.sftp_handles.specs.Handles.{open_at, with_open, without_open, is_open};
 ghost use Rattle.sftp_handles.specs.Given.{handles_in};
 
+use crate::free_names::free_name_in;
 use crate::opens::Open;
 use crate::tables::{HandleTable, PutError};
 use indexmap::IndexMap;
+use sftp_tree::NoMemory;
 use std::alloc::Global;
 use std::marker::Model;
 
@@ -62,6 +64,10 @@ impl HandleTable for GivenTable {
         self.opens.get_mut(name)
     }
 
+    fn free_name(&self, alloc: Global) -> Result<Vec<u8>, NoMemory> {
+        free_name_in(&self.opens, alloc)
+    }
+
     fn reserve(&mut self, alloc: Global, want: &[u8]) -> Result<Vec<u8>, PutError> {
         reserve_name(&mut self.opens, alloc, want)
     }
@@ -97,7 +103,7 @@ fn reserve_name(
     ensures bytes { IfOk result (λ name. AreBytes name.items) }
     ensures taken { IfErr result (λ e. e ≡ Taken →
         IsTrue (is_open (handles_in (λ k. k.items) opens.old.entries) want.now)) }
-    ensures refused { IfErr result (λ e. e ≡ NoMemory →
+    ensures refused { IfErr result (λ e. e ≡ no_memory →
         open_at (handles_in (λ k. k.items) opens.old.entries) want.now ≡ None) }
     ensures kept { opens.new.entries ≡ opens.old.entries }
 {
@@ -142,7 +148,7 @@ fn count_open(opens: &IndexMap<Vec<u8>, Open>) -> usize
 }
 
 /// What is open under a name.
-fn find_open<'a>(opens: &'a IndexMap<Vec<u8>, Open>, name: &[u8]) -> Option<&'a Open>
+pub(crate) fn find_open<'a>(opens: &'a IndexMap<Vec<u8>, Open>, name: &[u8]) -> Option<&'a Open>
     ensures { option_copied result ≡ open_at (handles_in (λ k. k.items) opens.now.entries) name.now }
 {
     opens.get(name)

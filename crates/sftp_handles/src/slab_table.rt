@@ -7,7 +7,7 @@ ghost use Rattle.sftp_packets.specs.Spelling.{AreBytes, handle_limit};
 ghost use Rattle.sftp_path.specs.Place.{bytes_cmp};
 ghost use Rattle.sftp_path.specs.Table.{size};
 ghost use Rattle.sftp_path.proofs.Table.Laws.{InOrder-from_entries};
-ghost use Rattle.sftp_handles.specs.declared.tables.PutError.TheVariants.{NoMemory};
+ghost use Rattle.sftp_handles.specs.declared.tables.PutError.TheVariants.{NoMemory as no_memory};
 ghost use Rattle.sftp_handles.specs.Handles.{open_at, with_open, without_open};
 ghost use Rattle.sftp_handles.specs.Slots.{slot_name, next_name, named_slot, slab_handles, serial_after, serial_before};
 ghost use Rattle.sftp_handles.specs.Slots.{IsNameAt, IsNext, IsNewest, IsNumbered};
@@ -16,6 +16,7 @@ use crate::opens::Open;
 use crate::slots::Slot;
 use crate::tables::{HandleTable, PutError};
 use byteorder::{BigEndian, ByteOrder};
+use sftp_tree::NoMemory;
 use slab::Slab;
 use std::alloc::Global;
 use std::marker::Model;
@@ -73,6 +74,10 @@ impl HandleTable for SlabTable {
         Some(&mut slot.opened)
     }
 
+    fn free_name(&self, alloc: Global) -> Result<Vec<u8>, NoMemory> {
+        Ok(Vec::new(alloc))
+    }
+
     fn reserve(&mut self, alloc: Global, want: &[u8]) -> Result<Vec<u8>, PutError>
         ensures next { next_name self.new ≡ next_name self.old }
         ensures serial { self.new.serial ≡ self.old.serial }
@@ -81,7 +86,7 @@ impl HandleTable for SlabTable {
         ensures closed { IfOk result (λ name. open_at (slab_handles self.old.opens) name.items ≡ None) }
         ensures short { IfOk result (λ name. length name.items ≤ handle_limit) }
         ensures bytes { IfOk result (λ name. AreBytes name.items) }
-        ensures refused { IfErr result (λ e. e ≡ NoMemory) }
+        ensures refused { IfErr result (λ e. e ≡ no_memory) }
         ensures kept { slab_handles self.new.opens ≡ slab_handles self.old.opens }
     {
         let _ignored = want;
@@ -108,7 +113,7 @@ impl HandleTable for SlabTable {
             slab_handles self.new.opens ≡ with_open (slab_handles self.old.opens) name.items it) }
         ensures short { IfOk result (λ name. length name.items ≤ handle_limit) }
         ensures bytes { IfOk result (λ name. AreBytes name.items) }
-        ensures refused { IfErr result (λ e. e.1 ≡ NoMemory) }
+        ensures refused { IfErr result (λ e. e.1 ≡ no_memory) }
         ensures back { IfErr result (λ e. e.0 ≡ it) }
         ensures err { OnErr result (slab_handles self.new.opens ≡ slab_handles self.old.opens) }
     {
@@ -221,7 +226,7 @@ fn reserve_open(opens: &mut Slab<Slot>, alloc: Global, serial: u32) -> Result<Ve
     ensures closed { IfOk result (λ name. open_at (slab_handles opens.old) name.items ≡ None) }
     ensures short { IfOk result (λ name. length name.items ≤ handle_limit) }
     ensures bytes { IfOk result (λ name. AreBytes name.items) }
-    ensures refused { IfErr result (λ e. e ≡ NoMemory) }
+    ensures refused { IfErr result (λ e. e ≡ no_memory) }
     ensures kept { opens.new ≡ record opens.old { capacity = opens.new.capacity } }
 {
     if opens.reserve(1).is_err() {

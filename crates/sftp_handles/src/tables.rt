@@ -1,16 +1,18 @@
 //! Tables of handles: finite maps from names to what is open under them.
 ghost use Rattle.std.specs.Prelude.{◌≡◌, ◌≤◌, [], ℕ, List, Bool, None, Some, IsTrue, IfOk, IfErr, OnOk, OnErr, OnSome};
-ghost use Rattle.std.specs.Prelude.{length, option_copied};
+ghost use Rattle.std.specs.Prelude.{◌<◌, false, length, option_copied};
 ghost use Rattle.std.specs.Borrow.{LendsSo, sem};
 ghost use Rattle.std.specs.Option.{option_copied_mut};
 ghost use Rattle.sftp_packets.specs.Spelling.{AreBytes, handle_limit};
 ghost use Rattle.sftp_path.specs.Place.{bytes_cmp};
 ghost use Rattle.sftp_path.specs.Table.{InOrder, size};
-ghost use Rattle.sftp_handles.specs.declared.tables.PutError.TheVariants.{Taken, NoMemory};
+ghost use Rattle.sftp_treefile.specs.Limits.{highest_limits};
+ghost use Rattle.sftp_handles.specs.declared.tables.PutError.TheVariants.{Taken, NoMemory as no_memory};
 ghost use Rattle.sftp_handles.specs.contracts.opens.Open.{the_row};
 ghost use Rattle.sftp_handles.specs.Handles.{Handles, open_at, with_open, without_open, is_open};
 
 use crate::opens::Open;
+use sftp_tree::NoMemory;
 use std::alloc::Global;
 use std::mem;
 use thiserror::Error;
@@ -27,7 +29,7 @@ pub enum PutError {
 }
 
 /// A table of what is open, by the names of the handles. A name is a byte string of at most `HANDLE_LIMIT` bytes. No
-/// calls but `put` and `reserve` take memory.
+/// calls but `put`, `reserve` and `free_name` take memory.
 pub trait HandleTable: Sized + Drop {
     /// What is open under each name.
     ghost handles: { Self → Handles };
@@ -80,6 +82,17 @@ pub trait HandleTable: Sized + Drop {
         }
     }
 
+    /// A name that may be wanted for the next handle: nothing is open under it. A table that gives names of its own
+    /// wants none, and returns the empty name without taking memory.
+    ///
+    /// # Errors
+    ///
+    /// `NoMemory` if memory runs out.
+    fn free_name(&self, alloc: Global) -> Result<Vec<u8>, NoMemory>
+        requires { size (handles self.now) < highest_limits.open_handles }
+        ensures short { IfOk result (λ name. length name.items ≤ handle_limit) }
+        ensures free { IfOk result (λ name. IsTrue takes_want → is_open (handles self.now) name.items ≡ false) };
+
     /// Makes room for one more handle, and returns the name that it will have. A table that gives names of its own
     /// ignores the one that is wanted.
     ///
@@ -96,7 +109,7 @@ pub trait HandleTable: Sized + Drop {
         ensures wanted { IfOk result (λ name. IsTrue takes_want → name.items ≡ want.now) }
         ensures taken { IfErr result (λ e. e ≡ Taken →
             IsTrue takes_want × IsTrue (is_open (handles self.old) want.now)) }
-        ensures refused { IfErr result (λ e. e ≡ NoMemory → IsTrue takes_want →
+        ensures refused { IfErr result (λ e. e ≡ no_memory → IsTrue takes_want →
             open_at (handles self.old) want.now ≡ None) }
         ensures kept { handles self.new ≡ handles self.old }
         ensures next { name_for self.new ≡ name_for self.old };
@@ -123,7 +136,7 @@ pub trait HandleTable: Sized + Drop {
         ensures named { IfOk result (λ name. name.items ≡ name_for self.old want.items) }
         ensures taken { IfErr result (λ e. e.1 ≡ Taken →
             IsTrue takes_want × IsTrue (is_open (handles self.old) want.items)) }
-        ensures refused { IfErr result (λ e. e.1 ≡ NoMemory → IsTrue takes_want →
+        ensures refused { IfErr result (λ e. e.1 ≡ no_memory → IsTrue takes_want →
             open_at (handles self.old) want.items ≡ None) }
         ensures back { IfErr result (λ e. e.0 ≡ it) }
         ensures err { OnErr result (handles self.new ≡ handles self.old) }

@@ -7,6 +7,7 @@ ghost use Rattle.sftp_server.specs.Served.{stream_bytes};
 ghost use Rattle.sftp_server.specs.Sessions.{IsLogging, CountsCall, Spares};
 ghost use Rattle.sftp_server.specs.Scripted.{FollowsOn, RepliesOn, Works, bytes_ahead};
 
+use crate::answerers::Answerer;
 use crate::cores::Core;
 use crate::ends::Stop;
 use crate::input::Input;
@@ -15,6 +16,7 @@ use crate::schedules::{Schedule, Step};
 use crate::sending::flush;
 use crate::taking::{Front, take_one};
 use crate::working::{send_reply, work_off};
+use sftp_handles::HandleTable;
 use sftp_transcript::{Sink, Source, Writer};
 use std::alloc::Global;
 
@@ -24,14 +26,15 @@ use std::alloc::Global;
 /// # Errors
 ///
 /// `NoMemory` if memory runs out; `Io` if a stream fails.
-pub(crate) fn follow_script<R: Source, W: Sink, L: Sink, S: Schedule>(
+pub(crate) fn follow_script<R: Source, W: Sink, L: Sink, S: Schedule, T: HandleTable, A: Answerer<T>>(
     input: &mut Input,
-    core: &mut Core,
+    core: &mut Core<T>,
     output: &mut Vec<u8>,
     reader: &mut R,
     writer: &mut W,
     log: &mut Writer<L>,
     schedule: &mut S,
+    answerer: &mut A,
 ) -> Result<(), Stop>
     requires { IsLogging log.old }
     ensures running { FollowsOn (stream_bytes (R.left reader.old) (W.written writer.old) log.old.bytes)
@@ -44,21 +47,22 @@ pub(crate) fn follow_script<R: Source, W: Sink, L: Sink, S: Schedule>(
     ensures counts_log { CountsCall streams.Log result log.old.failures log.new.failures }
 {
     'script: loop {
-        if !take_next(input, core, output, reader, writer, log, schedule)? {
-            return work_off(core, output, writer, log, schedule);
+        if !take_next(input, core, output, reader, writer, log, schedule, answerer)? {
+            return work_off(core, output, writer, log, schedule, answerer);
         }
     }
 }
 
 /// Follows the script up to the next request, takes that, and returns whether the script goes on.
-fn take_next<R: Source, W: Sink, L: Sink, S: Schedule>(
+fn take_next<R: Source, W: Sink, L: Sink, S: Schedule, T: HandleTable, A: Answerer<T>>(
     input: &mut Input,
-    core: &mut Core,
+    core: &mut Core<T>,
     output: &mut Vec<u8>,
     reader: &mut R,
     writer: &mut W,
     log: &mut Writer<L>,
     schedule: &mut S,
+    answerer: &mut A,
 ) -> Result<bool, Stop>
     requires { IsLogging log.old }
     ensures running { FollowsOn (stream_bytes (R.left reader.old) (W.written writer.old) log.old.bytes)
@@ -72,7 +76,7 @@ fn take_next<R: Source, W: Sink, L: Sink, S: Schedule>(
     ensures counts_log { CountsCall streams.Log result log.old.failures log.new.failures }
 {
     let alloc = *output.allocator();
-    if !send_replies(core, output, writer, log, schedule)? {
+    if !send_replies(core, output, writer, log, schedule, answerer)? {
         return Ok(false);
     }
     await_request(alloc, input, core, reader, writer, log, schedule)
@@ -80,12 +84,13 @@ fn take_next<R: Source, W: Sink, L: Sink, S: Schedule>(
 
 /// Sends the replies that the script has before the next request. Returns whether it has one; if not, the script is
 /// over, or it has a reply that cannot be sent.
-fn send_replies<W: Sink, L: Sink, S: Schedule>(
-    core: &mut Core,
+fn send_replies<W: Sink, L: Sink, S: Schedule, T: HandleTable, A: Answerer<T>>(
+    core: &mut Core<T>,
     output: &mut Vec<u8>,
     writer: &mut W,
     log: &mut Writer<L>,
     schedule: &mut S,
+    answerer: &mut A,
 ) -> Result<bool, Stop>
     requires { IsLogging log.old }
     ensures running { RepliesOn core.old core.new (W.written writer.old) (W.written writer.new) log.old.bytes
@@ -98,7 +103,7 @@ fn send_replies<W: Sink, L: Sink, S: Schedule>(
     'steps: loop {
         match schedule.step() {
             Some(Step::Reply(id)) => {
-                if !answer(id, core, output, writer, log)? {
+                if !answer(id, core, output, writer, log, answerer)? {
                     return Ok(false);
                 }
             }
@@ -109,12 +114,13 @@ fn send_replies<W: Sink, L: Sink, S: Schedule>(
 }
 
 /// Does the unanswered request with this id, and sends its reply. Returns whether there is one.
-fn answer<W: Sink, L: Sink>(
+fn answer<W: Sink, L: Sink, T: HandleTable, A: Answerer<T>>(
     id: u32,
-    core: &mut Core,
+    core: &mut Core<T>,
     output: &mut Vec<u8>,
     writer: &mut W,
     log: &mut Writer<L>,
+    answerer: &mut A,
 ) -> Result<bool, Stop>
     requires { IsLogging log.old }
     ensures running { RepliesOn core.old core.new (W.written writer.old) (W.written writer.new) log.old.bytes
@@ -128,7 +134,7 @@ fn answer<W: Sink, L: Sink>(
     let Some(k) = core.position(id) else {
         return Ok(false);
     };
-    work_for(k, core)?;
+    work_for(k, core, answerer)?;
     if !core.is_done(k) {
         return Ok(false);
     }
@@ -137,36 +143,48 @@ fn answer<W: Sink, L: Sink>(
 }
 
 /// Does the request at this position. If it has to wait for earlier ones, all that are pending are done first.
-fn work_for(k: usize, core: &mut Core) -> Result<(), Stop>
+fn work_for<T: HandleTable, A: Answerer<T>>(
+    k: usize,
+    core: &mut Core<T>,
+    answerer: &mut A,
+) -> Result<(), Stop>
     ensures works { Works core.old core.new result }
     ensures never_rises { OnOk result (owed core.new.queue ≤ owed core.old.queue) }
     ensures err { IfErr result (λ stop. stop ≡ stops.NoMemory) }
 {
     if !core.ready(k) {
-        work_before(k, core)?;
+        work_before(k, core, answerer)?;
     }
-    try_work(k, core)
+    try_work(k, core, answerer)
 }
 
 /// Does the pending requests before this position, in their order.
-fn work_before(k: usize, core: &mut Core) -> Result<(), Stop>
+fn work_before<T: HandleTable, A: Answerer<T>>(
+    k: usize,
+    core: &mut Core<T>,
+    answerer: &mut A,
+) -> Result<(), Stop>
     ensures works { Works core.old core.new result }
     ensures never_rises { OnOk result (owed core.new.queue ≤ owed core.old.queue) }
     ensures err { IfErr result (λ stop. stop ≡ stops.NoMemory) }
 {
     'each: for j in 0..k {
-        try_work(j, core)?;
+        try_work(j, core, answerer)?;
     }
     Ok(())
 }
 
 /// Does the request at this position, if it is ready.
-fn try_work(k: usize, core: &mut Core) -> Result<(), Stop>
+fn try_work<T: HandleTable, A: Answerer<T>>(
+    k: usize,
+    core: &mut Core<T>,
+    answerer: &mut A,
+) -> Result<(), Stop>
     ensures works { Works core.old core.new result }
     ensures never_rises { OnOk result (owed core.new.queue ≤ owed core.old.queue) }
     ensures err { IfErr result (λ stop. stop ≡ stops.NoMemory) }
 {
-    match core.work(k)? {
+    match core.work_by(k, answerer)? {
         Did::Done => Ok(()),
         Did::NotReady => Ok(()),
         Did::NoSuch => Ok(()),
@@ -175,10 +193,10 @@ fn try_work(k: usize, core: &mut Core) -> Result<(), Stop>
 
 /// Waits for the next request, takes it, and returns whether the script goes on with it. It does not if no request
 /// can be taken: the input has ended, a fault is in front, or the core is full.
-fn await_request<R: Source, W: Sink, L: Sink, S: Schedule>(
+fn await_request<R: Source, W: Sink, L: Sink, S: Schedule, T: HandleTable>(
     alloc: Global,
     input: &mut Input,
-    core: &mut Core,
+    core: &mut Core<T>,
     reader: &mut R,
     writer: &mut W,
     log: &mut Writer<L>,
@@ -211,7 +229,7 @@ fn await_request<R: Source, W: Sink, L: Sink, S: Schedule>(
 }
 
 /// Whether the script goes on after the request that was taken last.
-fn goes_on<S: Schedule>(core: &Core, schedule: &mut S) -> bool {
+fn goes_on<S: Schedule, T: HandleTable>(core: &Core<T>, schedule: &mut S) -> bool {
     match core.newest() {
         Some(request) => schedule.expects(request),
         None => false,

@@ -7,6 +7,8 @@ use Rattle.sftp_handles.proofs.Imports.{with_handle_room, is_opening, asked_stat
 use Rattle.sftp_packets.specs.declared.requests.Ask.TheVariants.{Open, Opendir}
 use Rattle.sftp_tree.specs.Requests.{plain_causes, causes as tree_causes}
 use Rattle.sftp_handles.proofs.Good.NewStates.{state_of}
+use Rattle.sftp_handles.proofs.Imports.{◌<◌, ◌+◌, Good, arith, leb-true}
+use Rattle.sftp_treefile.specs.Limits.{highest_limits}
 
 -- one more handle may be opened exactly if the handles with a new one are not too many
 pub left-fits : (s : State) (handle : List ℕ) (it : Opened) → open_at s.handles handle ≡ None
@@ -54,3 +56,10 @@ asked-room s (Open path pflags attrs) handle it opening none absent =
 asked-room s (Opendir path) handle it opening none absent =
     opening-room s (Opendir path) none ∙ fits-asked s (Opendir path) handle it absent
 asked-room s other handle it opening none absent = absurd cc
+
+-- if one more may be opened, fewer are open than may be in any tree
+pub few-handles : (s : State) → Good s → has_handle_left s ≡ true → size s.handles < highest_limits.open_handles
+few-handles s good room =
+    let less = leb-true (size s.handles + 1) (limits s.tree).open_handles room in
+    let most = good.tree.well_formed.limits.open_handles.1 in
+    omega (arith, less, most)

@@ -1,7 +1,8 @@
 //! The answers to OPEN, OPENDIR and READDIR (draft, sections 6.3 and 6.7).
-ghost use Rattle.std.specs.Prelude.{◌≡◌, false, IfOk, IfErr, OnOk, OnErr, IsTrue};
+ghost use Rattle.std.specs.Prelude.{◌≡◌, ◌≤◌, false, length, IfOk, IfErr, OnOk, OnErr, IsTrue};
+ghost use Rattle.sftp_packets.specs.Spelling.{handle_limit};
 ghost use Rattle.sftp_packets.specs.declared.requests.Ask.TheVariants as asks;
-ghost use Rattle.sftp_handles.specs.Handles.{open_at};
+ghost use Rattle.sftp_handles.specs.Handles.{open_at, is_open};
 ghost use Rattle.sftp_handles.specs.State as state;
 ghost use Rattle.sftp_handles.specs.declared.requests.Kind.TheVariants as variants;
 ghost use Rattle.sftp_handles.specs.Kinds as kinds;
@@ -14,7 +15,7 @@ use crate::not_opened::NotOpened;
 use crate::open_listings::give_first;
 use crate::sessions::Session;
 use crate::tables::HandleTable;
-use sftp_tree::{Cause, Refused};
+use sftp_tree::{Cause, NoMemory, Refused};
 use sftp_wire::status::EOF;
 use sftp_wire::{Answer, Ask, ByteString};
 
@@ -28,19 +29,31 @@ impl<T: HandleTable> Session<T> {
     ///
     /// `Cause` with the first cause that holds. `NoMemory` if memory runs out. On error the session is unchanged.
     pub(crate) fn answer_open(&mut self, ask: &Ask) -> Result<Answer, Refused>
-        requires table { T.takes_want ≡ false }
-        requires kind { kinds.kind_of ask.now ≡ variants.Open }
+        requires { kinds.kind_of ask.now ≡ variants.Open }
         ensures done { IfOk result (λ answer. IsAnswered self.old ask.now answer self.new) }
         ensures refused { IfErr result (IsRefusal self.old ask.now) }
         ensures kept { OnErr result (self.new ≡ self.old) }
     {
         self.check_handles(ask)?;
-        let want = Vec::new(self.tree.allocator());
+        let want = self.free_name()?;
         match self.open_for(ask, want) {
             Ok(name) => Ok(new_handle(name)),
             Err(NotOpened::Refused(refused)) => Err(refused),
             Err(NotOpened::Taken) => unreachable!(),
         }
+    }
+
+    /// A name to want for the next handle: if the table takes it, nothing is open under it.
+    ///
+    /// # Errors
+    ///
+    /// `NoMemory` if memory runs out.
+    fn free_name(&self) -> Result<Vec<u8>, NoMemory>
+        requires { IsTrue (state.has_handle_left self.now) }
+        ensures short { IfOk result (λ name. length name.items ≤ handle_limit) }
+        ensures free { IfOk result (λ name. IsTrue T.takes_want → is_open self.now.handles name.items ≡ false) }
+    {
+        self.table.free_name(self.tree.allocator())
     }
 
     /// Whether a request that opens something finds room for one more handle.

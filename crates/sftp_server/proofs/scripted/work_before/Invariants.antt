@@ -4,7 +4,7 @@ use Rattle.sftp_server.specs.Scripted.{Works}
 use Rattle.sftp_server.proofs.scripted.work_before.Given as goal
 
 abbrev pub invariant-each : goal.invariant-each
-invariant-each l = record {
+invariant-each g l = record {
   works : Works l.initial.core l.core (Ok tt);
   never_rises : owed l.core.queue ≤ owed l.initial.core.queue;
 }

@@ -11,7 +11,7 @@ conflict-requires-clause-own c =
     (note_at c.args.self.now.notes.items c.args.k).span c.args.own c.requires.own
 
 pub down-preserved : goal.down-preserved
-down-preserved c =
+down-preserved g c =
     let s = c.args.session.now in
     let queue = c.args.queue.now in
     let notes = c.args.self.now.notes.items in
@@ -35,7 +35,7 @@ down-preserved c =
     )
 
 pub returns-then-conflict-clause-blocked : goal.returns-then-conflict-clause-blocked
-returns-then-conflict-clause-blocked c = λ _.
+returns-then-conflict-clause-blocked g c = λ _.
     let notes = c.args.self.now.notes.items in
     let noted = c.requires.noted in
     let j = c.down.j - 1 in

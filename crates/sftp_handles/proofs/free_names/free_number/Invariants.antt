@@ -1,0 +1,9 @@
+use Rattle.sftp_handles.proofs.Imports.{◌≤◌, ◌-◌, handles_in}
+use Rattle.sftp_handles.proofs.HandleTables.FreeNumbers.{AreOpenBelow}
+use Rattle.sftp_handles.proofs.free_names.free_number.Given as goal
+
+abbrev pub invariant-taken : goal.invariant-taken
+invariant-taken l = AreOpenBelow l.number (handles_in (λ k. k.items) l.opens.entries) × (l.number ≤ 1024)
+
+abbrev pub decreases-taken : goal.decreases-taken
+decreases-taken l = 1024 - l.number
