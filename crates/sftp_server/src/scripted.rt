@@ -26,7 +26,14 @@ use std::alloc::Global;
 /// # Errors
 ///
 /// `NoMemory` if memory runs out; `Io` if a stream fails.
-pub(crate) fn follow_script<R: Source, W: Sink, L: Sink, S: Schedule, T: HandleTable, A: Answerer<T>>(
+pub(crate) fn follow_script<
+    R: Source,
+    W: Sink,
+    L: Sink,
+    S: Schedule,
+    T: HandleTable,
+    A: Answerer<T>,
+>(
     input: &mut Input,
     core: &mut Core<T>,
     output: &mut Vec<u8>,
