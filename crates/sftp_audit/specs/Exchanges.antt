@@ -9,7 +9,7 @@ use Rattle.sftp_transcript.specs.declared.events.Event.{Event}
 use Rattle.sftp_transcript.specs.declared.events.Event.TheVariants.{Asked, Replied}
 use Rattle.sftp_transcript.specs.Begun.{first_number}
 use Rattle.sftp_transcript.specs.Ledger as ledgers
-use Rattle.sftp_transcript.specs.Streams.{one_more}
+use Rattle.sftp_streams.specs.Streams.{one_more}
 use Rattle.sftp_audit.specs.declared.exchanges.RecordedReply.{RecordedReply}
 use Rattle.sftp_audit.specs.declared.exchanges.Exchange.{Exchange}
 

@@ -108,7 +108,8 @@ fn entry_of(error: TreeError) -> u32 {
         | TreeError::Trailing { entry }
         | TreeError::Value { entry }
         | TreeError::Order { entry }
-        | TreeError::Parent { entry } => entry,
+        | TreeError::Parent { entry }
+        | TreeError::Io { entry } => entry,
         TreeError::NoMemory => 0,
     }
 }

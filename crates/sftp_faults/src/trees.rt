@@ -22,7 +22,7 @@ const OPENING_WITH_LIMITS: &[u8] = b"SFTREE02";
 pub fn spot_in_tree(alloc: Global, bytes: &[u8], error: TreeError) -> Option<Spot> {
     let mut fields = Fields::new(bytes);
     match error {
-        TreeError::NoMemory => None,
+        TreeError::NoMemory | TreeError::Io { .. } => None,
         TreeError::Magic { .. } => Some(fields.spot("opening")),
         TreeError::Order { entry } | TreeError::Parent { entry } => {
             Some(path_spot(&mut fields, entry))

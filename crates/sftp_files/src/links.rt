@@ -4,7 +4,6 @@ ghost use Rattle.std.specs.Prelude.{◌↔◌, IsTrue};
 ghost use Rattle.sftp_files.specs.Links.{IsPlanted, IsTrusted};
 
 use crate::system::System;
-use libc::{ELOOP, geteuid};
 use std::fs::{Files, Metadata};
 use std::os::unix::fs::MetadataExt;
 use std::{fs, io};
@@ -14,6 +13,12 @@ pub(crate) const UNTRUSTED: &str = "a symbolic link of another user is on the wa
 
 /// The most links that lead to one file, as the system has it.
 const MOST: usize = 40;
+
+/// The error of the system where links are too many, or where none may be.
+pub(crate) const TOO_MANY_LINKS: i32 = 40;
+
+/// The directory of this process. It belongs to the user whose permissions the process has.
+const PROCESS: &str = "/proc/self";
 
 /// The permissions by which others than its owner write to a folder.
 const OTHERS_WRITE: u32 = 0o022;
@@ -47,7 +52,7 @@ pub(crate) fn path_of<R: System>(rt: &R, name: &str) -> io::Result<Option<String
             Some((link, rest)) => path = behind(rt, link, rest)?,
         }
     }
-    Err(io::Error::from_raw_os_error(ELOOP))
+    Err(io::Error::from_raw_os_error(TOO_MANY_LINKS))
 }
 
 /// The part of a path that is its first link, and what comes behind it.
@@ -80,8 +85,17 @@ fn is_followed<R: Files>(rt: &R, link: &str) -> bool {
         fs::symlink_metadata(rt, link),
         fs::metadata(rt, folder_of(link)),
     ) {
-        (Ok(found), Ok(folder)) => is_trusted(found.uid(), owner_of(&folder), geteuid()),
+        (Ok(found), Ok(folder)) => is_trusted(found.uid(), owner_of(&folder), user(rt)),
         _ => false,
+    }
+}
+
+/// Whose permissions this process has. Where the system does not say it, it is root, for whom the fewest links are
+/// followed.
+fn user<R: Files>(rt: &R) -> u32 {
+    match fs::metadata(rt, PROCESS) {
+        Ok(found) => found.uid(),
+        Err(_) => 0,
     }
 }
 
@@ -97,7 +111,7 @@ fn is_trusted(link: u32, folder: Owned, user: u32) -> bool
 /// Whether another user may have put this file at this path, so as to have what the user of this run writes there.
 pub(crate) fn is_planted_at<R: Files>(rt: &R, path: &str, file: &Metadata) -> bool {
     match fs::metadata(rt, folder_of(path)) {
-        Ok(folder) => is_planted(file.uid(), owner_of(&folder), geteuid()),
+        Ok(folder) => is_planted(file.uid(), owner_of(&folder), user(rt)),
         Err(_) => true,
     }
 }

@@ -13,6 +13,8 @@ pub struct ServeOptions<'a> {
     pub record: Option<&'a str>,
     /// The seed of a pseudorandom order of work and replies. Without it both follow the order of the requests.
     pub shuffle: Option<u64>,
+    /// The name of the transcript whose order of requests and replies the session follows.
+    pub replay: Option<&'a str>,
     /// Whether standard error says when the session opens and how it ends.
     pub is_verbose: bool,
     /// The most bytes of memory that the process may have.

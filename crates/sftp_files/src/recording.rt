@@ -1,11 +1,10 @@
 //! Where the record of a session goes.
-use crate::links::{UNTRUSTED, is_link, is_planted_at, path_of};
+use crate::links::{TOO_MANY_LINKS, UNTRUSTED, is_link, is_planted_at, path_of};
 use crate::messages::{Failure, MORE};
 use crate::options::ServeOptions;
 use crate::saving::{Keeping, is_file_of, is_own, new_file, sync_folder};
 use crate::system::System;
 use crate::watching::{Flow, Watched};
-use libc::ELOOP;
 use std::alloc::{AllocError, Global};
 use std::fs::{File, Files, Metadata, OpenOptions, TryLockError};
 use std::io::{BufWriter, ErrorKind, Write};
@@ -142,7 +141,7 @@ fn opened_if(is_wanted: bool, file: File) -> io::Result<Opened> {
         })
     } else {
         drop(file);
-        Err(io::Error::from_raw_os_error(ELOOP))
+        Err(io::Error::from_raw_os_error(TOO_MANY_LINKS))
     }
 }
 
@@ -182,20 +181,27 @@ fn is_of_another<R: Files>(rt: &R, path: &str, found: &Metadata, file: &File) ->
     keeps && (!is_own(file) || is_planted_at(rt, path, found))
 }
 
-/// Whether the file is also that of the tree, or the one to save it to.
+/// Whether the file is also one that the session reads, or the one to save its tree to.
 fn is_named_twice<R: Files>(rt: &R, file: &Metadata, options: &ServeOptions<'_>) -> bool {
-    if is_file_of(rt, options.tree, file) {
+    if is_file_of(rt, options.tree, file) || is_file_of_any(rt, options.replay, file) {
         return true;
     }
-    match options.save {
-        Some(save) => file.is_file() && is_file_of(rt, save, file),
+    file.is_file() && is_file_of_any(rt, options.save, file)
+}
+
+/// Whether a name is given and leads to this file.
+fn is_file_of_any<R: Files>(rt: &R, name: Option<&str>, file: &Metadata) -> bool {
+    match name {
+        Some(name) => is_file_of(rt, name, file),
         None => false,
     }
 }
 
 /// The message for a record that is another file of the session.
 fn named_twice(alloc: Global) -> Result<String, AllocError> {
-    format!(in alloc; "error: '--record' names the file of '--tree' or '--save'\n{MORE}")
+    format!(in alloc;
+        "error: '--record' names the file of '--tree', '--save' or '--replay'\n{MORE}"
+    )
 }
 
 /// Locks an open file, until it is closed. A file system that has no locks has no part in this.

@@ -113,19 +113,50 @@ pub fn write_last<'a, R: System>(
     }
 }
 
-/// Fails if the name is that of something that is never written to.
+/// Fails if the name is that of something that is never written to, or no file can be made beside the one that it leads
+/// to, so that it could not be replaced.
 pub fn require_fit<'a, R: System>(rt: &R, name: &'a str) -> Result<(), Failure<'a>>
     ensures { IfErr result IsUnwritten }
 {
     match path_of(rt, name) {
-        Ok(Some(path)) => drop(path),
-        Ok(None) => return Err(Failure::Unfit(name, UNTRUSTED)),
-        Err(error) => return Err(Failure::writing(name, &error)),
+        Ok(Some(path)) => {
+            let fit = require_fit_at(rt, name, path.as_str());
+            drop(path);
+            fit
+        }
+        Ok(None) => Err(Failure::Unfit(name, UNTRUSTED)),
+        Err(error) => Err(Failure::replacing(name, &error)),
     }
+}
+
+/// Fails if the name, which leads to this path, is that of something that cannot be replaced.
+fn require_fit_at<'a, R: System>(rt: &R, name: &'a str, path: &str) -> Result<(), Failure<'a>>
+    ensures { IfErr result IsUnwritten }
+{
     match place_of(rt, name) {
-        Place::File => Ok(()),
+        Place::File => match try_beside(rt, path) {
+            Ok(()) => Ok(()),
+            Err(error) => Err(Failure::replacing(name, &error)),
+        },
         Place::Output => Ok(()),
         Place::Unfit => Err(Failure::Unfit(name, UNFIT)),
+    }
+}
+
+/// Makes a file beside the one at this path, and removes it.
+fn try_beside<R: System>(rt: &R, path: &str) -> io::Result<()> {
+    let fresh = fresh_path(rt, path)?;
+    let made = new_file(rt, fresh.as_str(), PRIVATE);
+    if made.is_ok() {
+        let _ = fs::remove_file(rt, fresh.as_str());
+    }
+    drop(fresh);
+    match made {
+        Ok(file) => {
+            drop(file);
+            Ok(())
+        }
+        Err(error) => Err(error),
     }
 }
 

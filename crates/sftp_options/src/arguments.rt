@@ -65,7 +65,12 @@ pub(crate) const SERVE: &[Argument] = &[
     (
         "shuffle",
         Form::Number("N"),
-        "Work and reply in a pseudorandom order that N fixes, not in the order asked",
+        "Do and answer the requests that have arrived in a pseudorandom order, which N chooses",
+    ),
+    (
+        "replay",
+        Form::Optional("FILE"),
+        "Await requests and send replies in the order of this transcript",
     ),
     (
         "verbose",

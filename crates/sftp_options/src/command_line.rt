@@ -270,6 +270,7 @@ fn serve_options<'a>(given: &ArgMatches<'a>) -> Option<ServeOptions<'a>> {
         save: given.get_str("save"),
         record: given.get_str("record"),
         shuffle: given.get_one("shuffle"),
+        replay: given.get_str("replay"),
         is_verbose: given.get_flag("verbose"),
         memory: given.get_one("memory"),
         keeping: keeping_of(given),

@@ -22,6 +22,11 @@ replaced whole: the tree goes into a new file beside it, FILE.new-N, which is on
 fails, FILE is unchanged. FILE has to be a regular file or standard output. --record empties its file, which no other
 session may be recording into, and which may not be that of --tree or --save.
 
+With --shuffle N, N fixes the choice among the requests that have arrived; how many have depends on the client's timing.
+With --replay, each request is awaited where the transcript has it, and each reply sent there, so a client that asks the
+same gets the same order. Where it asks otherwise or ends its input, the session goes on in the order asked, and a line
+on standard error says so: 'sftpv3: replay: left at record N: WHY'.
+
 With --memory, the session ends as if memory ran out when a reply is due and the process has more than BYTES. One
 request may take as much as a file or a listing has before that, and saving the tree takes its bytes once more.
 

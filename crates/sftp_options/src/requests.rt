@@ -27,6 +27,7 @@ impl<'a> Request<'a> {
     /// The transcript that a request reads.
     pub fn transcript(&self) -> Option<&'a str> {
         match self {
+            Request::Serve(options) => options.replay,
             Request::Audit(files) => Some(files.transcript),
             Request::Infer(options) => Some(options.transcript),
             _ => self.shown(),

@@ -58,7 +58,7 @@ unfoldable pub use Rattle.sftp_transcript.specs.Explained.{turn_after, requests_
 pub use Rattle.sftp_transcript.specs.Ledger.{Exchange, StandsFor, keeps_window, IsAnswered}
 unfoldable pub use Rattle.sftp_transcript.specs.Ledger.{with_replies, is_open}
 pub use Rattle.sftp_transcript.specs.Log.{Log, IsAppended, FailsToRecord, opened_text}
-pub use Rattle.sftp_transcript.specs.Streams.{AppendsPart}
+pub use Rattle.sftp_streams.specs.Streams.{AppendsPart}
 pub use Rattle.sftp_transcript.specs.Transcript.{IsEvent, record_text, packet_of, transcript_opening}
 pub use Rattle.sftp_transcript.specs.declared.errors.TranscriptError.{TranscriptError}
 pub use Rattle.sftp_transcript.specs.declared.errors.TranscriptError.TheVariants.{Io}

@@ -5,3 +5,4 @@ pub mod Replied
 pub mod Opened
 pub mod Closed
 pub mod Logged
+pub mod Scripted

@@ -13,5 +13,6 @@ pub mod RangedNotes
 pub mod Sessions
 pub mod Fronts
 pub mod Ending
+pub mod Scripted
 pub mod Opening
 pub mod Scripts

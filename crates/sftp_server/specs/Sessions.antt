@@ -12,7 +12,7 @@ use Rattle.sftp_packets.specs.Packets.{spelling}
 use Rattle.sftp_wire.specs.Fronts.{front_of}
 use Rattle.sftp_wire.specs.Framing.{place_after}
 use Rattle.sftp_transcript.specs.declared.events.Event.{Event}
-use Rattle.sftp_transcript.specs.Streams.{AppendsPart}
+use Rattle.sftp_streams.specs.Streams.{AppendsPart}
 use Rattle.sftp_transcript.specs.Log.{Log, opened_text}
 use Rattle.sftp_transcript.specs.Transcript.{record_text, IsEvent}
 use Rattle.sftp_transcript.specs.Explained.{window}

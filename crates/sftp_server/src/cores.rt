@@ -2,7 +2,7 @@
 //! (draft-ietf-secsh-filexfer-02, section 6.1).
 ghost use Rattle.std.specs.Prelude.{◌≡◌, ◌≢◌, ◌≤◌, [], false, length, IsTrue, IfOk, IfErr, OnOk, OnErr, IfSome};
 ghost use Rattle.std.specs.Prelude.{IfNone};
-ghost use Rattle.std.specs.Prelude.{◌↔◌, ◌<◌, nat_lt, Some, if◌then◌else◌, slice_get};
+ghost use Rattle.std.specs.Prelude.{◌↔◌, ◌<◌, nat_lt, Some, if◌then◌else◌, is_some, slice_get};
 ghost use Rattle.sftp_packets.specs.declared.packets.Packet.TheVariants.{Reply as reply_packet};
 ghost use Rattle.sftp_packets.specs.Packets.{HasSpelling};
 ghost use Rattle.sftp_transcript.specs.Explained.{window as full_window};
@@ -210,6 +210,23 @@ impl Core {
             }
             None => None,
         }
+    }
+
+    /// The position of the unanswered request with this id.
+    pub(crate) fn position(&self, id: u32) -> Option<usize> {
+        self.queue.position(id)
+    }
+
+    /// The request that was taken last, if it is pending.
+    pub(crate) fn newest(&self) -> Option<&Request> {
+        self.queue.pending(self.queue.len().saturating_sub(1))
+    }
+
+    /// Whether the request at this position is done, and its reply is not sent.
+    pub(crate) fn is_done(&self, k: usize) -> bool
+        ensures { result ≡ is_some (reply_at self.now.queue k) }
+    {
+        self.queue.is_done(k)
     }
 
     /// How many acts are possible: requests that are ready, and replies to be sent.

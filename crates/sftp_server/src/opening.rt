@@ -4,7 +4,7 @@ ghost use Rattle.std.specs.Io.KnownBytes.{Appends, IsAtEnd};
 ghost use Rattle.sftp_packets.specs.declared.packets.Packet.{Packet};
 ghost use Rattle.sftp_packets.specs.declared.packets.Side.TheVariants.{Client};
 ghost use Rattle.sftp_packets.specs.Packets.{spelling, side_of};
-ghost use Rattle.sftp_transcript.specs.Streams.{AppendsPart};
+ghost use Rattle.sftp_streams.specs.Streams.{AppendsPart};
 ghost use Rattle.sftp_transcript.specs.Log.{opened_text};
 ghost use Rattle.sftp_transcript.specs.Transcript.{record_text};
 ghost use Rattle.sftp_server.specs.declared.ends.Stop.TheVariants as stops;

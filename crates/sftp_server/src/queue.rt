@@ -1,6 +1,6 @@
 //! The queue of a server: its requests from the first unanswered one on.
 ghost use Rattle.std.specs.Prelude.{◌≡◌, ◌≤◌, ◌++◌, [], ◌∷◌, IsTrue, false, length};
-ghost use Rattle.std.specs.Prelude.{IfErr, OnOk, OnErr, IfSome, IfNone, option_copied, slice_get};
+ghost use Rattle.std.specs.Prelude.{IfErr, OnOk, OnErr, IfSome, IfNone, is_some, option_copied, slice_get};
 ghost use Rattle.std.specs.Option.{option_map};
 ghost use Rattle.sftp_server.specs.declared.queue.Progress.TheVariants as progress;
 ghost use Rattle.sftp_server.specs.Machine.{is_unsent, is_pending_at, reply_at, from_unsent};
@@ -135,6 +135,44 @@ impl Queue {
         ensures { result ≡ is_pending_at self.now k }
     {
         self.pending(k).is_some()
+    }
+
+    /// Whether the request at this position is done, and its reply is not sent.
+    pub(crate) fn is_done(&self, k: usize) -> bool
+        ensures { result ≡ is_some (reply_at self.now k) }
+    {
+        match self.entries.get(k) {
+            Some(entry) => match entry.progress {
+                Progress::Done(_) => true,
+                Progress::Pending => false,
+                Progress::Sent => false,
+            },
+            None => false,
+        }
+    }
+
+    /// The first position of an unsent request with this id.
+    pub(crate) fn position(&self, id: u32) -> Option<usize> {
+        let mut k = 0;
+        'each: while k < self.entries.len() {
+            if self.is_unsent_at(k, id) {
+                return Some(k);
+            }
+            k += 1;
+        }
+        None
+    }
+
+    /// Whether the request at this position is unsent and has this id.
+    fn is_unsent_at(&self, k: usize, id: u32) -> bool {
+        match self.entries.get(k) {
+            Some(entry) => match entry.progress {
+                Progress::Pending => entry.request.id == id,
+                Progress::Done(_) => entry.request.id == id,
+                Progress::Sent => false,
+            },
+            None => false,
+        }
     }
 
     /// Marks the pending request at this position as done with this reply.

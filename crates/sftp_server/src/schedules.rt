@@ -2,11 +2,34 @@
 ghost use Rattle.std.specs.Prelude.{◌≡◌};
 ghost use Rattle.sftp_server.specs.Schedules.{next_state, upper_bits};
 
-/// Chooses among what a server may do next.
+use sftp_wire::Request;
+
+/// A step of a script.
+#[derive(Clone, Copy, Debug)]
+pub enum Step {
+    /// Take the next request, and wait for it.
+    Take,
+    /// Send the reply of the unanswered request with this id, which is done first if it is pending.
+    Reply(u32),
+}
+
+/// Chooses among what a server may do next. A schedule may begin with a script, which says when to wait for the client;
+/// nothing is promised of what it says or chooses. A session whose script is over, or cannot be followed, answers what
+/// it took, and goes on without one.
 pub trait Schedule {
     /// A choice among `count` possible acts, numbered from 0 in the order of the queue: the act of the result's number
-    /// modulo `count` is done. Nothing is promised of the choice.
+    /// modulo `count` is done.
     fn pick(&mut self, count: usize) -> usize;
+
+    /// The next step of the script; `None` at its end. A schedule without a script has none.
+    fn step(&mut self) -> Option<Step> {
+        None
+    }
+
+    /// Whether the script goes on after this request, which a step took.
+    fn expects(&mut self, _request: &Request) -> bool {
+        true
+    }
 }
 
 /// The schedule that always chooses the first act, so that requests are done and answered in the order asked. Its

@@ -3,7 +3,7 @@ ghost use Rattle.std.specs.Prelude.{◌≡◌, OnOk, IfErr, OnErr};
 ghost use Rattle.std.specs.Io.KnownBytes.{Appends, Keeps};
 ghost use Rattle.sftp_packets.specs.declared.packets.Side.TheVariants.{Server};
 ghost use Rattle.sftp_packets.specs.Packets.{spelling, HasSpelling, side_of};
-ghost use Rattle.sftp_transcript.specs.Streams.{AppendsPart};
+ghost use Rattle.sftp_streams.specs.Streams.{AppendsPart};
 ghost use Rattle.sftp_transcript.specs.Transcript.{record_text};
 ghost use Rattle.sftp_server.specs.declared.ends.Stop.TheVariants as stops;
 ghost use Rattle.sftp_server.specs.declared.ends.Stream.TheVariants as streams;

@@ -16,6 +16,7 @@ use crate::ends::{Ended, SessionEnd, SessionFault, Stop};
 use crate::input::Input;
 use crate::opening::{First, await_init, greet};
 use crate::schedules::Schedule;
+use crate::scripted::follow_script;
 use crate::sending::{flush, flush_log};
 use crate::taking::{Front, take_requests};
 use crate::working::work_off;
@@ -145,7 +146,7 @@ fn serve_from<R: Source, W: Sink, L: Sink, S: Schedule>(
         Ok(()) => {}
         Err(stop) => return stop.leaving(Some(core.into_tree())),
     }
-    match serve_requests(input, &mut core, &mut output, reader, writer, log, schedule) {
+    match serve_open(input, &mut core, &mut output, reader, writer, log, schedule) {
         Ok(fault) => SessionEnd {
             ended: end(core, fault),
             left: None,
@@ -165,7 +166,29 @@ fn end(core: Core, fault: Option<SessionFault>) -> Ended
     }
 }
 
-/// Serves an open session to its end, and returns the fault that ends it, if it has one.
+/// Serves an open session to its end, by the script of the schedule if it has one, and returns the fault that ends it,
+/// if it has one.
+fn serve_open<R: Source, W: Sink, L: Sink, S: Schedule>(
+    input: &mut Input,
+    core: &mut Core,
+    output: &mut Vec<u8>,
+    reader: &mut R,
+    writer: &mut W,
+    log: &mut Writer<L>,
+    schedule: &mut S,
+) -> Result<Option<SessionFault>, Stop>
+    requires { IsLogging log.old }
+    ensures running { RunsOut (stream_bytes (R.left reader.old) (W.written writer.old) log.old.bytes)
+        (stream_bytes (R.left reader.new) (W.written writer.new) log.new.bytes) input.old core.old core.new result }
+    ensures counts_reader { CountsCall streams.Reader result (R.failures reader.old) (R.failures reader.new) }
+    ensures counts_writer { CountsCall streams.Writer result (W.failures writer.old) (W.failures writer.new) }
+    ensures counts_log { CountsCall streams.Log result log.old.failures log.new.failures }
+{
+    follow_script(input, core, output, reader, writer, log, schedule)?;
+    serve_requests(input, core, output, reader, writer, log, schedule)
+}
+
+/// Serves an open session to its end, and returns the fault that ends it, if it has one. Each request is answered.
 fn serve_requests<R: Source, W: Sink, L: Sink, S: Schedule>(
     input: &mut Input,
     core: &mut Core,

@@ -67,7 +67,7 @@ pub(crate) fn take_requests<L: Sink>(
 }
 
 /// Takes the request in front, if there is one and the core has room.
-fn take_one<L: Sink>(
+pub(crate) fn take_one<L: Sink>(
     alloc: Global,
     input: &mut Input,
     core: &mut Core,

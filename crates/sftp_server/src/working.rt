@@ -83,7 +83,7 @@ fn work(k: usize, core: &mut Core) -> Result<(), Stop>
 }
 
 /// Sends the reply of the request at this position.
-fn send_reply<W: Sink, L: Sink>(
+pub(crate) fn send_reply<W: Sink, L: Sink>(
     k: usize,
     core: &mut Core,
     output: &mut Vec<u8>,

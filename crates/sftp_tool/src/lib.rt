@@ -12,6 +12,7 @@ mod inferences;
 mod inferred_lines;
 mod inferring;
 mod readings;
+mod replaying;
 mod serving;
 mod subcommands;
 mod summaries;

@@ -4,20 +4,24 @@ ghost use Rattle.sftp_server.specs.Served.{IsUnused};
 ghost use Rattle.sftp_files.specs.declared.messages.Ending.TheVariants as endings;
 ghost use Rattle.sftp_tool.specs.declared.serving.Unserved.TheVariants as unserveds;
 
+use crate::replaying::{Parting, Replay};
 use crate::summaries::{Close, Summary, Traffic};
 use sftp_files::{
     Announcing, Bounded, Ending, Failure, Keeping, Meter, Record, Recording, STANDARD_INPUT,
-    STANDARD_OUTPUT, ServeOptions, System, Watched, read_at_most, report, require_fit, write,
+    STANDARD_OUTPUT, ServeOptions, System, Watched, open, report, require_fit, write,
     write_flushed,
 };
 use sftp_server::{
-    Ended, InOrder, Schedule, SessionEnd, SessionFault, Shuffle, Stream, serve_keeping_tree,
+    Ended, InOrder, Schedule, SessionEnd, SessionFault, Shuffle, Step, Stream, serve_keeping_tree,
 };
 use sftp_transcript::{Tally, Writer};
 use sftp_tree::Tree;
-use sftp_treefile::TreeLimits;
-use sftp_wire::{take_number, take_string};
+use sftp_treefile::TreeError;
+use sftp_wire::Request;
 use std::io::{Read, Write};
+
+/// Why there cannot be two orders.
+const TWO_ORDERS: &str = "'--shuffle' and '--replay' cannot be used together";
 
 /// Why a session was not served to the end of its input.
 #[derive(Drop)]
@@ -65,7 +69,7 @@ pub(crate) fn serve<'a, R: System, I: Read, O: Write, E: Write>(
     }
 }
 
-/// Fails if the tree could not be saved to this file for what it is.
+/// Fails if the tree could not be saved to this file.
 fn require_place<'a, R: System>(rt: &R, save: Option<&'a str>) -> Result<(), Failure<'a>> {
     match save {
         Some(name) => require_fit(rt, name),
@@ -73,12 +77,23 @@ fn require_place<'a, R: System>(rt: &R, save: Option<&'a str>) -> Result<(), Fai
     }
 }
 
-/// The tree that the session starts from.
+/// The tree that the session starts from. No more of its file is held than the tree and a buffer.
 fn read_tree<'a, R: System>(rt: &R, options: &ServeOptions<'a>) -> Result<Tree, Failure<'a>> {
-    let bytes = read_at_most(rt, options.tree, options.memory)?;
-    let tree = Tree::read(rt.alloc(), bytes.as_slice());
+    let file = open(rt, options.tree)?;
+    let most = options.memory.unwrap_or(u64::MAX);
+    let mut bytes = Watched::new(file.take(most.saturating_add(1)));
+    let tree = Tree::read_from(rt.alloc(), Tally::new(&mut bytes));
+    let flow = bytes.flow();
     drop(bytes);
-    Ok(tree?)
+    if flow.bytes > most {
+        drop(tree);
+        return Err(Failure::OverLimit(options.tree));
+    }
+    match tree {
+        Ok(tree) => Ok(tree),
+        Err(TreeError::Io { .. }) => Err(Failure::CannotRead(options.tree, flow.code)),
+        Err(error) => Err(Failure::from(error)),
+    }
 }
 
 /// The writer of a new record.
@@ -119,6 +134,7 @@ fn session<I: Read, O: Write + Drop>(
         output: writer.flow(),
         record: record.flow(),
         is_over: false,
+        parting: order.parting(),
     };
     drop(reader);
     drop(writer);
@@ -140,6 +156,7 @@ fn conclude<'a, R: System, E: Write>(
     ensures { IfOk result (λ ending. ending ≡ endings.Done) }
 {
     let (tree, close) = parts(end, traffic.is_over);
+    say_parting(traffic, options.is_verbose, errors);
     let saved = save_any(rt, &tree, options);
     let has_tree = tree.is_some();
     drop(tree);
@@ -157,6 +174,17 @@ fn conclude<'a, R: System, E: Write>(
 
 fn say_summary<E: Write>(summary: Summary, errors: &mut E) {
     let _ = write_flushed(errors, format_args!("sftpv3: {summary}\n"));
+}
+
+/// Says where the session left its script; that it followed it to the end if lines are wanted.
+fn say_parting<E: Write>(traffic: Traffic, is_verbose: bool, errors: &mut E) {
+    if let Some(parting) = traffic.parting {
+        if !parting.is_whole(traffic.requests) {
+            let _ = write_flushed(errors, format_args!("sftpv3: replay: {parting}\n"));
+        } else if is_verbose {
+            let _ = write_flushed(errors, "sftpv3: replay: followed to the end\n");
+        }
+    }
 }
 
 /// The tree that a session left, if it is to be saved, and how the session ended.
@@ -263,7 +291,7 @@ fn save_any<'a, R: System>(
 ) -> Result<Option<u32>, Failure<'a>> {
     match (tree, options.save) {
         (Some(tree), Some(name)) => save(rt, tree, name, options.keeping),
-        (Some(tree), None) if options.is_verbose => Ok(counted(tree)),
+        (Some(tree), None) if options.is_verbose => Ok(Some(tree.entry_count())),
         _ => Ok(None),
     }
 }
@@ -277,60 +305,12 @@ fn save<'a, R: System>(
 ) -> Result<Option<u32>, Failure<'a>> {
     let bytes = tree.write()?;
     let written = write(rt, name, keeping, bytes.as_slice());
-    let entries = entry_count(bytes.as_slice(), tree.tree_limits());
     drop(bytes);
     match written {
-        Ok(()) => Ok(Some(entries)),
+        Ok(()) => Ok(Some(tree.entry_count())),
         Err(failure) => Err(failure),
     }
 }
-
-/// How many entries a tree has, unless memory runs out.
-fn counted(tree: &Tree) -> Option<u32> {
-    match tree.write() {
-        Ok(bytes) => {
-            let entries = entry_count(bytes.as_slice(), tree.tree_limits());
-            drop(bytes);
-            Some(entries)
-        }
-        Err(_no_memory) => None,
-    }
-}
-
-/// The number of entries that the file of a tree with these limits says it has.
-fn entry_count(file: &[u8], limits: TreeLimits) -> u32 {
-    match take_string(behind(file, OPENING_LENGTH)) {
-        Some((_home, rest)) => match take_number(behind(rest, count_place(limits))) {
-            Some((count, _rest)) => count,
-            None => 0,
-        },
-        None => 0,
-    }
-}
-
-/// How many bytes are between the home and the number of entries: the owner of new entries, and the limits if they are
-/// the tree's own.
-fn count_place(limits: TreeLimits) -> usize {
-    if limits.are_own() {
-        OWNER_LENGTH + LIMITS_LENGTH
-    } else {
-        OWNER_LENGTH
-    }
-}
-
-/// The bytes after the first `count`.
-fn behind(bytes: &[u8], count: usize) -> &[u8] {
-    bytes.get(count..).unwrap_or(&[])
-}
-
-/// The length of the opening of a tree file.
-const OPENING_LENGTH: usize = 8;
-
-/// The length of the owner of new entries in a tree file: a user and a group.
-const OWNER_LENGTH: usize = 8;
-
-/// The length of the limits in a tree file: four numbers.
-const LIMITS_LENGTH: usize = 16;
 
 /// Why a session could not go on when this stream failed.
 fn stream_failure<'a>(stream: Stream, traffic: Traffic, options: &ServeOptions<'a>) -> Failure<'a> {
@@ -345,23 +325,36 @@ fn stream_failure<'a>(stream: Stream, traffic: Traffic, options: &ServeOptions<'
     }
 }
 
-/// The order in which replies are sent.
+/// The order in which requests are done and replies are sent.
 #[derive(Drop)]
 enum Order {
     /// The order in which the requests were asked.
     Asked(InOrder),
     /// A pseudorandom one, as long as the process may have more memory.
     Shuffled(Shuffle, Meter),
+    /// That of a recorded session.
+    Replayed(Replay),
 }
 
 impl Order {
     fn new<'a, R: System>(rt: &R, options: &ServeOptions<'a>) -> Result<Order, Failure<'a>> {
-        match options.shuffle {
-            Some(state) => {
+        match (options.shuffle, options.replay) {
+            (Some(_), Some(_)) => Err(Failure::of_misuse(rt.alloc(), TWO_ORDERS)),
+            (Some(state), None) => {
                 let meter = Meter::new(rt, options.memory)?;
                 Ok(Order::Shuffled(Shuffle(state), meter))
             }
-            None => Ok(Order::Asked(InOrder)),
+            (None, Some(name)) => Ok(Order::Replayed(Replay::new(rt, name)?)),
+            (None, None) => Ok(Order::Asked(InOrder)),
+        }
+    }
+
+    /// How far the session followed the recorded one, if there is one.
+    fn parting(&self) -> Option<Parting> {
+        match self {
+            Order::Replayed(replay) => Some(replay.parting()),
+            Order::Asked(_) => None,
+            Order::Shuffled(..) => None,
         }
     }
 }
@@ -376,6 +369,23 @@ impl Schedule for Order {
                 Ok(_) => order.pick(count),
                 Err(_) => 0,
             },
+            Order::Replayed(replay) => replay.pick(count),
+        }
+    }
+
+    fn step(&mut self) -> Option<Step> {
+        match self {
+            Order::Replayed(replay) => replay.step(),
+            Order::Asked(_) => None,
+            Order::Shuffled(..) => None,
+        }
+    }
+
+    fn expects(&mut self, request: &Request) -> bool {
+        match self {
+            Order::Replayed(replay) => replay.expects(request),
+            Order::Asked(_) => true,
+            Order::Shuffled(..) => true,
         }
     }
 }

@@ -1,4 +1,5 @@
 //! What `serve --verbose` says of the end of a session.
+use crate::replaying::Parting;
 use sftp_files::Flow;
 use sftp_server::{SessionFault, Stream};
 use std::fmt;
@@ -36,6 +37,8 @@ pub(crate) struct Traffic {
     pub(crate) record: Flow,
     /// Whether the process had more memory than it may.
     pub(crate) is_over: bool,
+    /// How far the session followed a recorded one, if there is one.
+    pub(crate) parting: Option<Parting>,
 }
 
 /// How a session ended, and what it left.

@@ -9,8 +9,8 @@ use Rattle.sftp_transcript.specs.declared.stage.Stage.TheVariants as stages
 use Rattle.sftp_transcript.specs.Refused.{PacketFault, DirectedFault, RecordFault, BeginsOther, KindFault}
 use Rattle.sftp_transcript.specs.Refused.{IsEventPacket, EventFault}
 use Rattle.sftp_transcript.proofs.Fronts.{fault_stays}
-use Rattle.sftp_transcript.proofs.Inputs.{ahead_parts}
-use Rattle.sftp_transcript.proofs.Taking.{front_held}
+use Rattle.sftp_streams.proofs.Inputs.{ahead_parts}
+use Rattle.sftp_streams.proofs.Fronts.{front_held}
 
 packet_fault : (number : ℕ) (side : Side) (bytes more : List ℕ) (error : TranscriptError)
     → (front_of side bytes ≡ Ok None → more ≡ []) → PacketFault number side bytes error

@@ -1,8 +1,6 @@
 pub mod Imports
 pub mod pairing
 pub mod transcripts
-pub mod Putting
-pub mod Buffers
 pub mod Inputs
 pub mod Fronts
 pub mod Taking

@@ -13,7 +13,7 @@ use Rattle.sftp_transcript.specs.Recorded.{RecordsFrom, number_after, reported}
 use Rattle.sftp_transcript.specs.declared.stage.Stage.TheVariants as stages
 use Rattle.sftp_transcript.proofs.Begun.{opening_read, record_read, fault_after, event_is}
 use Rattle.sftp_transcript.proofs.Coming.{with_first, Splits, opening_sound, record_sound, record_split, none_coming}
-use Rattle.sftp_transcript.proofs.Taking.{known_kept}
+use Rattle.sftp_streams.proofs.Fronts.{known_kept}
 use Rattle.sftp_transcript.proofs.transcripts.Reading.{record_parts, no_events}
 
 -- ---- between stages

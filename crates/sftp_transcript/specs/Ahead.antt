@@ -4,19 +4,8 @@ use Rattle.std.specs.Io.KnownBytes.{Keeps, IsAtEnd, prepend_known}
 use Rattle.sftp_packets.specs.declared.packets.Side.{Side}
 use Rattle.sftp_wire.specs.Fronts.{front_of}
 use Rattle.sftp_packets.specs.Spelling.{packet_limit}
+use Rattle.sftp_streams.specs.Ahead.{Ahead, bytes_ahead}
 use Rattle.sftp_transcript.specs.Transcript.{transcript_opening}
-
--- the bytes held; those left, where they are known; how many calls of the source failed; a number that falls with each
--- read that gives bytes
-pub record Ahead : Type 0 where
-  pub held : List ℕ
-  pub left : Option (List ℕ)
-  pub failures : ℕ
-  pub reads_left : ℕ
-
--- all bytes ahead, where they are known
-abbrev pub bytes_ahead : Ahead → Option (List ℕ)
-bytes_ahead a = prepend_known a.held a.left
 
 -- how many bytes are held at most: as many as two of the longest packets have
 abbrev pub capacity : ℕ
@@ -49,8 +38,3 @@ CutsPacket bytes side =
 -- a record is held in part only where nothing is left
 abbrev pub CutsAtEnd : Ahead → Type 0
 CutsAtEnd a = (side : Side) → CutsPacket a.held side → IsAtEnd a.left
-
--- the same without the first bytes held
-abbrev pub ahead_without : ℕ → Ahead → Ahead
-ahead_without count a =
-    record { held = drop count a.held; left = a.left; failures = a.failures; reads_left = a.reads_left }

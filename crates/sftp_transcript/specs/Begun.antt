@@ -9,8 +9,9 @@ use Rattle.sftp_transcript.specs.declared.stage.Stage.TheVariants as stages
 use Rattle.sftp_transcript.specs.Records.{BeginsInit}
 use Rattle.sftp_transcript.specs.Recorded.{Reading}
 use Rattle.sftp_transcript.specs.Refused.{InitFault, VersionFault, EventFault}
-use Rattle.sftp_transcript.specs.Steps.{HasAhead, IsExcuse}
-use Rattle.sftp_transcript.specs.Streams.{largest_count}
+use Rattle.sftp_streams.specs.Ahead.{HasAhead}
+use Rattle.sftp_transcript.specs.Steps.{IsExcuse}
+use Rattle.sftp_streams.specs.Streams.{largest_count}
 use Rattle.sftp_transcript.specs.Transcript.{transcript_opening, BeginsRecord}
 
 -- the number of the first event's record: INIT and VERSION have the numbers 1 and 2

@@ -4,9 +4,6 @@ pub mod Refused
 pub mod Explained
 pub mod Ledger
 pub mod Examples
-pub mod Streams
-pub mod Memories
-pub mod Tallies
 pub mod Log
 pub mod Ahead
 pub mod Steps

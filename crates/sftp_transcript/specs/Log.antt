@@ -7,7 +7,7 @@ use Rattle.sftp_packets.specs.declared.packets.Side.{Side}
 use Rattle.sftp_packets.specs.Packets.{HasSpelling, side_of}
 use Rattle.sftp_transcript.specs.declared.errors.TranscriptError.{TranscriptError}
 use Rattle.sftp_transcript.specs.declared.errors.TranscriptError.TheVariants.{Wire, Io, NoMemory}
-use Rattle.sftp_transcript.specs.Streams.{one_more, AppendsPart}
+use Rattle.sftp_streams.specs.Streams.{one_more, AppendsPart}
 use Rattle.sftp_transcript.specs.Transcript.{transcript_opening, record_text}
 
 -- What a writer has written: the bytes of its sink, where they are known, how many calls of the sink failed, how many

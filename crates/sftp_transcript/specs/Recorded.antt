@@ -5,10 +5,11 @@ use Rattle.sftp_transcript.specs.declared.errors.TranscriptError.TheVariants.{No
 use Rattle.sftp_transcript.specs.declared.events.Event.{Event}
 use Rattle.sftp_transcript.specs.declared.stage.Stage.{Stage}
 use Rattle.sftp_transcript.specs.declared.stage.Stage.TheVariants as stages
-use Rattle.sftp_transcript.specs.Ahead.{Ahead, size_of}
+use Rattle.sftp_streams.specs.Ahead.{Ahead}
+use Rattle.sftp_transcript.specs.Ahead.{size_of}
 use Rattle.sftp_transcript.specs.Records.{BeginsInit, BeginsVersion}
-use Rattle.sftp_transcript.specs.Steps.{HasAhead}
-use Rattle.sftp_transcript.specs.Streams.{one_more}
+use Rattle.sftp_streams.specs.Ahead.{HasAhead}
+use Rattle.sftp_streams.specs.Streams.{one_more}
 use Rattle.sftp_transcript.specs.Transcript.{AreRecords, IsRecord}
 
 -- What a reader has of a transcript file: the bytes ahead, what comes next in them, the number of the next event's

@@ -2,13 +2,9 @@
 use Rattle.std.specs.Prelude.{◌≡◌, ℕ, ⊤, List, ◌++◌, Some, Bool, IsTrue, Result, MatchResult}
 use Rattle.sftp_transcript.specs.declared.errors.TranscriptError.{TranscriptError}
 use Rattle.sftp_transcript.specs.declared.errors.TranscriptError.TheVariants.{Io, NoMemory}
-use Rattle.sftp_transcript.specs.Ahead.{Ahead, bytes_ahead}
-use Rattle.sftp_transcript.specs.Streams.{one_more}
+use Rattle.sftp_streams.specs.Ahead.{Ahead, HasAhead}
+use Rattle.sftp_streams.specs.Streams.{one_more}
 use Rattle.sftp_transcript.specs.Transcript.{transcript_opening}
-
--- these bytes are ahead
-abbrev pub HasAhead : Ahead → List ℕ → Type 0
-HasAhead a bytes = bytes_ahead a ≡ Some bytes
 
 -- memory ran out, or the source failed
 abbrev pub IsExcuse : TranscriptError → Type 0

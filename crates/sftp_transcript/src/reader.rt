@@ -6,7 +6,8 @@ ghost use Rattle.sftp_packets.specs.declared.packets.Packet.{Packet};
 ghost use Rattle.sftp_transcript.specs.declared.errors.TranscriptError.{TranscriptError};
 ghost use Rattle.sftp_transcript.specs.declared.events.Event.{Event};
 ghost use Rattle.sftp_transcript.specs.Ahead.{IsSameAhead, size_of};
-ghost use Rattle.sftp_transcript.specs.Steps.{HasAhead, Took, CountsError, IsExcuse};
+ghost use Rattle.sftp_streams.specs.Ahead.{HasAhead};
+ghost use Rattle.sftp_transcript.specs.Steps.{Took, CountsError, IsExcuse};
 ghost use Rattle.sftp_transcript.specs.Refused.{FaultIn, NamesRecord, number_in_hand};
 ghost use Rattle.sftp_transcript.specs.Recorded.{Reading, IsKnown, Records, RecordsSame, Gave, Gives};
 ghost use Rattle.sftp_transcript.specs.Recorded.{rank, reported, number_after};
@@ -16,15 +17,14 @@ ghost use Rattle.sftp_transcript.specs.Packets.{IsAfterOpening, BeginsNext, Faul
 ghost use Rattle.sftp_transcript.specs.Packets.{GivesNext, TookNoRecord, stage_opened, stage_after, number_past};
 ghost use Rattle.sftp_transcript.specs.Packets.{IsStageThen, MayCome, number_then, event_in};
 
-use crate::buffer::Buffer;
 use crate::errors::TranscriptError;
 use crate::events::Event;
 use crate::input::Input;
 use crate::records::event_of;
 use crate::stage::Stage;
 use crate::steps::{pass_opening, pass_record};
-use crate::streams::Source;
 use crate::writer::sender;
+use sftp_streams::{Buffer, Source};
 use sftp_wire::{Packet, Side};
 use std::alloc::Global;
 use std::marker::Model;

@@ -44,22 +44,15 @@ pub(crate) fn take_next(
     ensures shorter { IfOk result (λ taken. length taken.1.now < length bytes.now) }
     ensures refused { IfErr result (KindFault (MayCome stage) number bytes.now) }
 {
-    let (packet, rest) = take_record(alloc, bytes, number)?;
-    check(&packet, stage, number)?;
-    Ok((packet, rest))
-}
-
-/// `Start` unless the packet may come at this stage.
-#[inline(always)]
-fn check(packet: &Packet, stage: Stage, number: u64) -> Result<(), TranscriptError>
-    ensures found { OnOk result (MayCome stage packet.now) }
-    ensures none { OnErr result (MayCome stage packet.now → ⊥) }
-    ensures start { IfErr result (λ error. error ≡ TranscriptError.Start number) }
-{
-    if may_come(packet, stage) {
-        Ok(())
-    } else {
-        Err(TranscriptError::Start { record: number })
+    match take_record(alloc, bytes, number) {
+        Ok((packet, rest)) => {
+            if may_come(&packet, stage) {
+                return Ok((packet, rest));
+            }
+            drop(packet);
+            Err(TranscriptError::Start { record: number })
+        }
+        Err(error) => Err(error),
     }
 }
 

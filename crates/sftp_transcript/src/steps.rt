@@ -7,13 +7,14 @@ ghost use Rattle.sftp_transcript.specs.Begun.{FaultAhead};
 ghost use Rattle.sftp_transcript.specs.Packets.{MayCome, TookPacket, record_number};
 ghost use Rattle.sftp_transcript.specs.Recorded.{rank};
 ghost use Rattle.sftp_transcript.specs.Refused.{FaultIn};
-ghost use Rattle.sftp_transcript.specs.Steps.{HasAhead, IsExcuse, CountsError, IsOpened, Took};
+ghost use Rattle.sftp_streams.specs.Ahead.{HasAhead};
+ghost use Rattle.sftp_transcript.specs.Steps.{IsExcuse, CountsError, IsOpened, Took};
 
 use crate::errors::TranscriptError;
 use crate::input::Input;
 use crate::records::{take_next, take_opening};
 use crate::stage::Stage;
-use crate::streams::Source;
+use sftp_streams::Source;
 use sftp_wire::Packet;
 use std::alloc::Global;
 

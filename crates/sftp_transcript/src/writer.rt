@@ -4,7 +4,7 @@ ghost use Rattle.std.specs.Prelude.{IsTrue, false};
 ghost use Rattle.std.specs.Io.KnownBytes.{Appends};
 ghost use Rattle.sftp_packets.specs.declared.packets.Packet.{Packet};
 ghost use Rattle.sftp_packets.specs.Packets.{spelling, side_of};
-ghost use Rattle.sftp_transcript.specs.Streams.{Counts, AppendsPart};
+ghost use Rattle.sftp_streams.specs.Streams.{Counts, AppendsPart};
 ghost use Rattle.sftp_transcript.specs.Transcript.{direction_of, record_text};
 ghost use Rattle.sftp_transcript.specs.Log.{Log, opening_before, opened_text, next_number, IsAppended, IsUnwritten};
 ghost use Rattle.sftp_transcript.specs.Log.{IsUnrecorded};
@@ -13,28 +13,10 @@ ghost use Rattle.sftp_transcript.specs.Log.{IsBadPacket, IsRecordable};
 
 use crate::errors::TranscriptError;
 use crate::records::{OPENING, read_fault};
-use crate::streams::{Failed, Sink};
+use sftp_streams::{Failed, Sink, put_all};
 use sftp_wire::{Fault, PACKET_LIMIT, Packet, Side, encode};
 use std::alloc::Global;
 use std::marker::Model;
-
-/// Writes all of the bytes.
-///
-/// # Errors
-///
-/// `Failed` if a write fails. A beginning of the bytes is written then.
-pub fn put_all<L: Sink>(sink: &mut L, bytes: &[u8]) -> Result<(), Failed>
-    ensures ok { OnOk result (Appends (L.written sink.old) (L.written sink.new) bytes.now) }
-    ensures err { OnErr result (AppendsPart (L.written sink.old) (L.written sink.new) bytes.now) }
-    ensures counts { Counts result (L.failures sink.old) (L.failures sink.new) }
-{
-    let mut rest = bytes;
-    'rest: while !rest.is_empty() {
-        let count = sink.write(rest)?;
-        rest = &rest[count..];
-    }
-    Ok(())
-}
 
 /// The byte before a packet of that side.
 fn direction(side: Side) -> u8

@@ -28,7 +28,7 @@ pub use Rattle.std.proofs.lemmas.Result.{err_from_is_err_and}
 pub use Rattle.std.specs.BTreeMap.{BTreeMap, IsOrdered, UpdatesBy, WritesThrough, get_by, is_at, insert_entry}
 pub use Rattle.std.specs.Cmp.{Equal-is, nat_cmp_total, IsTotalOrder, nat_cmp_is}
 pub use Rattle.std.specs.Cmp.Lexicographic.{bytes_decides, texts_ties, nat_list_cmp_total, nat_list_eq_equiv}
-pub use Rattle.std.specs.Cmp.Lexicographic.{lists_equiv, slice_cmp, lists_ties, pointwise_decides, pointwise, same_text}
+pub use Rattle.std.specs.Cmp.Lexicographic.{lists_equiv, slice_cmp, lists_ties, pointwise, same_text}
 pub use Rattle.std.specs.FinMap.{nat_cmp-IsAntisymmetric, IsAntisymmetric}
 pub use Rattle.std.specs.Int.{bit_at, w32}
 pub use Rattle.std.specs.List.{list_any, AllByRecursion, list_all, cons_option, filter, flat_map, slice_get, find}
@@ -80,12 +80,14 @@ pub use Rattle.sftp_packets.specs.Spelling.{AreBytes}
 pub use Rattle.sftp_packets.specs.declared.attributes.Attrs.{Attrs}
 pub use Rattle.sftp_packets.specs.declared.requests.Ask.{Ask}
 pub use Rattle.sftp_packets.specs.AskValues.{IsAttrs, IsAsk}
-pub use Rattle.sftp_tree.specs.Asks.{asked, has_room_for, IsPlanAt, IsPlanBetween, HasNode}
+pub use Rattle.sftp_tree.specs.Asks.{asked, has_room_for, HasNode}
 pub use Rattle.sftp_tree.specs.Attributes.{directory_owner, changed_owner, changed_content, resized, file_owner}
 pub use Rattle.sftp_tree.specs.Causes.{row, CauseSet, every_cause, is_none, only}
 unfoldable pub use Rattle.sftp_tree.specs.Causes.{no_causes, when, joined}
-pub use Rattle.sftp_tree.specs.Changes.{with_changed_file, with_attributes, with_further_name, put_in_its_stead}
-pub use Rattle.sftp_tree.specs.Changes.{new_content, with_emptied_file, with_opened, with_new_file, moved}
+pub use Rattle.sftp_tree.specs.Changes.{with_changed_file, put_in_its_stead, new_content, with_emptied_file}
+pub use Rattle.sftp_tree.specs.Changes.{with_new_file, moved, Plan, carried, no_change, put_node, remove_node, move_node}
+pub use Rattle.sftp_tree.specs.Changes.{own_directory, set_file, make_file, empty_file, plan_to_set, plan_to_open}
+pub use Rattle.sftp_tree.specs.Changes.{plan_to_name, with_entry}
 pub use Rattle.sftp_tree.specs.FileChanges.{after_pin, after_unpin, overwritten, written, write_fits, written_content}
 pub use Rattle.sftp_tree.specs.FileChanges.{with_written_file, after_write, after_set}
 pub use Rattle.sftp_tree.specs.Growth.{names_from, place_from, open_after, names_in, place_in}
@@ -108,7 +110,8 @@ pub use Rattle.sftp_tree.specs.PlaceCauses.{making_causes, needing_causes, link_
 pub use Rattle.sftp_tree.specs.PlaceCauses.{leaving_causes, giving_causes, moving_causes, clashing_causes}
 pub use Rattle.sftp_tree.specs.PlaceCauses.{replacing_causes, exchanging_causes, goes_inside, are_one, are_one_file}
 pub use Rattle.sftp_tree.specs.PlaceCauses.{directory_causes, removing_causes, opening_causes}
-pub use Rattle.sftp_tree.specs.Plans.{CanMake, changed, IsReady, IsPlanned}
+pub use Rattle.sftp_tree.specs.Plans.{CanMake, CanPut, CanTake, CanMove, CanDo, AreAny, OwnsBy, planned, changed}
+pub use Rattle.sftp_tree.specs.Plans.{IsPlanned}
 pub use Rattle.sftp_tree.specs.Refusals.{IsFree, stat_ask, IsRefusal}
 unfoldable pub use Rattle.sftp_tree.specs.Refusals.{in_set}
 pub use Rattle.sftp_tree.specs.Room.{has_room, size_fits, move_fits, has_room_for_file, reaches_at_most}
@@ -143,5 +146,4 @@ pub use Rattle.sftp_tree.specs.declared.file_contents.Stored.{Stored}
 pub use Rattle.sftp_tree.specs.declared.listings.Item.{Item}
 pub use Rattle.sftp_tree.specs.declared.nodes.Node.{Node}
 pub use Rattle.sftp_tree.specs.declared.nodes.Node.TheVariants.{Dir, File, Link}
-pub use Rattle.sftp_tree.specs.declared.plans.Plan.TheVariants.{Nothing, Put, Move, SetFile, Truncate}
 pub use Rattle.sftp_tree.specs.declared.stepping.Met.TheVariants.{Ends, Through}

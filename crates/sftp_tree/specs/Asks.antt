@@ -1,22 +1,20 @@
 -- The requests that are judged by their paths, as the code has them, and what private contracts say of each.
-use Rattle.std.specs.Prelude.{◌≡◌, ◌||◌, Bool, true, if◌then◌else◌, Option, Some, None, Result, Ok, Err, IsTrue}
+use Rattle.std.specs.Prelude.{◌||◌, Bool, true, Option, Some, None, Result, Ok, Err, IsTrue}
 use Rattle.sftp_path.specs.Place.{Place}
 use Rattle.sftp_treefile.specs.TreeFile.{IsOwner, are_bytes}
+use Rattle.sftp_packets.specs.declared.attributes.Attrs.{Attrs}
 use Rattle.sftp_packets.specs.declared.requests.Ask as wire
 use Rattle.sftp_packets.specs.declared.requests.Ask.TheVariants as asks
 use Rattle.sftp_tree.specs.declared.asks.PathAsk.{PathAsk}
 use Rattle.sftp_tree.specs.declared.asks.PathAsk.TheVariants.{Mkdir, Rmdir, Remove, Setstat, Stat, Lstat, Realpath}
-use Rattle.sftp_tree.specs.declared.asks.PathAsk.TheVariants.{Readlink, Symlink, Rename, PosixRename, Hardlink}
-use Rattle.sftp_tree.specs.declared.asks.PathAsk.TheVariants.{Open, Opendir}
+use Rattle.sftp_tree.specs.declared.asks.PathAsk.TheVariants.{Readlink, Symlink, Rename, PosixRename, Hardlink, Open}
+use Rattle.sftp_tree.specs.declared.asks.PathAsk.TheVariants.{Opendir}
 use Rattle.sftp_tree.specs.declared.causes.Cause.{Cause}
-use Rattle.sftp_tree.specs.declared.nodes.Node.TheVariants as nodes
-use Rattle.sftp_tree.specs.declared.plans.Plan.{Plan}
-use Rattle.sftp_tree.specs.declared.plans.Plan.TheVariants as plans
 use Rattle.sftp_tree.specs.Tree.{Tree, limits, node_at, is_file}
 use Rattle.sftp_tree.specs.Attributes.{directory_owner, file_owner}
 use Rattle.sftp_tree.specs.PlaceCauses.{are_one}
 use Rattle.sftp_tree.specs.Room.{has_room, size_fits_at, has_room_to_open, move_fits}
-use Rattle.sftp_tree.specs.Plans.{IsSetting, IsNaming, plan_to_open}
+use Rattle.sftp_tree.specs.Plans.{OwnsBy}
 
 -- the request
 abbrev pub asked : PathAsk → wire.Ask
@@ -61,30 +59,14 @@ has_room_for t ask (Err cause) new = true
 
 -- ---- what is to be done for it
 
--- at the place that its path leads to
-abbrev pub IsPlanAt : Tree → wire.Ask → Place → Plan → Type 0
-IsPlanAt t (asks.Mkdir path attrs) place plan = plan ≡ plans.Put place (nodes.Dir (directory_owner t attrs))
-IsPlanAt t (asks.Symlink target link) place plan = plan ≡ plans.Put place (nodes.Link target)
-IsPlanAt t (asks.Rmdir path) place plan = plan ≡ plans.Remove place
-IsPlanAt t (asks.Remove path) place plan = plan ≡ plans.Remove place
-IsPlanAt t (asks.Setstat path attrs) place plan = IsSetting (node_at t.names place) place attrs plan
-IsPlanAt t (asks.Open path pflags attrs) place plan = plan ≡ plan_to_open t pflags attrs place (node_at t.names place)
-IsPlanAt t other place plan = plan ≡ plans.Nothing
-
--- with the two places that its paths lead to
-abbrev pub IsPlanBetween : Tree → wire.Ask → Place → Place → Plan → Type 0
-IsPlanBetween t (asks.Rename oldpath newpath) old new plan = plan ≡ plans.Move old new
-IsPlanBetween t (asks.PosixRename oldpath newpath) old new plan =
-    plan ≡ (if are_one t.names old new then plans.Nothing else plans.Move old new)
-IsPlanBetween t (asks.Hardlink oldpath newpath) old new plan = IsNaming (node_at t.names old) new plan
-IsPlanBetween t other old new plan = plan ≡ plans.Nothing
-
--- the owner of a new directory or of a new file is an owner, and the target of a new link is bytes
-abbrev pub HasNode : Tree → wire.Ask → Type 0
-HasNode t (asks.Mkdir path attrs) = IsOwner (directory_owner t attrs)
-HasNode t (asks.Symlink target link) = IsTrue (are_bytes target)
-HasNode t (asks.Open path pflags attrs) = IsOwner (file_owner t attrs)
-HasNode t other = Unit {0}
+-- the owner of a new directory or of a new file is an owner, and so is that of a directory whose attributes are set;
+-- the target of a new link is bytes; `P` holds of the attributes that a file gets
+abbrev pub HasNode : (Attrs → Type 0) → Tree → wire.Ask → Place → Type 0
+HasNode P t (asks.Mkdir path attrs) place = IsOwner (directory_owner t attrs)
+HasNode P t (asks.Symlink target link) place = IsTrue (are_bytes target)
+HasNode P t (asks.Setstat path attrs) place = P attrs × OwnsBy attrs (node_at t.names place)
+HasNode P t (asks.Open path pflags attrs) place = IsOwner (file_owner t attrs)
+HasNode P t other place = Unit {0}
 
 -- only a file gets a further name
 abbrev pub IsFileAt : Tree → wire.Ask → Place → Type 0

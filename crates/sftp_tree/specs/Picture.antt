@@ -5,6 +5,7 @@ use Rattle.std.specs.Option.{option_map}
 use Rattle.sftp_path.specs.Place.{Place, absolute}
 use Rattle.sftp_treefile.specs.declared.errors.TreeError.{TreeError}
 use Rattle.sftp_treefile.specs.declared.errors.TreeError.TheVariants.{NoMemory}
+use Rattle.sftp_treefile.specs.Streamed.{IsExcuse}
 use Rattle.sftp_treefile.specs.declared.files.Owner.{Owner}
 use Rattle.sftp_treefile.specs.declared.files.Kind.{Kind}
 use Rattle.sftp_treefile.specs.declared.files.Kind.TheVariants as kinds
@@ -104,6 +105,10 @@ pub record IsStart (t : Tree) (bytes : List ℕ) : Type 0 where
 -- the result is the tree, unless memory ran out
 abbrev pub GivesTree : Result Tree TreeError → Tree → Type 0
 GivesTree result t = MatchResult result (λ u. u ≡ t) (λ error. error ≡ NoMemory)
+
+-- the same, unless memory ran out or the source failed
+abbrev pub GivesTreeUnless : Result Tree TreeError → Tree → Type 0
+GivesTreeUnless result t = MatchResult result (λ u. u ≡ t) (λ error. IsExcuse error)
 
 -- the root alone, with permissions 0o755, which is the home; the user 0 and the group 0 own everything
 abbrev pub blank : Tree

@@ -1,5 +1,5 @@
--- The plans of requests.
-use Rattle.std.specs.Prelude.{◌≡◌, ℕ, false, if◌then◌else◌, Option, Some, None, IsTrue}
+-- The plans of requests, as the code has them, and when each can be carried out.
+use Rattle.std.specs.Prelude.{◌≡◌, false, Option, Some, None, IsTrue}
 use Rattle.sftp_path.specs.Place.{Place, parent, are_names}
 use Rattle.sftp_treefile.specs.declared.files.Owner.{Owner}
 use Rattle.sftp_treefile.specs.TreeFile.{IsOwner, is_root, same_place}
@@ -9,27 +9,30 @@ use Rattle.sftp_tree.specs.declared.file_contents.Content.{Content}
 use Rattle.sftp_tree.specs.declared.nodes.Node.{Node}
 use Rattle.sftp_tree.specs.declared.nodes.Node.TheVariants as nodes
 use Rattle.sftp_tree.specs.declared.plans.Plan.{Plan}
-use Rattle.sftp_tree.specs.declared.plans.Plan.TheVariants.{Nothing, Put, Remove, Move, SetOwner}
-use Rattle.sftp_tree.specs.declared.plans.Plan.TheVariants.{SetFile, Make, Truncate}
-use Rattle.sftp_tree.specs.Tree.{Tree, IsKept, IsNode, IsContent, fits, node_at, content_at}
-use Rattle.sftp_tree.specs.Tree.{is_taken, is_directory, has_entries, trim}
+use Rattle.sftp_tree.specs.declared.plans.Plan.TheVariants.{Nothing, Put, Remove, Move, SetOwner, SetFile, Make}
+use Rattle.sftp_tree.specs.declared.plans.Plan.TheVariants.{Truncate}
+use Rattle.sftp_tree.specs.Tree.{Tree, IsKept, IsNode, IsContent, fits, node_at, is_taken, is_directory, has_entries}
+use Rattle.sftp_tree.specs.Tree.{trim}
 use Rattle.sftp_tree.specs.Attributes.{changed_owner}
-use Rattle.sftp_tree.specs.OpenFlags.{truncates}
 use Rattle.sftp_tree.specs.PlaceCauses.{goes_inside}
-use Rattle.sftp_tree.specs.Changes.{with_entry, without_entry, put_in_its_stead, with_new_file, new_content}
-use Rattle.sftp_tree.specs.Changes.{with_emptied_file, with_changed_file}
+use Rattle.sftp_tree.specs.Changes as plans
+use Rattle.sftp_tree.specs.Changes.{carried, with_entry, put_in_its_stead, with_new_file}
 use Rattle.sftp_tree.specs.Requests.{after}
 
--- the tree with the plan carried out; files that lost their last name still exist
+-- a plan of the code
+abbrev pub planned : Plan → plans.Plan
+planned Nothing = plans.no_change
+planned (Put place node) = plans.put_node place node
+planned (Remove place) = plans.remove_node place
+planned (Move old new) = plans.move_node old new
+planned (SetOwner place owner) = plans.own_directory place owner
+planned (SetFile number attrs) = plans.set_file number attrs.now
+planned (Make place content) = plans.make_file place content
+planned (Truncate number) = plans.empty_file number
+
+-- the tree with it carried out
 abbrev pub changed : Tree → Plan → Tree
-changed t Nothing = t
-changed t (Put place node) = with_entry t place node
-changed t (Remove place) = without_entry t place
-changed t (Move old new) = put_in_its_stead t old new
-changed t (SetOwner place owner) = with_entry t place (nodes.Dir owner)
-changed t (SetFile number attrs) = with_changed_file t attrs.now number (content_at t.files number)
-changed t (Make place content) = with_new_file t place content
-changed t (Truncate number) = with_emptied_file t number (content_at t.files number)
+changed t plan = carried t (planned plan)
 
 -- ---- what can be done
 
@@ -72,41 +75,29 @@ pub record CanMake (t : Tree) (place : Place) (content : Content) : Type 0 where
   pub is_content : IsContent content
   pub room : IsTrue (fits (with_new_file t place content))
 
+-- a plan can be carried out; `P` holds of the attributes that a file gets
+abbrev pub CanDo : (Attrs → Type 0) → Tree → plans.Plan → Type 0
+CanDo P t plans.no_change = Unit {0}
+CanDo P t (plans.put_node place it) = CanPut t place it
+CanDo P t (plans.remove_node place) = CanTake t place
+CanDo P t (plans.move_node old new) = CanMove t old new
+CanDo P t (plans.own_directory place owner) = CanOwn t place owner
+CanDo P t (plans.set_file number attrs) = P attrs × IsTrue (fits (carried t (plans.set_file number attrs)))
+CanDo P t (plans.make_file place content) = CanMake t place content
+CanDo P t (plans.empty_file number) = IsTrue (fits (carried t (plans.empty_file number)))
+
+-- nothing need be known of attributes
+abbrev pub AreAny : Attrs → Type 0
+AreAny attrs = Unit {0}
+
+-- a plan of the code can be carried out
 abbrev pub IsReady : Tree → Plan → Type 0
-IsReady t Nothing = IsKept t
-IsReady t (Put place node) = CanPut t place node
-IsReady t (Remove place) = CanTake t place
-IsReady t (Move old new) = CanMove t old new
-IsReady t (SetOwner place owner) = CanOwn t place owner
-IsReady t (SetFile number attrs) = IsTrue (fits (changed t (SetFile number attrs)))
-IsReady t (Make place content) = CanMake t place content
-IsReady t (Truncate number) = IsTrue (fits (with_emptied_file t number (content_at t.files number)))
+IsReady t plan = IsKept t × CanDo AreAny t (planned plan)
 
--- ---- what is to be done
-
-abbrev pub IsSettingOf : ℕ → Attrs → Plan → Type 0
-IsSettingOf number attrs (SetFile n given) = (n ≡ number) × (given.now ≡ attrs)
-IsSettingOf number attrs other = ⊥
-
--- a directory gets an owner, and a file attributes
-abbrev pub IsSetting : Option Node → Place → Attrs → Plan → Type 0
-IsSetting None place attrs plan = plan ≡ Nothing
-IsSetting (Some (nodes.Dir owner)) place attrs plan =
-    (plan ≡ SetOwner place (changed_owner attrs owner)) × IsOwner (changed_owner attrs owner)
-IsSetting (Some (nodes.File number)) place attrs plan = IsSettingOf number attrs plan
-IsSetting (Some (nodes.Link target)) place attrs plan = plan ≡ Nothing
-
--- what is to be done to open the node at a place
-abbrev pub plan_to_open : Tree → ℕ → Attrs → Place → Option Node → Plan
-plan_to_open t flags attrs place None = Make place (new_content t attrs)
-plan_to_open t flags attrs place (Some (nodes.File number)) = if truncates flags then Truncate number else Nothing
-plan_to_open t flags attrs place (Some (nodes.Dir owner)) = Nothing
-plan_to_open t flags attrs place (Some (nodes.Link target)) = Nothing
-
--- what was found gets a further name at the new place
-abbrev pub IsNaming : Option Node → Place → Plan → Type 0
-IsNaming None new plan = ⊥
-IsNaming (Some node) new plan = plan ≡ Put new node
+-- a directory whose attributes are set gets an owner
+abbrev pub OwnsBy : Attrs → Option Node → Type 0
+OwnsBy attrs (Some (nodes.Dir owner)) = IsOwner (changed_owner attrs owner)
+OwnsBy attrs other = Unit {0}
 
 -- the plan can be carried out, and leaves the tree after the request
 pub record IsPlanned (t : Tree) (ask : Ask) (plan : Plan) : Type 0 where

@@ -7,9 +7,9 @@ use Rattle.std.specs.Option.{option_map}
 use Rattle.sftp_packets.specs.declared.attributes.Attrs.{Attrs}
 use Rattle.sftp_packets.specs.declared.requests.Ask.{Ask}
 use Rattle.sftp_packets.specs.declared.requests.Ask.TheVariants.{Lstat, Setstat, Remove, Mkdir, Rmdir, Realpath, Stat}
-use Rattle.sftp_packets.specs.declared.requests.Ask.TheVariants.{Rename, Readlink, Symlink, PosixRename, Hardlink}
-use Rattle.sftp_packets.specs.declared.requests.Ask.TheVariants.{Open, Opendir, Close, Read, Write, Fstat, Fsetstat}
-use Rattle.sftp_packets.specs.declared.requests.Ask.TheVariants.{Readdir, Fsync, Limits, Unknown}
+use Rattle.sftp_packets.specs.declared.requests.Ask.TheVariants.{Rename, Readlink, Symlink, PosixRename, Hardlink, Open}
+use Rattle.sftp_packets.specs.declared.requests.Ask.TheVariants.{Opendir, Close, Read, Write, Fstat, Fsetstat, Readdir}
+use Rattle.sftp_packets.specs.declared.requests.Ask.TheVariants.{Fsync, Limits, Unknown}
 use Rattle.sftp_path.specs.Place.{Name, Place, absolute}
 use Rattle.sftp_path.specs.Table.{Table}
 use Rattle.sftp_tree.specs.declared.nodes.Node.{Node}
@@ -22,10 +22,10 @@ use Rattle.sftp_tree.specs.Attributes.{directory_owner, shown}
 use Rattle.sftp_tree.specs.Causes.{CauseSet, no_causes, when, joined, is_none}
 use Rattle.sftp_tree.specs.PlaceCauses.{making_causes, needing_causes, link_causes, file_causes, setting_causes}
 use Rattle.sftp_tree.specs.PlaceCauses.{removing_causes, unlinking_causes, leaving_causes, giving_causes}
-use Rattle.sftp_tree.specs.PlaceCauses.{target_bytes_causes, moving_causes, exchanging_causes}
-use Rattle.sftp_tree.specs.PlaceCauses.{opening_causes, directory_causes, flags_causes}
-use Rattle.sftp_tree.specs.Changes.{with_attributes, with_entry, without_entry, moved, exchanged, with_further_name}
-use Rattle.sftp_tree.specs.Changes.{with_opened}
+use Rattle.sftp_tree.specs.PlaceCauses.{target_bytes_causes, moving_causes, exchanging_causes, opening_causes}
+use Rattle.sftp_tree.specs.PlaceCauses.{directory_causes, flags_causes}
+use Rattle.sftp_tree.specs.Changes.{Plan, no_change, put_node, remove_node, move_node, carried, plan_to_set}
+use Rattle.sftp_tree.specs.Changes.{plan_to_open, plan_to_exchange, plan_to_name}
 use Rattle.sftp_tree.specs.OpenFlags.{excludes}
 use Rattle.sftp_tree.specs.Listings.{listing}
 
@@ -77,9 +77,9 @@ pub record Row : Type 0 where
   pub here : Tree → Place → CauseSet
   pub there : Tree → Place → CauseSet
   pub both : Tree → Place → Place → CauseSet
-  -- what it does at the one place, or with the two
-  pub change : Tree → Place → Tree
-  pub exchange : Tree → Place → Place → Tree
+  -- its plan at the one place, or with the two
+  pub plan : Tree → Place → Plan
+  pub plan_both : Tree → Place → Place → Plan
   -- what its reply says of the place
   pub told : Tree → Place → Told
 
@@ -94,8 +94,8 @@ no_step = record {
   here = λ t place. no_causes;
   there = λ t place. no_causes;
   both = λ t old new. no_causes;
-  change = λ t place. t;
-  exchange = λ t old new. t;
+  plan = λ t place. no_change;
+  plan_both = λ t old new. no_change;
   told = λ t place. done;
 }
 
@@ -117,27 +117,27 @@ pair_row oldpath newpath = record no_step { path = Some oldpath; new_path = Some
 
 abbrev pub row_of : Ask → Row
 row_of (Mkdir path attrs) = record (making_row path) {
-  change = λ t place. with_entry t place (Dir (directory_owner t attrs));
+  plan = λ t place. put_node place (Dir (directory_owner t attrs));
 }
 row_of (Symlink target link) = record (making_row link) {
   own = target_bytes_causes target;
-  change = λ t place. with_entry t place (Link target);
+  plan = λ t place. put_node place (Link target);
 }
 row_of (Rmdir path) = record no_step {
   path = Some path;
   here = λ t place. removing_causes t.names place;
-  change = without_entry;
+  plan = λ t place. remove_node place;
 }
 row_of (Remove path) = record no_step {
   path = Some path;
   here = λ t place. unlinking_causes (node_at t.names place);
-  change = without_entry;
+  plan = λ t place. remove_node place;
 }
 row_of (Setstat path attrs) = record no_step {
   path = Some path;
   follows = true;
   here = λ t place. setting_causes attrs (node_at t.names place);
-  change = λ t place. with_attributes t attrs place (node_at t.names place);
+  plan = λ t place. plan_to_set attrs place (node_at t.names place);
 }
 row_of (Stat path) = record (showing_row path) { follows = true }
 row_of (Lstat path) = showing_row path
@@ -155,25 +155,25 @@ row_of (Rename oldpath newpath) = record (pair_row oldpath newpath) {
   here = λ t place. leaving_causes t.names place;
   there = λ t place. making_causes (node_at t.names place);
   both = λ t old new. moving_causes t.names old new;
-  exchange = moved;
+  plan_both = λ t old new. move_node old new;
 }
 row_of (PosixRename oldpath newpath) = record (pair_row oldpath newpath) {
   here = λ t place. leaving_causes t.names place;
   there = λ t place. giving_causes place;
   both = λ t old new. exchanging_causes t.names old new;
-  exchange = exchanged;
+  plan_both = λ t old new. plan_to_exchange t.names old new;
 }
 row_of (Hardlink oldpath newpath) = record (pair_row oldpath newpath) {
   here = λ t place. file_causes (node_at t.names place);
   there = λ t place. making_causes (node_at t.names place);
-  exchange = λ t old new. with_further_name t (node_at t.names old) new;
+  plan_both = λ t old new. plan_to_name (node_at t.names old) new;
 }
 row_of (Open path pflags attrs) = record no_step {
   path = Some path;
   follows = not (excludes pflags);
   own = flags_causes pflags;
   here = λ t place. opening_causes pflags (node_at t.names place);
-  change = λ t place. with_opened t pflags attrs place (node_at t.names place);
+  plan = λ t place. plan_to_open t pflags attrs place (node_at t.names place);
   told = λ t place. file (number_at t (node_at t.names place));
 }
 row_of (Opendir path) = record no_step {
@@ -220,11 +220,11 @@ new_causes_at t ask = (row_of ask).there t
 abbrev pub causes_between : Tree → Ask → Place → Place → CauseSet
 causes_between t ask = (row_of ask).both t
 
-abbrev pub outcome_at : Tree → Ask → Place → Tree
-outcome_at t ask = (row_of ask).change t
+abbrev pub plan_at : Tree → Ask → Place → Plan
+plan_at t ask = (row_of ask).plan t
 
-abbrev pub outcome_between : Tree → Ask → Place → Place → Tree
-outcome_between t ask = (row_of ask).exchange t
+abbrev pub plan_between : Tree → Ask → Place → Place → Plan
+plan_between t ask = (row_of ask).plan_both t
 
 abbrev pub told_at : Tree → Ask → Place → Told
 told_at t ask = (row_of ask).told t
@@ -271,15 +271,18 @@ led_to otherwise None at = otherwise
 led_to otherwise (Some (Ok place)) at = at place
 led_to otherwise (Some (Err cause)) at = otherwise
 
--- with the place of a first path, and of a second one if there is one
-abbrev pub outcome_on : Tree → Ask → Place → Option (Result Place Cause) → Tree
-outcome_on t ask place None = outcome_at t ask place
-outcome_on t ask place (Some (Ok new)) = outcome_between t ask place new
-outcome_on t ask place (Some (Err cause)) = t
+-- its plan by the place of a first path, and of a second one if there is one
+abbrev pub plan_on : Tree → Ask → Place → Option (Result Place Cause) → Plan
+plan_on t ask place None = plan_at t ask place
+plan_on t ask place (Some (Ok new)) = plan_between t ask place new
+plan_on t ask place (Some (Err cause)) = no_change
 
 -- by where the paths lead
+abbrev pub plan_led : Tree → Ask → Option (Result Place Cause) → Option (Result Place Cause) → Plan
+plan_led t ask end new_end = led_to no_change end (λ place. plan_on t ask place new_end)
+
 abbrev pub outcome_led : Tree → Ask → Option (Result Place Cause) → Option (Result Place Cause) → Tree
-outcome_led t ask end new_end = led_to t end (λ place. outcome_on t ask place new_end)
+outcome_led t ask end new_end = carried t (plan_led t ask end new_end)
 
 -- the tree that a request which no cause refuses asks for; files that nothing holds any more still exist
 unfoldable pub outcome : Tree → Ask → Tree

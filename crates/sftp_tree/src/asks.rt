@@ -7,6 +7,7 @@ ghost use Rattle.sftp_tree.specs.Refusals.{in_set};
 ghost use Rattle.sftp_tree.specs.Found.{IsThere, IsFoundIn};
 ghost use Rattle.sftp_tree.specs.Asks as spec;
 ghost use Rattle.sftp_tree.specs.Asks.{asked};
+ghost use Rattle.sftp_tree.specs.Plans.{planned, AreAny};
 
 use crate::causes::{Cause, Causes};
 use crate::flags::{are_good, excludes};
@@ -21,59 +22,24 @@ use crate::trees::Tree;
 use sftp_path::{NoMemory, good_path};
 use sftp_wire::{Ask, Attrs};
 
-/// A request that is judged by the paths that it names.
+/// A request that is judged by the paths that it names: its fields in the order of its packet.
 #[derive(Clone, Copy)]
 pub(crate) enum PathAsk<'a> {
-    Mkdir {
-        path: &'a [u8],
-        attrs: &'a Attrs,
-    },
-    Rmdir {
-        path: &'a [u8],
-    },
-    Remove {
-        path: &'a [u8],
-    },
-    Setstat {
-        path: &'a [u8],
-        attrs: &'a Attrs,
-    },
-    Stat {
-        path: &'a [u8],
-    },
-    Lstat {
-        path: &'a [u8],
-    },
-    Realpath {
-        path: &'a [u8],
-    },
-    Readlink {
-        path: &'a [u8],
-    },
-    Symlink {
-        target: &'a [u8],
-        link: &'a [u8],
-    },
-    Rename {
-        old: &'a [u8],
-        new: &'a [u8],
-    },
-    PosixRename {
-        old: &'a [u8],
-        new: &'a [u8],
-    },
-    Hardlink {
-        old: &'a [u8],
-        new: &'a [u8],
-    },
-    Open {
-        path: &'a [u8],
-        flags: u32,
-        attrs: &'a Attrs,
-    },
-    Opendir {
-        path: &'a [u8],
-    },
+    Mkdir(&'a [u8], &'a Attrs),
+    Rmdir(&'a [u8]),
+    Remove(&'a [u8]),
+    Setstat(&'a [u8], &'a Attrs),
+    Stat(&'a [u8]),
+    Lstat(&'a [u8]),
+    Realpath(&'a [u8]),
+    Readlink(&'a [u8]),
+    /// The target, and the path of the link.
+    Symlink(&'a [u8], &'a [u8]),
+    Rename(&'a [u8], &'a [u8]),
+    PosixRename(&'a [u8], &'a [u8]),
+    Hardlink(&'a [u8], &'a [u8]),
+    Open(&'a [u8], u32, &'a Attrs),
+    Opendir(&'a [u8]),
 }
 
 /// The request as one that is judged by its paths, or `None` if it is not one.
@@ -81,63 +47,34 @@ pub(crate) fn path_ask(ask: &Ask) -> Option<PathAsk<'_>>
     ensures { MatchOption result (requests.row_of ask.now ≡ requests.no_step) (λ it. asked it ≡ ask.now) }
 {
     match ask {
-        Ask::Mkdir { path, attrs } => Some(PathAsk::Mkdir {
-            path: path.as_slice(),
-            attrs,
-        }),
-        Ask::Rmdir { path } => Some(PathAsk::Rmdir {
-            path: path.as_slice(),
-        }),
-        Ask::Remove { path } => Some(PathAsk::Remove {
-            path: path.as_slice(),
-        }),
-        Ask::Setstat { path, attrs } => Some(PathAsk::Setstat {
-            path: path.as_slice(),
-            attrs,
-        }),
-        Ask::Stat { path } => Some(PathAsk::Stat {
-            path: path.as_slice(),
-        }),
-        Ask::Lstat { path } => Some(PathAsk::Lstat {
-            path: path.as_slice(),
-        }),
-        Ask::Realpath { path } => Some(PathAsk::Realpath {
-            path: path.as_slice(),
-        }),
-        Ask::Readlink { path } => Some(PathAsk::Readlink {
-            path: path.as_slice(),
-        }),
+        Ask::Mkdir { path, attrs } => Some(PathAsk::Mkdir(path.as_slice(), attrs)),
+        Ask::Rmdir { path } => Some(PathAsk::Rmdir(path.as_slice())),
+        Ask::Remove { path } => Some(PathAsk::Remove(path.as_slice())),
+        Ask::Setstat { path, attrs } => Some(PathAsk::Setstat(path.as_slice(), attrs)),
+        Ask::Stat { path } => Some(PathAsk::Stat(path.as_slice())),
+        Ask::Lstat { path } => Some(PathAsk::Lstat(path.as_slice())),
+        Ask::Realpath { path } => Some(PathAsk::Realpath(path.as_slice())),
+        Ask::Readlink { path } => Some(PathAsk::Readlink(path.as_slice())),
         Ask::Symlink {
             targetpath,
             linkpath,
-        } => Some(PathAsk::Symlink {
-            target: targetpath.as_slice(),
-            link: linkpath.as_slice(),
-        }),
-        Ask::Rename { oldpath, newpath } => Some(PathAsk::Rename {
-            old: oldpath.as_slice(),
-            new: newpath.as_slice(),
-        }),
-        Ask::PosixRename { oldpath, newpath } => Some(PathAsk::PosixRename {
-            old: oldpath.as_slice(),
-            new: newpath.as_slice(),
-        }),
-        Ask::Hardlink { oldpath, newpath } => Some(PathAsk::Hardlink {
-            old: oldpath.as_slice(),
-            new: newpath.as_slice(),
-        }),
+        } => Some(PathAsk::Symlink(targetpath.as_slice(), linkpath.as_slice())),
+        Ask::Rename { oldpath, newpath } => {
+            Some(PathAsk::Rename(oldpath.as_slice(), newpath.as_slice()))
+        }
+        Ask::PosixRename { oldpath, newpath } => Some(PathAsk::PosixRename(
+            oldpath.as_slice(),
+            newpath.as_slice(),
+        )),
+        Ask::Hardlink { oldpath, newpath } => {
+            Some(PathAsk::Hardlink(oldpath.as_slice(), newpath.as_slice()))
+        }
         Ask::Open {
             path,
             pflags,
             attrs,
-        } => Some(PathAsk::Open {
-            path: path.as_slice(),
-            flags: *pflags,
-            attrs,
-        }),
-        Ask::Opendir { path } => Some(PathAsk::Opendir {
-            path: path.as_slice(),
-        }),
+        } => Some(PathAsk::Open(path.as_slice(), *pflags, attrs)),
+        Ask::Opendir { path } => Some(PathAsk::Opendir(path.as_slice())),
         Ask::Close { .. }
         | Ask::Read { .. }
         | Ask::Write { .. }
@@ -176,20 +113,20 @@ impl<'a> PathAsk<'a> {
         ensures { requests.path_of (asked self.entry) ≡ Some result.now }
     {
         match self {
-            PathAsk::Mkdir { path, .. } => path,
-            PathAsk::Rmdir { path } => path,
-            PathAsk::Remove { path } => path,
-            PathAsk::Setstat { path, .. } => path,
-            PathAsk::Stat { path } => path,
-            PathAsk::Lstat { path } => path,
-            PathAsk::Realpath { path } => path,
-            PathAsk::Readlink { path } => path,
-            PathAsk::Symlink { link, .. } => link,
-            PathAsk::Rename { old, .. } => old,
-            PathAsk::PosixRename { old, .. } => old,
-            PathAsk::Hardlink { old, .. } => old,
-            PathAsk::Open { path, .. } => path,
-            PathAsk::Opendir { path } => path,
+            PathAsk::Mkdir(path, _) => path,
+            PathAsk::Rmdir(path) => path,
+            PathAsk::Remove(path) => path,
+            PathAsk::Setstat(path, _) => path,
+            PathAsk::Stat(path) => path,
+            PathAsk::Lstat(path) => path,
+            PathAsk::Realpath(path) => path,
+            PathAsk::Readlink(path) => path,
+            PathAsk::Symlink(_, link) => link,
+            PathAsk::Rename(old, _) => old,
+            PathAsk::PosixRename(old, _) => old,
+            PathAsk::Hardlink(old, _) => old,
+            PathAsk::Open(path, _, _) => path,
+            PathAsk::Opendir(path) => path,
         }
     }
 
@@ -198,20 +135,20 @@ impl<'a> PathAsk<'a> {
         ensures { requests.new_path_of (asked self.entry) ≡ option_copied result }
     {
         match self {
-            PathAsk::Rename { new, .. } => Some(new),
-            PathAsk::PosixRename { new, .. } => Some(new),
-            PathAsk::Hardlink { new, .. } => Some(new),
-            PathAsk::Mkdir { .. }
-            | PathAsk::Rmdir { .. }
-            | PathAsk::Remove { .. }
-            | PathAsk::Setstat { .. }
-            | PathAsk::Stat { .. }
-            | PathAsk::Lstat { .. }
-            | PathAsk::Realpath { .. }
-            | PathAsk::Readlink { .. }
-            | PathAsk::Symlink { .. }
-            | PathAsk::Open { .. }
-            | PathAsk::Opendir { .. } => None,
+            PathAsk::Rename(_, new) => Some(new),
+            PathAsk::PosixRename(_, new) => Some(new),
+            PathAsk::Hardlink(_, new) => Some(new),
+            PathAsk::Mkdir(..)
+            | PathAsk::Rmdir(..)
+            | PathAsk::Remove(..)
+            | PathAsk::Setstat(..)
+            | PathAsk::Stat(..)
+            | PathAsk::Lstat(..)
+            | PathAsk::Realpath(..)
+            | PathAsk::Readlink(..)
+            | PathAsk::Symlink(..)
+            | PathAsk::Open(..)
+            | PathAsk::Opendir(..) => None,
         }
     }
 
@@ -220,20 +157,20 @@ impl<'a> PathAsk<'a> {
         ensures { result ≡ requests.follows (asked self.entry) }
     {
         match self {
-            PathAsk::Setstat { .. } => true,
-            PathAsk::Stat { .. } => true,
-            PathAsk::Realpath { .. } => true,
-            PathAsk::Open { flags, .. } => !excludes(flags),
-            PathAsk::Opendir { .. } => true,
-            PathAsk::Mkdir { .. }
-            | PathAsk::Rmdir { .. }
-            | PathAsk::Remove { .. }
-            | PathAsk::Lstat { .. }
-            | PathAsk::Readlink { .. }
-            | PathAsk::Symlink { .. }
-            | PathAsk::Rename { .. }
-            | PathAsk::PosixRename { .. }
-            | PathAsk::Hardlink { .. } => false,
+            PathAsk::Setstat(..) => true,
+            PathAsk::Stat(..) => true,
+            PathAsk::Realpath(..) => true,
+            PathAsk::Open(_, flags, _) => !excludes(flags),
+            PathAsk::Opendir(..) => true,
+            PathAsk::Mkdir(..)
+            | PathAsk::Rmdir(..)
+            | PathAsk::Remove(..)
+            | PathAsk::Lstat(..)
+            | PathAsk::Readlink(..)
+            | PathAsk::Symlink(..)
+            | PathAsk::Rename(..)
+            | PathAsk::PosixRename(..)
+            | PathAsk::Hardlink(..) => false,
         }
     }
 
@@ -243,20 +180,20 @@ impl<'a> PathAsk<'a> {
     {
         let none = Causes::none();
         match self {
-            PathAsk::Symlink { target, .. } => none.when(Cause::BadPath, !is_target(target)),
-            PathAsk::Open { flags, .. } => none.when(Cause::BadFlags, !are_good(flags)),
-            PathAsk::Opendir { .. }
-            | PathAsk::Mkdir { .. }
-            | PathAsk::Rmdir { .. }
-            | PathAsk::Remove { .. }
-            | PathAsk::Setstat { .. }
-            | PathAsk::Stat { .. }
-            | PathAsk::Lstat { .. }
-            | PathAsk::Realpath { .. }
-            | PathAsk::Readlink { .. }
-            | PathAsk::Rename { .. }
-            | PathAsk::PosixRename { .. }
-            | PathAsk::Hardlink { .. } => none,
+            PathAsk::Symlink(target, _) => none.when(Cause::BadPath, !is_target(target)),
+            PathAsk::Open(_, flags, _) => none.when(Cause::BadFlags, !are_good(flags)),
+            PathAsk::Opendir(..)
+            | PathAsk::Mkdir(..)
+            | PathAsk::Rmdir(..)
+            | PathAsk::Remove(..)
+            | PathAsk::Setstat(..)
+            | PathAsk::Stat(..)
+            | PathAsk::Lstat(..)
+            | PathAsk::Realpath(..)
+            | PathAsk::Readlink(..)
+            | PathAsk::Rename(..)
+            | PathAsk::PosixRename(..)
+            | PathAsk::Hardlink(..) => none,
         }
     }
 }
@@ -268,20 +205,20 @@ impl Tree {
         ensures { in_set result ≡ requests.causes_at self.now (asked ask.entry) found.now.place }
     {
         match ask {
-            PathAsk::Mkdir { .. } => making(found),
-            PathAsk::Rmdir { .. } => self.removing(found),
-            PathAsk::Remove { .. } => unlinking(found),
-            PathAsk::Setstat { attrs, .. } => setting(attrs, found),
-            PathAsk::Stat { .. } => needing(found),
-            PathAsk::Lstat { .. } => needing(found),
-            PathAsk::Realpath { .. } => Causes::none(),
-            PathAsk::Readlink { .. } => reading(found),
-            PathAsk::Symlink { .. } => making(found),
-            PathAsk::Rename { .. } => self.leaving(found),
-            PathAsk::PosixRename { .. } => self.leaving(found),
-            PathAsk::Hardlink { .. } => naming(found),
-            PathAsk::Open { flags, .. } => opening(flags, found),
-            PathAsk::Opendir { .. } => listing(found),
+            PathAsk::Mkdir(..) => making(found),
+            PathAsk::Rmdir(..) => self.removing(found),
+            PathAsk::Remove(..) => unlinking(found),
+            PathAsk::Setstat(_, attrs) => setting(attrs, found),
+            PathAsk::Stat(..) => needing(found),
+            PathAsk::Lstat(..) => needing(found),
+            PathAsk::Realpath(..) => Causes::none(),
+            PathAsk::Readlink(..) => reading(found),
+            PathAsk::Symlink(..) => making(found),
+            PathAsk::Rename(..) => self.leaving(found),
+            PathAsk::PosixRename(..) => self.leaving(found),
+            PathAsk::Hardlink(..) => naming(found),
+            PathAsk::Open(_, flags, _) => opening(flags, found),
+            PathAsk::Opendir(..) => listing(found),
         }
     }
 
@@ -291,20 +228,20 @@ impl Tree {
         ensures { in_set result ≡ requests.new_causes_at self.now (asked ask.entry) found.now.place }
     {
         match ask {
-            PathAsk::Rename { .. } => making(found),
-            PathAsk::PosixRename { .. } => giving(&found.place),
-            PathAsk::Hardlink { .. } => making(found),
-            PathAsk::Mkdir { .. }
-            | PathAsk::Rmdir { .. }
-            | PathAsk::Remove { .. }
-            | PathAsk::Setstat { .. }
-            | PathAsk::Stat { .. }
-            | PathAsk::Lstat { .. }
-            | PathAsk::Realpath { .. }
-            | PathAsk::Readlink { .. }
-            | PathAsk::Symlink { .. }
-            | PathAsk::Open { .. }
-            | PathAsk::Opendir { .. } => Causes::none(),
+            PathAsk::Rename(..) => making(found),
+            PathAsk::PosixRename(..) => giving(&found.place),
+            PathAsk::Hardlink(..) => making(found),
+            PathAsk::Mkdir(..)
+            | PathAsk::Rmdir(..)
+            | PathAsk::Remove(..)
+            | PathAsk::Setstat(..)
+            | PathAsk::Stat(..)
+            | PathAsk::Lstat(..)
+            | PathAsk::Realpath(..)
+            | PathAsk::Readlink(..)
+            | PathAsk::Symlink(..)
+            | PathAsk::Open(..)
+            | PathAsk::Opendir(..) => Causes::none(),
         }
     }
 
@@ -320,20 +257,20 @@ impl Tree {
         ensures { in_set result ≡ requests.causes_between self.now (asked ask.entry) old.now.place new.now.place }
     {
         match ask {
-            PathAsk::Rename { .. } => self.moving(old, &new.place),
-            PathAsk::PosixRename { .. } => self.exchanging(old, new),
-            PathAsk::Hardlink { .. }
-            | PathAsk::Mkdir { .. }
-            | PathAsk::Rmdir { .. }
-            | PathAsk::Remove { .. }
-            | PathAsk::Setstat { .. }
-            | PathAsk::Stat { .. }
-            | PathAsk::Lstat { .. }
-            | PathAsk::Realpath { .. }
-            | PathAsk::Readlink { .. }
-            | PathAsk::Symlink { .. }
-            | PathAsk::Open { .. }
-            | PathAsk::Opendir { .. } => Causes::none(),
+            PathAsk::Rename(..) => self.moving(old, &new.place),
+            PathAsk::PosixRename(..) => self.exchanging(old, new),
+            PathAsk::Hardlink(..)
+            | PathAsk::Mkdir(..)
+            | PathAsk::Rmdir(..)
+            | PathAsk::Remove(..)
+            | PathAsk::Setstat(..)
+            | PathAsk::Stat(..)
+            | PathAsk::Lstat(..)
+            | PathAsk::Realpath(..)
+            | PathAsk::Readlink(..)
+            | PathAsk::Symlink(..)
+            | PathAsk::Open(..)
+            | PathAsk::Opendir(..) => Causes::none(),
         }
     }
 
@@ -343,20 +280,20 @@ impl Tree {
         ensures { result ≡ spec.has_room_at self.now (asked ask.entry) found.now.place }
     {
         match ask {
-            PathAsk::Mkdir { .. } => self.has_room(&found.place),
-            PathAsk::Symlink { .. } => self.has_room(&found.place),
-            PathAsk::Setstat { attrs, .. } => self.size_fits_of(attrs, found),
-            PathAsk::Open { .. } => self.has_room_to_open(found),
-            PathAsk::Rmdir { .. }
-            | PathAsk::Remove { .. }
-            | PathAsk::Stat { .. }
-            | PathAsk::Lstat { .. }
-            | PathAsk::Realpath { .. }
-            | PathAsk::Readlink { .. }
-            | PathAsk::Rename { .. }
-            | PathAsk::PosixRename { .. }
-            | PathAsk::Hardlink { .. }
-            | PathAsk::Opendir { .. } => true,
+            PathAsk::Mkdir(..) => self.has_room(&found.place),
+            PathAsk::Symlink(..) => self.has_room(&found.place),
+            PathAsk::Setstat(_, attrs) => self.size_fits_of(attrs, found),
+            PathAsk::Open(..) => self.has_room_to_open(found),
+            PathAsk::Rmdir(..)
+            | PathAsk::Remove(..)
+            | PathAsk::Stat(..)
+            | PathAsk::Lstat(..)
+            | PathAsk::Realpath(..)
+            | PathAsk::Readlink(..)
+            | PathAsk::Rename(..)
+            | PathAsk::PosixRename(..)
+            | PathAsk::Hardlink(..)
+            | PathAsk::Opendir(..) => true,
         }
     }
 
@@ -372,20 +309,20 @@ impl Tree {
         ensures { result ≡ spec.has_room_between self.now (asked ask.entry) old.now.place new.now.place }
     {
         match ask {
-            PathAsk::Rename { .. } => move_fits(old, &new.place),
-            PathAsk::PosixRename { .. } => self.are_one(old, new) || move_fits(old, &new.place),
-            PathAsk::Hardlink { .. } => self.has_room(&new.place),
-            PathAsk::Mkdir { .. }
-            | PathAsk::Rmdir { .. }
-            | PathAsk::Remove { .. }
-            | PathAsk::Setstat { .. }
-            | PathAsk::Stat { .. }
-            | PathAsk::Lstat { .. }
-            | PathAsk::Realpath { .. }
-            | PathAsk::Readlink { .. }
-            | PathAsk::Symlink { .. }
-            | PathAsk::Open { .. }
-            | PathAsk::Opendir { .. } => true,
+            PathAsk::Rename(..) => move_fits(old, &new.place),
+            PathAsk::PosixRename(..) => self.are_one(old, new) || move_fits(old, &new.place),
+            PathAsk::Hardlink(..) => self.has_room(&new.place),
+            PathAsk::Mkdir(..)
+            | PathAsk::Rmdir(..)
+            | PathAsk::Remove(..)
+            | PathAsk::Setstat(..)
+            | PathAsk::Stat(..)
+            | PathAsk::Lstat(..)
+            | PathAsk::Realpath(..)
+            | PathAsk::Readlink(..)
+            | PathAsk::Symlink(..)
+            | PathAsk::Open(..)
+            | PathAsk::Opendir(..) => true,
         }
     }
 
@@ -400,27 +337,26 @@ impl Tree {
         found: Found<'_>,
     ) -> Result<Plan<'a>, NoMemory>
         requires { IsFoundIn self.now found }
-        ensures plan { IfOk result (spec.IsPlanAt self.now (asked ask.entry) found.entry.place) }
-        ensures node { IfOk result (λ plan. spec.HasNode self.now (asked ask.entry)) }
+        ensures plan { IfOk result
+            (λ plan. planned plan ≡ requests.plan_at self.now (asked ask.entry) found.entry.place) }
+        ensures node { IfOk result (λ plan. spec.HasNode AreAny self.now (asked ask.entry) found.entry.place) }
     {
         let Found { place, node } = found;
         Ok(match ask {
-            PathAsk::Mkdir { attrs, .. } => {
-                Plan::Put(place, Node::Dir(self.directory_owner(attrs)))
-            }
-            PathAsk::Rmdir { .. } => Plan::Remove(place),
-            PathAsk::Remove { .. } => Plan::Remove(place),
-            PathAsk::Setstat { attrs, .. } => self.plan_to_set(place, &node, attrs),
-            PathAsk::Symlink { target, .. } => Plan::Put(place, self.link_to(target)?),
-            PathAsk::Open { flags, attrs, .. } => self.plan_to_open(flags, attrs, place, &node),
-            PathAsk::Stat { .. }
-            | PathAsk::Lstat { .. }
-            | PathAsk::Realpath { .. }
-            | PathAsk::Readlink { .. }
-            | PathAsk::Rename { .. }
-            | PathAsk::PosixRename { .. }
-            | PathAsk::Hardlink { .. }
-            | PathAsk::Opendir { .. } => Plan::Nothing,
+            PathAsk::Mkdir(_, attrs) => { Plan::Put(place, Node::Dir(self.directory_owner(attrs))) }
+            PathAsk::Rmdir(..) => Plan::Remove(place),
+            PathAsk::Remove(..) => Plan::Remove(place),
+            PathAsk::Setstat(_, attrs) => self.plan_to_set(place, &node, attrs),
+            PathAsk::Symlink(target, _) => Plan::Put(place, self.link_to(target)?),
+            PathAsk::Open(_, flags, attrs) => self.plan_to_open(flags, attrs, place, &node),
+            PathAsk::Stat(..)
+            | PathAsk::Lstat(..)
+            | PathAsk::Realpath(..)
+            | PathAsk::Readlink(..)
+            | PathAsk::Rename(..)
+            | PathAsk::PosixRename(..)
+            | PathAsk::Hardlink(..)
+            | PathAsk::Opendir(..) => Plan::Nothing,
         })
     }
 
@@ -434,29 +370,30 @@ impl Tree {
         requires old { IsThere self.now.names old }
         requires new { IsThere self.now.names new }
         requires file { spec.IsFileAt self.now (asked ask) old.place }
-        ensures { spec.IsPlanBetween self.now (asked ask.entry) old.entry.place new.entry.place result }
+        ensures { planned result
+            ≡ requests.plan_between self.now (asked ask.entry) old.entry.place new.entry.place }
     {
         match ask {
-            PathAsk::Rename { .. } => Plan::Move(old.place, new.place),
-            PathAsk::PosixRename { .. } => {
+            PathAsk::Rename(..) => Plan::Move(old.place, new.place),
+            PathAsk::PosixRename(..) => {
                 if self.are_one(&old, &new) {
                     Plan::Nothing
                 } else {
                     Plan::Move(old.place, new.place)
                 }
             }
-            PathAsk::Hardlink { .. } => Plan::Put(new.place, Node::File(file_of(&old))),
-            PathAsk::Mkdir { .. }
-            | PathAsk::Rmdir { .. }
-            | PathAsk::Remove { .. }
-            | PathAsk::Setstat { .. }
-            | PathAsk::Stat { .. }
-            | PathAsk::Lstat { .. }
-            | PathAsk::Realpath { .. }
-            | PathAsk::Readlink { .. }
-            | PathAsk::Symlink { .. }
-            | PathAsk::Open { .. }
-            | PathAsk::Opendir { .. } => Plan::Nothing,
+            PathAsk::Hardlink(..) => Plan::Put(new.place, Node::File(file_of(&old))),
+            PathAsk::Mkdir(..)
+            | PathAsk::Rmdir(..)
+            | PathAsk::Remove(..)
+            | PathAsk::Setstat(..)
+            | PathAsk::Stat(..)
+            | PathAsk::Lstat(..)
+            | PathAsk::Realpath(..)
+            | PathAsk::Readlink(..)
+            | PathAsk::Symlink(..)
+            | PathAsk::Open(..)
+            | PathAsk::Opendir(..) => Plan::Nothing,
         }
     }
 }

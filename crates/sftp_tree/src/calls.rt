@@ -73,7 +73,7 @@ impl Tree {
         ensures refused { IfErr result (λ refused. IsRefusal self.old (Mkdir path.now attrs.now) refused) }
         ensures kept { OnErr result (self.new ≡ self.old) }
     {
-        let plan = self.plan(PathAsk::Mkdir { path, attrs })?;
+        let plan = self.plan(PathAsk::Mkdir(path, attrs))?;
         self.apply(plan)?;
         Ok(())
     }
@@ -90,7 +90,7 @@ impl Tree {
         ensures refused { IfErr result (λ refused. IsRefusal self.old (Rmdir path.now) refused) }
         ensures kept { OnErr result (self.new ≡ self.old) }
     {
-        let plan = self.plan(PathAsk::Rmdir { path })?;
+        let plan = self.plan(PathAsk::Rmdir(path))?;
         self.apply(plan)?;
         Ok(())
     }
@@ -107,7 +107,7 @@ impl Tree {
         ensures refused { IfErr result (λ refused. IsRefusal self.old (Remove path.now) refused) }
         ensures kept { OnErr result (self.new ≡ self.old) }
     {
-        let plan = self.plan(PathAsk::Remove { path })?;
+        let plan = self.plan(PathAsk::Remove(path))?;
         self.apply(plan)?;
         Ok(())
     }
@@ -125,7 +125,7 @@ impl Tree {
         ensures refused { IfErr result (λ refused. IsRefusal self.old (Setstat path.now attrs.now) refused) }
         ensures kept { OnErr result (self.new ≡ self.old) }
     {
-        let plan = self.plan(PathAsk::Setstat { path, attrs })?;
+        let plan = self.plan(PathAsk::Setstat(path, attrs))?;
         self.apply(plan)?;
         Ok(())
     }
@@ -143,7 +143,7 @@ impl Tree {
         ensures refused { IfErr result (λ refused. IsRefusal self.old (Rename old.now new.now) refused) }
         ensures kept { OnErr result (self.new ≡ self.old) }
     {
-        let plan = self.plan(PathAsk::Rename { old, new })?;
+        let plan = self.plan(PathAsk::Rename(old, new))?;
         self.apply(plan)?;
         Ok(())
     }
@@ -163,7 +163,7 @@ impl Tree {
         ensures refused { IfErr result (λ refused. IsRefusal self.old (PosixRename old.now new.now) refused) }
         ensures kept { OnErr result (self.new ≡ self.old) }
     {
-        let plan = self.plan(PathAsk::PosixRename { old, new })?;
+        let plan = self.plan(PathAsk::PosixRename(old, new))?;
         self.apply(plan)?;
         Ok(())
     }
@@ -180,7 +180,7 @@ impl Tree {
         ensures refused { IfErr result (λ refused. IsRefusal self.old (Hardlink old.now new.now) refused) }
         ensures kept { OnErr result (self.new ≡ self.old) }
     {
-        let plan = self.plan(PathAsk::Hardlink { old, new })?;
+        let plan = self.plan(PathAsk::Hardlink(old, new))?;
         self.apply(plan)?;
         Ok(())
     }
@@ -197,7 +197,7 @@ impl Tree {
         ensures refused { IfErr result (λ refused. IsRefusal self.old (Symlink target.now link.now) refused) }
         ensures kept { OnErr result (self.new ≡ self.old) }
     {
-        let plan = self.plan(PathAsk::Symlink { target, link })?;
+        let plan = self.plan(PathAsk::Symlink(target, link))?;
         self.apply(plan)?;
         Ok(())
     }
@@ -221,7 +221,7 @@ impl Tree {
         ensures refused { IfErr result (λ refused. IsRefusal self.old (Open path.now flags attrs.now) refused) }
         ensures kept { OnErr result (self.new ≡ self.old) }
     {
-        let ask = PathAsk::Open { path, flags, attrs };
+        let ask = PathAsk::Open(path, flags, attrs);
         let places = self.free_places(ask)?;
         let number = self.number_at(&places.old);
         let plan = self.plan_for(ask, places)?;
@@ -242,9 +242,9 @@ impl Tree {
         ensures kept { OnOk result (tree.IsKept self.now) }
     {
         let ask = if follow {
-            PathAsk::Stat { path }
+            PathAsk::Stat(path)
         } else {
-            PathAsk::Lstat { path }
+            PathAsk::Lstat(path)
         };
         let places = self.free_places(ask)?;
         Ok(self.shown_at(&places.old))
@@ -271,7 +271,7 @@ impl Tree {
         ensures refused { IfErr result (λ refused. IsRefusal self.now (Realpath path.now) refused) }
         ensures kept { OnOk result (tree.IsKept self.now) }
     {
-        let places = self.free_places(PathAsk::Realpath { path })?;
+        let places = self.free_places(PathAsk::Realpath(path))?;
         let text = absolute(self.home().allocator(), places.old.place.names());
         drop(places);
         Ok(text?)
@@ -289,7 +289,7 @@ impl Tree {
         ensures refused { IfErr result (λ refused. IsRefusal self.now (Readlink path.now) refused) }
         ensures kept { OnOk result (tree.IsKept self.now) }
     {
-        let places = self.free_places(PathAsk::Readlink { path })?;
+        let places = self.free_places(PathAsk::Readlink(path))?;
         let target = Vec::from_slice(self.home().allocator(), target_of(&places.old));
         drop(places);
         Ok(target?)

@@ -45,7 +45,7 @@ impl Tree {
         ensures refused { IfErr result (λ refused. IsRefusal self.now (Opendir path.now) refused) }
         ensures kept { OnOk result (tree.IsKept self.now) }
     {
-        let places = self.free_places(PathAsk::Opendir { path })?;
+        let places = self.free_places(PathAsk::Opendir(path))?;
         let items = self.items_below(&places.old);
         drop(places);
         Ok(items?)

@@ -1,7 +1,8 @@
 //! Trees, read from tree files and written to them.
-ghost use Rattle.std.specs.Prelude.{◌≡◌, IfOk};
+ghost use Rattle.std.specs.Prelude.{◌≡◌, ◌+◌, ℕ, List, Some, length, IfOk, IfErr};
+ghost use Rattle.sftp_treefile.specs.Streamed.{MayFail};
 ghost use Rattle.sftp_tree.specs.Tree.{Tree as tree};
-ghost use Rattle.sftp_tree.specs.Picture.{IsStart, GivesTree, picture, blank};
+ghost use Rattle.sftp_tree.specs.Picture.{IsStart, GivesTree, GivesTreeUnless, picture, blank};
 
 mod branches;
 mod measuring;
@@ -14,7 +15,8 @@ use crate::files::Files;
 use crate::trees::Tree;
 use reading::tree_of;
 use sftp_path::{NoMemory, Place};
-use sftp_treefile::{Owner, TreeError, read_rows, usual_limits};
+use sftp_streams::Source;
+use sftp_treefile::{Owner, TreeError, read_rows, read_rows_from, usual_limits};
 use std::alloc::Global;
 use writing::picture_of;
 
@@ -52,6 +54,31 @@ impl Tree {
         let file = read_rows(alloc, bytes)?;
         let tree = tree_of(alloc, file)?;
         Ok(tree)
+    }
+
+    /// The tree of a tree file that a source gives. No more of the file is held than the tree and a buffer.
+    ///
+    /// # Errors
+    ///
+    /// As `read`, and `Io` if the source failed.
+    pub fn read_from<R: Source>(alloc: Global, source: R) -> Result<Tree, TreeError>
+    where
+        R: Drop,
+        ensures found { IfOk result (λ t. (bytes : List ℕ) → R.left source ≡ Some bytes → IsStart t bytes) }
+        ensures only { (bytes : List ℕ) → R.left source ≡ Some bytes → (t : tree) → IsStart t bytes
+            → GivesTreeUnless result t }
+        ensures may_fail { IfErr result (MayFail R.may_fail) }
+    {
+        let file = read_rows_from(alloc, source)?;
+        let grown = tree_of(alloc, file)?;
+        Ok(grown)
+    }
+
+    /// How many entries the tree has below its root.
+    pub fn entry_count(&self) -> u32
+        ensures { result + 1 ≡ length self.now.names }
+    {
+        (self.names().len() - 1) as u32
     }
 
     /// The tree file of the tree.

@@ -101,8 +101,8 @@ impl Tree {
     ) -> Plan<'a>
         requires kept { tree.IsKept self.now }
         requires there { option_map node_seen node.now ≡ tree.node_at self.now.names place }
-        ensures plan { result
-            ≡ spec.plan_to_open self.now flags attrs.now place (tree.node_at self.now.names place) }
+        ensures plan { spec.planned result
+            ≡ changes.plan_to_open self.now flags attrs.now place (tree.node_at self.now.names place) }
         ensures owner { IsOwner (attributes.file_owner self.now attrs.now) }
     {
         let owner = self.file_owner(attrs);
@@ -141,7 +141,9 @@ impl Tree {
     ) -> Plan<'a>
         requires kept { tree.IsKept self.now }
         requires there { option_map node_seen node.now ≡ tree.node_at self.now.names place }
-        ensures { spec.IsSetting (tree.node_at self.now.names place) place attrs.now result }
+        ensures plan { spec.planned result
+            ≡ changes.plan_to_set attrs.now place (tree.node_at self.now.names place) }
+        ensures owner { spec.OwnsBy attrs.now (tree.node_at self.now.names place) }
     {
         let Some(standing) = node else {
             return Plan::Nothing;

@@ -2,10 +2,10 @@
 -- that a proof has a line or two of imports in place of twenty. Declares nothing.
 pub use Rattle.std.proofs.Common.{◌≡◌, ℕ, ◌-◌, ◌<◌, ◌≤◌, Bool, true, false, ◌&&◌, ◌||◌, List, [], ◌∷◌, ◌++◌, length}
 pub use Rattle.std.proofs.Common.{take, drop, refl, sym, ap, subst, ◌∙◌, arith, inl, inr, ◌+◌, ◌^◌, append_assoc}
-pub use Rattle.std.proofs.Common.{get_or, ◌*◌, suc, zero}
+pub use Rattle.std.proofs.Common.{get_or, ◌*◌, suc, zero, min, take-append-drop, rules}
 pub use Rattle.std.proofs.lemmas.Bool.{and_parts, false≢true, leb-true, eqb-true, ltb-true, not-false, lt-ltb}
 pub use Rattle.std.proofs.lemmas.Grind.{common_steps}
-pub use Rattle.std.proofs.lemmas.List.{append-nil, length-append, nil_from_length, take_all}
+pub use Rattle.std.proofs.lemmas.List.{append-nil, length-append, nil_from_length, take_all, length-take-le}
 pub use Rattle.std.proofs.lemmas.Result.{err_from_is_err_and}
 pub use Rattle.std.specs.List.{flat_map}
 pub use Rattle.std.specs.Prelude.{◌↔◌, IsTrue, nat_eq}
@@ -28,3 +28,8 @@ pub use Rattle.sftp_treefile.specs.declared.files.Row.{Row}
 pub use Rattle.sftp_treefile.specs.declared.heads.Front.{Front}
 pub use Rattle.sftp_treefile.specs.declared.heads.Head.{Head}
 pub use Rattle.sftp_treefile.specs.declared.limits.TreeLimits.{TreeLimits}
+pub use Rattle.std.specs.Io.KnownBytes.{IsAtEnd}
+pub use Rattle.sftp_streams.specs.Ahead.{Ahead, bytes_ahead, HasAhead, ahead_without}
+pub use Rattle.sftp_treefile.specs.Streamed.{IsExcuse, ExcuseOr, window, HoldsWindow, IsSame, Takes, Lacks, AreCounted}
+pub use Rattle.sftp_treefile.specs.Streamed.{plain, IsFileStart, file_start_text, file_kind_text, IsNothing, TakesSome}
+pub use Rattle.sftp_treefile.specs.Streamed.{TakesRows, LacksRows}

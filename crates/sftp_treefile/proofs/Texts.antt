@@ -6,3 +6,5 @@ pub mod Heads
 pub mod Entries
 pub mod Files
 pub mod Pieces
+pub mod Bounds
+pub mod Front

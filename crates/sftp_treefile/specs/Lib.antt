@@ -2,3 +2,4 @@ pub mod Limits
 pub mod TreeFile
 pub mod TreeFileParts
 pub mod Examples
+pub mod Streamed

@@ -6,7 +6,7 @@ use Rattle.sftp_packets.specs.Spelling.{uint32, string}
 use Rattle.sftp_path.specs.Place.{Place, place_cmp, parent}
 use Rattle.sftp_treefile.specs.declared.errors.TreeError.{TreeError}
 use Rattle.sftp_treefile.specs.declared.errors.TreeError.TheVariants.{Magic, Short, Trailing, Value, Order, Parent}
-use Rattle.sftp_treefile.specs.declared.errors.TreeError.TheVariants.{NoMemory}
+use Rattle.sftp_treefile.specs.declared.errors.TreeError.TheVariants.{NoMemory, Io}
 use Rattle.sftp_treefile.specs.declared.files.Owner.{Owner}
 use Rattle.sftp_treefile.specs.declared.files.Kind.{Kind}
 use Rattle.sftp_treefile.specs.declared.files.Kind.TheVariants.{Dir, First, Further, Link}
@@ -33,7 +33,7 @@ ReadsNone {A} Fits text bytes = (value : A) (rest : List ℕ) → Fits value →
 abbrev pub OutOfMemoryOr : TreeError → Type 0 → Type 0
 OutOfMemoryOr error Fault = (error ≡ NoMemory) ⊎ Fault
 
--- the fault is in this entry, unless memory ran out
+-- the fault is in this entry, unless memory ran out; no source failed
 abbrev pub IsAt : ℕ → TreeError → Type 0
 IsAt entry (Magic n) = n ≡ entry
 IsAt entry (Short n) = n ≡ entry
@@ -41,11 +41,8 @@ IsAt entry (Trailing n) = n ≡ entry
 IsAt entry (Value n) = n ≡ entry
 IsAt entry (Order n) = n ≡ entry
 IsAt entry (Parent n) = n ≡ entry
+IsAt entry (Io n) = ⊥
 IsAt entry NoMemory = Unit {0}
-
--- the fault is in one of `count` entries, unless memory ran out
-abbrev pub IsAmong : ℕ → TreeError → Type 0
-IsAmong count error = (n : ℕ) × (1 ≤ n) × (n ≤ count) × IsAt n error
 
 -- ---- fields
 

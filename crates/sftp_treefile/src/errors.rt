@@ -23,6 +23,8 @@ pub enum TreeError {
     Order { entry: u32 },
     /// No earlier entry is the directory that the path is in, and it is not in the root.
     Parent { entry: u32 },
+    /// The source failed at this entry.
+    Io { entry: u32 },
     /// Memory ran out.
     NoMemory,
 }
@@ -37,6 +39,7 @@ impl TreeError {
             TreeError::Value { entry } => Some((entry, "Value")),
             TreeError::Order { entry } => Some((entry, "Order")),
             TreeError::Parent { entry } => Some((entry, "Parent")),
+            TreeError::Io { entry } => Some((entry, "Io")),
             TreeError::NoMemory => None,
         }
     }

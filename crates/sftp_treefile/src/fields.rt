@@ -173,7 +173,7 @@ fn first_at<'a>(entry: u32, rows: &[Row], bytes: &'a [u8]) -> Result<(u32, &'a [
 }
 
 /// Reads a letter.
-fn letter_at(entry: u32, bytes: &[u8]) -> Result<(u8, &[u8]), TreeError>
+pub(crate) fn letter_at(entry: u32, bytes: &[u8]) -> Result<(u8, &[u8]), TreeError>
     ensures found { IfOk result (λ taken. bytes.now ≡ taken.0 ∷ taken.1.now) }
     ensures none { IfErr result (λ _. bytes.now ≡ []) }
     ensures number { IfErr result (IsAt entry) }

@@ -19,12 +19,16 @@ fn whole_packet(alloc: Global, side: Side, bytes: &[u8]) -> Result<Packet, ReadE
         return Err(ReadError::Fault(Fault::Short));
     };
     let mut body = rest;
-    let packet = read_fields(alloc, side, *kind, &mut body)?;
-    if !body.is_empty() {
-        drop(packet);
-        return Err(ReadError::Fault(Fault::Trailing));
+    match read_fields(alloc, side, *kind, &mut body) {
+        Ok(packet) => {
+            if body.is_empty() {
+                return Ok(packet);
+            }
+            drop(packet);
+            Err(ReadError::Fault(Fault::Trailing))
+        }
+        Err(error) => Err(error),
     }
-    Ok(packet)
 }
 
 /// The packet in front, and how many bytes it takes.
@@ -43,8 +47,10 @@ fn read_front(alloc: Global, bytes: &[u8], side: Side) -> Result<Option<(Packet,
     if bytes.len() < taken {
         return Ok(None);
     }
-    let packet = whole_packet(alloc, side, &rest[..size])?;
-    Ok(Some((packet, taken)))
+    match whole_packet(alloc, side, &rest[..size]) {
+        Ok(packet) => Ok(Some((packet, taken))),
+        Err(error) => Err(error),
+    }
 }
 
 /// The same, with the place of a fault.

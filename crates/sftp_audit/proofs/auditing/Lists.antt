@@ -6,7 +6,7 @@ use Rattle.sftp_audit.proofs.Imports.{length-map, map-append, Request, Reply, Ev
 use Rattle.sftp_audit.proofs.Imports.{number_after_events, next_reply, exchanges_of, leading_pairs, RecordedReply}
 use Rattle.sftp_audit.proofs.Imports.{Exchange, next_recorded, exchanges_from, recorded_exchanges, is_answered}
 use Rattle.sftp_audit.proofs.Imports.{unsettled, AreAnswered, is_open, reply_of, ledger_of, or_assoc}
-use Rattle.sftp_transcript.specs.Streams.{one_more, largest_count}
+use Rattle.sftp_streams.specs.Streams.{one_more, largest_count}
 use Rattle.sftp_transcript.specs.Ledger as ledgers
 use Rattle.sftp_audit.specs.Exchanges.{answered_by, with_reply, bare}
 use Rattle.sftp_audit.specs.Cuts.{is_unanswered, unanswered_count}

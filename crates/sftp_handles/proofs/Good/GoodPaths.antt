@@ -10,14 +10,14 @@ use Rattle.sftp_handles.proofs.Imports.{truncates, no_causes, is_none, when, Tol
 use Rattle.sftp_handles.proofs.Imports.{IsFree, each-get, each-put, pins-stay, limits-stay, Stands, outcome-is}
 use Rattle.sftp_handles.proofs.Imports.{none-each, PathsLeadWell, outcome-stands, Opened, File, Listing, Left, open_at}
 use Rattle.sftp_handles.proofs.Imports.{with_open, is_open, pins_of, kept_flags, State, Good, settled, IsOpen, IsHandle}
-use Rattle.sftp_handles.proofs.Imports.{IsLeft, has_handle_left, is_new_handle, says, causes, answers, after, asked_handle}
-use Rattle.sftp_handles.proofs.Imports.{with_handle_room, told_to, said_by, said_to, flags_of, opened_by, with_new, after_by, causes_by}
-use Rattle.sftp_handles.proofs.Imports.{path_causes, path_said}
+use Rattle.sftp_handles.proofs.Imports.{IsLeft, has_handle_left, is_new_handle, says, causes, answers, after}
+use Rattle.sftp_handles.proofs.Imports.{asked_handle, with_handle_room, told_to, said_by, said_to, flags_of, opened_by}
+use Rattle.sftp_handles.proofs.Imports.{with_new, after_by, causes_by, path_causes, path_said}
 use Rattle.sftp_packets.specs.declared.requests.Ask.TheVariants as asks
 use Rattle.sftp_packets.specs.declared.requests.Ask.TheVariants.{Open, Opendir}
 use Rattle.sftp_packets.specs.declared.replies.Answer.TheVariants as replies
 use Rattle.sftp_tree.specs.declared.nodes.Node.TheVariants as nodes
-use Rattle.sftp_tree.specs.Changes.{with_opened, with_emptied_file}
+use Rattle.sftp_tree.specs.Changes.{carried, no_change, empty_file, plan_to_open, with_emptied_file}
 use Rattle.sftp_tree.specs.Requests.{file, number_at}
 use Rattle.sftp_tree.specs.Requests as paths
 use Rattle.sftp_handles.proofs.Good.Pins.{pin-times, pins-open_file, pins-open_listing}
@@ -70,20 +70,21 @@ module _ (paths-lead : PathsLeadWell) (s : State) (ask : Ask) (good : Good s) (f
 -- the place that OPEN led to has a name of the file that is opened
 pub opened-named : (t : Tree) (pflags : ℕ) (attrs : Attrs) (place : Place) (found : Option Node)
     → node_at t.names place ≡ found → (n : ℕ) → number_at t found ≡ Some n
-    → node_at (with_opened t pflags attrs place found).names place ≡ Some (nodes.File n)
+    → node_at (carried t (plan_to_open t pflags attrs place found)).names place ≡ Some (nodes.File n)
 opened-named t pflags attrs place None there n is =
-    subst (λ m. node_at (with_opened t pflags attrs place None).names place ≡ Some (nodes.File m))
+    subst (λ m. node_at (carried t (plan_to_open t pflags attrs place None)).names place ≡ Some (nodes.File m))
     (same_Some t.made n is)
     (get-put_here place_cmp place_cmp-total t.names place (nodes.File t.made))
 opened-named t pflags attrs place (Some (nodes.File m)) there n is =
     let same : node_at t.names place ≡ Some (nodes.File n) = there ∙ ap (λ k. Some (nodes.File k)) (same_Some m n is) in
-    by (truncates pflags) (content_at t.files m) same
+    by (truncates pflags) (content_at t.files m) refl same
   where
-    by : (b : Bool) (content : Option Content) → node_at t.names place ≡ Some (nodes.File n)
-        → node_at (if b then with_emptied_file t m content else t).names place ≡ Some (nodes.File n)
-    by true None same = same
-    by true (Some content) same = same
-    by false content same = same
+    by : (b : Bool) (content : Option Content) → content_at t.files m ≡ content
+        → node_at t.names place ≡ Some (nodes.File n)
+        → node_at (carried t (if b then empty_file m else no_change)).names place ≡ Some (nodes.File n)
+    by true None at same = ap (λ o. node_at (with_emptied_file t m o).names place) at ∙ same
+    by true (Some content) at same = ap (λ o. node_at (with_emptied_file t m o).names place) at ∙ same
+    by false content at same = same
 opened-named t pflags attrs place (Some (nodes.Dir owner)) there n is = absurd cc
 opened-named t pflags attrs place (Some (nodes.Link linktarget)) there n is = absurd cc
 

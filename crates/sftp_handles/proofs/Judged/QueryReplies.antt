@@ -22,21 +22,23 @@ use Rattle.sftp_handles.proofs.Good.GoodStates.{good-settled}
 use Rattle.sftp_handles.proofs.Judged.Judgements.{answers-said, unlike, judged-still}
 use Rattle.sftp_handles.proofs.Answered.LimitsAnswers.{limits-still}
 use Rattle.sftp_handles.proofs.TotalSteps.SaidReplies.{payload-reply}
+use Rattle.sftp_tree.specs.Changes.{carried, no_change}
 use Rattle.sftp_handles.proofs.TotalSteps.SeenReplies.{seen-fits}
 use Rattle.sftp_handles.proofs.TotalSteps.PathReplies.{path-fits, stat-fits, lstat-fits, target-fits, place-fits}
 
 -- ---- queries of a path
 
-led_to-same : (t : Tree) (end : Option (Result Place Cause)) → led_to t end (λ place. t) ≡ t
-led_to-same t None = refl
-led_to-same t (Some (Ok place)) = refl
-led_to-same t (Some (Err cause)) = refl
+nothing-changes : (t : Tree) (end : Option (Result Place Cause))
+    → carried t (led_to no_change end (λ place. no_change)) ≡ t
+nothing-changes t None = refl
+nothing-changes t (Some (Ok place)) = refl
+nothing-changes t (Some (Err cause)) = refl
 
 path-left : (t : Tree) (ask : Ask) → kind_of ask ≡ Query → asked_handle ask ≡ None → IsTrue (has_step ask)
     → outcome t ask ≡ t
 unfolding outcome
-path-left t (asks.Stat path) is asked on = led_to-same t (led t (asks.Stat path))
-path-left t other is asked on = first_of (cc, search led_to-same)
+path-left t (asks.Stat path) is asked on = nothing-changes t (led t (asks.Stat path))
+path-left t other is asked on = first_of (cc, search nothing-changes)
 
 path-causes : (s : State) (ask : Ask) → kind_of ask ≡ Query → asked_handle ask ≡ None → IsTrue (has_step ask)
     → causes s ask ≡ paths.causes s.tree ask

@@ -9,8 +9,8 @@ use Rattle.sftp_tree.proofs.Imports.{has_entries, changed_owner, changed_content
 use Rattle.sftp_tree.proofs.Imports.{making_causes, needing_causes, link_causes, file_causes, unlinking_causes}
 use Rattle.sftp_tree.proofs.Imports.{leaving_causes, giving_causes, moving_causes, clashing_causes, replacing_causes}
 use Rattle.sftp_tree.proofs.Imports.{exchanging_causes, goes_inside, are_one, are_one_file, directory_causes}
-use Rattle.sftp_tree.proofs.Imports.{with_changed_file, with_attributes, put_in_its_stead, new_content}
-use Rattle.sftp_tree.proofs.Imports.{with_emptied_file, with_opened, truncates, size_fits, move_fits, nat_tests}
+use Rattle.sftp_tree.proofs.Imports.{with_changed_file, put_in_its_stead, new_content, carried, no_change, move_node}
+use Rattle.sftp_tree.proofs.Imports.{empty_file, plan_to_set, plan_to_open, truncates, size_fits, move_fits, nat_tests}
 use Rattle.sftp_tree.specs.Room.{size_fits_at, has_room_to_open}
 use Rattle.std.specs.Option.{is_some, option_map}
 use Rattle.sftp_tree.proofs.Limits.Entries.{fits-again, fits-content, content-fits}
@@ -19,7 +19,7 @@ use Rattle.sftp_tree.proofs.FileCounts.Moves as left
 use Rattle.sftp_tree.proofs.KeptTrees.NewFiles.{fits-new, no_bytes, emptied-is}
 use Rattle.sftp_tree.proofs.KeptTrees.Files.{not-given}
 use Rattle.sftp_tree.proofs.WellFormedTrees.Places.{apart-from, nothing-below, alone-there}
-use Rattle.sftp_tree.proofs.WellFormedTrees.Found.{absent-of, node-kept}
+use Rattle.sftp_tree.proofs.WellFormedTrees.Found.{absent-of, apart-of, node-kept}
 
 -- ---- what a place's causes say where none holds
 
@@ -126,7 +126,7 @@ changed-room t attrs number kept (Some content) is there =
     fits-content t number (changed_content attrs content) kept.within_limits
     ∙ changed-fits (limits t) attrs.size content.bytes (content-fits t number content kept.within_limits is)
 
-pub set-room : (t : Tree) (attrs : Attrs) (place : Place) (found : Option Node) → IsKept t → node_at t.names place ≡ found → size_fits_at (limits t) attrs.size found ≡ fits (with_attributes t attrs place found)
+pub set-room : (t : Tree) (attrs : Attrs) (place : Place) (found : Option Node) → IsKept t → node_at t.names place ≡ found → size_fits_at (limits t) attrs.size found ≡ fits (carried t (plan_to_set attrs place found))
 set-room t attrs place None kept is = sym kept.within_limits
 set-room t attrs place (Some (Dir owner)) kept is = sym (fits-again t place (Dir owner) (Dir (changed_owner attrs owner)) kept.within_limits kept.well_formed.ordered is refl)
 set-room t attrs place (Some (File number)) kept is = sym (changed-room t attrs number kept (content_at t.files number) refl (node-kept t place (File number) kept is))
@@ -138,14 +138,14 @@ short-enough : (limit : ℕ) → nat_le 0 limit ≡ true
 short-enough limit = grind (arith, nat_tests)
 
 truncated-room : (t : Tree) (number : ℕ) (empties : Bool) → IsKept t → IsTrue (is_some (content_at t.files number))
-    → true ≡ fits (if empties then with_emptied_file t number (content_at t.files number) else t)
+    → true ≡ fits (carried t (if empties then empty_file number else no_change))
 truncated-room t number true kept there =
     sym (ap fits (emptied-is t number (content_at t.files number)) ∙ changed-room t no_bytes number kept (content_at t.files number) refl there
     ∙ short-enough (limits t).file_bytes)
 truncated-room t number false kept there = sym kept.within_limits
 
 pub open-room : (t : Tree) (flags : ℕ) (attrs : Attrs) (place : Place) (found : Option Node) → IsKept t
-    → node_at t.names place ≡ found → has_room_to_open t place found ≡ fits (with_opened t flags attrs place found)
+    → node_at t.names place ≡ found → has_room_to_open t place found ≡ fits (carried t (plan_to_open t flags attrs place found))
 open-room t flags attrs place None kept is =
     sym (fits-new t place (new_content t attrs) kept.within_limits is (not-given t t.made kept.well_formed (omega arith)) (short-enough (limits t).file_bytes))
 open-room t flags attrs place (Some (Dir owner)) kept is = sym kept.within_limits
@@ -155,14 +155,26 @@ open-room t flags attrs place (Some (Link goal)) kept is = sym kept.within_limit
 
 -- ---- what moves
 
--- nothing is at a free place, nor below it
-pub free-alone : (t : Tree) (place : Place) → IsKept t → node_at t.names place ≡ None → has_entries t.names place ≡ false
-free-alone t place kept free =
-    nothing-below t.names place kept.well_formed.ordered kept.well_formed.parents (ap is_directory free)
+-- to a free place
+pub may-rename : (t : Tree) (old new : Place) → WellFormed t → MayLeave t old → node_at t.names new ≡ None
+    → ((c : Cause) → moving_causes t.names old new c ≡ false) → MayReplace t old new
+may-rename t old new well leave absent none = record {
+  outside = outside-of t old new none;
+  elsewhere = apart-of t.names old new leave.taken absent;
+  alone = nothing-below t.names new well.ordered well.parents (ap is_directory absent);
+}
 
-pub replace-room : (t : Tree) (old new : Place) (one : Bool) → are_one t.names old new ≡ one → IsKept t → MayLeave t old → ((c : Cause) → exchanging_causes t.names old new c ≡ false) → (one || move_fits t.names old new) ≡ fits (if one then t else put_in_its_stead t old new)
-replace-room t old new true is kept leave none = sym kept.within_limits
-replace-room t old new false is kept leave none =
-    let may = may-replace t old new kept.well_formed leave none is in
-    sym (fits-put_in_stead t old new kept leave.taken (left.nothing-from t.names new kept.well_formed.ordered (alone-there t.names new may.alone))
-    (λ there. apart-from t.names old new kept.well_formed.parents may.outside may.elsewhere (kept.well_formed.parents new there)))
+pub move-room : (t : Tree) (old new : Place) → IsKept t → MayLeave t old → MayReplace t old new
+    → move_fits t.names old new ≡ fits (put_in_its_stead t old new)
+move-room t old new kept leave may =
+    let well = kept.well_formed in
+    sym (fits-put_in_stead t old new kept leave.taken
+    (left.nothing-from t.names new well.ordered (alone-there t.names new may.alone))
+    (λ there. apart-from t.names old new well.parents may.outside may.elsewhere (well.parents new there)))
+
+pub exchange-room : (t : Tree) (old new : Place) (one : Bool) → are_one t.names old new ≡ one → IsKept t
+    → MayLeave t old → ((c : Cause) → exchanging_causes t.names old new c ≡ false)
+    → (one || move_fits t.names old new) ≡ fits (carried t (if one then no_change else move_node old new))
+exchange-room t old new true is kept leave none = sym kept.within_limits
+exchange-room t old new false is kept leave none =
+    move-room t old new kept leave (may-replace t old new kept.well_formed leave none is)

@@ -7,7 +7,8 @@ use Rattle.std.specs.Option.{option_map}
 use Rattle.std.proofs.Math.Bool.{and-false, or-true, or-false}
 use Rattle.sftp_tree.specs.Requests.{Row, row_of, no_step, path_of, follows, led, new_led, with_room, causes_at}
 use Rattle.sftp_tree.specs.Requests.{new_causes_at, causes_between, own_causes, led_causes, both_causes, plain_of}
-use Rattle.sftp_tree.specs.Requests.{plain_causes, outcome_at, outcome_between, outcome_led, outcome, causes}
+use Rattle.sftp_tree.specs.Requests.{plain_causes, plan_at, plan_between, outcome_led, outcome, causes}
+use Rattle.sftp_tree.specs.Changes.{carried}
 use Rattle.sftp_tree.proofs.CauseLaws.Sets.{IsFreeOf, free-of, in-plain, only-itself}
 
 -- ---- by both ends
@@ -113,14 +114,14 @@ free-led t ask end new free one two =
 pub record FreeAt (t : Tree) (ask : Ask) (place : Place) : Type 0 where
   pub own : (c : Cause) → own_causes ask c ≡ false
   pub none : (c : Cause) → causes_at t ask place c ≡ false
-  pub room : IsTrue (fits (outcome_at t ask place))
+  pub room : IsTrue (fits (carried t (plan_at t ask place)))
 
 -- at the two places that both paths lead to
 pub record FreeBetween (t : Tree) (ask : Ask) (old new : Place) : Type 0 where
   pub at_old : (c : Cause) → causes_at t ask old c ≡ false
   pub at_new : (c : Cause) → new_causes_at t ask new c ≡ false
   pub between : (c : Cause) → causes_between t ask old new c ≡ false
-  pub room : IsTrue (fits (outcome_between t ask old new))
+  pub room : IsTrue (fits (carried t (plan_between t ask old new)))
 
 pub free-at : (t : Tree) (ask : Ask) (place : Place) → IsFree t ask → led t ask ≡ Some (Ok place) → new_led t ask ≡ None → FreeAt t ask place
 free-at t ask place free leads alone =

@@ -97,17 +97,7 @@ depths-moved names old new all taken = by (nat_le (length new) depth_limit) refl
 
 -- ---- a move
 
-pub fits-moved : (t : Tree) (old new : Place) → IsKept t → is_taken (node_at t.names old) ≡ true → NothingFrom t.names new → fits (moved t old new) ≡ move_fits t.names old new
-fits-moved t old new kept taken nothing =
-    let fit = fits-parts t kept.within_limits in
-    let order = kept.well_formed.ordered in
-    fits-names t (rekeyed old new t.names) true (move_fits t.names old new) true fit
-    (ap (λ n. nat_le (n - 1) (limits t).entries) (size-rekeyed old new t.names order nothing) ∙ fit.entries)
-    (tests.all-rekeyed old new t.names (λ e. depth_fits e.0) order nothing ∙ depths-moved t.names old new fit.depths taken)
-    (tests.all-rekeyed old new t.names (λ e. link_fits e.1) order nothing ∙ fit.links)
-    ∙ and-true (move_fits t.names old new)
-
--- with the node at the new place removed
+-- with the node at the new place removed, if there is one
 pub fits-put_in_stead : (t : Tree) (old new : Place) → IsKept t → is_taken (node_at t.names old) ≡ true → NothingFrom (without_node t.names new) new → (is_taken (node_at t.names new) ≡ true → begins old new ≡ false) → fits (put_in_its_stead t old new) ≡ move_fits t.names old new
 fits-put_in_stead t old new kept taken nothing apart =
     let fit = fits-parts t kept.within_limits in

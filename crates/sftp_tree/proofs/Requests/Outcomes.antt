@@ -4,20 +4,21 @@ use Rattle.sftp_tree.proofs.Imports.{Option, Some, None, IsTrue, if◌then◌els
 use Rattle.sftp_tree.proofs.Imports.{Ask, Place, Content, Cause, NoRoom, Tree, WellFormed, IsKept, fits, content_at}
 use Rattle.sftp_tree.proofs.Imports.{CauseSet, every_cause, is_none, when, has_room_for, rules, ◌≤◌, subst, nat_lt, inl}
 use Rattle.sftp_tree.proofs.Imports.{inr, ◌⊎◌, ◌↔◌, nat_cmp, both_ways, InOrder, InOrder-put, times_named, times_pinned}
-use Rattle.sftp_tree.proofs.Imports.{is_pinned, is_held, IsAsk, trim, IsPlaceOf, reached, IsFree, HasNode, IsPlanned}
-use Rattle.sftp_tree.proofs.Imports.{IsPlanAt, IsPlanBetween}
+use Rattle.sftp_tree.proofs.Imports.{is_pinned, is_held, IsAsk, IsAttrs, trim, IsPlaceOf, reached, IsFree, HasNode}
+use Rattle.sftp_tree.proofs.Imports.{IsPlanned, carried, CanDo, AreAny, planned}
 use Rattle.sftp_tree.specs.Requests.{led, new_led, causes, outcome_led, plain_of, outcome, after, path_of, new_path_of}
-use Rattle.sftp_tree.specs.Requests.{follows}
-use Rattle.sftp_tree.proofs.CauseLaws.Places.{plain-parts, lost-first, causes-are, free-at, free-between, outcome-is}
-use Rattle.sftp_tree.proofs.CauseLaws.Sets.{none-each}
+use Rattle.sftp_tree.specs.Requests.{follows, plan_led, plan_at, plan_between}
+use Rattle.sftp_tree.specs.declared.plans.Plan as code
 use Rattle.std.proofs.lemmas.Cmp.{nat_cmp_total}
-use Rattle.sftp_tree.specs.declared.plans.Plan.{Plan}
+use Rattle.sftp_tree.proofs.CauseLaws.Places.{plain-parts, lost-first, causes-are, free-led, free-at, free-between}
+use Rattle.sftp_tree.proofs.CauseLaws.Places.{outcome-is}
+use Rattle.sftp_tree.proofs.CauseLaws.Sets.{none-each}
 use Rattle.sftp_tree.proofs.Limits.Tests.{Stands}
 use Rattle.sftp_tree.proofs.KeptTrees.Trims.{kept-trim}
 use Rattle.sftp_tree.proofs.KeptTrees.Files.{content-left}
-use Rattle.sftp_tree.proofs.Requests.Trees.{Led, LeadsWell, led-well}
-use Rattle.sftp_tree.proofs.Requests.Rows.{path-bytes, new-path-bytes, room-at, room-between, by-outcome, well-at}
-use Rattle.sftp_tree.proofs.Requests.Rows.{well-between, done-at, done-between}
+use Rattle.sftp_tree.proofs.Requests.Trees.{LeadsWell, led-of, led-well, well-plan}
+use Rattle.sftp_tree.proofs.Requests.Rows.{path-bytes, new-path-bytes, room-at, room-between, by-outcome, node-values}
+use Rattle.sftp_tree.proofs.Requests.Rows.{can-at, can-between}
 
 -- ---- room
 
@@ -49,43 +50,39 @@ judged t ask end new plain lacks one two keeps same is =
 
 -- ---- plans
 
-pub planned-at : (t : Tree) (ask : Ask) (place : Place) (plan : Plan) → IsFree t ask → led t ask ≡ Some (Ok place) → new_led t ask ≡ None → IsPlaceOf t place → HasNode t ask → IsPlanAt t ask place plan → IsPlanned t ask plan
-planned-at t ask place plan free one two well good is =
-    let it = done-at t ask place plan well (free-at t ask place free one two) good is in
-    record { ready = it.ready; done = ap trim (it.done ∙ sym (outcome-is t ask (Some (Ok place)) None one two)) }
+-- a plan of the code that is the request's
+planned-by : (t : Tree) (ask : Ask) (plan : code.Plan) (end new : Option (Result Place Cause)) → led t ask ≡ end
+    → new_led t ask ≡ new → IsKept t → CanDo AreAny t (plan_led t ask end new) → planned plan ≡ plan_led t ask end new
+    → IsPlanned t ask plan
+planned-by t ask plan end new one two kept can is = record {
+  ready = (kept, subst (CanDo AreAny t) (sym is) can);
+  done = ap trim (ap (carried t) is ∙ sym (outcome-is t ask end new one two));
+}
 
-pub planned-between : (t : Tree) (ask : Ask) (old new : Place) (plan : Plan) → IsFree t ask → led t ask ≡ Some (Ok old) → new_led t ask ≡ Some (Ok new) → IsPlaceOf t new → IsPlanBetween t ask old new plan → IsPlanned t ask plan
-planned-between t ask old new plan free one two well is =
-    let it = done-between t ask old new plan well (free-between t ask old new free one two) is in
-    record { ready = it.ready; done = ap trim (it.done ∙ sym (outcome-is t ask (Some (Ok old)) (Some (Ok new)) one two)) }
+pub planned-at : (t : Tree) (ask : Ask) (place : Place) (plan : code.Plan) → IsFree t ask → led t ask ≡ Some (Ok place) → new_led t ask ≡ None → IsPlaceOf t place → HasNode AreAny t ask place → planned plan ≡ plan_at t ask place → IsPlanned t ask plan
+planned-at t ask place plan free one two is_place node =
+    planned-by t ask plan (Some (Ok place)) None one two is_place.kept
+    (can-at AreAny t ask place is_place.kept.well_formed (led-of t place is_place) (free-at t ask place free one two) node)
+
+pub planned-between : (t : Tree) (ask : Ask) (old new : Place) (plan : code.Plan) → IsFree t ask → led t ask ≡ Some (Ok old) → new_led t ask ≡ Some (Ok new) → IsPlaceOf t new → planned plan ≡ plan_between t ask old new → IsPlanned t ask plan
+planned-between t ask old new plan free one two is_place =
+    planned-by t ask plan (Some (Ok old)) (Some (Ok new)) one two is_place.kept
+    (can-between AreAny t ask old new is_place.kept.well_formed (led-of t new is_place) (free-between t ask old new free one two))
 
 -- ---- trees
 
-place-led : (t : Tree) (ask : Ask) (place : Place) → LeadsWell t → IsAsk ask → led t ask ≡ Some (Ok place) → Led t place
+-- the plan of a request that no cause refuses can be carried out
+can-led : (t : Tree) (ask : Ask) (end new : Option (Result Place Cause)) → led t ask ≡ end → new_led t ask ≡ new → LeadsWell t → WellFormed t → IsAsk ask → IsFree t ask → CanDo IsAttrs t (plan_led t ask end new)
 unfolding led
-place-led t ask place well fits is = led-well t (follows ask) (path_of ask) place well (path-bytes ask fits) is
-
-new-place-led : (t : Tree) (ask : Ask) (place : Place) → LeadsWell t → IsAsk ask → new_led t ask ≡ Some (Ok place) → Led t place
-new-place-led t ask place well fits is = led-well t false (new_path_of ask) place well (new-path-bytes ask fits) is
-
-outcome-stands-by : (t : Tree) (ask : Ask) (l n : Option (Result Place Cause)) → led t ask ≡ l → new_led t ask ≡ n → LeadsWell t → Stands t → IsAsk ask → IsFree t ask → Stands (outcome t ask)
-outcome-stands-by t ask None n e f leads stands fit free = subst Stands (sym (outcome-is t ask None n e f)) stands
-outcome-stands-by t ask (Some (Err failed)) n e f leads stands fit free = subst Stands (sym (outcome-is t ask (Some (Err failed)) n e f)) stands
-outcome-stands-by t ask (Some (Ok place)) None e f leads stands fit free =
-    let none = free-at t ask place free e f in
-    record {
-      well_formed = subst WellFormed (sym (outcome-is t ask (Some (Ok place)) None e f)) (well-at t ask place stands.well_formed fit (place-led t ask place leads fit e) none.none);
-      within_limits = subst (λ x. IsTrue (fits x)) (sym (outcome-is t ask (Some (Ok place)) None e f)) none.room;
-    }
-outcome-stands-by t ask (Some (Ok place)) (Some (Err failed)) e f leads stands fit free =
-    subst Stands (sym (outcome-is t ask (Some (Ok place)) (Some (Err failed)) e f)) stands
-outcome-stands-by t ask (Some (Ok old)) (Some (Ok new)) e f leads stands fit free =
-    let none = free-between t ask old new free e f in
-    record {
-      well_formed = subst WellFormed (sym (outcome-is t ask (Some (Ok old)) (Some (Ok new)) e f))
-          (well-between t ask old new stands.well_formed (new-place-led t ask new leads fit f) none.at_old none.at_new none.between);
-      within_limits = subst (λ x. IsTrue (fits x)) (sym (outcome-is t ask (Some (Ok old)) (Some (Ok new)) e f)) none.room;
-    }
+can-led t ask (Some (Ok place)) None one two leads well fits free =
+    can-at IsAttrs t ask place well (led-well t (follows ask) (path_of ask) place leads (path-bytes ask fits) one)
+    (free-at t ask place free one two) (node-values t ask place well fits)
+can-led t ask (Some (Ok old)) (Some (Ok new)) one two leads well fits free =
+    can-between IsAttrs t ask old new well (led-well t false (new_path_of ask) new leads (new-path-bytes ask fits) two)
+    (free-between t ask old new free one two)
+can-led t ask None new one two leads well fits free = tt
+can-led t ask (Some (Err cause)) new one two leads well fits free = tt
+can-led t ask (Some (Ok old)) (Some (Err cause)) one two leads well fits free = tt
 
 -- where paths of all trees within the limits lead well, the trees that requests ask for are trees
 abbrev pub PathsLeadWell : Type 0
@@ -102,9 +99,14 @@ leads-untrimmed paths t stands follow path place bytes is =
     record { named = leads.named; above = leads.above }
 
 pub outcome-stands : PathsLeadWell → (t : Tree) (ask : Ask) → WellFormed t → IsTrue (fits t) → IsAsk ask → IsFree t ask → Stands (outcome t ask)
-outcome-stands paths t ask well within =
-    let stands : Stands t = record { well_formed = well; within_limits = within } in
-    outcome-stands-by t ask (led t ask) (new_led t ask) refl refl (leads-untrimmed paths t stands) stands
+unfolding outcome
+outcome-stands paths t ask well within fit free =
+    let leads = leads-untrimmed paths t (record { well_formed = well; within_limits = within }) in
+    record {
+      well_formed = well-plan t (plan_led t ask (led t ask) (new_led t ask)) well
+          (can-led t ask (led t ask) (new_led t ask) refl refl leads well fit free);
+      within_limits = (free-led t ask (led t ask) (new_led t ask) free refl refl).room;
+    }
 
 pub after-kept : PathsLeadWell → (t : Tree) (ask : Ask) → IsKept t → IsAsk ask → IsFree t ask → IsKept (after t ask)
 after-kept paths t ask kept fit free =

@@ -1,35 +1,31 @@
 -- What is proved request by request: each lemma has an equation for each request that differs from its last case.
 use Rattle.sftp_tree.proofs.Imports.{◌≡◌, ℕ, Bool, true, false, ◌&&◌, not, List, refl, sym, ◌∙◌, ap, Option, Some, None}
-use Rattle.sftp_tree.proofs.Imports.{IsTrue, if◌then◌else◌, Result, Ok, not-false, or_parts, and-true, Attrs, Ask}
-use Rattle.sftp_tree.proofs.Imports.{Place, is_target, Content, Node, Dir, File, Link, Cause, BadPath, NoEntry, Tree}
-use Rattle.sftp_tree.proofs.Imports.{WellFormed, IsKept, fits, node_at, content_at, is_taken, is_directory, is_link}
-use Rattle.sftp_tree.proofs.Imports.{directory_owner, changed_owner, changed_content, no_causes, when, are_one}
-use Rattle.sftp_tree.proofs.Imports.{with_changed_file, with_attributes, with_further_name, put_in_its_stead}
-use Rattle.sftp_tree.proofs.Imports.{new_content, with_emptied_file, with_opened, truncates, has_room, subst, []}
-use Rattle.sftp_tree.proofs.Imports.{rekeyed, Names, with_node, without_node, with_content, with_new_file}
-use Rattle.sftp_tree.proofs.Imports.{IsAsk, absolute, are_bytes, is_file, excludes, IsPlaceOf, reached, shown_to}
-use Rattle.sftp_tree.proofs.Imports.{text_to, file_to, IsFree, stat_ask, HasNode, IsPlanAt, IsPlanBetween, Name, Table}
-use Rattle.sftp_tree.proofs.Imports.{listing_to, listing}
+use Rattle.sftp_tree.proofs.Imports.{IsTrue, Ok, not-false, or_parts, and-true, Attrs, IsAttrs, Ask, IsAsk, Place}
+use Rattle.sftp_tree.proofs.Imports.{place_cmp, place_cmp-same, is_target, Content, Node, Dir, File, Link, Cause}
+use Rattle.sftp_tree.proofs.Imports.{BadPath, NoEntry, Tree, WellFormed, IsKept, IsNode, fits, node_at, content_at}
+use Rattle.sftp_tree.proofs.Imports.{is_taken, is_directory, is_link, directory_owner, changed_content, no_causes, when}
+use Rattle.sftp_tree.proofs.Imports.{are_one, with_changed_file, with_emptied_file, has_room, subst, [], rekeyed, Names}
+use Rattle.sftp_tree.proofs.Imports.{with_node, without_node, with_content, with_new_file, absolute, are_bytes, is_file}
+use Rattle.sftp_tree.proofs.Imports.{excludes, reached, shown_to, text_to, file_to, IsFree, stat_ask, HasNode, Name}
+use Rattle.sftp_tree.proofs.Imports.{Table, listing_to, listing, Plan, carried, no_change, put_node, remove_node}
+use Rattle.sftp_tree.proofs.Imports.{move_node, own_directory, set_file, make_file, empty_file, plan_to_name, CanDo}
+use Rattle.sftp_tree.proofs.Imports.{OwnsBy}
 use Rattle.sftp_tree.specs.Asks.{has_room_at, has_room_between, IsFileAt}
 use Rattle.std.specs.Option.{is_some, IfSome}
-use Rattle.sftp_tree.specs.Requests.{led, new_led, causes_at, new_causes_at, causes_between, own_causes, outcome_at}
-use Rattle.sftp_tree.specs.Requests.{outcome_between, outcome_on, led_to, outcome, shown_at, target_of, number_at}
-use Rattle.sftp_tree.specs.Requests.{path_of, new_path_of}
+use Rattle.sftp_tree.specs.Requests.{led, new_led, causes_at, new_causes_at, causes_between, own_causes, plan_at}
+use Rattle.sftp_tree.specs.Requests.{plan_between, plan_led, led_to, outcome, shown_at, target_of, number_at, path_of}
+use Rattle.sftp_tree.specs.Requests.{new_path_of}
 use Rattle.sftp_tree.proofs.Limits.Entries.{fits-put, fits-without}
-use Rattle.sftp_tree.proofs.Limits.Moves.{fits-moved, nothing-from}
-use Rattle.sftp_tree.proofs.WellFormedTrees.Places.{alone-there}
 use Rattle.sftp_packets.specs.declared.requests.Ask.TheVariants as asks
-use Rattle.sftp_tree.specs.declared.plans.Plan.{Plan}
+use Rattle.sftp_tree.proofs.PlaceTables.Each.{each-get}
 use Rattle.sftp_tree.proofs.CauseLaws.Places.{FreeAt, FreeBetween, free-at}
-use Rattle.sftp_tree.proofs.CauseLaws.Limits.{free-place, file-place, name-place, link-place, directory-place}
-use Rattle.sftp_tree.proofs.CauseLaws.Limits.{taken-place, may-leave, outside-of, given-below, free-alone, set-room}
-use Rattle.sftp_tree.proofs.CauseLaws.Limits.{open-room, replace-room}
+use Rattle.sftp_tree.proofs.CauseLaws.Limits.{free-place, file-place, link-place, directory-place, taken-place}
+use Rattle.sftp_tree.proofs.CauseLaws.Limits.{may-leave, may-rename, set-room, open-room, move-room, exchange-room}
 use Rattle.sftp_tree.proofs.Walks.Links.{reached-unlinked}
-use Rattle.sftp_tree.proofs.WellFormedTrees.Fields.{bytes-fit, owner-fits}
-use Rattle.sftp_tree.proofs.Requests.Plans.{can-remove-directory, IsDone, can-remove-name, done-put, done-set}
-use Rattle.sftp_tree.proofs.Requests.Plans.{done-open, done-move, done-exchange, done-link, opened-by}
-use Rattle.sftp_tree.proofs.Requests.Trees.{Led, not-root, empty-there, well-with, well-without, well-attributes}
-use Rattle.sftp_tree.proofs.Requests.Trees.{well-opened, well-renamed, well-replaced, well-further}
+use Rattle.sftp_tree.proofs.WellFormedTrees.Fields.{bytes-fit, owner-fits, file-owner-fits, changed-owner-fits}
+use Rattle.sftp_tree.proofs.Requests.Plans.{can-remove-directory, can-remove-name, can-put, can-set, can-open, can-move}
+use Rattle.sftp_tree.proofs.Requests.Plans.{can-exchange, can-name, opened-by}
+use Rattle.sftp_tree.proofs.Requests.Trees.{Led, not-root}
 
 -- ---- values
 
@@ -62,7 +58,7 @@ good-target : (target link : List ℕ) → ((c : Cause) → own_causes (asks.Sym
 unfolding when no_causes
 good-target target link none = not-false (is_target target) (or_parts (not (is_target target)) false (none BadPath)).0
 
-pub room-at : (t : Tree) (ask : Ask) (place : Place) → IsKept t → ((c : Cause) → own_causes ask c ≡ false) → ((c : Cause) → causes_at t ask place c ≡ false) → has_room_at t ask place ≡ fits (outcome_at t ask place)
+pub room-at : (t : Tree) (ask : Ask) (place : Place) → IsKept t → ((c : Cause) → own_causes ask c ≡ false) → ((c : Cause) → causes_at t ask place c ≡ false) → has_room_at t ask place ≡ fits (carried t (plan_at t ask place))
 room-at t (asks.Mkdir path attrs) place kept own none =
     sym (fits-put t place (Dir (directory_owner t attrs)) kept.within_limits (free-place (node_at t.names place) none) ∙ and-true (has_room t place))
 room-at t (asks.Symlink target link) place kept own none =
@@ -73,14 +69,17 @@ room-at t (asks.Setstat path attrs) place kept own none = set-room t attrs place
 room-at t (asks.Open path flags attrs) place kept own none = open-room t flags attrs place (node_at t.names place) kept refl
 room-at t other place kept own none = sym kept.within_limits
 
-pub room-between : (t : Tree) (ask : Ask) (old new : Place) → IsKept t → ((c : Cause) → causes_at t ask old c ≡ false) → ((c : Cause) → new_causes_at t ask new c ≡ false) → ((c : Cause) → causes_between t ask old new c ≡ false) → has_room_between t ask old new ≡ fits (outcome_between t ask old new)
+pub room-between : (t : Tree) (ask : Ask) (old new : Place) → IsKept t → ((c : Cause) → causes_at t ask old c ≡ false) → ((c : Cause) → new_causes_at t ask new c ≡ false) → ((c : Cause) → causes_between t ask old new c ≡ false) → has_room_between t ask old new ≡ fits (carried t (plan_between t ask old new))
 room-between t (asks.Rename oldpath newpath) old new kept here there both =
-    let free = free-place (node_at t.names new) there in
-    sym (fits-moved t old new kept (may-leave t old here).taken (nothing-from t.names new free (alone-there t.names new (free-alone t new kept free))))
-room-between t (asks.PosixRename oldpath newpath) old new kept here there both = replace-room t old new (are_one t.names old new) refl kept (may-leave t old here) both
+    let leave = may-leave t old here in
+    move-room t old new kept leave
+    (may-rename t old new kept.well_formed leave (free-place (node_at t.names new) there) both)
+room-between t (asks.PosixRename oldpath newpath) old new kept here there both =
+    exchange-room t old new (are_one t.names old new) refl kept (may-leave t old here) both
 room-between t (asks.Hardlink oldpath newpath) old new kept here there both =
     let file = file-place (node_at t.names old) here in
-    sym (ap (λ found. fits (with_further_name t found new)) file.1 ∙ fits-put t new (File file.0) kept.within_limits (free-place (node_at t.names new) there) ∙ and-true (has_room t new))
+    sym (ap (λ found. fits (carried t (plan_to_name found new))) file.1
+    ∙ fits-put t new (File file.0) kept.within_limits (free-place (node_at t.names new) there) ∙ and-true (has_room t new))
 room-between t other old new kept here there both = sym kept.within_limits
 
 -- ---- what it asks for
@@ -91,107 +90,67 @@ module _ (t : Tree) (P : Tree → Type 0) (same : P t) (renamed : (names : Names
   by-file attrs number None is = same
   by-file attrs number (Some content) is = changed number content (changed_content attrs content) is
 
-  by-attributes : (attrs : Attrs) (place : Place) (o : Option Node) → P (with_attributes t attrs place o)
-  by-attributes attrs place (Some (Dir owner)) = renamed (with_node t.names place (Dir (changed_owner attrs owner)))
-  by-attributes attrs place (Some (File number)) = by-file attrs number (content_at t.files number) refl
-  by-attributes attrs place other = same
-
   by-emptied : (number : ℕ) (o : Option Content) → content_at t.files number ≡ o → P (with_emptied_file t number o)
   by-emptied number None is = same
   by-emptied number (Some content) is = changed number content (record content { bytes = [] }) is
 
-  by-flag : (empties : Bool) (number : ℕ) → P (if empties then with_emptied_file t number (content_at t.files number) else t)
-  by-flag true number = by-emptied number (content_at t.files number) refl
-  by-flag false number = same
-
-  by-opened : (flags : ℕ) (attrs : Attrs) (place : Place) (o : Option Node) → P (with_opened t flags attrs place o)
-  by-opened flags attrs place None = made place (new_content t attrs)
-  by-opened flags attrs place (Some (File number)) = by-flag (truncates flags) number
-  by-opened flags attrs place (Some other) = same
-
-  by-place : (ask : Ask) (place : Place) → P (outcome_at t ask place)
-  by-place (asks.Mkdir path attrs) place = renamed (with_node t.names place (Dir (directory_owner t attrs)))
-  by-place (asks.Rmdir path) place = renamed (without_node t.names place)
-  by-place (asks.Remove path) place = renamed (without_node t.names place)
-  by-place (asks.Setstat path attrs) place = by-attributes attrs place (node_at t.names place)
-  by-place (asks.Symlink goal link) place = renamed (with_node t.names place (Link goal))
-  by-place (asks.Open path flags attrs) place = by-opened flags attrs place (node_at t.names place)
-  by-place other place = same
-
-  by-one : (one : Bool) (old new : Place) → P (if one then t else put_in_its_stead t old new)
-  by-one true old new = same
-  by-one false old new = renamed (rekeyed old new (without_node t.names new))
-
-  by-further : (o : Option Node) (new : Place) → P (with_further_name t o new)
-  by-further None new = same
-  by-further (Some it) new = renamed (with_node t.names new it)
-
-  by-places : (ask : Ask) (old new : Place) → P (outcome_between t ask old new)
-  by-places (asks.Rename oldpath newpath) old new = renamed (rekeyed old new t.names)
-  by-places (asks.PosixRename oldpath newpath) old new = by-one (are_one t.names old new) old new
-  by-places (asks.Hardlink oldpath newpath) old new = by-further (node_at t.names old) new
-  by-places other old new = same
-
-  by-led : (ask : Ask) (l n : Option (Result Place Cause)) → P (led_to t l (λ place. outcome_on t ask place n))
-  by-led ask (Some (Ok place)) None = by-place ask place
-  by-led ask (Some (Ok place)) (Some (Ok new)) = by-places ask place new
-  by-led ask l n = same
+  by-plan : (plan : Plan) → P (carried t plan)
+  by-plan no_change = same
+  by-plan (put_node place it) = renamed (with_node t.names place it)
+  by-plan (remove_node place) = renamed (without_node t.names place)
+  by-plan (move_node old new) = renamed (rekeyed old new (without_node t.names new))
+  by-plan (own_directory place owner) = renamed (with_node t.names place (Dir owner))
+  by-plan (set_file number attrs) = by-file attrs number (content_at t.files number) refl
+  by-plan (make_file place content) = made place content
+  by-plan (empty_file number) = by-emptied number (content_at t.files number) refl
 
   pub by-outcome : (ask : Ask) → P (outcome t ask)
   unfolding outcome
-  by-outcome ask = by-led ask (led t ask) (new_led t ask)
-
--- ---- that it leaves a tree
-
-pub well-at : (t : Tree) (ask : Ask) (place : Place) → WellFormed t → IsAsk ask → Led t place → ((c : Cause) → causes_at t ask place c ≡ false) → WellFormed (outcome_at t ask place)
-well-at t (asks.Mkdir path attrs) place well fits leads none = well-with t place (Dir (directory_owner t attrs)) well leads (ap is_taken (free-place (node_at t.names place) none)) (owner-fits t attrs well fits.1)
-well-at t (asks.Rmdir path) place well fits leads none =
-    let may = can-remove-directory t place none in
-    well-without t place well may.below_root may.empty
-well-at t (asks.Remove path) place well fits leads none =
-    let other = name-place (node_at t.names place) none in
-    well-without t place well (not-root t place well other) (empty-there t place well other)
-well-at t (asks.Setstat path attrs) place well fits leads none = well-attributes t attrs place (node_at t.names place) refl well fits.1
-well-at t (asks.Symlink target link) place well fits leads none = well-with t place (Link target) well leads (ap is_taken (free-place (node_at t.names place) none)) (bytes-fit target fits.0)
-well-at t (asks.Open path flags attrs) place well fits leads none =
-    well-opened t flags attrs place (node_at t.names place) refl well fits.1.1 leads
-well-at t other place well fits leads none = well
-
-pub well-between : (t : Tree) (ask : Ask) (old new : Place) → WellFormed t → Led t new → ((c : Cause) → causes_at t ask old c ≡ false) → ((c : Cause) → new_causes_at t ask new c ≡ false) → ((c : Cause) → causes_between t ask old new c ≡ false) → WellFormed (outcome_between t ask old new)
-well-between t (asks.Rename oldpath newpath) old new well leads at_old at_new between =
-    let leave = may-leave t old at_old in
-    well-renamed t old new well leads (ap not leave.taken) leave.below_root (ap is_taken (free-place (node_at t.names new) at_new)) (outside-of t old new between)
-well-between t (asks.PosixRename oldpath newpath) old new well leads at_old at_new between =
-    well-replaced t old new (are_one t.names old new) refl well leads (may-leave t old at_old) (given-below new at_new) between
-well-between t (asks.Hardlink oldpath newpath) old new well leads at_old at_new between = well-further t old new (node_at t.names old) refl well leads (ap is_taken (free-place (node_at t.names new) at_new))
-well-between t other old new well leads at_old at_new between = well
+  by-outcome ask = by-plan (plan_led t ask (led t ask) (new_led t ask))
 
 -- ---- its plan
 
-pub done-at : (t : Tree) (ask : Ask) (place : Place) (plan : Plan) → IsPlaceOf t place → FreeAt t ask place → HasNode t ask → IsPlanAt t ask place plan → IsDone t (outcome_at t ask place) plan
-done-at t (asks.Mkdir path attrs) place plan well free good is =
-    done-put t place (Dir (directory_owner t attrs)) plan well (free-place (node_at t.names place) free.none) good free.room is
-done-at t (asks.Symlink goal link) place plan well free good is =
-    done-put t place (Link goal) plan well (free-place (node_at t.names place) free.none) good free.room is
-done-at t (asks.Rmdir path) place plan well free good is =
-    subst (IsDone t (outcome_at t (asks.Rmdir path) place)) (sym is) (record { ready = can-remove-directory t place free.none; done = refl })
-done-at t (asks.Remove path) place plan well free good is =
-    subst (IsDone t (outcome_at t (asks.Remove path) place)) (sym is) (record { ready = can-remove-name t place well.kept free.none; done = refl })
-done-at t (asks.Setstat path attrs) place plan well free good is =
-    done-set t attrs place (node_at t.names place) plan well.kept refl free.room is
-done-at t (asks.Open path flags attrs) place plan well free good is =
-    done-open t flags attrs place (node_at t.names place) plan refl well good free.room is
-done-at t other place plan well free good is = subst (IsDone t t) (sym is) (record { ready = well.kept; done = refl })
+-- the values of the request
+pub node-values : (t : Tree) (ask : Ask) (place : Place) → WellFormed t → IsAsk ask → HasNode IsAttrs t ask place
+node-values t (asks.Mkdir path attrs) place well fits = owner-fits t attrs well fits.1
+node-values t (asks.Symlink target link) place well fits = bytes-fit target fits.0
+node-values t (asks.Setstat path attrs) place well fits = (fits.1, by (node_at t.names place) refl)
+  where
+    by : (o : Option Node) → node_at t.names place ≡ o → OwnsBy attrs o
+    by (Some (Dir owner)) is = changed-owner-fits attrs owner fits.1
+        (each-get place_cmp place_cmp-same (λ e. IsNode t.files e.1) t.names place (Dir owner) well.nodes is)
+    by other is = tt
+node-values t (asks.Open path flags attrs) place well fits = file-owner-fits t attrs well fits.1.1
+node-values t other place well fits = tt
 
-pub done-between : (t : Tree) (ask : Ask) (old new : Place) (plan : Plan) → IsPlaceOf t new → FreeBetween t ask old new → IsPlanBetween t ask old new plan → IsDone t (outcome_between t ask old new) plan
-done-between t (asks.Rename oldpath newpath) old new plan well free is =
-    done-move t old new plan well free.at_old free.at_new free.between free.room is
-done-between t (asks.PosixRename oldpath newpath) old new plan well free is =
-    done-exchange t old new plan (are_one t.names old new) refl well free.at_old free.at_new free.between free.room is
-done-between t (asks.Hardlink oldpath newpath) old new plan well free is =
-    let file = file-place (node_at t.names old) free.at_old in
-    done-link t old new plan (node_at t.names old) file.0 refl file.1 well (free-place (node_at t.names new) free.at_new) free.room is
-done-between t other old new plan well free is = subst (IsDone t t) (sym is) (record { ready = well.kept; done = refl })
+-- it can be carried out
+module _ (P : Attrs → Type 0) (t : Tree) where
+  pub can-at : (ask : Ask) (place : Place) → WellFormed t → Led t place → FreeAt t ask place → HasNode P t ask place
+      → CanDo P t (plan_at t ask place)
+  can-at (asks.Mkdir path attrs) place well leads free node =
+      can-put t place (Dir (directory_owner t attrs)) leads (free-place (node_at t.names place) free.none) node free.room
+  can-at (asks.Symlink target link) place well leads free node =
+      can-put t place (Link target) leads (free-place (node_at t.names place) free.none) node free.room
+  can-at (asks.Rmdir path) place well leads free node = can-remove-directory t place free.none
+  can-at (asks.Remove path) place well leads free node = can-remove-name t place well free.none
+  can-at (asks.Setstat path attrs) place well leads free node =
+      can-set P t attrs place (node_at t.names place) refl free.room node.0 node.1
+  can-at (asks.Open path flags attrs) place well leads free node =
+      can-open P t flags attrs place (node_at t.names place) refl leads node free.room
+  can-at other place well leads free node = tt
+
+  pub can-between : (ask : Ask) (old new : Place) → WellFormed t → Led t new → FreeBetween t ask old new
+      → CanDo P t (plan_between t ask old new)
+  can-between (asks.Rename oldpath newpath) old new well leads free =
+      let leave = may-leave t old free.at_old in
+      let absent = free-place (node_at t.names new) free.at_new in
+      can-move t old new leads leave (not-root t new well (ap is_directory absent))
+      (may-rename t old new well leave absent free.between) free.room
+  can-between (asks.PosixRename oldpath newpath) old new well leads free =
+      can-exchange P t old new (are_one t.names old new) refl well leads free.at_old free.at_new free.between free.room
+  can-between (asks.Hardlink oldpath newpath) old new well leads free =
+      can-name P t old new (node_at t.names old) refl well leads (free-place (node_at t.names new) free.at_new) free.room
+  can-between other old new well leads free = tt
 
 -- only of a file is a name made
 pub file-at : (t : Tree) (ask : Ask) (old new : Place) → FreeBetween t ask old new → IsFileAt t ask old

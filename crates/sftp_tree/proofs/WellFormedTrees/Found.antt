@@ -1,8 +1,7 @@
 -- The nodes at the places that paths lead to, as the calls for requests find them.
 use Rattle.sftp_tree.proofs.Imports.{◌≡◌, Bool, true, false, [], ◌∷◌, nat_eq, refl, sym, ap, Option, Some, None, IsTrue}
 use Rattle.sftp_tree.proofs.Imports.{Ordering, is_at, AllByRecursion, list_all, pointwise, same_text, Place, place_cmp}
-use Rattle.sftp_tree.proofs.Imports.{rekeyed, Table, get, without-absent, is_root, same_place, Node, Names, Tree}
-use Rattle.sftp_tree.proofs.Imports.{IsKept, IsNode, node_at, is_taken, is_directory, moved, put_in_its_stead}
+use Rattle.sftp_tree.proofs.Imports.{Table, get, same_place, Node, Names, Tree, IsKept, IsNode, node_at, is_taken}
 use Rattle.std.specs.Cmp.{first_so, second_so}
 use Rattle.sftp_tree.proofs.PlaceTables.Each.{each-all, lookup_holds}
 
@@ -12,11 +11,6 @@ absent-of (Some it) e = cc
 
 pub taken-of : (found : Option Node) (it : Node) → found ≡ Some it → is_taken found ≡ true
 taken-of found it e = ap is_taken e
-
--- the root is a directory
-pub below-root : (t : Tree) (place : Place) → IsKept t → is_directory (node_at t.names place) ≡ false → is_root place ≡ false
-below-root t [] kept none = let above : is_directory (node_at t.names []) ≡ true = kept.well_formed.root in cc
-below-root t (n ∷ ns) kept none = refl
 
 same-names : (p q : Place) → pointwise (pointwise nat_eq) p q ≡ true → p ≡ q
 same-names [] [] e = refl
@@ -35,10 +29,6 @@ apart-of names old new there free = by (same_place old new) refl
         let one : is_taken (node_at names old) ≡ is_taken (node_at names new) = ap (λ place. is_taken (node_at names place)) (same-names old new e) in
         let none : is_taken (node_at names new) ≡ false = ap is_taken free in
         cc
-
--- what goes to a place where nothing is replaces nothing
-pub moved-is : (t : Tree) (old new : Place) → node_at t.names new ≡ None → moved t old new ≡ put_in_its_stead t old new
-moved-is t old new free = λ i. record t { names = rekeyed old new (sym (without-absent place_cmp t.names new free) i) }
 
 -- ---- what is found in a table keeps what each entry keeps
 

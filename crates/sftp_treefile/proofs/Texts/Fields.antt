@@ -48,12 +48,15 @@ names_length [] named = omega arith
 names_length (n ∷ ns) named = grind (arith, and_parts, leb-true, length-append, names_length ns)
 
 absolute_length : (place : Place) → IsTrue (are_names place) → length place ≤ depth_limit
-    → length (absolute place) < 2 ^ 32
+    → length (absolute place) ≤ 16384
 absolute_length [] named deep = omega arith
 absolute_length (n ∷ ns) named deep = omega (arith, names_length (n ∷ ns) named, deep)
 
+pub path_short : (text : List ℕ) → IsPlaceText text → length text ≤ 16384
+path_short text fits = omega (arith, ap length fits.one, absolute_length (place_of text) fits.names fits.depth)
+
 pub path_length : (text : List ℕ) → IsPlaceText text → length text < 2 ^ 32
-path_length text fits = omega (arith, ap length fits.one, absolute_length (place_of text) fits.names fits.depth)
+path_length text fits = omega (arith, path_short text fits)
 
 pub path_front : (x y r s : List ℕ) → IsPlaceText x → IsPlaceText y → string x ++ r ≡ string y ++ s → (x ≡ y) × (r ≡ s)
 path_front x y r s x-fits y-fits e = string_front x y r s (path_length x x-fits) (path_length y y-fits) e
@@ -70,9 +73,12 @@ too_deep text place is deep fits = omega (arith, deep, fits.depth, ap length (pl
 
 -- ---- targets
 
-pub target_length : (target : List ℕ) → IsTarget target → length target < 2 ^ 32
+pub target_short : (target : List ℕ) → IsTarget target → length target ≤ 4096
 unfolding is_good_path
-target_length target fits = grind (arith, and_parts, leb-true)
+target_short target fits = grind (arith, and_parts, leb-true)
+
+pub target_length : (target : List ℕ) → IsTarget target → length target < 2 ^ 32
+target_length target fits = omega (arith, target_short target fits)
 
 pub empty_target : (target : List ℕ) → nat_eq (length target) 0 ≡ true → IsTarget target → ⊥
 empty_target target empty fits = grind (arith, eqb-true, ltb-true, and_parts)

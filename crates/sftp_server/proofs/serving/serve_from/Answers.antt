@@ -20,12 +20,12 @@ returns-in-Err-clause-served g c = λ past yet.
     (call.ensures.left ∙ ap Some c.into_tree.ensures ∙ ap (λ (core : Machine State). tree_left core) c.in-Ok.ensures.start)
     (c.in-Err.ensures.running c.args.tree past (g.R.Source.left c.args.reader.now) c.in-Ok.ensures.good yet)
 
-pub returns-in-Ok-serve_requests-clause-served : goal.returns-in-Ok-serve_requests-clause-served
-returns-in-Ok-serve_requests-clause-served g c = λ past yet.
+pub returns-in-Ok-serve_open-clause-served : goal.returns-in-Ok-serve_open-clause-served
+returns-in-Ok-serve_open-clause-served g c = λ past yet.
     let left = g.R.Source.left c.args.reader.now in
     let now = stream_bytes left (g.W.Sink.written c.greet.new.writer) c.greet.new.log.bytes in
     closed-session c.end.ensures
-    (c.in-Ok-serve_requests.ensures.running c.args.tree past
+    (c.in-Ok-serve_open.ensures.running c.args.tree past
     (subst (λ (core : Machine State). IsRunning c.args.tree past now c.greet.new.input core None)
     (sym c.in-Ok.ensures.start)
     (c.in-Ok-greet.ensures.running c.args.tree past left c.in-Ok.ensures.good yet)))
@@ -34,9 +34,9 @@ pub returns-clause-served : goal.returns-clause-served
 returns-clause-served g c = λ past yet.
     let left = g.R.Source.left c.args.reader.now in
     let now = stream_bytes left (g.W.Sink.written c.greet.new.writer) c.greet.new.log.bytes in
-    let call = c.leaving-in-Err-serve_requests in
-    stopped-end call.ensures.ended (call.ensures.left ∙ ap Some c.into_tree-in-Err-serve_requests.ensures)
-    (c.in-Err-serve_requests.ensures.running c.args.tree past
+    let call = c.leaving-in-Err-serve_open in
+    stopped-end call.ensures.ended (call.ensures.left ∙ ap Some c.into_tree-in-Err-serve_open.ensures)
+    (c.in-Err-serve_open.ensures.running c.args.tree past
     (subst (λ (core : Machine State). IsRunning c.args.tree past now c.greet.new.input core None)
     (sym c.in-Ok.ensures.start)
     (c.in-Ok-greet.ensures.running c.args.tree past left c.in-Ok.ensures.good yet)))

@@ -4,7 +4,8 @@ use Rattle.sftp_transcript.proofs.Imports.{bytes_ahead, ahead_without, BeginsNex
 use Rattle.sftp_transcript.specs.declared.stage.Stage.TheVariants as stages
 use Rattle.sftp_transcript.specs.Refused.{KindFault}
 use Rattle.sftp_transcript.proofs.Packets.{stage_fault}
-use Rattle.sftp_transcript.proofs.Taking.{known_kept, record_took}
+use Rattle.sftp_streams.proofs.Fronts.{known_kept}
+use Rattle.sftp_transcript.proofs.Taking.{record_took}
 use Rattle.sftp_transcript.proofs.steps.pass_record.Goals as goal
 
 pub returns-in_err-packet-clause-first : goal.returns-in_err-packet-clause-first

@@ -1,4 +1,4 @@
-use Rattle.sftp_server.proofs.Imports.{◌≡◌, ◌-◌, ◌<◌, false, true, sym, ◌∙◌, arith, and_parts, is_in_way, note_at, not}
+use Rattle.sftp_server.proofs.Imports.{◌≡◌, ◌-◌, ◌<◌, false, sym, ◌∙◌, arith, and_parts, is_in_way, note_at, not}
 use Rattle.sftp_server.proofs.Imports.{only_reads}
 use Rattle.sftp_server.proofs.Imports.{file_in, touched_at}
 use Rattle.sftp_server.proofs.RangedNotes.{starts-within}

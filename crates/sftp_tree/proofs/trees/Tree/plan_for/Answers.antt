@@ -1,4 +1,5 @@
-use Rattle.sftp_tree.proofs.Imports.{subst, ap, ◌∙◌, IfSome, asked, IsPlanAt, IsPlanned, HasNode}
+use Rattle.sftp_tree.proofs.Imports.{◌≡◌, subst, ap, ◌∙◌, IfSome, asked, planned, AreAny, IsPlanned, HasNode}
+use Rattle.sftp_tree.specs.Requests.{plan_at}
 use Rattle.sftp_tree.specs.Found.{IsFoundIn, new_placed}
 use Rattle.sftp_tree.specs.Ends.{ok_where}
 use Rattle.sftp_tree.proofs.CauseLaws.Places.{free-between}
@@ -18,7 +19,7 @@ returns-in-None c =
     let t = c.args.self.now in
     let ask = asked c.args.ask in
     let place = c.args.places.old.place in
-    if-ok-both c.plan_at.result (IsPlanAt t ask place) (λ plan. HasNode t ask) (IsPlanned t ask)
+    if-ok-both c.plan_at.result (λ plan. planned plan ≡ plan_at t ask place) (λ plan. HasNode AreAny t ask place) (IsPlanned t ask)
     (λ plan is good. planned-at t ask place plan c.requires.free c.requires.led.first (c.requires.led.second ∙ ap (λ o. new_placed (ok_where o)) c.in-None.is) c.requires.well.0.place good is)
     c.plan_at.ensures.plan c.plan_at.ensures.node
 

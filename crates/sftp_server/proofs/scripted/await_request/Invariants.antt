@@ -1,0 +1,23 @@
+-- The session runs on since the first read, less is left to read, and no stream failed.
+use Rattle.sftp_server.proofs.Imports.{◌≡◌, ◌≤◌, None, Tree, StreamBytes, stream_bytes, IsLogging, IsRunning}
+use Rattle.sftp_server.specs.Scripted.{bytes_ahead}
+use Rattle.sftp_server.proofs.scripted.await_request.Given as goal
+
+abbrev pub invariant-request : goal.invariant-request
+invariant-request g l = record {
+  running : (start : Tree) (past : StreamBytes)
+      → IsRunning start past
+      (stream_bytes (g.R.Source.left l.initial.reader) (g.W.Sink.written l.initial.writer) l.initial.log.bytes)
+      l.initial.input l.initial.core None
+      → IsRunning start past (stream_bytes (g.R.Source.left l.reader) (g.W.Sink.written l.writer) l.log.bytes) l.input
+      l.core None;
+  logging : IsLogging l.log;
+  never_rises : bytes_ahead (g.R.Source.reads_left l.reader) l.input
+      ≤ bytes_ahead (g.R.Source.reads_left l.initial.reader) l.initial.input;
+  reader_sound : g.R.Source.failures l.reader ≡ g.R.Source.failures l.initial.reader;
+  writer_sound : g.W.Sink.failures l.writer ≡ g.W.Sink.failures l.initial.writer;
+  log_sound : l.log.failures ≡ l.initial.log.failures;
+}
+
+abbrev pub decreases-request : goal.decreases-request
+decreases-request g l = g.R.Source.reads_left l.reader

@@ -1,0 +1,4 @@
+pub mod Streams
+pub mod Memories
+pub mod Tallies
+pub mod Ahead

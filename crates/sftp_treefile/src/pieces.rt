@@ -1,0 +1,307 @@
+//! What a reader of tree files takes from its input, piece by piece: heads, paths and kinds.
+ghost use Rattle.std.specs.Prelude.{◌≡◌, ◌<◌, ◌≤◌, ℕ, List, ◌∷◌, length, IfOk, IfErr, OnOk, IsTrue};
+ghost use Rattle.std.specs.Prelude.{false};
+ghost use Rattle.sftp_packets.specs.Spelling.{uint32, string};
+ghost use Rattle.sftp_treefile.specs.TreeFile.{place_of, kind_text, are_bytes, IsKind};
+ghost use Rattle.sftp_treefile.specs.TreeFileParts.{Reads, ReadsNone, IsAt, Follows, IsLast, IsFile, IsHead};
+ghost use Rattle.sftp_treefile.specs.TreeFileParts.{head_bytes};
+ghost use Rattle.sftp_treefile.specs.Streamed.{ExcuseOr, IsExcuse, IsIn, IsSame, HoldsWindow, Takes, Lacks, AreCounted};
+ghost use Rattle.sftp_treefile.specs.Streamed.{plain, TakesSome, IsFileStart, file_start_text, IsNothing};
+ghost use Rattle.sftp_treefile.specs.Streamed.{file_kind_text};
+
+use crate::entries::{Entries, path_at};
+use crate::errors::TreeError;
+use crate::fields::{kind_at, letter_at, number_at, owner_at};
+use crate::files::{Kind, Owner, Row};
+use crate::heads::{Head, head_at};
+use crate::input::{Input, WINDOW};
+use crate::limits::TreeLimits;
+use sftp_path::Place;
+use sftp_streams::Source;
+use sftp_wire::{ByteString, take_number};
+use std::alloc::Global;
+
+/// The bytes of an opening, after which the home's length is.
+const OPENING_LENGTH: usize = 8;
+
+/// The bytes of a letter, after which the length of a target is.
+const LETTER: usize = 1;
+
+/// Takes the head.
+fn take_head<R: Source>(alloc: Global, input: &mut Input<R>) -> Result<Head, TreeError>
+    ensures found { IfOk result (λ head. Takes IsHead head_bytes input.old head input.new) }
+    ensures none { IfErr result (λ error. ExcuseOr error (Lacks IsHead head_bytes input.old)) }
+    ensures number { IfErr result (IsIn R.may_fail 0) }
+{
+    input.fill(0)?;
+    let (head, rest) = head_at(alloc, input.held())?;
+    let left = rest.len();
+    let taken = input.held().len() - left;
+    input.take(taken);
+    Ok(head)
+}
+
+/// Takes the path of an entry that may come next. Returns the path and its place.
+pub(crate) fn take_path<R: Source>(
+    alloc: Global,
+    input: &mut Input<R>,
+    entry: u32,
+    entries: &Entries,
+) -> Result<(ByteString, Place), TreeError>
+    requires { IsLast entries.now.rows.items entries.now.last entries.now.is_dir }
+    ensures found { IfOk result
+        (λ taken. Takes (Follows entries.now.rows.items) string input.old taken.0 input.new) }
+    ensures place { IfOk result (λ taken. taken.1 ≡ place_of taken.0) }
+    ensures none { IfErr result
+        (λ error. ExcuseOr error (Lacks (Follows entries.now.rows.items) string input.old)) }
+    ensures number { IfErr result (IsIn R.may_fail entry) }
+{
+    input.fill(entry)?;
+    let (text, place, rest) = path_at(alloc, entry, entries, input.held())?;
+    let path = ByteString::from_slice(alloc, text)?;
+    let left = rest.len();
+    let taken = input.held().len() - left;
+    input.take(taken);
+    Ok((path, place))
+}
+
+/// Reads what the entry of a file says before the file's bytes. Returns the owner, the number of the bytes, and the
+/// bytes after it.
+fn file_start_at(entry: u32, bytes: &[u8]) -> Result<(Owner, u32, &[u8]), TreeError>
+    ensures found { IfOk result
+        (λ taken. Reads IsFileStart file_start_text bytes.now (taken.0, taken.1) taken.2.now) }
+    ensures none { IfErr result (λ _. ReadsNone IsFileStart file_start_text bytes.now) }
+    ensures number { IfErr result (IsAt entry) }
+{
+    let (letter, rest) = letter_at(entry, bytes)?;
+    if letter != b'F' {
+        return Err(TreeError::Value { entry });
+    }
+    let (owner, rest) = owner_at(entry, rest)?;
+    let (count, rest) = number_at(entry, rest)?;
+    Ok((owner, count, rest))
+}
+
+/// Takes what the entry of a file says before the file's bytes: the owner, and the number of the bytes.
+fn take_file_start<R: Source>(input: &mut Input<R>, entry: u32) -> Result<(Owner, u32), TreeError>
+    ensures found { IfOk result
+        (λ taken. Takes IsFileStart file_start_text input.old (taken.0, taken.1) input.new) }
+    ensures none { IfErr result (λ error. ExcuseOr error (Lacks IsFileStart file_start_text input.old)) }
+    ensures number { IfErr result (IsIn R.may_fail entry) }
+{
+    input.fill(entry)?;
+    let (owner, count, rest) = file_start_at(entry, input.held())?;
+    let left = rest.len();
+    let taken = input.held().len() - left;
+    input.take(taken);
+    Ok((owner, count))
+}
+
+/// Reads once if no bytes are held: `Short` if there are no more.
+fn hold_some<R: Source>(input: &mut Input<R>, entry: u32) -> Result<(), TreeError>
+    ensures same { IsSame input.old input.new }
+    ensures some { OnOk result (0 < length input.new.held) }
+    ensures none { IfErr result (λ error. ExcuseOr error (IsNothing input.old)) }
+    ensures number { IfErr result (IsIn R.may_fail entry) }
+{
+    if !input.held().is_empty() {
+        return Ok(());
+    }
+    let count = input.refill(entry)?;
+    if count == 0 {
+        return Err(TreeError::Short { entry });
+    }
+    Ok(())
+}
+
+/// Takes bytes that nobody asks for, at least one and at most so many. Returns how many.
+fn skip_some<R: Source>(
+    input: &mut Input<R>,
+    entry: u32,
+    missing: usize,
+) -> Result<usize, TreeError>
+    requires { 0 < missing }
+    ensures some { IfOk result (λ count. (0 < count) × (count ≤ missing)) }
+    ensures number { IfErr result (IsIn R.may_fail entry) }
+{
+    hold_some(input, entry)?;
+    let count = input.held().len().min(missing);
+    input.take(count);
+    Ok(count)
+}
+
+/// The fault of a field that is longer than any that fits, and ends after so many bytes. It is read whole before it is
+/// judged.
+fn overlong<R: Source>(input: &mut Input<R>, entry: u32, count: usize) -> TreeError
+    ensures { IsIn R.may_fail entry result }
+{
+    let mut missing = count;
+    'skip: while missing > 0 {
+        match skip_some(input, entry, missing) {
+            Ok(skipped) => missing -= skipped,
+            Err(error) => return error,
+        }
+    }
+    TreeError::Value { entry }
+}
+
+/// Where the string ends whose length is so many bytes after the front.
+fn string_end(bytes: &[u8], place: usize) -> usize {
+    match take_number(bytes.get(place..).unwrap_or(&[])) {
+        Some((length, _)) => (length as usize).saturating_add(4).saturating_add(place),
+        None => usize::MAX,
+    }
+}
+
+/// The fault of what was not taken. Where it is `Short` though the window is held, the string whose length is so many
+/// bytes after the front is longer than any that fits.
+pub(crate) fn settle<R: Source>(
+    input: &mut Input<R>,
+    entry: u32,
+    place: usize,
+    error: TreeError,
+) -> TreeError
+    requires { IsIn R.may_fail entry error }
+    ensures excused { IsExcuse error → IsExcuse result }
+    ensures number { IsIn R.may_fail entry result }
+{
+    let is_short = matches!(error, TreeError::Short { .. });
+    if !is_short || input.held().len() < WINDOW {
+        return error;
+    }
+    let end = string_end(input.held(), place);
+    overlong(input, entry, end)
+}
+
+/// Takes bytes, at least one and at most so many, and appends them.
+fn take_some<R: Source>(
+    input: &mut Input<R>,
+    entry: u32,
+    missing: usize,
+    bytes: &mut Vec<u8>,
+) -> Result<(), TreeError>
+    requires { 0 < missing }
+    ensures found { OnOk result (TakesSome missing input.old bytes.old.items input.new bytes.new.items) }
+    ensures none { IfErr result (λ error. ExcuseOr error (IsNothing input.old)) }
+    ensures number { IfErr result (IsIn R.may_fail entry) }
+{
+    hold_some(input, entry)?;
+    let held = input.held();
+    let count = held.len().min(missing);
+    bytes.extend_from_slice(&held[..count])?;
+    input.take(count);
+    Ok(())
+}
+
+/// Each of the bytes is less than 256.
+fn are_octets(bytes: &[u8])
+    ensures { IsTrue (are_bytes bytes.now) }
+{}
+
+/// Takes so many bytes. They get the memory that they take, and no more.
+fn take_bytes<R: Source>(
+    alloc: Global,
+    input: &mut Input<R>,
+    entry: u32,
+    count: u32,
+) -> Result<ByteString, TreeError>
+    ensures found { IfOk result (λ bytes. Takes (AreCounted count) plain input.old bytes input.new) }
+    ensures none { IfErr result (λ error. ExcuseOr error (Lacks (AreCounted count) plain input.old)) }
+    ensures number { IfErr result (IsIn R.may_fail entry) }
+{
+    let size = count as usize;
+    let mut bytes = Vec::with_capacity(alloc, size)?;
+    'more: while bytes.len() < size {
+        let missing = size - bytes.len();
+        take_some(input, entry, missing, &mut bytes)?;
+    }
+    are_octets(bytes.as_slice());
+    Ok(ByteString::new(bytes))
+}
+
+/// Takes what the entry of a file says after its path.
+fn take_file<R: Source>(
+    alloc: Global,
+    input: &mut Input<R>,
+    limits: TreeLimits,
+    entry: u32,
+) -> Result<(Owner, ByteString), TreeError>
+    ensures found { IfOk result
+        (λ taken. Takes (IsFile limits) file_kind_text input.old (taken.0, taken.1) input.new) }
+    ensures none { IfErr result (λ error. ExcuseOr error (Lacks (IsFile limits) file_kind_text input.old)) }
+    ensures number { IfErr result (IsIn R.may_fail entry) }
+{
+    let (owner, count) = take_file_start(input, entry)?;
+    if count > limits.file_bytes {
+        return Err(overlong(input, entry, count as usize));
+    }
+    let bytes = take_bytes(alloc, input, entry, count)?;
+    Ok((owner, bytes))
+}
+
+/// Whether the bytes start with the letter of a file.
+fn starts_file(bytes: &[u8]) -> bool
+    ensures yes { IsTrue result → (rest : List ℕ) × (bytes.now ≡ 70 ∷ rest) }
+    ensures no { result ≡ false → (rest : List ℕ) → bytes.now ≡ 70 ∷ rest → ⊥ }
+{
+    match bytes.split_first() {
+        Some((letter, _)) => *letter == b'F',
+        None => false,
+    }
+}
+
+/// Takes what an entry is that is no file. The window is held.
+fn take_other_kind<R: Source>(
+    alloc: Global,
+    input: &mut Input<R>,
+    limits: TreeLimits,
+    entry: u32,
+    rows: &[Row],
+) -> Result<Kind, TreeError>
+    requires held { HoldsWindow input.old }
+    requires no_file { (rest : List ℕ) → input.old.held ≡ 70 ∷ rest → ⊥ }
+    ensures found { IfOk result (λ kind. Takes (IsKind limits rows.now) kind_text input.old kind input.new) }
+    ensures none { IfErr result (λ error. ExcuseOr error (Lacks (IsKind limits rows.now) kind_text input.old)) }
+    ensures number { IfErr result (IsIn R.may_fail entry) }
+{
+    let (kind, rest) = kind_at(alloc, limits, entry, rows, input.held())?;
+    let left = rest.len();
+    let taken = input.held().len() - left;
+    input.take(taken);
+    Ok(kind)
+}
+
+/// Takes what an entry after these rows is.
+pub(crate) fn take_kind<R: Source>(
+    alloc: Global,
+    input: &mut Input<R>,
+    limits: TreeLimits,
+    entry: u32,
+    rows: &[Row],
+) -> Result<Kind, TreeError>
+    ensures found { IfOk result (λ kind. Takes (IsKind limits rows.now) kind_text input.old kind input.new) }
+    ensures none { IfErr result (λ error. ExcuseOr error (Lacks (IsKind limits rows.now) kind_text input.old)) }
+    ensures number { IfErr result (IsIn R.may_fail entry) }
+{
+    input.fill(entry)?;
+    if !starts_file(input.held()) {
+        return match take_other_kind(alloc, input, limits, entry, rows) {
+            Ok(kind) => Ok(kind),
+            Err(error) => Err(settle(input, entry, LETTER, error)),
+        };
+    }
+    let (owner, bytes) = take_file(alloc, input, limits, entry)?;
+    Ok(Kind::First(owner, bytes))
+}
+
+/// Takes the head, and reads a home that is too long to its end.
+pub(crate) fn whole_head<R: Source>(alloc: Global, input: &mut Input<R>) -> Result<Head, TreeError>
+    ensures found { IfOk result (λ head. Takes IsHead head_bytes input.old head input.new) }
+    ensures none { IfErr result (λ error. ExcuseOr error (Lacks IsHead head_bytes input.old)) }
+    ensures number { IfErr result (IsIn R.may_fail 0) }
+{
+    match take_head(alloc, input) {
+        Ok(head) => Ok(head),
+        Err(error) => Err(settle(input, 0, OPENING_LENGTH, error)),
+    }
+}
