@@ -40,7 +40,7 @@ pub use Rattle.std.specs.Prelude.{max, OnErr, codes, slice_index}
 pub use Rattle.std.specs.Result.{IfErr, IsErrAnd}
 pub use Rattle.std.specs.declared.cmp.Ordering.{Ordering}
 pub use Rattle.std.specs.declared.cmp.Ordering.TheVariants.{Less, Equal, Greater}
-pub use Rattle.sftp_path.proofs.Move.Laws.{nothing-at, size-rekeyed, renamed-outside, length-renamed, rekeyed-unique}
+pub use Rattle.sftp_path.proofs.Move.{nothing-at, size-rekeyed, renamed-outside, length-renamed, rekeyed-unique}
 pub use Rattle.sftp_path.proofs.Order.{place_cmp-total, place_cmp-same, begins-append, begins-front, begins-itself}
 pub use Rattle.sftp_path.proofs.Order.{bytes_cmp-same, parent-entered, begins-is, below-begins}
 pub use Rattle.sftp_path.proofs.PathTexts.AbsoluteTexts.{components-absolute}

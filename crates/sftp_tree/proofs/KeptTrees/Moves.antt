@@ -7,7 +7,7 @@ use Rattle.sftp_tree.proofs.Imports.{begins, is_name, are_names, InOrder, rekeye
 use Rattle.sftp_tree.proofs.Imports.{place_cmp-total, place_cmp-same, nothing-at, is_root, Node, Names, Files, Tree}
 use Rattle.sftp_tree.proofs.Imports.{WellFormed, IsKept, IsNode, fits, node_at, without_node, is_taken, is_directory}
 use Rattle.sftp_tree.proofs.Imports.{has_entries, trim, moved, put_in_its_stead}
-use Rattle.sftp_path.proofs.Move.Laws.{get-rekeyed_moved, get-rekeyed_elsewhere, get-rekeyed_behind, InOrder-rekeyed}
+use Rattle.sftp_path.proofs.Move.{get-rekeyed_moved, get-rekeyed_elsewhere, get-rekeyed_behind, InOrder-rekeyed}
 use Rattle.sftp_tree.proofs.Nesting.Changes.{not-taken}
 use Rattle.sftp_tree.proofs.Nesting.Entries.{below-root}
 use Rattle.sftp_tree.proofs.PlaceTables.Each.{each-get, get-each}

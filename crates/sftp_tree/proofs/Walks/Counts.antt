@@ -6,7 +6,7 @@ use Rattle.sftp_tree.proofs.Imports.{parts, components, is_absolute, is_good_pat
 use Rattle.sftp_tree.proofs.Imports.{is_last, start_of, meets, looked, steps_of, looked_limit}
 use Rattle.std.proofs.Common.{filter}
 use Rattle.sftp_path.specs.Place.{path_limit, name_limit, with_first, is_nonempty}
-use Rattle.sftp_path.proofs.PathTexts.Splitting.{parts-nil, parts-slash, parts-inner, components-are, filter-nonempty}
+use Rattle.sftp_path.proofs.PathTexts.{parts-nil, parts-slash, parts-inner, components-are, filter-nonempty}
 use Rattle.sftp_tree.proofs.Walks.Steps.{looked_behind, looked_on, looked-nil, looked-cons}
 use Rattle.sftp_tree.proofs.Walks.Meetings.{MetBy, by_dot, by_dot_dot, by_directory, by_link, met_by, target-good}
 use Rattle.sftp_tree.proofs.Walks.Meetings.{home-fits}

@@ -1,5 +1,5 @@
 use Rattle.sftp_tree.proofs.Imports.{◌++◌, ap, ◌∙◌, Split, left_of}
-use Rattle.sftp_path.proofs.PathTexts.Splitting.{components-nil}
+use Rattle.sftp_path.proofs.PathTexts.{components-nil}
 use Rattle.sftp_tree.proofs.route.Targets.new.Goals as goal
 
 pub returns : goal.returns
