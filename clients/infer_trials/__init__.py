@@ -6,4 +6,5 @@ strict    sessions of `sftpv3 serve`, the strict model, from such trees
 mistakes  sessions with one wrong reply each, and the same where the client has looked at everything first
 real      sessions of real clients with OpenSSH's server
 kept      the sessions of other servers in examples/servers
+bounds    sessions that cost a search much for their length, and what `infer` took for each
 """
