@@ -1,9 +1,9 @@
 """Sessions that cost a search much for their length, and what `infer` took for each.
 
-The memory is the most that the process had. It may be twice the bytes of the transcript, 1 KiB for each place that
-replies tell of, and what the program takes for a session of no requests. Bytes that are read are in the tree file and
-in the tree beside the transcript, so they count once more; those of files whose size alone is told count twice, and so
-do the paths of places, all of which a tree file has.
+The memory is the most that the process had. It may be three times the bytes of the transcript (with the tree at the
+end, and its tree file), 1 KiB for each place that replies tell of, and what the program takes for a session of no
+requests. Bytes that are read are in the tree file at the start, too, so they count once more; those of files whose size
+alone is told count three times, and so do the paths of places, all of which a tree file has.
 """
 import json
 import os
@@ -82,7 +82,7 @@ def deep(count):
         for name in names_of(count):
             yield ("STAT", name + b"/b"), status(2)
         yield from listing(b".", names_of(count), DIRECTORY)
-    return Costly(records(exchanges()), count, 2 * count * (len(home) + 10), None)
+    return Costly(records(exchanges()), count, 3 * count * (len(home) + 10), None)
 
 
 def ambiguous(count):
@@ -112,7 +112,7 @@ def sized(count, size):
     def exchanges():
         for number in range(count):
             yield ("STAT", b"/f%d" % number), ("ATTRS", {**FILE, "size": size})
-    return Costly(records(exchanges()), count, 2 * count * size, True)
+    return Costly(records(exchanges()), count, 3 * count * size, True)
 
 
 def whole(count, is_written):
@@ -166,7 +166,7 @@ def attempt(folder, program, name):
     transcript = os.path.join(folder, "costly.transcript")
     with open(transcript, "wb") as file:
         size = file.write(put_records(session.records))
-    most = BASE + 2 * size + 1024 * session.places + session.more
+    most = BASE + 3 * size + 1024 * session.places + session.more
     words = [program, "infer", "--no-sync", "--transcript", transcript, transcript + ".tree"]
     status, seconds, memory, said = measured(words)
     wrong = []
