@@ -18,10 +18,11 @@ ghost use Rattle.sftp_server.specs.Machine.{IsSent, from_unsent};
 ghost use Rattle.sftp_server.specs.Choices.{choices_of};
 ghost use Rattle.sftp_server.specs.Core.{server_clash, IsRefusedFor};
 
+use crate::answerers::{Answerer, Plain};
 use crate::queue::Queue;
 use crate::readiness::Readiness;
 use crate::refusals::{Did, Refuse};
-use sftp_handles::{Session, SlabTable};
+use sftp_handles::{HandleTable, Session};
 use sftp_tree::{NoMemory, Tree};
 use sftp_wire::{Reply, Request};
 use std::marker::Model;
@@ -39,15 +40,15 @@ pub(crate) enum Choice {
 /// asked, all others and the replies in any order. A request that was answered stays in the queue while an earlier one
 /// is unanswered.
 #[derive(Drop)]
-pub struct Core {
-    session: Session<SlabTable>,
+pub struct Core<T: HandleTable> {
+    session: Session<T>,
     queue: Queue,
     /// Which requests of the queue are ready.
     readiness: Readiness,
     window: usize,
 }
 
-impl Model for Core {
+impl<T: HandleTable> Model for Core<T> {
     ghost use Rattle.sftp_handles.specs.State.{State};
     ghost use Rattle.sftp_server.specs.Machine.{Machine};
     ghost use Rattle.sftp_server.specs.Core.{IsCore};
@@ -60,14 +61,14 @@ impl Model for Core {
     ghost invariant = { λ c. IsCore c.window c.queue × KeepsNotes c.session c.queue c.readiness };
 }
 
-impl Core {
+impl<T: HandleTable> Core<T> {
     /// A core on a tree, with nothing open and nothing asked; pins that the tree has are removed. Its queue takes up to
     /// `window` requests, which is 1 to `sftp_transcript::WINDOW`.
     ///
     /// # Errors
     ///
     /// `NoMemory` if memory runs out.
-    pub fn new(tree: Tree, window: usize) -> Result<Core, NoMemory>
+    pub fn new(tree: Tree, window: usize) -> Result<Core<T>, NoMemory>
         requires { (1 ≤ window) × (window ≤ full_window) }
         ensures start { IfOk result (λ core. core ≡ at_start (started tree) window) }
         ensures good { OnOk result (states.Good (started tree)) }
@@ -151,12 +152,34 @@ impl Core {
         self.readiness.is_ready(k)
     }
 
-    /// Does the request at this position if it is ready. Unless the result is `Done`, the core is unchanged.
+    /// Does the request at this position if it is ready, and answers it as `Session::answer` does. Unless the result is
+    /// `Done`, the core is unchanged.
     ///
     /// # Errors
     ///
     /// `NoMemory` if the request is ready and memory runs out; the core is unchanged.
     pub fn work(&mut self, k: usize) -> Result<Did, NoMemory>
+        // Only what was ready is done.
+        ensures was_ready { IfOk result (λ d. d ≡ did.Done → IsTrue (is_ready server_clash self.old k)) }
+        ensures done { IfOk result (λ d. d ≡ did.Done → IsWorked Allowed self.old k self.new) }
+        // It is pending, and an earlier request with which it conflicts has to be done first.
+        ensures not_ready { IfOk result (λ d. d ≡ did.NotReady →
+            IsTrue (is_pending_at self.old.queue k) × (is_ready server_clash self.old k ≡ false)) }
+        ensures no_such { IfOk result (λ d. d ≡ did.NoSuch → is_pending_at self.old.queue k ≡ false) }
+        ensures unchanged { IfOk result (λ d. d ≢ did.Done → self.new ≡ self.old) }
+        ensures tried { OnErr result (IsTrue (is_ready server_clash self.old k)) }
+        ensures err { OnErr result (self.new ≡ self.old) }
+    {
+        self.work_by(k, &mut Plain)
+    }
+
+    /// Does the request at this position if it is ready, as the answerer answers it. Unless the result is `Done`, the
+    /// core is unchanged.
+    ///
+    /// # Errors
+    ///
+    /// `NoMemory` if the request is ready and memory runs out; the core is unchanged.
+    pub fn work_by<A: Answerer<T>>(&mut self, k: usize, answerer: &mut A) -> Result<Did, NoMemory>
         // Only what was ready is done.
         ensures was_ready { IfOk result (λ d. d ≡ did.Done → IsTrue (is_ready server_clash self.old k)) }
         ensures done { IfOk result (λ d. d ≡ did.Done → IsWorked Allowed self.old k self.new) }
@@ -176,7 +199,7 @@ impl Core {
         };
         // Asked while the request is still to be done: it depends on how long the file is.
         let file = self.readiness.resized(&self.session, k);
-        let reply = self.session.answer(request)?;
+        let reply = answerer.answer(&mut self.session, request)?;
         self.queue.complete(k, reply);
         self.readiness.mark_done(k);
         self.readiness.refresh(&self.session, &self.queue, k, file);
@@ -238,7 +261,7 @@ impl Core {
     /// # Errors
     ///
     /// The core, unchanged, if the queue is not empty.
-    pub fn finish(self) -> Result<Tree, Core>
+    pub fn finish(self) -> Result<Tree, Core<T>>
         ensures tree { IfOk result (λ tree. tree ≡ closed_tree self.state) }
         ensures was_empty { OnOk result (self.queue ≡ []) }
         ensures not_empty { OnErr result (self.queue ≢ []) }

@@ -4,7 +4,7 @@ ghost use Rattle.sftp_handles.specs.Spans.{ends_of};
 ghost use Rattle.sftp_server.specs.RangedNotes.{extent_now};
 ghost use Rattle.sftp_server.specs.RangedNotes as portions;
 
-use sftp_handles::{ByteRange, Session, SlabTable, Span};
+use sftp_handles::{ByteRange, HandleTable, Session, Span};
 use sftp_tree::FileNo;
 
 /// The range of its file that a request keeps to, and how long that file is.
@@ -43,8 +43,8 @@ impl Extent {
 }
 
 /// The range of a file that a span is, if it ends within the file as it is now, and how long the file is.
-pub(crate) fn extent_of(
-    session: &Session<SlabTable>,
+pub(crate) fn extent_of<T: HandleTable>(
+    session: &Session<T>,
     file: FileNo,
     span: Option<Span>,
 ) -> Option<Extent>

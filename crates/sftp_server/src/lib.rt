@@ -3,6 +3,7 @@
 #![tactic(auto)]
 
 mod acts;
+mod answerers;
 mod cores;
 mod ends;
 pub mod examples;
@@ -22,9 +23,10 @@ mod version;
 mod working;
 
 pub use acts::Act;
+pub use answerers::{Answerer, Plain};
 pub use cores::Core;
 pub use ends::{Ended, SessionEnd, SessionFault, Stream};
 pub use refusals::{Did, Refuse};
 pub use schedules::{InOrder, Schedule, Shuffle};
 pub use scripts::run_script;
-pub use serving::{serve, serve_keeping_tree};
+pub use serving::{serve, serve_as, serve_keeping_tree};

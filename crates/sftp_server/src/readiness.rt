@@ -17,7 +17,7 @@ ghost use Rattle.sftp_server.specs.RangedNotes as portions;
 
 use crate::extents::{Extent, extent_of, is_clear};
 use crate::queue::Queue;
-use sftp_handles::{Session, SlabTable, Span, Touch};
+use sftp_handles::{HandleTable, Session, Span, Touch};
 use sftp_tree::FileNo;
 use std::alloc::{AllocError, Global};
 use std::collections::VecDeque;
@@ -138,7 +138,7 @@ impl Readiness {
     }
 
     /// Notes the last request of the queue, which is pending.
-    pub(crate) fn push(&mut self, session: &Session<SlabTable>, queue: &Queue)
+    pub(crate) fn push<T: HandleTable>(&mut self, session: &Session<T>, queue: &Queue)
         requires room { deque_len self.old.notes < deque_capacity self.old.notes }
         requires notes { AreNotes session.now queue.now
             (self.old.notes.items ++ record blank { pending = true } ∷ []) self.old.first_pending self.old.opened
@@ -173,7 +173,7 @@ impl Readiness {
 
     /// The file whose length the request at this position may change, if it may: it writes the file, and its span does
     /// not end within it.
-    pub(crate) fn resized(&self, session: &Session<SlabTable>, k: usize) -> Option<FileNo>
+    pub(crate) fn resized<T: HandleTable>(&self, session: &Session<T>, k: usize) -> Option<FileNo>
         requires { k < length self.now.notes.items }
         ensures { (ask : Asked) → result ≡ resized_by (touched_as (note_at self.now.notes.items k).touch ask)
             (range_now session.now (file_in (touched_as (note_at self.now.notes.items k).touch ask))
@@ -194,9 +194,9 @@ impl Readiness {
 
     /// Looks again at the requests that may have become ready because the one at this position is done. `file` is the
     /// one whose length it may have changed.
-    pub(crate) fn refresh(
+    pub(crate) fn refresh<T: HandleTable>(
         &mut self,
-        session: &Session<SlabTable>,
+        session: &Session<T>,
         queue: &Queue,
         k: usize,
         file: Option<FileNo>,
@@ -213,9 +213,9 @@ impl Readiness {
     }
 
     /// If the request at `k`, which is done, may have changed the length of a file, looks again at the requests on it.
-    fn settle(
+    fn settle<T: HandleTable>(
         &mut self,
-        session: &Session<SlabTable>,
+        session: &Session<T>,
         queue: &Queue,
         k: usize,
         file: Option<FileNo>,
@@ -234,7 +234,13 @@ impl Readiness {
 
     /// Looks again at the requests on a file behind the one at `k`, as far as the first that may still change the
     /// length of the file: those behind that one are not ready anyway.
-    fn settle_file(&mut self, session: &Session<SlabTable>, queue: &Queue, k: usize, file: FileNo)
+    fn settle_file<T: HandleTable>(
+        &mut self,
+        session: &Session<T>,
+        queue: &Queue,
+        k: usize,
+        file: FileNo,
+    )
         requires within { k < self.old.opened }
         requires settling { IsSettling session.now queue.now self.old.notes.items self.old.first_pending
             self.old.opened self.old.writers self.old.possible k (k + (note_at self.old.notes.items k).waiter)
@@ -255,9 +261,9 @@ impl Readiness {
 
     /// Looks again at the request at this position, if it is pending and on the file. Returns whether it may still
     /// change the length of the file.
-    fn look_again(
+    fn look_again<T: HandleTable>(
         &mut self,
-        session: &Session<SlabTable>,
+        session: &Session<T>,
         queue: &Queue,
         q: usize,
         file: FileNo,
@@ -294,7 +300,7 @@ impl Readiness {
     }
 
     /// Whether the request at this position may change the length of the file.
-    fn resizes(&self, session: &Session<SlabTable>, q: usize, file: FileNo) -> bool
+    fn resizes<T: HandleTable>(&self, session: &Session<T>, q: usize, file: FileNo) -> bool
         requires { q < length self.now.notes.items }
         ensures { (ask : Asked) → result ≡ portions.is_of
             (resized_by (touched_as (note_at self.now.notes.items q).touch ask)
@@ -308,7 +314,7 @@ impl Readiness {
     }
 
     /// Looks again at the open requests that waited for the one at this position.
-    fn wake(&mut self, session: &Session<SlabTable>, queue: &Queue, k: usize)
+    fn wake<T: HandleTable>(&mut self, session: &Session<T>, queue: &Queue, k: usize)
         requires within { k < self.old.opened }
         requires noted { IsNoted session.now queue.now self.old.notes.items self.old.first_pending self.old.opened
             self.old.writers self.old.possible }
@@ -359,7 +365,7 @@ impl Readiness {
     }
 
     /// Opens requests as far as the first pending one that touches everything.
-    fn open_more(&mut self, session: &Session<SlabTable>, queue: &Queue)
+    fn open_more<T: HandleTable>(&mut self, session: &Session<T>, queue: &Queue)
         requires { AreNotes session.now queue.now self.old.notes.items self.old.first_pending self.old.opened
             self.old.writers self.old.possible }
         ensures notes { AreNotes session.now queue.now self.new.notes.items self.new.first_pending self.new.opened
@@ -400,7 +406,7 @@ impl Readiness {
     }
 
     /// Opens one more request.
-    fn enter(&mut self, session: &Session<SlabTable>, queue: &Queue)
+    fn enter<T: HandleTable>(&mut self, session: &Session<T>, queue: &Queue)
         requires notes { AreNotes session.now queue.now self.old.notes.items self.old.first_pending self.old.opened
             self.old.writers self.old.possible }
         requires some { self.old.opened < length queue.now }
@@ -416,7 +422,7 @@ impl Readiness {
     }
 
     /// Notes what the request at this position touches. It is then open.
-    fn touch(&mut self, session: &Session<SlabTable>, queue: &Queue, k: usize)
+    fn touch<T: HandleTable>(&mut self, session: &Session<T>, queue: &Queue, k: usize)
         requires here { k ≡ self.old.opened }
         requires within { k < length queue.now }
         requires same { length self.old.notes.items ≡ length queue.now }
@@ -445,7 +451,7 @@ impl Readiness {
     }
 
     /// Decides whether the open request at this position, which is pending, is ready.
-    fn place(&mut self, session: &Session<SlabTable>, queue: &Queue, k: usize)
+    fn place<T: HandleTable>(&mut self, session: &Session<T>, queue: &Queue, k: usize)
         requires within { k < self.old.opened }
         requires noted { IsNoted session.now queue.now self.old.notes.items self.old.first_pending self.old.opened
             self.old.writers self.old.possible }
@@ -498,7 +504,7 @@ impl Readiness {
 
     /// How many positions back some pending request is that conflicts with the open one at this position, or 0 if none
     /// does.
-    fn look(&self, session: &Session<SlabTable>, queue: &Queue, k: usize) -> usize
+    fn look<T: HandleTable>(&self, session: &Session<T>, queue: &Queue, k: usize) -> usize
         requires within { k < self.now.opened }
         requires noted { IsNoted session.now queue.now self.now.notes.items self.now.first_pending self.now.opened
             self.now.writers self.now.possible }
@@ -519,7 +525,7 @@ impl Readiness {
     }
 
     /// The range that the request at this position keeps to now, and how long its file is.
-    fn extent(&self, session: &Session<SlabTable>, k: usize) -> Option<Extent>
+    fn extent<T: HandleTable>(&self, session: &Session<T>, k: usize) -> Option<Extent>
         requires { k < length self.now.notes.items }
         ensures { (ask : Asked) → result ≡ extent_now session.now
             (file_in (touched_as (note_at self.now.notes.items k).touch ask))
@@ -533,9 +539,9 @@ impl Readiness {
     }
 
     /// The same as `look`, where the request at `k` only reads: others that only read are not in its way.
-    fn look_for_writer(
+    fn look_for_writer<T: HandleTable>(
         &self,
-        session: &Session<SlabTable>,
+        session: &Session<T>,
         queue: &Queue,
         k: usize,
         own: Option<Extent>,
@@ -563,9 +569,9 @@ impl Readiness {
     }
 
     /// The same as `look`, whatever the request at `k` touches.
-    fn look_for_any(
+    fn look_for_any<T: HandleTable>(
         &self,
-        session: &Session<SlabTable>,
+        session: &Session<T>,
         queue: &Queue,
         k: usize,
         own: Option<Extent>,
@@ -673,7 +679,7 @@ impl Readiness {
 }
 
 /// What the request at this position touches, and its span, if it has one.
-fn aim_of(session: &Session<SlabTable>, queue: &Queue, k: usize) -> (Touch, Option<Span>)
+fn aim_of<T: HandleTable>(session: &Session<T>, queue: &Queue, k: usize) -> (Touch, Option<Span>)
     requires { k < length queue.now }
     ensures touch { touched_as result.0 (ask_at queue.now k) ≡ touched session.now (ask_at queue.now k) }
     ensures span { ends_of result.1 ≡ spanned session.now (ask_at queue.now k) }

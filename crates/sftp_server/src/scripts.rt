@@ -13,6 +13,7 @@ ghost use Rattle.sftp_server.specs.Scripts.{IsPerformed};
 use crate::acts::Act;
 use crate::cores::Core;
 use crate::refusals::Refuse;
+use sftp_handles::SlabTable;
 use sftp_transcript::{Event, WINDOW};
 use sftp_tree::{NoMemory, Tree};
 use sftp_wire::{Ask, Request};
@@ -25,7 +26,7 @@ use std::alloc::AllocError;
 /// # Errors
 ///
 /// `NoMemory` if memory runs out.
-pub fn run_script(tree: Tree, acts: &[Act]) -> Result<(Vec<Event>, Core), NoMemory>
+pub fn run_script(tree: Tree, acts: &[Act]) -> Result<(Vec<Event>, Core<SlabTable>), NoMemory>
     ensures done { IfOk result (λ run.
         AreActs Allowed server_clash (at_start (started tree) window) acts.now run.0.items run.1) }
     ensures begun { IfOk result (λ run. BeginsFrom Allowed (started tree) run.0.items) }
@@ -49,7 +50,7 @@ pub fn run_script(tree: Tree, acts: &[Act]) -> Result<(Vec<Event>, Core), NoMemo
 }
 
 /// Does an act, and appends its events.
-fn perform(act: &Act, core: &mut Core, events: &mut Vec<Event>) -> Result<(), NoMemory>
+fn perform(act: &Act, core: &mut Core<SlabTable>, events: &mut Vec<Event>) -> Result<(), NoMemory>
     ensures { OnOk result (IsPerformed act.now core.old core.new events.old.items events.new.items) }
 {
     match act {
@@ -60,7 +61,11 @@ fn perform(act: &Act, core: &mut Core, events: &mut Vec<Event>) -> Result<(), No
 }
 
 /// Delivers a copy of the request. If it is taken, another copy is the event.
-fn deliver(request: &Request, core: &mut Core, events: &mut Vec<Event>) -> Result<(), NoMemory>
+fn deliver(
+    request: &Request,
+    core: &mut Core<SlabTable>,
+    events: &mut Vec<Event>,
+) -> Result<(), NoMemory>
     ensures { OnOk result
         (IsPerformed (acts.Deliver request.now) core.old core.new events.old.items events.new.items) }
 {
@@ -115,7 +120,7 @@ fn refused(returned: (Request, Refuse)) -> Result<(), NoMemory>
 }
 
 /// Does the request at the position, if it is ready.
-fn work(k: usize, core: &mut Core) -> Result<(), NoMemory>
+fn work(k: usize, core: &mut Core<SlabTable>) -> Result<(), NoMemory>
     ensures { OnOk result (IsAct Allowed server_clash core.old (acts.Work k) [] core.new) }
 {
     core.work(k)?;
@@ -123,7 +128,7 @@ fn work(k: usize, core: &mut Core) -> Result<(), NoMemory>
 }
 
 /// Sends the reply at the position, if there is one, and appends the event.
-fn send(k: usize, core: &mut Core, events: &mut Vec<Event>) -> Result<(), NoMemory>
+fn send(k: usize, core: &mut Core<SlabTable>, events: &mut Vec<Event>) -> Result<(), NoMemory>
     ensures { OnOk result
         (IsPerformed (acts.Send k) core.old core.new events.old.items events.new.items) }
 {

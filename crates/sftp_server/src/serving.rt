@@ -11,6 +11,7 @@ ghost use Rattle.sftp_server.specs.Sessions.{IsLogging, CountsCall, input_limit,
 ghost use Rattle.sftp_server.specs.Sessions.{IsSessionEnd};
 ghost use Rattle.sftp_server.specs.Ending.{closed_end, EndsOn, ReadsOn, RunsOut, GoesOn};
 
+use crate::answerers::{Answerer, Plain};
 use crate::cores::Core;
 use crate::ends::{Ended, SessionEnd, SessionFault, Stop};
 use crate::input::Input;
@@ -19,6 +20,7 @@ use crate::schedules::Schedule;
 use crate::sending::{flush, flush_log};
 use crate::taking::{Front, take_requests};
 use crate::working::work_off;
+use sftp_handles::{HandleTable, SlabTable};
 use sftp_transcript::{Sink, Source, WINDOW, Writer};
 use sftp_tree::Tree;
 use sftp_wire::PACKET_LIMIT;
@@ -88,6 +90,31 @@ pub fn serve_keeping_tree<R: Source, W: Sink, L: Sink, S: Schedule>(
     ensures counts_writer { CountsEnd streams.Writer result.ended (W.failures writer.old) (W.failures writer.new) }
     ensures counts_log { CountsEnd streams.Log result.ended log.old.failures log.new.failures }
 {
+    serve_as::<R, W, L, S, SlabTable, Plain>(tree, reader, writer, log, schedule, &mut Plain)
+}
+
+/// Serves a session as `serve_keeping_tree` does, where another answers its requests: an answerer, of which the session
+/// asks no more than that its replies are allowed and can be encoded.
+///
+/// `log` has no records yet, and no call on it failed. Failures are counted up to 2^64 - 1.
+pub fn serve_as<R: Source, W: Sink, L: Sink, S: Schedule, T: HandleTable, A: Answerer<T>>(
+    tree: Tree,
+    reader: &mut R,
+    writer: &mut W,
+    log: &mut Writer<L>,
+    schedule: &mut S,
+    answerer: &mut A,
+) -> SessionEnd
+    requires { IsUnused log.old }
+    ensures served { Serves tree (stream_bytes (R.left reader.old) (W.written writer.old) log.old.bytes)
+        (stream_bytes (R.left reader.new) (W.written writer.new) log.new.bytes) result.ended }
+    ensures left { LeavesAt tree (stream_bytes (R.left reader.old) (W.written writer.old) log.old.bytes)
+        (stream_bytes (R.left reader.new) (W.written writer.new) log.new.bytes) result.ended result.left }
+    // A stream fails once if the session ends because of it, and otherwise never.
+    ensures counts_reader { CountsEnd streams.Reader result.ended (R.failures reader.old) (R.failures reader.new) }
+    ensures counts_writer { CountsEnd streams.Writer result.ended (W.failures writer.old) (W.failures writer.new) }
+    ensures counts_log { CountsEnd streams.Log result.ended log.old.failures log.new.failures }
+{
     // Slow to prove: the tree, or what was read, is dropped at each exit.
     let alloc = tree.allocator();
     let mut input = match Input::new(alloc) {
@@ -99,7 +126,7 @@ pub fn serve_keeping_tree<R: Source, W: Sink, L: Sink, S: Schedule>(
     };
     match await_init(alloc, &mut input, reader) {
         Ok(First::Init(count)) => serve_from(
-            tree, &mut input, count, reader, writer, log, schedule,
+            tree, &mut input, count, reader, writer, log, schedule, answerer,
         ),
         Ok(First::Fault(fault)) => SessionEnd {
             ended: Ended::Fault(tree, fault),
@@ -113,7 +140,7 @@ pub fn serve_keeping_tree<R: Source, W: Sink, L: Sink, S: Schedule>(
 }
 
 /// Serves the session whose INIT, `count` bytes long, is in front of the input, to its end.
-fn serve_from<R: Source, W: Sink, L: Sink, S: Schedule>(
+fn serve_from<R: Source, W: Sink, L: Sink, S: Schedule, T: HandleTable, A: Answerer<T>>(
     tree: Tree,
     input: &mut Input,
     count: usize,
@@ -121,6 +148,7 @@ fn serve_from<R: Source, W: Sink, L: Sink, S: Schedule>(
     writer: &mut W,
     log: &mut Writer<L>,
     schedule: &mut S,
+    answerer: &mut A,
 ) -> SessionEnd
     requires unused { IsUnused log.old }
     requires whole { BeginsWithGreeting input.old.held count }
@@ -134,7 +162,7 @@ fn serve_from<R: Source, W: Sink, L: Sink, S: Schedule>(
 {
     // Slow to prove: the core and the room for a packet are dropped at each exit.
     let alloc = tree.allocator();
-    let Ok(mut core) = Core::new(tree, WINDOW) else {
+    let Ok(mut core) = Core::<T>::new(tree, WINDOW) else {
         return Stop::NoMemory.leaving(None);
     };
     let Ok(mut output) = Vec::with_capacity(alloc, PACKET_LIMIT) else {
@@ -145,7 +173,16 @@ fn serve_from<R: Source, W: Sink, L: Sink, S: Schedule>(
         Ok(()) => {}
         Err(stop) => return stop.leaving(Some(core.into_tree())),
     }
-    match serve_requests(input, &mut core, &mut output, reader, writer, log, schedule) {
+    match serve_requests(
+        input,
+        &mut core,
+        &mut output,
+        reader,
+        writer,
+        log,
+        schedule,
+        answerer,
+    ) {
         Ok(fault) => SessionEnd {
             ended: end(core, fault),
             left: None,
@@ -155,7 +192,7 @@ fn serve_from<R: Source, W: Sink, L: Sink, S: Schedule>(
 }
 
 /// The end of a session whose requests are all answered.
-fn end(core: Core, fault: Option<SessionFault>) -> Ended
+fn end<T: HandleTable>(core: Core<T>, fault: Option<SessionFault>) -> Ended
     ensures { result ≡ closed_end core.state fault }
 {
     let tree = core.into_tree();
@@ -166,14 +203,15 @@ fn end(core: Core, fault: Option<SessionFault>) -> Ended
 }
 
 /// Serves an open session to its end, and returns the fault that ends it, if it has one.
-fn serve_requests<R: Source, W: Sink, L: Sink, S: Schedule>(
+fn serve_requests<R: Source, W: Sink, L: Sink, S: Schedule, T: HandleTable, A: Answerer<T>>(
     input: &mut Input,
-    core: &mut Core,
+    core: &mut Core<T>,
     output: &mut Vec<u8>,
     reader: &mut R,
     writer: &mut W,
     log: &mut Writer<L>,
     schedule: &mut S,
+    answerer: &mut A,
 ) -> Result<Option<SessionFault>, Stop>
     requires logging { IsLogging log.old }
     requires answered { core.old.queue ≡ [] }
@@ -188,7 +226,7 @@ fn serve_requests<R: Source, W: Sink, L: Sink, S: Schedule>(
     let alloc = *output.allocator();
     'batch: loop {
         let front = take_requests(alloc, input, core, log)?;
-        work_off(core, output, writer, log, schedule)?;
+        work_off(core, output, writer, log, schedule, answerer)?;
         match after_batch(front, input, reader, writer, log)? {
             Next::Batch => {}
             Next::End(fault) => return Ok(fault),

@@ -14,6 +14,7 @@ use crate::cores::Core;
 use crate::ends::{SessionFault, Stop, Stream};
 use crate::input::Input;
 use crate::refusals::Refuse;
+use sftp_handles::HandleTable;
 use sftp_transcript::{Sink, Writer};
 use sftp_wire::{Packet, Request, Side, WireError, front};
 use std::alloc::Global;
@@ -36,10 +37,10 @@ pub(crate) enum Front {
 /// # Errors
 ///
 /// `NoMemory` if memory runs out; `Io(Log)` if the log fails.
-pub(crate) fn take_requests<L: Sink>(
+pub(crate) fn take_requests<L: Sink, T: HandleTable>(
     alloc: Global,
     input: &mut Input,
-    core: &mut Core,
+    core: &mut Core<T>,
     log: &mut Writer<L>,
 ) -> Result<Front, Stop>
     requires { IsLogging log.old }
@@ -67,10 +68,10 @@ pub(crate) fn take_requests<L: Sink>(
 }
 
 /// Takes the request in front, if there is one and the core has room.
-fn take_one<L: Sink>(
+fn take_one<L: Sink, T: HandleTable>(
     alloc: Global,
     input: &mut Input,
-    core: &mut Core,
+    core: &mut Core<T>,
     log: &mut Writer<L>,
 ) -> Result<Front, Stop>
     requires { IsLogging log.old }
@@ -95,11 +96,11 @@ fn take_one<L: Sink>(
 }
 
 /// Takes the packet in front, `count` bytes long, if it is a request and the core has room.
-fn take_packet<L: Sink>(
+fn take_packet<L: Sink, T: HandleTable>(
     packet: Packet,
     count: usize,
     input: &mut Input,
-    core: &mut Core,
+    core: &mut Core<T>,
     log: &mut Writer<L>,
 ) -> Result<Front, Stop>
     requires logging { IsLogging log.old }
@@ -124,11 +125,11 @@ fn take_packet<L: Sink>(
 }
 
 /// Takes the request in front, `count` bytes long, if the core has room.
-fn take_request<L: Sink>(
+fn take_request<L: Sink, T: HandleTable>(
     request: Request,
     count: usize,
     input: &mut Input,
-    core: &mut Core,
+    core: &mut Core<T>,
     log: &mut Writer<L>,
 ) -> Result<Front, Stop>
     requires logging { IsLogging log.old }
@@ -163,11 +164,11 @@ fn refused(id: u32, refuse: Refuse) -> Result<Front, Stop>
 }
 
 /// Takes the request in front, `count` bytes long, for which the core has room: logs it, and delivers it.
-fn log_request<L: Sink>(
+fn log_request<L: Sink, T: HandleTable>(
     request: Request,
     count: usize,
     input: &mut Input,
-    core: &mut Core,
+    core: &mut Core<T>,
     log: &mut Writer<L>,
 ) -> Result<Front, Stop>
     requires logging { IsLogging log.old }
@@ -191,11 +192,11 @@ fn log_request<L: Sink>(
 }
 
 /// Delivers the request in front, `count` bytes long, which then counts as taken.
-fn deliver(
+fn deliver<T: HandleTable>(
     request: Request,
     count: usize,
     input: &mut Input,
-    core: &mut Core,
+    core: &mut Core<T>,
 ) -> Result<Front, Stop>
     requires within { count ≤ length input.old.held }
     requires can { IsTrue (can_take core.old request) }

@@ -9,10 +9,12 @@ ghost use Rattle.sftp_server.specs.Core.{server_clash};
 ghost use Rattle.sftp_server.specs.Choices.{IsPossible, owed};
 ghost use Rattle.sftp_server.specs.Sessions.{IsLogging, SendsOn, CountsCall, Spares};
 
+use crate::answerers::Answerer;
 use crate::cores::{Choice, Core};
 use crate::ends::Stop;
 use crate::schedules::Schedule;
 use crate::sending::send;
+use sftp_handles::HandleTable;
 use sftp_transcript::{Sink, Writer};
 use sftp_wire::Packet;
 
@@ -21,12 +23,13 @@ use sftp_wire::Packet;
 /// # Errors
 ///
 /// `NoMemory` if memory runs out; `Io` if the writer or the log fails.
-pub(crate) fn work_off<W: Sink, L: Sink, S: Schedule>(
-    core: &mut Core,
+pub(crate) fn work_off<W: Sink, L: Sink, S: Schedule, T: HandleTable, A: Answerer<T>>(
+    core: &mut Core<T>,
     output: &mut Vec<u8>,
     writer: &mut W,
     log: &mut Writer<L>,
     schedule: &mut S,
+    answerer: &mut A,
 ) -> Result<(), Stop>
     requires { IsLogging log.old }
     ensures running { SendsOn core.old core.new (W.written writer.old) (W.written writer.new) log.old.bytes
@@ -43,17 +46,18 @@ pub(crate) fn work_off<W: Sink, L: Sink, S: Schedule>(
             return Ok(());
         }
         let choice = core.choice(schedule.pick(count) % count);
-        act(choice, core, output, writer, log)?;
+        act(choice, core, output, writer, log, answerer)?;
     }
 }
 
 /// Does a request, or sends a reply.
-fn act<W: Sink, L: Sink>(
+fn act<W: Sink, L: Sink, T: HandleTable, A: Answerer<T>>(
     choice: Choice,
-    core: &mut Core,
+    core: &mut Core<T>,
     output: &mut Vec<u8>,
     writer: &mut W,
     log: &mut Writer<L>,
+    answerer: &mut A,
 ) -> Result<(), Stop>
     requires logging { IsLogging log.old }
     requires possible { IsPossible server_clash core.old choice }
@@ -66,26 +70,30 @@ fn act<W: Sink, L: Sink>(
     ensures spares { Spares streams.Reader result }
 {
     match choice {
-        Choice::Work(k) => work(k, core),
+        Choice::Work(k) => work(k, core, answerer),
         Choice::Send(k) => send_reply(k, core, output, writer, log),
     }
 }
 
 /// Does the request at this position.
-fn work(k: usize, core: &mut Core) -> Result<(), Stop>
+fn work<T: HandleTable, A: Answerer<T>>(
+    k: usize,
+    core: &mut Core<T>,
+    answerer: &mut A,
+) -> Result<(), Stop>
     requires { IsTrue (is_ready server_clash core.old k) }
     ensures done { OnOk result (IsWorked Allowed core.old k core.new) }
     ensures err { IfErr result (λ stop. stop ≡ stops.NoMemory) }
     ensures same { OnErr result (core.new ≡ core.old) }
 {
-    core.work(k)?;
+    core.work_by(k, answerer)?;
     Ok(())
 }
 
 /// Sends the reply of the request at this position.
-fn send_reply<W: Sink, L: Sink>(
+fn send_reply<W: Sink, L: Sink, T: HandleTable>(
     k: usize,
-    core: &mut Core,
+    core: &mut Core<T>,
     output: &mut Vec<u8>,
     writer: &mut W,
     log: &mut Writer<L>,

@@ -1,5 +1,6 @@
 //! What the core of a server takes and does, and which acts the schedules choose.
 use crate::scripts::request;
+use sftp_handles::SlabTable;
 use sftp_path::NoMemory;
 use sftp_server::{Core, Did, Refuse, Schedule, Shuffle};
 use sftp_tree::Tree;
@@ -139,7 +140,7 @@ const QUEUES: &[(&str, &[Call], bool)] = &[
 /// Whether a request with this id is not taken for this reason, or is taken.
 fn is_delivered(
     alloc: Global,
-    core: &mut Core,
+    core: &mut Core<SlabTable>,
     id: u32,
     part: &[u8],
     refuse: Option<Refuse>,
@@ -163,7 +164,7 @@ fn refusal_of(delivered: &Result<(), (Request, Refuse)>) -> Option<Refuse> {
 }
 
 /// Whether this comes of work on the request at this position.
-fn works(core: &mut Core, k: usize, did: Did) -> bool {
+fn works(core: &mut Core<SlabTable>, k: usize, did: Did) -> bool {
     match core.work(k) {
         Ok(done) => done == did,
         Err(_) => false,
@@ -171,14 +172,14 @@ fn works(core: &mut Core, k: usize, did: Did) -> bool {
 }
 
 /// The id of the reply that is sent for the request at this position.
-fn sent(core: &mut Core, k: usize) -> Option<u32> {
+fn sent(core: &mut Core<SlabTable>, k: usize) -> Option<u32> {
     let reply = core.send(k)?;
     let id = reply.id;
     drop(reply);
     Some(id)
 }
 
-fn gives(alloc: Global, core: &mut Core, call: Call) -> bool {
+fn gives(alloc: Global, core: &mut Core<SlabTable>, call: Call) -> bool {
     match call {
         Call::Fill(count) => takes(alloc, core, count),
         Call::Open => opens(alloc, core),
@@ -191,7 +192,7 @@ fn gives(alloc: Global, core: &mut Core, call: Call) -> bool {
 }
 
 /// The number of the first call, from 0, that does not give what it has to.
-fn first_wrong(alloc: Global, core: &mut Core, calls: &[Call]) -> Option<usize> {
+fn first_wrong(alloc: Global, core: &mut Core<SlabTable>, calls: &[Call]) -> Option<usize> {
     for (number, call) in calls.iter().enumerate() {
         if !gives(alloc, core, *call) {
             return Some(number);
@@ -201,7 +202,7 @@ fn first_wrong(alloc: Global, core: &mut Core, calls: &[Call]) -> Option<usize> 
 }
 
 /// Whether so many requests are taken, with the ids from 0 on.
-fn takes(alloc: Global, core: &mut Core, count: u32) -> bool {
+fn takes(alloc: Global, core: &mut Core<SlabTable>, count: u32) -> bool {
     for id in 0..count {
         if !is_delivered(alloc, core, id, STAT, None) {
             return false;
@@ -211,7 +212,7 @@ fn takes(alloc: Global, core: &mut Core, count: u32) -> bool {
 }
 
 /// Whether each request is taken, done and answered before the next one.
-fn opens(alloc: Global, core: &mut Core) -> bool {
+fn opens(alloc: Global, core: &mut Core<SlabTable>) -> bool {
     for part in OPENS {
         if !is_delivered(alloc, core, 0, part, None)
             || !works(core, 0, Did::Done)
@@ -225,7 +226,7 @@ fn opens(alloc: Global, core: &mut Core) -> bool {
 
 /// The first wrong call on a core with the blank tree, and whether the core finishes then.
 fn run(alloc: Global, calls: &[Call]) -> Result<(Option<usize>, bool), NoMemory> {
-    let mut core = Core::new(Tree::blank(alloc)?, 1_024)?;
+    let mut core = Core::<SlabTable>::new(Tree::blank(alloc)?, 1_024)?;
     let wrong = first_wrong(alloc, &mut core, calls);
     let end = core.finish();
     let finished = end.is_ok();

@@ -1,6 +1,7 @@
 //! Acts of a server that are done one after the other: the events that they make, and the tree in the end.
 use crate::audit::BLANK;
 use crate::wire::written;
+use sftp_handles::SlabTable;
 use sftp_path::NoMemory;
 use sftp_server::{Act, Core, run_script};
 use sftp_transcript::Event;
@@ -175,7 +176,7 @@ fn is_blank(tree: &Tree) -> bool {
     }
 }
 
-fn is_end(end: &Result<Tree, Core>, ends: bool) -> bool {
+fn is_end(end: &Result<Tree, Core<SlabTable>>, ends: bool) -> bool {
     match end {
         Ok(tree) => ends && is_blank(tree),
         Err(_) => !ends,
@@ -183,7 +184,7 @@ fn is_end(end: &Result<Tree, Core>, ends: bool) -> bool {
 }
 
 /// Whether a core finishes with the blank tree, or, if it is not to end, does not.
-fn ends_so(core: Core, ends: bool) -> bool {
+fn ends_so(core: Core<SlabTable>, ends: bool) -> bool {
     let end = core.finish();
     let holds = is_end(&end, ends);
     drop(end);
@@ -200,7 +201,7 @@ fn holds(alloc: Global, steps: &[Step], packets: &[(u32, &[u8])], ends: bool) ->
 }
 
 /// What comes of these acts, on a blank tree.
-fn ran(alloc: Global, acts: &[Act]) -> Result<(Vec<Event>, Core), NoMemory> {
+fn ran(alloc: Global, acts: &[Act]) -> Result<(Vec<Event>, Core<SlabTable>), NoMemory> {
     match Tree::blank(alloc) {
         Ok(tree) => run_script(tree, acts),
         Err(_) => Err(NoMemory),
@@ -209,7 +210,7 @@ fn ran(alloc: Global, acts: &[Act]) -> Result<(Vec<Event>, Core), NoMemory> {
 
 fn is_run(
     alloc: Global,
-    ran: Result<(Vec<Event>, Core), NoMemory>,
+    ran: Result<(Vec<Event>, Core<SlabTable>), NoMemory>,
     packets: &[(u32, &[u8])],
     ends: bool,
 ) -> bool {

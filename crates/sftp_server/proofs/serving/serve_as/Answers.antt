@@ -2,7 +2,7 @@
 use Rattle.sftp_server.proofs.Imports.{subst, sym, IsAtEnd, stream_bytes, IsUnopenedYet}
 use Rattle.sftp_server.specs.Opening.{IsFirst}
 use Rattle.sftp_server.proofs.Sessions.Closed.{unopened-at_start, unopened-stops, unopened, stopped-end}
-use Rattle.sftp_server.proofs.serving.serve_keeping_tree.Goals as goal
+use Rattle.sftp_server.proofs.serving.serve_as.Goals as goal
 
 pub returns-in-Err-clause-served : goal.returns-in-Err-clause-served
 returns-in-Err-clause-served g c =

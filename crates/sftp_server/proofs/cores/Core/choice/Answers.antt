@@ -4,7 +4,7 @@ use Rattle.sftp_server.proofs.CoreNotes.{count-noted, choice-noted}
 use Rattle.sftp_server.proofs.cores.Core.choice.Goals as goal
 
 pub choice-k-requires : goal.choice-k-requires
-choice-k-requires c =
+choice-k-requires g c =
     let old = c.self.inside in
     let machine : Machine State = record { state = old.session; window = old.window; queue = old.queue } in
     let some : c.args.number < length (choices_of server_clash machine) =
@@ -14,7 +14,7 @@ choice-k-requires c =
     omega (arith, some, count, counted)
 
 pub returns-then-is_pending : goal.returns-then-is_pending
-returns-then-is_pending c =
+returns-then-is_pending g c =
     let old = c.self.inside in
     let machine : Machine State = record { state = old.session; window = old.window; queue = old.queue } in
     rw (← c.self.view_is)
@@ -22,7 +22,7 @@ returns-then-is_pending c =
     c.choice-k.ensures.number c.choice-k.ensures.possible (sym c.if-is_pending.true ∙ c.is_pending.ensures))
 
 pub returns-else-is_pending : goal.returns-else-is_pending
-returns-else-is_pending c =
+returns-else-is_pending g c =
     let old = c.self.inside in
     let machine : Machine State = record { state = old.session; window = old.window; queue = old.queue } in
     rw (← c.self.view_is)

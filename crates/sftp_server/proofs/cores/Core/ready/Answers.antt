@@ -3,7 +3,7 @@ use Rattle.sftp_server.proofs.CoreNotes.{ready-noted}
 use Rattle.sftp_server.proofs.cores.Core.ready.Goals as goal
 
 pub returns : goal.returns
-returns c =
+returns g c =
     let old = c.self.inside in
     rw (← c.self.view_is)
     (c.is_ready.ensures ∙ sym (ready-noted old.session old.queue old.readiness c.args.k c.self.invariant.1))

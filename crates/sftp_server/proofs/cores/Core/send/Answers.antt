@@ -4,12 +4,12 @@ use Rattle.sftp_server.proofs.CoreNotes.{sent-shorter, keeps-sent}
 use Rattle.sftp_server.proofs.cores.Core.send.Goals as goal
 
 pub overflow_sub-before : goal.overflow_sub-before
-overflow_sub-before c =
+overflow_sub-before g c =
     rw (c.len.ensures, c.len-before.ensures)
     (sent-shorter c.self.inside.queue c.send.new.self c.args.k c.in-Some.ensures.sent)
 
 pub invariant_of-self : goal.invariant_of-self
-invariant_of-self c =
+invariant_of-self g c =
     let old = c.self.inside in (
       core-sent old.window old.queue c.send.new.self c.args.k c.send.result c.self.invariant.0 c.send.ensures.sent
           c.send.ensures.unchanged,
@@ -21,7 +21,7 @@ invariant_of-self c =
     )
 
 pub returns-in-Some-clause-sent : goal.returns-in-Some-clause-sent
-returns-in-Some-clause-sent c =
+returns-in-Some-clause-sent g c =
     let old = c.self.inside in
     let machine : Machine State = record { state = old.session; window = old.window; queue = old.queue } in
     rw (← c.self.view_is)
@@ -29,5 +29,5 @@ returns-in-Some-clause-sent c =
     (sym c.in-Some.ensures.reply) (ap (λ (queue : List Entry). record machine { queue = queue }) c.in-Some.ensures.sent))
 
 pub returns-in-Some-clause-spelled : goal.returns-in-Some-clause-spelled
-returns-in-Some-clause-spelled c =
+returns-in-Some-clause-spelled g c =
     spelled-at c.self.inside.queue c.args.k c.in-Some.reply c.self.invariant.0.sendable (sym c.in-Some.ensures.reply)

@@ -4,19 +4,19 @@ use Rattle.sftp_server.proofs.Notes.{marks-alike}
 use Rattle.sftp_server.proofs.readiness.Readiness.enter.Goals as goal
 
 pub place-requires-clause-noted : goal.place-requires-clause-noted
-place-requires-clause-noted c =
+place-requires-clause-noted g c =
     let it = c.touch.ensures.notes in
     rw (it.4, it.5, c.touch.ensures.first_pending, c.touch.ensures.size, c.touch.ensures.possible)
     (entered-noted it.0 it.2 c.requires.notes.noted c.requires.some c.requires.last)
 
 pub place-requires-clause-marks : goal.place-requires-clause-marks
-place-requires-clause-marks c =
+place-requires-clause-marks g c =
     let it = c.touch.ensures.notes in
     rw (it.4, c.touch.ensures.size)
     (entered-marks it.0 it.2 c.requires.notes.noted c.requires.some c.requires.last it.1 it.3 c.requires.notes.marks)
 
 pub returns-clause-notes : goal.returns-clause-notes
-returns-clause-notes c =
+returns-clause-notes g c =
     let s = c.args.session.now in
     let queue = c.args.queue.now in
     let old = c.args.self.now.notes.items in

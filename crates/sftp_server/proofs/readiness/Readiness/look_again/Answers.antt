@@ -4,7 +4,7 @@ use Rattle.sftp_server.proofs.readiness.Readiness.look_again.Goals as goal
 
 -- the request is not pending, or not on the file
 pub returns-then-not-is_on-clause-settling : goal.returns-then-not-is_on-clause-settling
-returns-then-not-is_on-clause-settling c done to blocked =
+returns-then-not-is_on-clause-settling g c done to blocked =
     passed-over {done = done} {to = to}
     (record {
       noted = c.requires.noted;
@@ -16,12 +16,12 @@ returns-then-not-is_on-clause-settling c done to blocked =
 
 -- it is both
 pub place-requires-clause-pending : goal.place-requires-clause-pending
-place-requires-clause-pending c =
+place-requires-clause-pending g c =
     let note = note_at c.args.self.now.notes.items c.args.q in
     (and_parts note.pending (touches_file c.args.file note.touch) (sym c.is_on.ensures ∙ c.if-not-is_on.false)).0
 
 pub place-requires-clause-waits : goal.place-requires-clause-waits
-place-requires-clause-waits c =
+place-requires-clause-waits g c =
     let note = note_at c.args.self.now.notes.items c.args.q in
     let both = and_parts note.pending (touches_file c.args.file note.touch) (sym c.is_on.ensures ∙ c.if-not-is_on.false)
     in
@@ -29,16 +29,16 @@ place-requires-clause-waits c =
     (on-noted c.args.file c.requires.marks c.requires.within both.0 ∙ both.1)
 
 pub returns-clause-settling : goal.returns-clause-settling
-returns-clause-settling c done to blocked =
+returns-clause-settling g c done to blocked =
     rw c.place.ensures.size
     (judged c.place.ensures.placed (rw c.place.ensures.size at c.place.ensures.noted) c.requires.marks blocked
     c.requires.waits)
 
 pub returns-clause-reach : goal.returns-clause-reach
-returns-clause-reach c = c.place.ensures.placed.waiter
+returns-clause-reach g c = c.place.ensures.placed.waiter
 
 pub returns-clause-stops : goal.returns-clause-stops
-returns-clause-stops c still =
+returns-clause-stops g c still =
     let note = note_at c.args.self.now.notes.items c.args.q in
     let both = and_parts note.pending (touches_file c.args.file note.touch) (sym c.is_on.ensures ∙ c.if-not-is_on.false)
     in (

@@ -4,7 +4,7 @@ use Rattle.sftp_server.proofs.readiness.Readiness.look_for_any.Goals.{else-index
 use Rattle.sftp_server.proofs.readiness.Readiness.look_for_any.Goals as goal
 
 pub down-preserved : goal.down-preserved
-down-preserved c =
+down-preserved g c =
     let s = c.args.session.now in
     let queue = c.args.queue.now in
     let notes = c.args.self.now.notes.items in
@@ -28,7 +28,7 @@ down-preserved c =
     )
 
 pub returns-then-conflict-clause-blocked : goal.returns-then-conflict-clause-blocked
-returns-then-conflict-clause-blocked c = λ _.
+returns-then-conflict-clause-blocked g c = λ _.
     let notes = c.args.self.now.notes.items in
     let noted = c.requires.noted in
     let j = c.down.j - 1 in

@@ -5,7 +5,7 @@ use Rattle.sftp_server.proofs.readiness.Readiness.look_for_writer.Goals.{else-is
 use Rattle.sftp_server.proofs.readiness.Readiness.look_for_writer.Goals as goal
 
 pub down-preserved : goal.down-preserved
-down-preserved c =
+down-preserved g c =
     let s = c.args.session.now in
     let queue = c.args.queue.now in
     let j = c.down.j - 1 in
@@ -28,7 +28,7 @@ down-preserved c =
     )
 
 pub returns-then-conflict-clause-blocked : goal.returns-then-conflict-clause-blocked
-returns-then-conflict-clause-blocked c = λ _.
+returns-then-conflict-clause-blocked g c = λ _.
     let j = c.down.j - 1 in
     let within = c.down.invariant.0 in
     let before : j < c.args.k = omega (arith, within, c.down-test.true) in

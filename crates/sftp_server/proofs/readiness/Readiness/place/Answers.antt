@@ -3,13 +3,13 @@ use Rattle.sftp_server.proofs.Notes.{count-few, allowed-noted, allowed-placed, h
 use Rattle.sftp_server.proofs.readiness.Readiness.place.Goals as goal
 
 pub allow-requires-clause-count : goal.allow-requires-clause-count
-allow-requires-clause-count c =
+allow-requires-clause-count g c =
     let few = count-few c.args.self.now.notes.items in
     let count = c.requires.noted.counted in
     omega (arith, few, count)
 
 pub returns-then-back-eq0-clause-noted : goal.returns-then-back-eq0-clause-noted
-returns-then-back-eq0-clause-noted c =
+returns-then-back-eq0-clause-noted g c =
     rw (
       c.allow.ensures.notes,
       c.allow.ensures.first_pending,
@@ -20,7 +20,7 @@ returns-then-back-eq0-clause-noted c =
     (c.look-back.ensures.free (omega (arith, c.if-back-eq0.true))))
 
 pub returns-else-back-eq0-clause-noted : goal.returns-else-back-eq0-clause-noted
-returns-else-back-eq0-clause-noted c =
+returns-else-back-eq0-clause-noted g c =
     rw (
       c.hold.ensures.notes,
       c.hold.ensures.first_pending,
@@ -31,12 +31,12 @@ returns-else-back-eq0-clause-noted c =
     (c.look-back.ensures.blocked (λ none. omega (arith, none, c.if-back-eq0.false))))
 
 pub returns-then-back-eq0-clause-placed : goal.returns-then-back-eq0-clause-placed
-returns-then-back-eq0-clause-placed c =
+returns-then-back-eq0-clause-placed g c =
     rw c.allow.ensures.notes
     (allowed-placed c.args.k c.requires.noted c.requires.within c.requires.pending c.requires.waits)
 
 pub returns-else-back-eq0-clause-placed : goal.returns-else-back-eq0-clause-placed
-returns-else-back-eq0-clause-placed c =
+returns-else-back-eq0-clause-placed g c =
     rw c.hold.ensures.notes
     (held-placed c.args.k c.look-back.result c.requires.noted c.requires.within
     (c.look-back.ensures.blocked (λ none. omega (arith, none, c.if-back-eq0.false))))

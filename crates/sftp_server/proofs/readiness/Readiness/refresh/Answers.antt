@@ -4,32 +4,32 @@ use Rattle.sftp_server.proofs.Settling.{but-farther}
 use Rattle.sftp_server.proofs.readiness.Readiness.refresh.Goals as goal
 
 pub pass-requires-clause-front : goal.pass-requires-clause-front
-pass-requires-clause-front c =
+pass-requires-clause-front g c =
     let size = c.settle.ensures.settled.noted.same_length in
     let front = c.settle.ensures.settled.noted.front in
     omega (arith, size, front)
 
 pub pass-requires-clause-passed : goal.pass-requires-clause-passed
-pass-requires-clause-passed c = c.settle.ensures.settled.noted.passed
+pass-requires-clause-passed g c = c.settle.ensures.settled.noted.passed
 
 pub wake-requires-clause-within : goal.wake-requires-clause-within
-wake-requires-clause-within c =
+wake-requires-clause-within g c =
     let settled = c.settle.ensures.size in
     let passed = c.pass.ensures.size in
     let within = c.requires.within in
     omega (arith, settled, passed, within)
 
 pub wake-requires-clause-noted : goal.wake-requires-clause-noted
-wake-requires-clause-noted c =
+wake-requires-clause-noted g c =
     front-passed c.pass.ensures.notes c.pass.ensures.size c.pass.ensures.writers c.pass.ensures.possible
     c.settle.ensures.settled.noted c.pass.ensures.front c.pass.ensures.passed
 
 pub wake-requires-clause-marks : goal.wake-requires-clause-marks
-wake-requires-clause-marks c =
+wake-requires-clause-marks g c =
     rw (c.pass.ensures.notes, c.pass.ensures.size) c.settle.ensures.settled.marks
 
 pub wake-requires-clause-blocked : goal.wake-requires-clause-blocked
-wake-requires-clause-blocked c =
+wake-requires-clause-blocked g c =
     let k = c.args.k in
     let s = c.args.session.now in
     let queue = c.args.queue.now in
@@ -43,7 +43,7 @@ wake-requires-clause-blocked c =
     c.settle.ensures.settled.blocked)
 
 pub open_more-requires : goal.open_more-requires
-open_more-requires c =
+open_more-requires g c =
     let s = c.args.session.now in
     let queue = c.args.queue.now in
     let settled = c.settle.new.self in

@@ -3,15 +3,15 @@ use Rattle.sftp_server.proofs.Settling.{settling-at, settled-stopped, settled-en
 use Rattle.sftp_server.proofs.readiness.Readiness.settle_file.Goals as goal
 
 pub look_again-requires-clause-waits : goal.look_again-requires-clause-waits
-look_again-requires-clause-waits c =
+look_again-requires-clause-waits g c =
     (settling-at (suc c.each.q) (c.each.q + 1) (omega arith) c.each.invariant.0).waits
 
 pub look_again-requires-clause-marks : goal.look_again-requires-clause-marks
-look_again-requires-clause-marks c =
+look_again-requires-clause-marks g c =
     (settling-at (suc c.each.q) (c.each.q + 1) (omega arith) c.each.invariant.0).marks
 
 pub each-preserved : goal.each-preserved
-each-preserved c =
+each-preserved g c =
     let to = c.args.k + (note_at c.args.self.now.notes.items c.args.k).waiter in
     let at = settling-at (suc c.each.q) (c.each.q + 1) (omega arith) c.each.invariant.0 in
     let less = c.each-test.true in
@@ -26,7 +26,7 @@ each-preserved c =
 
 -- the loop stops at a request that may change the length of the file still
 pub returns-then-look_again-clause-settled : goal.returns-then-look_again-clause-settled
-returns-then-look_again-clause-settled c =
+returns-then-look_again-clause-settled g c =
     let to = c.args.k + (note_at c.args.self.now.notes.items c.args.k).waiter in
     let at = settling-at (suc c.each.q) (c.each.q + 1) (omega arith) c.each.invariant.0 in
     let stops = c.look_again.ensures.stops c.if-look_again.true in
@@ -34,5 +34,5 @@ returns-then-look_again-clause-settled c =
 
 -- it ends at the last open request
 pub returns-clause-settled : goal.returns-clause-settled
-returns-clause-settled c =
+returns-clause-settled g c =
     settled-ended c.args.file (suc c.each.q) (let end = c.each-test.false in omega (arith, end)) c.each.invariant.0

@@ -2,7 +2,7 @@ use Rattle.sftp_server.proofs.Imports.{◌≡◌, ◌-◌, ◌+◌, ◌<◌, ◌
 use Rattle.sftp_server.proofs.readiness.Readiness.settle_file.Given as goal
 
 abbrev pub invariant-each : goal.invariant-each
-invariant-each l =
+invariant-each g l =
     IsSettling l.session l.queue l.self.notes.items l.self.first_pending l.self.opened l.self.writers l.self.possible l.k
     (l.k + (note_at l.fn.self.notes.items l.k).waiter) (Some l.file) (suc l.q)
     × ((note_at l.fn.self.notes.items l.k).waiter ≤ (note_at l.self.notes.items l.k).waiter)
@@ -10,4 +10,4 @@ invariant-each l =
     × (l.q < l.self.opened)
 
 abbrev pub decreases-each : goal.decreases-each
-decreases-each l = l.self.opened - l.q
+decreases-each g l = l.self.opened - l.q

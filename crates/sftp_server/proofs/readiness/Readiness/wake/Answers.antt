@@ -3,12 +3,12 @@ use Rattle.sftp_server.proofs.Notes.{but-passed-at, but-placed-at, but-end, alik
 use Rattle.sftp_server.proofs.readiness.Readiness.wake.Goals as goal
 
 pub place-requires-clause-marks : goal.place-requires-clause-marks
-place-requires-clause-marks c =
+place-requires-clause-marks g c =
     rw c.each.invariant.3 (marks-alike c.args.session.now c.args.queue.now c.args.self.now.notes.items
     c.each.self.notes.items c.args.self.now.opened c.requires.marks c.each.invariant.2)
 
 pub each-preserved-then-is_waiting : goal.each-preserved-then-is_waiting
-each-preserved-then-is_waiting c =
+each-preserved-then-is_waiting g c =
     let s = c.args.session.now in
     let queue = c.args.queue.now in
     let old = c.args.self.now.notes.items in
@@ -26,7 +26,7 @@ each-preserved-then-is_waiting c =
     )
 
 pub each-preserved : goal.each-preserved
-each-preserved c =
+each-preserved g c =
     let s = c.args.session.now in
     let queue = c.args.queue.now in
     let old = c.args.self.now.notes.items in
@@ -42,7 +42,7 @@ each-preserved c =
     )
 
 pub returns-clause-blocked : goal.returns-clause-blocked
-returns-clause-blocked c =
+returns-clause-blocked g c =
     but-end c.args.session.now c.args.queue.now c.each.self.notes.items c.each.self.opened c.args.k (suc c.each.q)
     (c.args.k + (note_at c.args.self.now.notes.items c.args.k).waiter) c.reach-end.result c.each.invariant.1
     (omega (arith, c.each-test.false))

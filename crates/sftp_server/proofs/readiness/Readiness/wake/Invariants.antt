@@ -2,7 +2,7 @@ use Rattle.sftp_server.proofs.Imports.{◌≡◌, ◌-◌, ◌+◌, ◌≤◌, s
 use Rattle.sftp_server.proofs.readiness.Readiness.wake.Given as goal
 
 abbrev pub invariant-each : goal.invariant-each
-invariant-each l =
+invariant-each g l =
     IsNoted l.session l.queue l.self.notes.items l.self.first_pending l.self.opened l.self.writers l.self.possible
     × AreBlockedBut l.session l.queue l.self.notes.items l.self.opened l.k (suc l.q)
     (l.k + (note_at l.fn.self.notes.items l.k).waiter)
@@ -11,4 +11,4 @@ invariant-each l =
     × (l.k ≤ l.q)
 
 abbrev pub decreases-each : goal.decreases-each
-decreases-each l = l.end - l.q
+decreases-each g l = l.end - l.q
