@@ -1,6 +1,7 @@
 //! The arguments of the subcommands: a table for each, from which the parser and the help follow.
 
 use crate::{importing, profiles};
+use sftp_vary::NAMES;
 
 /// An argument of a subcommand: its name, its form, and what the help says of it.
 pub(crate) type Argument<'a> = (&'a str, Form<'a>, &'a str);
@@ -66,6 +67,21 @@ pub(crate) const SERVE: &[Argument] = &[
         "shuffle",
         Form::Number("N"),
         "Work and reply in a pseudorandom order that N fixes, not in the order asked",
+    ),
+    (
+        "vary",
+        Form::Number("N"),
+        "Use what the draft leaves free in replies, pseudorandomly, fixed by N",
+    ),
+    (
+        "only",
+        Form::SomeOf("NAME,...", NAMES),
+        "With --vary: the freedoms to use",
+    ),
+    (
+        "wild",
+        Form::Flag,
+        "With --vary: texts and long names of any bytes, which the draft does not allow",
     ),
     (
         "verbose",

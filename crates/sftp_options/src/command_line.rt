@@ -17,13 +17,14 @@ use clap::error::ErrorKind;
 use clap::{Arg, ArgAction, ArgMatches, Command, Error, value_parser};
 use sftp_files::{Failure, ImportOptions, Keeping, MORE, PRIVATE, ServeOptions, ShowOptions};
 use sftp_profile::Profile;
+use sftp_vary::{Freedoms, Variation};
 use std::alloc::{AllocError, Global};
 
 /// What a command line asks for.
 #[derive(Drop)]
 pub enum Request<'a> {
-    /// Serve a session.
-    Serve(ServeOptions<'a>),
+    /// Serve a session, with varied replies if they are asked for.
+    Serve(ServeOptions<'a>, Option<Variation>),
     /// Audit a session.
     Audit(AuditOptions<'a>),
     /// Infer a tree from a session, and audit the session with it.
@@ -182,7 +183,7 @@ fn requested<'a>(matches: &ArgMatches<'a>) -> Option<Request<'a>>
 {
     let (name, given) = matches.subcommand()?;
     match name {
-        "serve" => serve_options(given).map(Request::Serve),
+        "serve" => serve_request(given),
         "audit" => audit_options(given).map(Request::Audit),
         "show" => show_options(given).map(Request::Show),
         "raise" => raise_request(given),
@@ -262,6 +263,33 @@ fn mode_of(text: Option<&str>) -> u32
         Some(text) => profiles::octal(text).unwrap_or(PRIVATE),
         None => PRIVATE,
     }
+}
+
+fn serve_request<'a>(given: &ArgMatches<'a>) -> Option<Request<'a>> {
+    let options = serve_options(given)?;
+    Some(Request::Serve(options, variation_of(given)))
+}
+
+/// How the replies of a session are varied, if they are: by the seed 0, if only what is free is given.
+fn variation_of(given: &ArgMatches<'_>) -> Option<Variation> {
+    let seed = given.get_one("vary");
+    let only = given.get_strs("only");
+    let is_wild = given.get_flag("wild");
+    if seed.is_none() && only.is_none() && !is_wild {
+        return None;
+    }
+    let freedoms = match only {
+        Some(names) => Freedoms::named(names),
+        None => Freedoms::all(),
+    };
+    Some(Variation {
+        seed: seed.unwrap_or(0),
+        freedoms: if is_wild {
+            freedoms.with_wild()
+        } else {
+            freedoms
+        },
+    })
 }
 
 fn serve_options<'a>(given: &ArgMatches<'a>) -> Option<ServeOptions<'a>> {

@@ -25,6 +25,17 @@ session may be recording into, and which may not be that of --tree or --save.
 With --memory, the session ends as if memory ran out when a reply is due and the process has more than BYTES. One
 request may take as much as a file or a listing has before that, and saving the tree takes its bytes once more.
 
+With --vary, replies use what the draft leaves free, by choices that N fixes in the order in which requests are done:
+  handles     names of new handles: 0 to 256 bytes of any values
+  listings    which names of a directory a reply gives, how many, and in which order
+  longnames   long names: lines of any layout
+  times       times in attributes, there or not, of any values
+  pairs       extended pairs in attributes
+  attributes  all attributes in the replies to REALPATH and READLINK
+  codes       the code of a refusal, where several fit
+  texts       messages and language tags
+--only uses some of these, by the same choices. --only or --wild without --vary takes 0 for N.
+
 With --verbose, standard error has a line when the session opens, and one when it ends: how, the number of requests, the
 bytes read and written, the number of entries in the tree, and whether the tree was saved.
 

@@ -16,7 +16,7 @@ impl<'a> Request<'a> {
     /// The tree file that a request reads, if it reads no other.
     pub fn tree(&self) -> Option<&'a str> {
         match self {
-            Request::Serve(options) => Some(options.tree),
+            Request::Serve(options, _) => Some(options.tree),
             Request::Audit(files) => Some(files.tree),
             Request::Raise { tree, .. } => Some(*tree),
             Request::Export { file } => Some(*file),

@@ -24,6 +24,7 @@ use sftp_faults::Spot;
 pub use sftp_files::System;
 use sftp_files::{Ending, Failure, ServeOptions, report, write_flushed};
 use sftp_options::{Request, parse};
+use sftp_vary::Variation;
 use std::fs::Files;
 use std::io::{Read, Write};
 
@@ -174,7 +175,9 @@ fn perform_request<'a, R: System, I: Read, O: Write, E: Write>(
     errors: &mut E,
 ) -> Result<Ending, Failure<'a>> {
     match request {
-        Request::Serve(options) => serve(rt, options, input, output, errors),
+        Request::Serve(options, variation) => {
+            serve(rt, options, *variation, input, output, errors)
+        },
         Request::Audit(files) => inferring::audit(rt, files, output, errors),
         Request::Infer(options) => inferring::infer(rt, options, output, errors),
         Request::Blank { file, keeping } => subcommands::blank(rt, file, *keeping),
@@ -201,11 +204,12 @@ fn perform_request<'a, R: System, I: Read, O: Write, E: Write>(
 fn serve<'a, R: System, I: Read, O: Write, E: Write>(
     rt: &R,
     options: &ServeOptions<'a>,
+    variation: Option<Variation>,
     input: &mut I,
     output: &mut O,
     errors: &mut E,
 ) -> Result<Ending, Failure<'a>> {
-    match serving::serve(rt, options, input, output, errors) {
+    match serving::serve(rt, options, variation, input, output, errors) {
         Ok(ending) => Ok(ending),
         Err(Unserved::Failed(failure)) => Err(failure),
         Err(Unserved::Fault(fault)) => {

@@ -10,12 +10,15 @@ use sftp_files::{
     STANDARD_OUTPUT, ServeOptions, System, Watched, read_at_most, report, require_fit, write,
     write_flushed,
 };
+use sftp_handles::GivenTable;
 use sftp_server::{
-    Ended, InOrder, Schedule, SessionEnd, SessionFault, Shuffle, Stream, serve_keeping_tree,
+    Ended, InOrder, Schedule, SessionEnd, SessionFault, Shuffle, Stream, serve_as,
+    serve_keeping_tree,
 };
-use sftp_transcript::{Tally, Writer};
+use sftp_transcript::{Sink, Source, Tally, Writer};
 use sftp_tree::Tree;
 use sftp_treefile::TreeLimits;
+use sftp_vary::{Variation, Vary};
 use sftp_wire::{take_number, take_string};
 use std::fs::Files;
 use std::io::{Read, Write};
@@ -42,6 +45,7 @@ impl<'a> From<Failure<'a>> for Unserved<'a> {
 pub(crate) fn serve<'a, R: System, I: Read, O: Write, E: Write>(
     rt: &R,
     options: &ServeOptions<'a>,
+    variation: Option<Variation>,
     input: &mut I,
     output: &mut O,
     errors: &mut E,
@@ -56,7 +60,7 @@ pub(crate) fn serve<'a, R: System, I: Read, O: Write, E: Write>(
         Ok(log) => {
             let is_verbose = options.is_verbose;
             let output = Announcing::new(output, errors, is_verbose);
-            let (end, traffic) = session(tree, log, order, &mut meter, input, output);
+            let (end, traffic) = session(tree, log, order, variation, &mut meter, input, output);
             conclude(rt, end, traffic, options, errors)
         }
         Err(failure) => {
@@ -102,6 +106,7 @@ fn session<I: Read, O: Write + Drop>(
     tree: Tree,
     mut log: Writer<Tally<Record>>,
     mut order: Order,
+    variation: Option<Variation>,
     meter: &mut Meter,
     input: &mut I,
     output: O,
@@ -110,7 +115,14 @@ fn session<I: Read, O: Write + Drop>(
 {
     let mut reader = Tally::new(Watched::new(input));
     let mut writer = Tally::new(Watched::new(Bounded::new(output, meter)));
-    let end = serve_keeping_tree(tree, &mut reader, &mut writer, &mut log, &mut order);
+    let end = served(
+        tree,
+        &mut reader,
+        &mut writer,
+        &mut log,
+        &mut order,
+        variation,
+    );
     let reader = reader.into_inner();
     let writer = writer.into_inner();
     let record = log.into_sink().into_inner();
@@ -127,6 +139,30 @@ fn session<I: Read, O: Write + Drop>(
     drop(order);
     traffic.is_over = meter.is_over();
     (end, traffic)
+}
+
+/// Serves a session, whose replies are varied if that is asked for.
+fn served<R: Source, W: Sink, L: Sink, S: Schedule>(
+    tree: Tree,
+    reader: &mut R,
+    writer: &mut W,
+    log: &mut Writer<L>,
+    schedule: &mut S,
+    variation: Option<Variation>,
+) -> SessionEnd
+    requires { IsUnused log.old }
+{
+    match variation {
+        Some(variation) => serve_as::<R, W, L, S, GivenTable, Vary>(
+            tree,
+            reader,
+            writer,
+            log,
+            schedule,
+            &mut Vary::new(variation),
+        ),
+        None => serve_keeping_tree(tree, reader, writer, log, schedule),
+    }
 }
 
 /// The outcome of a run by how its session ended. The tree that it left is saved, unless the session was not opened.
