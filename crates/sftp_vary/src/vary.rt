@@ -268,9 +268,11 @@ impl Vary {
         name: &ByteString,
         alloc: Global,
     ) -> Result<NameItem, NoMemory> {
-        let found = Name::from_component(alloc, name.as_slice())?;
-        match left.find(&found) {
-            Some(shown) => self.item(name.as_slice(), shown, alloc),
+        match Name::from_slice(alloc, name.as_slice())? {
+            Some(found) => match left.find(&found) {
+                Some(shown) => self.item(name.as_slice(), shown, alloc),
+                None => self.item(name.as_slice(), &empty(), alloc),
+            },
             None => self.item(name.as_slice(), &empty(), alloc),
         }
     }
