@@ -79,7 +79,7 @@ impl Replay {
     fn take(&mut self, request: Request) -> Step {
         self.note(Why::Unasked);
         self.parting.requests = self.parting.requests.saturating_add(1);
-        self.expected = spelled(self.alloc, request);
+        self.expected = spelling_of(self.alloc, request);
         Step::Take
     }
 }
@@ -174,7 +174,7 @@ impl Spelled {
 }
 
 /// The bytes of a request, unless memory runs out.
-fn spelled(alloc: Global, request: Request) -> Option<Spelled> {
+fn spelling_of(alloc: Global, request: Request) -> Option<Spelled> {
     let (handle, behind) = handle_place(&request.ask);
     let packet = Packet::Request(request);
     let mut bytes = Vec::new(alloc);
@@ -213,7 +213,7 @@ fn handle_place(ask: &Ask) -> (usize, usize) {
 /// Whether a request is the one that was recorded. Their handles may have other names.
 fn is_asked(alloc: Global, request: &Request, expected: &Spelled) -> bool {
     match copy(request) {
-        Some(copy) => match spelled(alloc, copy) {
+        Some(copy) => match spelling_of(alloc, copy) {
             Some(found) => {
                 let is_same = found.front() == expected.front() && found.back() == expected.back();
                 drop(found);
