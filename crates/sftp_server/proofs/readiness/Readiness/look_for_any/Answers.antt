@@ -6,7 +6,7 @@ use Rattle.sftp_server.proofs.readiness.Readiness.look_for_any.Goals.{else-index
 use Rattle.sftp_server.proofs.readiness.Readiness.look_for_any.Goals as goal
 
 pub conflict-requires-clause-own : goal.conflict-requires-clause-own
-conflict-requires-clause-own c =
+conflict-requires-clause-own g c =
     starts-within c.args.session.now (file_in (touched_at c.args.queue.now c.args.self.now.notes.items c.args.k))
     (note_at c.args.self.now.notes.items c.args.k).span c.args.own c.requires.own
 
