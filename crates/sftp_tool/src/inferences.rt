@@ -1,19 +1,16 @@
 //! Trees that are inferred from a session, each judged by the audit before it is believed.
-ghost use Rattle.std.specs.Prelude.{◌≡◌, List, [], ℕ, None, Some, IfOk};
-ghost use Rattle.sftp_audit.specs.Audit.{Accounts, AccountsBy, WasFed};
-ghost use Rattle.sftp_audit.specs.Auditor.{StandsFor};
+ghost use Rattle.std.specs.Prelude.{◌≡◌, List, ℕ, None, Some, IfOk};
+ghost use Rattle.sftp_audit.specs.Audit.{Accounts, AccountsBy};
 ghost use Rattle.sftp_profile.specs.declared.profiles.Profile.{Profile as profile};
 ghost use Rattle.sftp_tool.specs.Verdicts.{AccountsUnder};
 ghost use Rattle.sftp_tool.specs.Inferences.{IsJudged, IsExplained};
 
-use sftp_audit::{AuditError, Auditor, Refusal, TranscriptError, feed_all};
+use sftp_audit::{Accepted, AuditError, Refusal, TranscriptError};
 use sftp_handles::{GivenTable, Session};
 use sftp_infer::{Candidate, Search, Step};
 use sftp_judges::Judges;
 use sftp_path::NoMemory;
 use sftp_profile::{Judge, Profile};
-use sftp_transcript::{Memory, Reader};
-use sftp_tree::Tree;
 use std::alloc::Global;
 
 /// How many trees are judged at most.
@@ -90,8 +87,7 @@ fn judge_under(
     judge_by::<Judge>(how, profile, tree, session)
 }
 
-/// Audits a session as `audit_by` does. Unlike there, the tree at the end is only made if it is wanted: it has as many
-/// bytes as the session may have written.
+/// Audits a session, and keeps the tree file of the end only if it is wanted.
 fn judge_by<J: Judges>(
     how: Judging,
     by: J::By,
@@ -100,46 +96,25 @@ fn judge_by<J: Judges>(
 ) -> Result<Ended, AuditError>
     ensures { IsJudged (AccountsBy J.allowed (J.begun by) J.closed) tree.now session.now result }
 {
-    let mut auditor = Auditor::<J>::by(by, Tree::read(how.alloc, tree)?)?;
-    match feed::<J>(how.alloc, &mut auditor, session) {
-        Ok(requests) => {
-            let end = auditor.end()?;
-            let tree = written_end(how, end)?;
-            Ok(Ended { requests, tree })
-        }
-        Err(error) => {
-            drop(auditor);
-            Err(error)
-        }
+    match sftp_audit::audit_by::<J>(how.alloc, by, tree, session) {
+        Ok(accepted) => Ok(ended(how, accepted)),
+        Err(error) => Err(error),
     }
 }
 
-/// Feeds an auditor, which has seen no event yet, those of a session.
-fn feed<J: Judges>(
-    alloc: Global,
-    auditor: &mut Auditor<J>,
-    session: &[u8],
-) -> Result<u64, AuditError>
-    ensures { IfOk result (λ requests. (start : J) → StandsFor J.allowed start [] auditor.old
-        → WasFed J.allowed start session.now requests auditor.new) }
-{
-    let mut records = Reader::new(alloc, Memory::new(session))?;
-    let fed = feed_all(auditor, &mut records);
-    drop(records);
-    fed
-}
-
-/// The tree file of the tree at the end, if it is wanted.
-fn written_end(how: Judging, end: Tree) -> Result<Option<Vec<u8>>, NoMemory> {
-    let written = if how.wants_end {
-        Some(end.write())
+fn ended(how: Judging, accepted: Accepted) -> Ended {
+    let Accepted { tree, requests } = accepted;
+    if how.wants_end {
+        Ended {
+            requests,
+            tree: Some(tree),
+        }
     } else {
-        None
-    };
-    drop(end);
-    match written {
-        Some(tree) => Ok(Some(tree?)),
-        None => Ok(None),
+        drop(tree);
+        Ended {
+            requests,
+            tree: None,
+        }
     }
 }
 
