@@ -97,12 +97,12 @@ fn judge_by<J: Judges>(
     ensures { IsJudged (AccountsBy J.allowed (J.begun by) J.closed) tree.now session.now result }
 {
     match sftp_audit::audit_by::<J>(how.alloc, by, tree, session) {
-        Ok(accepted) => Ok(ended(how, accepted)),
+        Ok(accepted) => Ok(outcome_of(how, accepted)),
         Err(error) => Err(error),
     }
 }
 
-fn ended(how: Judging, accepted: Accepted) -> Ended {
+fn outcome_of(how: Judging, accepted: Accepted) -> Ended {
     let Accepted { tree, requests } = accepted;
     if how.wants_end {
         Ended {
