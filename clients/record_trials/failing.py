@@ -33,6 +33,25 @@ def commands(steps, room):
     steps.check("options of the command are the command's", (ran.returncode, ran.stdout) == (5, b"--help\n"), str(ran))
 
 
+def files_named_twice(steps, room):
+    """A file is for one thing: one that is written for another as well, or read as the tree, would be lost."""
+    for name in ("f", "t"):
+        (room.folder / name).write_bytes(b"dear")
+    os.link(room.folder / "f", room.folder / "hard")
+    (room.folder / "link").symlink_to("f")
+    for words in (("--overwrite", "--audit", "--tree", "f", "f"), ("--overwrite", "--audit", "--tree", "f", "hard"),
+                  ("--audit", "--tree", "f", "--out", "new", "./new"), ("--audit", "--tree", "f", "--log", "f", "new"),
+                  ("--audit", "--tree", "link", "--log", "f", "new"), ("--times", "new", "new"),
+                  ("--log", "t", "t"), ("--overwrite", "--log", "t", "--times", "t", "new")):
+        before = set(os.listdir(room.folder))
+        ran = run(room, *words, STUB, data=INIT)
+        steps.check(f"{' '.join(words)}: status 2", ran.returncode == 2 and b"names the file of" in ran.stderr, str(ran))
+        steps.check(f"{' '.join(words)}: no file is changed", room.read("f") == room.read("t") == b"dear" and
+                    set(os.listdir(room.folder)) == before, f"{os.listdir(room.folder)}")
+    ran = run(room, "--log", "/dev/null", "--times", "/dev/null", "/dev/null", STUB, data=INIT)
+    steps.check("a device may be named twice", (ran.returncode, len(ran.stdout)) == (0, 9), str(ran))
+
+
 def limited(kind, count):
     return lambda: resource.setrlimit(kind, (count, count))
 
@@ -142,4 +161,4 @@ def foreign_code(steps, room):
     steps.check("no code of the user runs in the recorder", not found and ran.stdout == INIT, f"{found} {ran}")
 
 
-TRIALS = (commands, full_disks, long_packets, little_memory, foreign_code)
+TRIALS = (commands, files_named_twice, full_disks, long_packets, little_memory, foreign_code)

@@ -14,6 +14,7 @@ from recording.server import NotStarted, start
 from recording.sessions import OWN_FAILURE, Session, Signals
 from recording.sinks import Failed, FileSink, SpoolSink, TimesSink
 from recording.standard import open_standard_files
+from recording.twice import named_twice
 
 NAME = "sftpv3-record"
 
@@ -116,8 +117,19 @@ def read_options(words):
                 setattr(options, name, naming.expand(getattr(options, name)))
     except naming.BadName as error:
         complain(str(error))
+    refuse_named_twice(options)
     options.command = rest
     return options
+
+
+def refuse_named_twice(options):
+    """Ends the program if what is written for one thing is another file of the session, too. The tree may be replaced
+    by that of the end."""
+    names = [("--tree", options.tree), ("--out", options.out), ("--log", options.log), ("--times", options.times),
+             ("TRANSCRIPT", options.transcript)]
+    found = named_twice(names, may_be_one=("--tree", "--out"))
+    if found:
+        complain(f"{found[1]} names the file of {found[0]}")
 
 
 class Records:

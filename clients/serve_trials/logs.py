@@ -113,6 +113,23 @@ def usage(steps, room):
                         room.left() == ["t"], f"{ran.returncode}: {ran.stderr} {room.left()}")
 
 
+def files_named_twice(steps, room):
+    """The log is no other file of the session."""
+    if IS_PLAIN:
+        return
+    os.link(room.folder / "t", room.folder / "hard")
+    before = (room.folder / "t").read_bytes()
+    for words in (("--log", "t"), ("--log", "hard"), ("--log=new", "--save", "new"), ("--log", "new", "--record=new"),
+                  ("--log", "hard", "--save", "t"), ("--replay", "hard", "--save", "t"),
+                  ("--log", "r", "--replay", "r"), ("--save", "new", "--record", "./new")):
+        ran = subprocess.run([*SERVE, "--tree", "t", *words], cwd=room.folder, stdin=subprocess.DEVNULL,
+                             stdout=subprocess.PIPE, stderr=subprocess.STDOUT, text=True, timeout=10)
+        steps.check(f"{' '.join(words)}: status 2, and a line", ran.returncode == 2 and "name one file" in ran.stdout,
+                    f"{ran.returncode}: {ran.stdout}")
+        steps.check(f"{' '.join(words)}: no file is changed", (room.folder / "t").read_bytes() == before and
+                    room.left() == ["hard", "t"], f"{room.left()}")
+
+
 def passed_on(steps, room):
     """Options come to the program, in each form."""
     server = room.serve("--save=end", "--record=r", "--shuffle", "3", "--no-sync", "--verbose", "--mode=0640",
@@ -125,4 +142,4 @@ def passed_on(steps, room):
                 (room.folder / "end").stat().st_mode & 0o777 == 0o640, f"{room.left()}")
 
 
-TRIALS = (log, names, logs_that_cannot_be_opened, logs_of_others, full_log, usage, passed_on)
+TRIALS = (log, names, logs_that_cannot_be_opened, logs_of_others, full_log, usage, files_named_twice, passed_on)

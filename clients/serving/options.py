@@ -1,12 +1,15 @@
 """The command line: what is for the script, and what goes on to `sftpv3 serve`."""
 import os
 
+from recording import naming
+from recording.twice import named_twice
+
 NAME = "sftpv3-serve"
 
 # The options of the script, each with a value.
 OWN = ("--log", "--grace", "--program")
 # The options of `sftpv3 serve` whose values the script looks at.
-SEEN = ("--tree", "--save", "--record", "--mode")
+SEEN = ("--tree", "--save", "--record", "--replay", "--mode")
 # How long a client may take for the replies that it is still owed after a signal.
 GRACE = 30.0
 
@@ -22,7 +25,8 @@ class Options:
     """
 
     def __init__(self):
-        self.log = self.program = self.tree = self.save = self.record = self.mode = None
+        self.log = self.program = self.tree = self.save = self.record = self.replay = None
+        self.mode = None
         self.grace: float = GRACE
         self.passed: list[str] = []
         self.save_place = None
@@ -88,6 +92,19 @@ def read(words: list[str]) -> Options:
     options.is_synced = "--no-sync" not in options.passed
     if options.tree is None:
         raise Misused("the following arguments are required: --tree")
-    if options.save and options.record and os.path.realpath(options.save) == os.path.realpath(options.record):
-        raise Misused("--save and --record name one file")
+    refuse_named_twice(options)
     return options
+
+
+def refuse_named_twice(options: Options):
+    """Raises Misused if what is written for one thing is another file of the session, too. The tree may be replaced by
+    that of the end."""
+    try:
+        log = options.log and naming.expand(options.log)
+    except naming.BadName as error:
+        raise Misused(str(error)) from None
+    names = [("--tree", options.tree), ("--save", options.save), ("--record", options.record),
+             ("--replay", options.replay), ("--log", log)]
+    found = named_twice(names, may_be_one=("--tree", "--save"))
+    if found:
+        raise Misused(f"{found[0]} and {found[1]} name one file")

@@ -303,13 +303,26 @@ def try_mistakes(steps, folder):
     steps.check("nothing was started", not os.path.exists(os.path.join(folder, "started")))
 
 
+def try_names(steps, folder):
+    """A record that gets another name since the first is taken is not replaced by the tree."""
+    for name in ("taken", "taken.2"):
+        with suppress(FileNotFoundError):
+            os.remove(os.path.join(folder, name))
+    with open(os.path.join(folder, "taken"), "wb") as file:
+        file.write(b"dear")
+    status, said = walk(folder, ["--session", "taken", "--to", "taken.2"], [*HOSTILE, "Right"])
+    steps.check("--to names the file that the record gets: status 3, and a line", status == 3 and is_clean(said) and
+                "taken.2" in said.splitlines()[-1], f"{status}: {said}")
+
+
 def try_usage(steps, folder):
     for options, command, wanted in (
             (["--max-bytes", "x"], ["true"], 2), (["--timeout", "0"], ["true"], 2),
             (["--in-flight", "5000"], ["true"], 2), (["--to", "/nowhere/x"], [*HOSTILE, "Right"], 3),
             (["--session", "/nowhere/x"], ["true"], 3),
             (["--session", "/dev/null"], ["true"], 3), (["--to", "x"], ["/nowhere/server"], 3),
-            (["--to", "x"], ["true"], 3), (["--to", "x"], ["yes"], 3)):
+            (["--to", "x"], ["true"], 3), (["--to", "x"], ["yes"], 3),
+            (["--session", "one", "--to", "./one"], [*HOSTILE, "Right"], 2)):
         status, said = walk(folder, options, command)
         steps.check(f"{' '.join(options)} -- {os.path.basename(command[-1])}: status {wanted}",
                     status == wanted and is_clean(said) and said, f"{status}: {said}")

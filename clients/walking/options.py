@@ -6,6 +6,7 @@ import sys
 from probing import program, sessions, verdicts
 from probing.options import flying, seconds
 from recording.complaints import Parser
+from recording.twice import is_one_file
 from walking import bounds, inferring
 
 # The exit statuses: the tree was written; no tree explains what the server told; wrong usage; it was not written.
@@ -57,6 +58,8 @@ def options(about):
     given = found.parse_args()
     if given.to is None and given.session is None and sys.stdout.isatty():
         found.error("--to or --session is needed, or a standard output that is no terminal")
+    if given.to is not None and given.session is not None and is_one_file(given.to, given.session):
+        found.error("--to and --session name one file")
     given.below = given.below or [b"."]
     given.infer_words = profile_words(given)
     return given
