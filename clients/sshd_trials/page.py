@@ -1,17 +1,18 @@
-"""The lines of docs/USING.md that an operator types, as they are there."""
+"""The lines of docs/USING.md, and of docs/SECURITY.md, that an operator types, as they are there."""
 import re
 import subprocess
 
 from record_trials.steps import TOP
 
 PAGE = TOP / "docs/USING.md"
+SECURITY = TOP / "docs/SECURITY.md"
 
 
-def lines_of(name):
-    """The block of the page whose first line has `try=NAME`."""
-    found = re.search(rf"(?ms)^```sh [^\n]*\btry={name}\n(.*?)^```", PAGE.read_text())
+def lines_of(name, page=PAGE):
+    """The block of a page whose first line has `try=NAME`."""
+    found = re.search(rf"(?ms)^```sh [^\n]*\btry={name}\n(.*?)^```", page.read_text())
     if not found:
-        raise AssertionError(f"{PAGE} has no block try={name}")
+        raise AssertionError(f"{page} has no block try={name}")
     return found[1]
 
 
