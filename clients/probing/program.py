@@ -55,8 +55,8 @@ def complain(name, why, status):
 
 
 def told(error):
-    """Why something failed. Of a call of the system: the file that it names, and the reason in words."""
+    """Why something failed. Of a call of the system: the file that it names, in one line, and the reason in words."""
     if not isinstance(error, OSError) or not error.strerror:
         return str(error)
     name = error.filename if error.filename2 is None else error.filename2
-    return error.strerror if name is None else f"{os.fsdecode(name)}: {error.strerror}"
+    return error.strerror if name is None else f"{packets.line(os.fsdecode(name))}: {error.strerror}"

@@ -7,6 +7,7 @@ import subprocess
 import tempfile
 import time
 
+from paging import packets
 from probing import leftovers
 
 # Seconds for a server to end after its input did, and after it left a request unanswered.
@@ -59,7 +60,7 @@ def started(words, environment=None):
         return subprocess.Popen(words, stdin=subprocess.PIPE, stdout=subprocess.PIPE, stderr=subprocess.PIPE, bufsize=0,
                                 env=environment, start_new_session=True)
     except (OSError, ValueError) as error:
-        raise NotStarted(f"cannot run {words[0]}: {getattr(error, 'strerror', None) or error}") from error
+        raise NotStarted(f"cannot run {packets.line(words[0])}: {getattr(error, 'strerror', None) or error}") from error
 
 
 def run_reset(command, environment, seconds, stop):
