@@ -127,7 +127,7 @@ def refuse_named_twice(options):
     by that of the end."""
     names = [("--tree", options.tree), ("--out", options.out), ("--log", options.log), ("--times", options.times),
              ("TRANSCRIPT", options.transcript)]
-    found = named_twice(names, may_be_one=("--tree", "--out"))
+    found = named_twice(names, may_be_one=("--tree", "--out"), unfollowed=("--log", "--times", "TRANSCRIPT"))
     if found:
         complain(f"{found[1]} names the file of {found[0]}")
 

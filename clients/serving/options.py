@@ -105,6 +105,6 @@ def refuse_named_twice(options: Options):
         raise Misused(str(error)) from None
     names = [("--tree", options.tree), ("--save", options.save), ("--record", options.record),
              ("--replay", options.replay), ("--log", log)]
-    found = named_twice(names, may_be_one=("--tree", "--save"))
+    found = named_twice(names, may_be_one=("--tree", "--save"), unfollowed=("--log",))
     if found:
         raise Misused(f"{found[0]} and {found[1]} name one file")
