@@ -6,6 +6,7 @@ mode 0700, so that nobody else reaches it, and, where the system allows, on a mo
 set-id bits and devices have no effect; elsewhere set-id bits are left out. What a killed run left is removed by the
 next.
 """
+import contextlib
 import fcntl
 import os
 import shutil
@@ -18,6 +19,7 @@ import time
 from typing import NamedTuple
 
 import mounts
+import removing
 from probing import program
 
 PREFIX, ROOT = "sftpv3-root-", "root"
@@ -26,12 +28,16 @@ SET_ID = stat.S_ISUID | stat.S_ISGID
 # How old, in seconds, a folder is at least that is taken for one that a killed run left.
 LEFT = 60
 
-DIRECTORY = os.O_RDONLY | os.O_DIRECTORY | os.O_NOFOLLOW
+DIRECTORY = removing.DIRECTORY
 NEW_FILE = os.O_WRONLY | os.O_CREAT | os.O_EXCL | os.O_NOFOLLOW
 
 
 class Bad(Exception):
     """A tree that cannot be made into a folder."""
+
+
+def tell(text):
+    print(f"{os.path.basename(sys.argv[0])}: {text}", file=sys.stderr)
 
 
 class Owned(NamedTuple):
@@ -144,25 +150,35 @@ def put_all(builder, members):
 
 def remove_left(folder):
     """Removes what killed runs of this user left: folders that no run holds locked, and that have nothing but a root.
-    """
-    for name in os.listdir(folder):
+    What cannot be removed stays, and stops nothing."""
+    names = []
+    with contextlib.suppress(OSError):
+        names = os.listdir(folder)
+    for name in names:
         place = os.path.join(folder, name)
-        try:
-            if not name.startswith(PREFIX) or time.time() - os.lstat(place).st_mtime < LEFT:
-                continue
-            held = os.open(place, DIRECTORY)
-        except OSError:
-            continue
-        try:
-            state = os.fstat(held)
-            is_own = state.st_uid == os.geteuid() and stat.S_IMODE(state.st_mode) == 0o700
-            if is_own and os.listdir(held) in ([], [ROOT]):
-                fcntl.flock(held, fcntl.LOCK_EX | fcntl.LOCK_NB)
-                shutil.rmtree(place, ignore_errors=True)
-        except OSError:
-            pass
-        finally:
-            os.close(held)
+        with contextlib.suppress(OSError):
+            if name.startswith(PREFIX) and time.time() - os.lstat(place).st_mtime >= LEFT:
+                remove_if_left(place)
+
+
+def remove_if_left(place):
+    held = os.open(place, DIRECTORY)
+    try:
+        state = os.fstat(held)
+        is_own = state.st_uid == os.geteuid() and stat.S_IMODE(state.st_mode) == 0o700
+        if is_own and os.listdir(held) in ([], [ROOT]):
+            fcntl.flock(held, fcntl.LOCK_EX | fcntl.LOCK_NB)
+            remove_whole(held, place)
+    finally:
+        os.close(held)
+
+
+def remove_whole(held, place):
+    """Removes the folder of a descriptor. Whatever ends this, the folder has no more than a root, so that the next run
+    goes on."""
+    with contextlib.suppress(FileNotFoundError):
+        removing.remove(ROOT, held)
+    os.rmdir(place)
 
 
 class Folder:
@@ -191,15 +207,17 @@ class Folder:
         builder = Builder(self.root, self.has_mount)
         fill(builder, tree_file)
         if builder.left_out:
-            print(f"{os.path.basename(sys.argv[0])}: set-id bits left out: {builder.left_out} (this system gives no "
-                  "mounts of one's own)", file=sys.stderr)
+            tell(f"set-id bits left out: {builder.left_out} (this system gives no mounts of one's own)")
 
     def remove(self):
         if self.root >= 0:
             os.close(self.root)
         if self.has_mount:
             mounts.unmount(self.name)
-        shutil.rmtree(self.above, ignore_errors=True)
+        try:
+            remove_whole(self.lock, self.above)
+        except OSError as error:
+            tell(f"{self.above} stays: {error.strerror}")
         os.close(self.lock)
 
     def __enter__(self):

@@ -22,6 +22,7 @@ sys.path.insert(0, os.path.dirname(HERE))
 import apart  # noqa: E402 (the folder above is not searched before)
 import folders  # noqa: E402
 import mounts  # noqa: E402
+import removing  # noqa: E402
 from recording import ending  # noqa: E402
 from recording.notices import printable  # noqa: E402
 from recording.standard import open_standard_files  # noqa: E402
@@ -276,7 +277,7 @@ def version_of(folder, server):
     except BrokenPipeError:
         return b""
     finally:
-        shutil.rmtree(os.path.join(folder.name, ASIDE))
+        removing.remove(ASIDE, folder.root)
 
 
 def run(folder, program, arguments):
