@@ -8,7 +8,8 @@ import os
 import struct
 
 CLONE_NEWNS = 0x20000
-MS_NOSUID, MS_NODEV, MS_REMOUNT, MS_BIND, MS_REC, MS_PRIVATE = 0x2, 0x4, 0x20, 0x1000, 0x4000, 0x40000
+MS_RDONLY, MS_NOSUID, MS_NODEV, MS_NOEXEC, MS_REMOUNT, MS_BIND = 0x1, 0x2, 0x4, 0x8, 0x20, 0x1000
+MS_REC, MS_PRIVATE = 0x4000, 0x40000
 MNT_DETACH = 0x2
 
 
@@ -66,6 +67,11 @@ def no_new_privileges():
 
 def bind(source, target):
     mount(source, target, MS_BIND)
+
+
+def fix(target):
+    """Lets nobody change the owner, the permissions or the times of what is mounted: a device can still be used."""
+    mount("none", target, MS_REMOUNT | MS_BIND | MS_RDONLY | MS_NOSUID | MS_NOEXEC)
 
 
 def unmount(target):

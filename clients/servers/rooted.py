@@ -30,6 +30,8 @@ from recording.standard import open_standard_files  # noqa: E402
 LDD = "/usr/bin/ldd"
 # How many seconds it may take, and as whom it runs.
 LOOKING, NOBODY = 10, 65534
+# Its environment: nothing of this process's, which may have secrets.
+BARE = {"LC_ALL": "C", "PATH": "/usr/bin:/bin"}
 
 # How much of a packet is read before it is passed on.
 LONGEST = 1 << 18
@@ -97,7 +99,7 @@ def looked_for(file, name):
     """What ldd says of a program that is open, by this name."""
     try:
         return subprocess.run([LDD, name], stdin=subprocess.DEVNULL, capture_output=True, check=False, errors="replace",
-                              timeout=LOOKING, env={**os.environ, "LC_ALL": "C"}, pass_fds=[file.fileno()],
+                              timeout=LOOKING, env=BARE, pass_fds=[file.fileno()],
                               start_new_session=True, preexec_fn=as_nobody)
     except subprocess.TimeoutExpired:
         return fail(f"{LDD} did not end within {LOOKING} seconds")
@@ -171,6 +173,16 @@ def put_program(folder, program):
     return [f"/{ASIDE}/{loader[0]}", "--library-path", f"/{ASIDE}", f"/{ASIDE}/server"]
 
 
+@contextlib.contextmanager
+def mounted(directory, name):
+    """A path of what is mounted at this name of a directory."""
+    held = os.open(name, os.O_PATH | os.O_NOFOLLOW, dir_fd=directory)
+    try:
+        yield f"/proc/self/fd/{held}"
+    finally:
+        os.close(held)
+
+
 class Lent:
     """What a program may look for when it starts, unless the tree has it: a line for root in /etc/passwd, /dev/null.
     Where the tree has another thing than a directory at /etc or /dev, nothing is lent there."""
@@ -198,18 +210,20 @@ class Lent:
             file.write("root:x:0:0:root:/:/bin/sh\n")
 
     def put_null(self, directory, name):
-        """A device has no effect on a mount of the folder's own: there the system's is bound to a file."""
-        if self.folder.has_mount:
-            with open(os.open(name, folders.NEW_FILE, 0o600, dir_fd=directory), "wb") as file:
-                mounts.bind("/dev/null", f"/proc/self/fd/{file.fileno()}")
-        else:
+        """A device has no effect on a mount of the folder's own: there the system's is bound to a file, and its owner
+        and permissions are not to be changed."""
+        if not self.folder.has_mount:
             os.mknod(name, 0o600 | stat.S_IFCHR, os.makedev(1, 3), dir_fd=directory)
+            return
+        with open(os.open(name, folders.NEW_FILE, 0o600, dir_fd=directory), "wb") as file:
+            mounts.bind("/dev/null", f"/proc/self/fd/{file.fileno()}")
+        with mounted(directory, name) as place:
+            mounts.fix(place)
 
     def remove_null(self, name, dir_fd):
         if self.folder.has_mount:
-            held = os.open(name, os.O_PATH | os.O_NOFOLLOW, dir_fd=dir_fd)
-            mounts.unmount(f"/proc/self/fd/{held}")
-            os.close(held)
+            with mounted(dir_fd, name) as place:
+                mounts.unmount(place)
         os.remove(name, dir_fd=dir_fd)
 
     def remove(self):
