@@ -7,6 +7,7 @@ import sftp3
 from probing import features, files, program, refusals, sessions, shrinking, verdicts
 from recording.complaints import Parser
 from recording.links import refuse_way_of_another
+from recording.twice import named_twice
 
 # The exit statuses: all sessions were accepted; there are differences; the command line is wrong, or plans nothing; the
 # server, the command of --reset or the program could not be started; no difference was found, and not all was played.
@@ -170,4 +171,7 @@ def options(about):
     given = found.parse_args()
     if given.look_first is not None and (given.reset or any("{tree}" in word for word in given.command)):
         found.error("--look-first is for servers that start from files of their own: it excludes --reset and {tree}")
+    names = [("--tree", given.tree), ("--session", given.session), ("--report", given.report)]
+    if twice := named_twice(names, may_be_one=("--tree", "--session")):
+        found.error(f"{twice[0]} and {twice[1]} name one file")
     return given
