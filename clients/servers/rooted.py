@@ -14,7 +14,6 @@ import signal
 import stat
 import subprocess
 import sys
-import threading
 
 HERE = os.path.dirname(os.path.realpath(__file__))
 sys.path.insert(0, os.path.dirname(HERE))
@@ -23,6 +22,7 @@ import apart  # noqa: E402 (the folder above is not searched before)
 import folders  # noqa: E402
 import mounts  # noqa: E402
 import removing  # noqa: E402
+import streams  # noqa: E402
 from recording import ending  # noqa: E402
 from recording.notices import printable  # noqa: E402
 from recording.standard import open_standard_files  # noqa: E402
@@ -32,9 +32,6 @@ LDD = "/usr/bin/ldd"
 LOOKING, NOBODY = 10, 65534
 # Its environment: nothing of this process's, which may have secrets.
 BARE = {"LC_ALL": "C", "PATH": "/usr/bin:/bin"}
-
-# How much of a packet is read before it is passed on.
-LONGEST = 1 << 18
 
 # The most bytes that all libraries of a program may have.
 LARGEST = 1 << 30
@@ -231,46 +228,6 @@ class Lent:
             take_back()
 
 
-def read_packet(source):
-    """The next packet, or what is left if the stream ends. Of one that is longer than any may be, the beginning."""
-    data = b""
-    while len(data) < 4 or len(data) < min(4 + int.from_bytes(data[:4], "big"), LONGEST):
-        wanted = 4 if len(data) < 4 else min(4 + int.from_bytes(data[:4], "big"), LONGEST)
-        piece = os.read(source, min(wanted - len(data), 1 << 16))
-        if not piece:
-            break
-        data += piece
-    return data
-
-
-def write_all(target, data):
-    view = memoryview(data)
-    while view:
-        view = view[os.write(target, view):]
-
-
-def pass_on(source, target):
-    """Passes on what comes until one of both ends, and closes both: neither end waits for one that is gone."""
-    try:
-        data = os.read(source, 1 << 16)
-        while data:
-            write_all(target, data)
-            data = os.read(source, 1 << 16)
-    except OSError:
-        pass
-    finally:
-        os.close(source)
-        os.close(target)
-
-
-def show(source):
-    """Shows on a terminal what the server writes to standard error, without what a terminal acts on."""
-    with contextlib.suppress(OSError):
-        while data := os.read(source, 1 << 12):
-            lines = data.decode("utf-8", "surrogateescape").split("\n")
-            write_all(2, "\n".join(map(printable, lines)).encode())
-
-
 def enter(folder):
     """Makes the folder this process's root, and gives up the rights that lead out of it, and the sight of all other
     processes. Files get the permissions that are asked for without those of 022."""
@@ -285,9 +242,9 @@ def enter(folder):
 def version_of(folder, server):
     """Passes INIT on, and gives what the server answers."""
     try:
-        first = read_packet(0)
-        write_all(server.stdin.fileno(), first)
-        return read_packet(server.stdout.fileno()) if first else b""
+        first = streams.read_packet(0)
+        streams.write_all(server.stdin.fileno(), first)
+        return streams.read_packet(server.stdout.fileno()) if first else b""
     except BrokenPipeError:
         return b""
     finally:
@@ -299,22 +256,22 @@ def run(folder, program, arguments):
     lent = Lent(folder)
     try:
         words = put_program(folder, program) + arguments
-        # in a session of its own it types nothing into this terminal
-        server = subprocess.Popen(words, stdin=subprocess.PIPE, stdout=subprocess.PIPE, bufsize=0,
-                                  stderr=subprocess.PIPE if os.isatty(2) else None, env={"LC_ALL": "C"},
-                                  start_new_session=True, preexec_fn=lambda: enter(folder))
-        if server.stderr:
-            threading.Thread(target=show, args=(server.stderr.fileno(),), daemon=True).start()
+        # in a session of its own it types nothing into this terminal, and by pipes it holds no file of the machine
+        server = subprocess.Popen(words, stdin=subprocess.PIPE, stdout=subprocess.PIPE, stderr=subprocess.PIPE,
+                                  bufsize=0, env={"LC_ALL": "C"}, start_new_session=True,
+                                  preexec_fn=lambda: enter(folder))
+        said = streams.shown(server.stderr.fileno())
         version = version_of(folder, server)
     finally:
         lent.remove()
-    write_all(1, version)
-    asked = os.dup(server.stdin.fileno())
-    threading.Thread(target=pass_on, args=(os.dup(0), asked), daemon=True).start()
+    streams.write_all(1, version)
+    ends = os.dup(server.stdin.fileno()), os.dup(server.stdout.fileno())
     server.stdin.close()
-    pass_on(os.dup(server.stdout.fileno()), os.dup(1))
     server.stdout.close()
-    return server.wait()
+    streams.pass_all(*ends)
+    status = server.wait()
+    said.join(streams.LAST_WORDS)
+    return status
 
 
 def end(status):
