@@ -1,27 +1,50 @@
-"""A server without other processes around it: it sees, and so signals, only what it starts, and that ends with it.
+"""A server without the machine around it: it sees, and so signals, only what it starts, and that ends with it; and it
+has no network, no memory that processes share, and no keys but its own.
 
 A server that clients/servers start has root as its user, and may signal every process of root that it sees, whatever
 rights it gave up. So it runs in a namespace of processes of its own, below a keeper that is the first process there:
 when the keeper ends, the system ends all that is left. Without the right to make namespaces, the system ends the server
-with the script, and no more.
+with the script, and no more. What the system does not give, is said.
 """
 import ctypes
 import os
 import resource
 import signal
 
+import keys
 import mounts
 
 CLONE_NEWPID = 0x20000000
+# What else a process has of the machine that no name leads to: abstract sockets and ports; memory and queues.
+OTHERS = {0x40000000: "network", 0x08000000: "shared memory and queues"}
 SET_DEATH_SIGNAL = 1
 
 # What ends the keeper must not be what the server may handle: these go to all processes of a session.
 PASSED_BY = (signal.SIGTERM, signal.SIGHUP, signal.SIGINT)
 
 
+def leave_behind():
+    """Leaves the machine's network, shared memory and keys. Gives the names of those that the system does not let it
+    leave. No program gets new rights by its owner or its file from then on."""
+    kept = []
+    for space, name in OTHERS.items():
+        try:
+            mounts.call("unshare", space)
+        except (OSError, AttributeError):
+            kept.append(name)
+    try:
+        mounts.no_new_privileges()
+        keys.deny()
+    except (OSError, AttributeError):
+        kept.append("keys")
+    return kept
+
+
 def step_aside():
     """Goes on, and returns, as a process that sees no other but the keeper. The one that called waits for it, and ends
     as it does. For a process that was forked to run a server."""
+    if kept := leave_behind():
+        os.write(2, f"the server has this machine's {', '.join(kept)}: the system gives no others\n".encode())
     try:
         mounts.call("unshare", CLONE_NEWPID)
     except (OSError, AttributeError):

@@ -43,13 +43,12 @@ def without_set_id(folder):
 
 # The calls of prctl, and what a server needs of root's rights: to give files owners and to reach and change them all.
 DROP_FROM_BOUNDS, SET_NO_NEW_PRIVILEGES = 24, 38
-CHOWN, DAC_OVERRIDE, FOWNER, FSETID, SETGID, SETUID = 0, 1, 3, 4, 6, 7
-KEPT = (CHOWN, DAC_OVERRIDE, FOWNER, FSETID, SETGID, SETUID)
+KEPT = CHOWN, DAC_OVERRIDE, FOWNER, FSETID = 0, 1, 3, 4
 
 
 def give_up_rights():
     """Leaves the program that this process runs next none of root's rights that lead out of a changed root: to change
-    it again, to mount, to make devices, to trace other processes, to signal those of other users."""
+    it again, to mount, to make devices, to trace other processes, to become another user, to signal those of others."""
     for right in range(64):
         if right not in KEPT:
             with contextlib.suppress(OSError):

@@ -89,7 +89,6 @@ def as_nobody():
     os.setgroups([])
     os.setresgid(NOBODY, NOBODY, NOBODY)
     os.setresuid(NOBODY, NOBODY, NOBODY)
-    mounts.no_new_privileges()
 
 
 def looked_for(file, name):
