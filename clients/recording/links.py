@@ -8,19 +8,27 @@ import os
 MOST = 40
 
 
-def refuse_link_of_another(name: str) -> None:
-    """Raises OSError if another user may have put a link on the way that this name leads, as the program does: what it
-    leads to, that user chose."""
-    given = name
+def followed(name: str) -> str:
+    """The path to which a name leads, on which there was no link when this was called. Its links are followed one at a
+    time, as the program does. Raises OSError if another user may have put one there: what it leads to, that user chose.
+
+    Who opens the path follows no link at its end: the name itself may lead elsewhere by now."""
+    path = name
     for _ in range(MOST + 1):
-        link, rest = first_link(name)
+        link, rest = first_link(path)
         if link is None:
-            return
+            return path
         folder = os.path.dirname(link)
         if not is_trusted(os.lstat(link).st_uid, os.stat(folder or "."), os.geteuid()):
-            raise OSError(errno.EPERM, "a symbolic link of another user is on the way", given)
-        name = os.path.join(folder, os.readlink(link)) + rest
-    raise OSError(errno.ELOOP, os.strerror(errno.ELOOP), given)
+            raise OSError(errno.EPERM, "a symbolic link of another user is on the way", name)
+        path = os.path.join(folder, os.readlink(link)) + rest
+    raise OSError(errno.ELOOP, os.strerror(errno.ELOOP), name)
+
+
+def refuse_link_of_another(name: str) -> None:
+    """Raises OSError if another user may have put a link on the way that this name leads: before what it names is
+    given to a program, which looks by itself."""
+    followed(name)
 
 
 def refuse_way_of_another(name: str) -> None:

@@ -3,7 +3,7 @@ import os
 import select
 import struct
 
-from recording import folders, times
+from recording import folders, links, times
 
 # The form of the socket of a spool: recording/keeping.py has it.
 SPOOL_OPENING = b"SFTPSP01"
@@ -137,8 +137,9 @@ class SpoolSink:
         """Refuses a socket that another user could have made in place of the daemon's."""
         import socket
         _, user, _ = PEER.unpack(self.socket.getsockopt(socket.SOL_SOCKET, socket.SO_PEERCRED, PEER.size))
-        found = folders.fault(self.name, user)
-        owner = os.stat(os.path.dirname(os.path.realpath(self.name))).st_uid
+        name = links.followed(os.path.join(os.getcwd(), self.name))
+        found = folders.fault(name, user)
+        owner = os.stat(os.path.dirname(name)).st_uid
         if not found and user not in (0, os.geteuid(), owner):
             found = "it is of a user whom its folder does not belong to"
         if found:

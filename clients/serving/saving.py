@@ -10,7 +10,7 @@ import os
 import stat
 import time
 
-from recording.links import refuse_link_of_another
+from recording.links import followed
 
 # How long another session may hold the lock, and how many names are tried in turn.
 PATIENCE = 5.0
@@ -168,9 +168,8 @@ def permissions(mode: str | None) -> int:
 def real_name(name: str) -> str:
     """Where the tree goes: the file that a link leads to, which has to be there. The links on the way to it are those
     of this user or of root: what another one put there leads wherever that one likes."""
-    refuse_link_of_another(name)
-    real = os.path.realpath(name)
-    if os.path.islink(name) and not os.path.exists(real):
+    real = followed(os.path.join(os.getcwd(), name))
+    if os.path.islink(name) and not os.path.lexists(real):
         raise OSError(errno.ENOENT, "it is a symbolic link to no file")
     return real
 
