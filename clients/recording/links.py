@@ -18,11 +18,15 @@ def followed(name: str) -> str:
         link, rest = first_link(path)
         if link is None:
             return path
-        folder = os.path.dirname(link)
-        if not is_trusted(os.lstat(link).st_uid, os.stat(folder or "."), os.geteuid()):
-            raise OSError(errno.EPERM, "a symbolic link of another user is on the way", name)
-        path = os.path.join(folder, os.readlink(link)) + rest
+        refuse_followed(link, name)
+        path = os.path.join(os.path.dirname(link), os.readlink(link)) + rest
     raise OSError(errno.ELOOP, os.strerror(errno.ELOOP), name)
+
+
+def refuse_followed(link: str, name: str | None = None) -> None:
+    """Raises OSError if another user may have put this link where it is. It is on the way that this name leads."""
+    if not is_trusted(os.lstat(link).st_uid, os.stat(os.path.dirname(link) or "."), os.geteuid()):
+        raise OSError(errno.EPERM, "a symbolic link of another user is on the way", name or link)
 
 
 def refuse_link_of_another(name: str) -> None:

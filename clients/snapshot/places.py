@@ -5,6 +5,7 @@ import stat
 from contextlib import ExitStack
 from typing import Dict, Iterator, List
 
+from recording.links import followed, refuse_followed
 from snapshot.looking import DIRECTORY, Entry, Look, Place, Trouble, mount_points, names
 
 # docs/TREE.md: the most links on one walk.
@@ -18,7 +19,7 @@ class View:
     def __init__(self, folders: List[str], is_root: bool, stack: ExitStack, with_mounts: bool = True,
                  most: int = 1 << 34):
         self.is_root, self.most = is_root, most
-        above = names(os.fsencode(os.path.realpath(folders[0]))) if is_root else ()
+        above = names(os.fsencode(os.path.realpath(followed(folders[0])))) if is_root else ()
         self.mounts = frozenset() if with_mounts else frozenset(
             it[len(above):] for it in mount_points() if it[:len(above)] == above)
         self.root = self.open(above, stack)
@@ -46,7 +47,8 @@ class View:
         return any(place[:length] in self.tops for length in range(len(place)))
 
     def lead_to(self, place: Place) -> None:
-        """Takes in the directories and links from the root to a folder; the folder is what the last one leads to."""
+        """Takes in the directories and links from the root to a folder; the folder is what the last one leads to. A
+        link of another user than this one and root, which leads wherever that one likes, is refused."""
         links, at, left = 0, (), list(place)
         while left:
             name = left.pop(0)
@@ -60,7 +62,9 @@ class View:
                 links += 1
                 if links > MOST_LINKS:
                     raise Trouble(f"{os.fsdecode(b'/'.join((b'',) + place))}: more than {MOST_LINKS} links")
-                target = os.readlink(b"/" + b"/".join(at))
+                link = b"/" + b"/".join(at)
+                refuse_followed(os.fsdecode(link))
+                target = os.readlink(link)
                 at = () if target.startswith(b"/") else at[:-1]
                 left = [part for part in names(target) if part != b"."] + left
         self.tops.append(at)

@@ -1,8 +1,10 @@
 """Attacks between two looks at a name: whatever a script sees of it first, what it sees next may be another thing."""
 import os
+import subprocess
 from contextlib import contextmanager, suppress
 
-from attacking.ground import attack
+from attacking.ground import CLIENTS, SECONDS, attack
+from programs import program
 from serving import saving
 
 LOOKS = ("lstat", "stat", "readlink")
@@ -87,3 +89,27 @@ def a_link_appears_between_two_looks_of_a_session(field):
             break
     if not 5 < number < MOST - 1:
         yield f"{number} looks"
+
+
+@attack("user")
+def a_folder_of_a_user_is_a_link(field):
+    """Where a user puts a link in place of a folder, or of one on the way, root's sftpv3-tree reads nothing behind it.
+    Links of root are followed."""
+    user, home, theirs = field.user.pw_uid, field.path("home"), field.path("of-root")
+    os.makedirs(os.path.join(theirs, "below"), 0o700)
+    made(os.path.join(theirs, "below", "secret"), b"the secret of root")
+    os.mkdir(home)
+    os.chown(home, user, user)
+    for owner, wanted in ((user, 3), (0, 0)):
+        for target, place in ((f"{theirs}/below", "files"), (theirs, "way")):
+            os.symlink(target, f"{home}/{place}-{owner}")
+            os.lchown(f"{home}/{place}-{owner}", owner, owner)
+        for place in (f"files-{owner}", f"way-{owner}/below"):
+            for words in ([], ["--chroot"]):
+                done = subprocess.run([os.path.join(CLIENTS, "tree"), "--user", str(user), "--home", "/", *words,
+                                       os.path.join(home, place)], env={**os.environ, "SFTPV3": program()},
+                                      capture_output=True, timeout=SECONDS)
+                if done.returncode != wanted or (b"the secret" in done.stdout) != (wanted == 0):
+                    yield f"{place} {words}: status {done.returncode}, {len(done.stdout)} bytes {done.stderr[-200:]!r}"
+                if wanted and b"a symbolic link of another user is on the way" not in done.stderr:
+                    yield f"{place} {words}: {done.stderr[-200:]!r}"
