@@ -51,7 +51,7 @@ class Night:
         self.options = given.audit or usual(self.program)
         if not any(it.partition("=")[0] == "--memory" for it in self.options):
             self.options += ["--memory", str(given.memory)]
-        self.spool = Spool(given.records, given.user, given.number)
+        self.spool = Spool(given.records, given.number)
         self.folder = os.path.join(given.state, given.user)
         os.makedirs(self.folder, mode=0o700, exist_ok=True)
         self.tree, self.compared = (os.path.join(self.folder, it) for it in ("tree", "compared"))

@@ -12,6 +12,7 @@ import time
 from contextlib import suppress
 
 from paging import packets
+from recording import naming
 
 RECORD = re.compile(r".*\.transcript(\.[0-9a-f]+)?")
 DATE = re.compile(r"[0-9]{8}T[0-9]{6}Z")
@@ -113,11 +114,11 @@ def is_writable(state):
 
 
 class Spool:
-    """Where the records of a user are: files of this user in the folder that all share, and those in the folder of the
-    user's name, into which sftpv3-recordd writes. `refused` says why the latter is not taken, or is None."""
+    """Where the records of a user are: files of this user in the folder that all share, and those in the folder that
+    sftpv3-recordd has for the user's name. `refused` says why the latter is not taken, or is None."""
 
-    def __init__(self, path, user, number):
-        self.path, self.user, self.number = path, user, number
+    def __init__(self, path, number):
+        self.path, self.user, self.number = path, naming.as_part(naming.user_name(number)), number
         self.shared, self.own, self.refused = os.open(path, FOLDER), None, None
 
     def look(self):

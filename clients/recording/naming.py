@@ -13,6 +13,8 @@ from recording.links import refuse_way_of_another
 PATIENCE = 5
 # How many names are tried in turn, and how many with a random end: others may have taken those that can be foreseen.
 IN_TURN, RANDOM = 9, 9
+# The longest part of a name, in bytes: a user's name, an address.
+LONGEST_PART = 100
 
 
 class BadName(Exception):
@@ -31,8 +33,26 @@ def user_name(number):
 
 
 def as_part(text):
-    """A text as a part of a file's name: without slashes and without what a shell or a terminal acts on."""
-    return "".join(it if it.isascii() and (it.isalnum() or it in "_.:@+%-") else "_" for it in text)[:100] or "_"
+    """A text as a part of a file's name: without slashes and without what a shell or a terminal acts on, in their place
+    the bytes in hexadecimal, as `=5c`. Of two texts each has a part of its own."""
+    part = "".join(it if is_plain(it) else escaped(it) for it in text)
+    if part.startswith("."):
+        part = escaped(".") + part[1:]
+    return part if 0 < len(part) <= LONGEST_PART else f"=={digest(text)}"
+
+
+def is_plain(letter):
+    return letter.isascii() and (letter.isalnum() or letter in "_.:@+%-")
+
+
+def escaped(letter):
+    return "".join(f"={it:02x}" for it in letter.encode("utf-8", "surrogateescape"))
+
+
+def digest(text):
+    """What stands for a text that is too long, or empty."""
+    import hashlib
+    return hashlib.sha256(text.encode("utf-8", "surrogateescape")).hexdigest()
 
 
 def address(environment):

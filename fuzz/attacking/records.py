@@ -3,7 +3,9 @@ import os
 import subprocess
 
 from attacking.ground import SECONDS, attack, wrong_status
+from nights.records import Spool
 from programs import program
+from recording import naming
 from sftp3 import Request, encode, init
 
 HELLO = init()
@@ -55,3 +57,28 @@ def two_sessions_in_one_record(field):
     yield from wrong_status(third, 0)
     if not field.read("record").startswith(b"SFTPTR01C" + HELLO):
         yield "a later session is not recorded"
+
+
+@attack(is_small=True)
+def a_user_has_the_folder_of_another(field):
+    """No two names of users are those of one folder of records; the night looks where the daemon writes."""
+    names = {"u": "u", "DOM_bob": "DOM_bob", "DOM\\bob": "DOM=5cbob", "DOM=5cbob": "DOM=3d5cbob", "..": "=2e.",
+             ".": "=2e", "a/b": "a=2fb", "\u00e9": "=c3=a9", "\udce9": "=e9", "u@a.b": "u@a.b", "a\n": "a=0a"}
+    found = {it: naming.as_part(it) for it in names}
+    yield from (f"{ascii(it)}: {part}" for it, part in found.items() if part != names[it])
+    long = [naming.as_part(it) for it in ("", "u" * 300, "u" * 299 + "v", "u" * 101)]
+    if len({*found.values(), *long}) != len(found) + len(long) or max(map(len, long)) > 255:
+        yield f"{long}"
+    user_name = naming.user_name
+    naming.user_name = {4_000_001: "DOM\\bob", 4_000_002: "DOM_bob"}.__getitem__
+    try:
+        for number, name in ((4_000_001, "DOM=5cbob"), (4_000_002, "DOM_bob")):
+            spool = Spool(field.folder, number)
+            spool.look()
+            taken_before = spool.own is not None
+            os.mkdir(field.path(name), 0o700)
+            spool.look()
+            if taken_before or spool.own is None:
+                yield f"{name}: {spool.refused}"
+    finally:
+        naming.user_name = user_name
