@@ -15,7 +15,7 @@ from recording.parsers import record_parser
 def names(steps, room):
     user = pwd.getpwuid(os.getuid()).pw_name
     for connection, address in (("192.0.2.7 5000 192.0.2.1 22", "192.0.2.7"), ("2001:db8::7 5 2001:db8::1 22",
-                                "2001:db8::7"), ("../../x y", ".._.._x"), ("", "local")):
+                                "2001:db8::7"), ("../../x y", "=2e.=2f..=2fx"), ("", "local")):
         environment = {**os.environ, "SSH_CONNECTION": connection}
         before = set(os.listdir(room.folder))
         ran = run(room, "a-%u-%t-%h-%p-100%%", STUB, data=INIT, env=environment)
