@@ -5,6 +5,7 @@ import socket
 import stat
 import subprocess
 import tempfile
+from contextlib import contextmanager
 
 from attacking.ground import SECONDS, attack
 from attacking.servers import HELLO, built
@@ -200,26 +201,35 @@ def a_server_reaches_what_has_no_name(field):
         yield f"status {done.returncode} {done.stderr[-300:]!r}"
 
 
+@contextmanager
+def deep_room(field):
+    """A folder that is removed however deep it is: Python's own function for it ends in a RecursionError."""
+    room = tempfile.mkdtemp(dir=field.folder)
+    try:
+        yield room
+    finally:
+        subprocess.run(["rm", "-rf", room], check=True)
+
+
 @attack("user", "cc")
 def a_folder_is_too_deep_to_remove(field):
     """Directories within each other, as many as a server likes, are removed, and stop no later start."""
     server = built(field, "server", SERVER, "-static")
     for word in ("deep", "deep-start"):
-        with tempfile.TemporaryDirectory(dir=field.folder) as room:
+        with deep_room(field) as room:
             done = played(field, server, word, folder=room)
             if b"deep" not in done.stderr or b"Traceback" in done.stderr or done.returncode != 7:
                 yield f"{word}: status {done.returncode} {done.stderr[-300:]!r}"
             left = os.listdir(room)
             if left:
                 yield f"{word}: left behind: {left}"
-            subprocess.run(["rm", "-rf", *(os.path.join(room, it) for it in left)], check=True)
 
 
 @attack("user", "cc")
 def a_deep_folder_is_left(field):
     """So are those that a killed run left, by the next one."""
     server = built(field, "server", SERVER, "-static")
-    with tempfile.TemporaryDirectory(dir=field.folder) as room:
+    with deep_room(field) as room:
         left = os.path.join(room, "sftpv3-root-left")
         os.makedirs(os.path.join(left, "root"), 0o700)
         os.chmod(left, 0o700)
@@ -229,4 +239,3 @@ def a_deep_folder_is_left(field):
         done = played(field, server, folder=room)
         if done.returncode != 7 or os.listdir(room):
             yield f"status {done.returncode} {done.stderr[-300:]!r}, left {os.listdir(room)}"
-        subprocess.run(["rm", "-rf", left], check=True)
