@@ -45,7 +45,8 @@ def files_named_twice(steps, room):
                   ("--log", "t", "t"), ("--overwrite", "--log", "t", "--times", "t", "new")):
         before = set(os.listdir(room.folder))
         ran = run(room, *words, STUB, data=INIT)
-        steps.check(f"{' '.join(words)}: status 2", ran.returncode == 2 and b"names the file of" in ran.stderr, str(ran))
+        steps.check(f"{' '.join(words)}: status 2", ran.returncode == 2 and b"names the file of" in ran.stderr,
+                    str(ran))
         steps.check(f"{' '.join(words)}: no file is changed", room.read("f") == room.read("t") == b"dear" and
                     set(os.listdir(room.folder)) == before, f"{os.listdir(room.folder)}")
     ran = run(room, "--log", "/dev/null", "--times", "/dev/null", "/dev/null", STUB, data=INIT)
