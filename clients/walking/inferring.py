@@ -3,7 +3,7 @@ import subprocess
 
 from probing import servers, verdicts
 
-# The most memory of `infer`, unless it is told otherwise: it takes three times the bytes of a record with files.
+# The most memory of `infer`, unless it is told otherwise: it takes four times the bytes of a record with files.
 MEMORY = 1 << 32
 
 # The least that its address space is bounded by: the program has to be loaded, and then says by itself what it lacks.
