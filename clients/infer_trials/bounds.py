@@ -1,12 +1,12 @@
 """Sessions that cost a search much for their length, and what `infer` took for each.
 
-The memory is the most that the process had. It may be three times the bytes of the transcript (with the tree at the
-end, and its tree file), 1 KiB for each place that replies tell of, and what the program takes for a session of no
-requests. Bytes that are read are in the tree file at the start, too, so they count once more; those of files whose size
-alone is told count three times, and so do the paths of places, all of which a tree file has.
+The memory is the most that the process had. It may be twice the bytes of the transcript, 1 KiB for each place that
+replies tell of, what the program takes for a session of no requests, and the bytes of files whose size alone is told.
+Where these are more than the program allows, or paths are, it has to say so and end with status 3.
 """
 import json
 import os
+import re
 import subprocess
 import sys
 from dataclasses import dataclass
@@ -19,6 +19,13 @@ from sftp3.transcripts import put_records
 # take beside those for its bytes.
 BASE, SECONDS, BYTES_A_SECOND = 16 << 20, 10, 100_000
 
+# The status of the program where a tree explains the session, where none is found, and where it would be too large.
+FOUND, NOT_FOUND, TOO_LARGE = 0, 1, 3
+
+# How it says the last.
+EXCESS = re.compile(r"no tree: the (files of the session|paths that replies tell of) have \d+ bytes in all\n"
+                    r"sftpv3: out of memory: .* needs more than '--memory' allows\n")
+
 OWNER = (7, 8)
 DIRECTORY, FILE, LINK = ({"size": size, "owner": OWNER, "permissions": kind} for size, kind in
                          ((0, 0o40755), (0, 0o100644), (8, 0o120777)))
@@ -26,13 +33,14 @@ DIRECTORY, FILE, LINK = ({"size": size, "owner": OWNER, "permissions": kind} for
 
 @dataclass
 class Costly:
-    """A session: its records, how many places replies tell of, how many bytes more it may take, and whether a tree
-    explains it, if that is known."""
+    """A session: its records, how many places replies tell of, how many bytes more it may take, with which statuses the
+    program may end, and options that it is given."""
 
     records: list
     places: int
     more: int
-    is_right: bool | None
+    statuses: tuple
+    words: tuple = ()
 
 
 def records(exchanges):
@@ -43,7 +51,7 @@ def records(exchanges):
     return found
 
 
-def status(code):
+def status_of(code):
     return "STATUS", code, b"", b""
 
 
@@ -52,8 +60,8 @@ def listing(place, names, attributes, together=100):
     yield ("OPENDIR", place), ("HANDLE", b"h")
     for first in range(0, len(names), together):
         yield ("READDIR", b"h"), ("NAME", [(name, name, attributes) for name in names[first:first + together]])
-    yield ("READDIR", b"h"), status(1)
-    yield ("CLOSE", b"h"), status(0)
+    yield ("READDIR", b"h"), status_of(1)
+    yield ("CLOSE", b"h"), status_of(0)
 
 
 def names_of(count, form=b"name%05d"):
@@ -61,7 +69,7 @@ def names_of(count, form=b"name%05d"):
 
 
 def many_names(count):
-    return Costly(records(listing(b"/", names_of(count), FILE)), count, 0, True)
+    return Costly(records(listing(b"/", names_of(count), FILE)), count, 0, (FOUND,))
 
 
 def links(count):
@@ -69,30 +77,30 @@ def links(count):
     def exchanges():
         yield from listing(b"/d", names_of(count), LINK)
         for name in names_of(count):
-            yield ("STAT", b"/d/" + name), status(2)
-    return Costly(records(exchanges()), count, 0, True)
+            yield ("STAT", b"/d/" + name), status_of(2)
+    return Costly(records(exchanges()), count, 0, (FOUND,))
 
 
-def deep(count):
+def deep(count, statuses):
     """A home of many bytes, and directories there that refusals seem to say are not there."""
     home = b"".join(b"/" + bytes([97 + depth % 26]) * 60 for depth in range(60))
 
     def exchanges():
         yield ("REALPATH", b"."), ("NAME", [(home, home, {})])
         for name in names_of(count):
-            yield ("STAT", name + b"/b"), status(2)
+            yield ("STAT", name + b"/b"), status_of(2)
         yield from listing(b".", names_of(count), DIRECTORY)
-    return Costly(records(exchanges()), count, 3 * count * (len(home) + 10), None)
+    return Costly(records(exchanges()), count, 0, statuses)
 
 
 def ambiguous(count):
     """Refusals with several reasons each, and then a contradiction."""
     def exchanges():
         for number in range(count):
-            yield ("RENAME", b"/a%d" % number, b"/b%d" % number), status(4)
-        yield ("RMDIR", b"/z"), status(0)
+            yield ("RENAME", b"/a%d" % number, b"/b%d" % number), status_of(4)
+        yield ("RMDIR", b"/z"), status_of(0)
         yield ("STAT", b"/z"), ("ATTRS", FILE)
-    return Costly(records(exchanges()), count, 0, False)
+    return Costly(records(exchanges()), count, 0, (NOT_FOUND,))
 
 
 def scattered(count, is_written):
@@ -101,18 +109,28 @@ def scattered(count, is_written):
         yield ("OPEN", b"/f", 10 if is_written else 1, {}), ("HANDLE", b"h")
         for number in range(count):
             if is_written:
-                yield ("WRITE", b"h", 2 * number, b"x"), status(0)
+                yield ("WRITE", b"h", 2 * number, b"x"), status_of(0)
             else:
                 yield ("READ", b"h", 2 * number, 1), ("DATA", b"x")
-    return Costly(records(exchanges()), 1, 4 * count, None)
+    return Costly(records(exchanges()), 1, 4 * count, (FOUND, NOT_FOUND))
 
 
-def sized(count, size):
+def sized(count, size, status, words=()):
     """Files of which the size alone is told."""
     def exchanges():
         for number in range(count):
             yield ("STAT", b"/f%d" % number), ("ATTRS", {**FILE, "size": size})
-    return Costly(records(exchanges()), count, 3 * count * size, True)
+    return Costly(records(exchanges()), count, count * size if status == FOUND else 0, (status,), words)
+
+
+def grown(count, size, status, words=()):
+    """Files that the session makes, and gives a size."""
+    def exchanges():
+        for number in range(count):
+            yield ("OPEN", b"/f%d" % number, 26, {}), ("HANDLE", b"h")
+            yield ("FSETSTAT", b"h", {"size": size}), status_of(0)
+            yield ("CLOSE", b"h"), status_of(0)
+    return Costly(records(exchanges()), count, count * size if status == FOUND else 0, (status,), words)
 
 
 def whole(count, is_written):
@@ -123,21 +141,27 @@ def whole(count, is_written):
             yield ("OPEN", b"/f%d" % number, 10 if is_written else 1, {}), ("HANDLE", b"h")
             for place in range(128):
                 if is_written:
-                    yield ("WRITE", b"h", place * len(block), block), status(0)
+                    yield ("WRITE", b"h", place * len(block), block), status_of(0)
                 else:
                     yield ("READ", b"h", place * len(block), len(block)), ("DATA", block)
-            yield ("CLOSE", b"h"), status(0)
-    return Costly(records(exchanges()), count, 0 if is_written else count << 22, True)
+            yield ("CLOSE", b"h"), status_of(0)
+    return Costly(records(exchanges()), count, 0, (FOUND,))
 
 
 SESSIONS = {
     "a directory of 20,000 names": lambda: many_names(20_000),
     "2,000 links of a directory, which lead nowhere": lambda: links(2_000),
-    "20,000 directories at a home of 3,660 bytes": lambda: deep(20_000),
+    "200 directories at a home of 3,660 bytes": lambda: deep(200, (FOUND, NOT_FOUND)),
+    "20,000 directories at a home of 3,660 bytes": lambda: deep(20_000, (TOO_LARGE, NOT_FOUND)),
     "20,000 refusals with several reasons each": lambda: ambiguous(20_000),
     "100,000 single bytes that are read": lambda: scattered(100_000, False),
     "100,000 single bytes that are written": lambda: scattered(100_000, True),
-    "8 files of 16 MiB of which the size is told": lambda: sized(8, 16 << 20),
+    "8 files of 16 MiB of which the size is told": lambda: sized(8, 16 << 20, FOUND),
+    "a file of 5 GiB of which the size is told": lambda: sized(1, 5 << 30, NOT_FOUND),
+    "8 files of 16 MiB with --memory for 7": lambda: sized(8, 16 << 20, TOO_LARGE, ("--memory", str(7 << 24))),
+    "100 files of 16 MiB of which the size is told": lambda: sized(100, 16 << 20, TOO_LARGE),
+    "8 files that the session gives 16 MiB": lambda: grown(8, 16 << 20, FOUND),
+    "100 files that the session gives 16 MiB": lambda: grown(100, 16 << 20, TOO_LARGE),
     "64 MiB that are read": lambda: whole(16, False),
     "64 MiB that are written": lambda: whole(16, True),
 }
@@ -147,31 +171,35 @@ SESSIONS = {
 # it runs another program.
 MEASURE = """
 import json, resource, subprocess, sys
-done = subprocess.run(sys.argv[1:], stdin=subprocess.DEVNULL, stdout=subprocess.PIPE, stderr=subprocess.DEVNULL)
+done = subprocess.run(sys.argv[1:], stdin=subprocess.DEVNULL, capture_output=True)
 usage = resource.getrusage(resource.RUSAGE_CHILDREN)
-said = done.stdout.decode(errors="replace").strip()
-print(json.dumps([done.returncode, usage.ru_utime + usage.ru_stime, usage.ru_maxrss * 1024, said]))
+said, why = (text.decode(errors="replace") for text in (done.stdout, done.stderr))
+print(json.dumps([done.returncode, usage.ru_utime + usage.ru_stime, usage.ru_maxrss * 1024, said, why]))
 """
 
 
 def measured(words):
     """The exit status of a command, the seconds of a processor and the most bytes of memory that it took, and what it
-    said."""
-    return json.loads(subprocess.check_output([sys.executable, "-c", MEASURE, *words], timeout=judging.PATIENCE))
+    said on standard output and on standard error. Raises Wrong if it does not end."""
+    try:
+        return json.loads(subprocess.check_output([sys.executable, "-c", MEASURE, *words], timeout=judging.PATIENCE))
+    except subprocess.TimeoutExpired:
+        raise judging.Wrong(f"`infer` took more than {judging.PATIENCE} seconds") from None
 
 
 def attempt(folder, program, name):
-    """Has `infer` look for a tree of this session. Returns why that is wrong, or nothing, and what it took."""
+    """Has `infer` look for a tree of this session. Returns why that is wrong, or nothing, and what it took. Raises
+    Wrong if it does not end."""
     session = SESSIONS[name]()
     transcript = os.path.join(folder, "costly.transcript")
     with open(transcript, "wb") as file:
         size = file.write(put_records(session.records))
-    most = BASE + 3 * size + 1024 * session.places + session.more
-    words = [program, "infer", "--no-sync", "--transcript", transcript, transcript + ".tree"]
-    status, seconds, memory, said = measured(words)
+    most = BASE + 2 * size + 1024 * session.places + session.more
+    words = [program, "infer", "--no-sync", *session.words, "--transcript", transcript, transcript + ".tree"]
+    status, seconds, memory, said, why = measured(words)
     wrong = []
-    if status not in (0, 1) or session.is_right not in (None, status == 0):
-        wrong.append(f"status {status}, {said}")
+    if status not in session.statuses or (status == TOO_LARGE) != (EXCESS.fullmatch(why) is not None):
+        wrong.append(f"status {status}, {said.strip()} {why.strip()}")
     if seconds > SECONDS + size / BYTES_A_SECOND:
         wrong.append(f"{seconds:.1f} seconds for {size:,} bytes")
     if memory > most:

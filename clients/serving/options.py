@@ -8,6 +8,8 @@ NAME = "sftpv3-serve"
 
 # The options of the script, each with a value.
 OWN = ("--log", "--grace", "--program")
+# What `sftpv3 serve` is told besides, unless the option of the script with `no-` leaves it out.
+USUAL = ("--texts", "--long-names")
 # The options of `sftpv3 serve` whose values the script looks at.
 SEEN = ("--tree", "--save", "--record", "--replay", "--mode")
 # How long a client may take for the replies that it is still owed after a signal.
@@ -29,6 +31,7 @@ class Options:
         self.mode = None
         self.grace: float = GRACE
         self.passed: list[str] = []
+        self.left_out: list[str] = []
         self.save_place = None
         self.is_synced = True
 
@@ -37,7 +40,8 @@ class Options:
         passed = list(self.passed)
         if side is not None:
             passed[self.save_place] = side
-        return [self.program or program_beside(), "serve", *passed]
+        usual = [it for it in USUAL if it not in passed and it not in self.left_out]
+        return [self.program or program_beside(), "serve", *passed, *usual]
 
 
 def seconds(text: str) -> float:
@@ -87,6 +91,8 @@ def read(words: list[str]) -> Options:
         elif name in SEEN:
             options.passed += [name, value]
             note(options, name, value)
+        elif word.startswith("--no-") and f"--{word[5:]}" in USUAL:
+            options.left_out.append(f"--{word[5:]}")
         else:
             options.passed.append(word)
     options.is_synced = "--no-sync" not in options.passed

@@ -33,6 +33,10 @@ def parser():
     made.add_argument("--grace", metavar="SECONDS", help="how long a client may take for its replies after a signal, "
                                                          "30 by default")
     made.add_argument("--program", metavar="FILE", help="the program sftpv3, by default the one installed beside")
+    made.add_argument("--no-texts", action="store_true", help="refusals say nothing but their code: the server is not "
+                                                              "given its option --texts")
+    made.add_argument("--no-long-names", action="store_true", help="'ls -l' shows bare names: the server is not given "
+                                                                   "its option --long-names")
     group = made.add_argument_group(
         "options that go on to 'sftpv3 serve', as any other of its options does")
     group.add_argument("--tree", metavar="FILE", help="the tree file: the tree at the start of the session")

@@ -24,7 +24,8 @@ ENDLESS, MEMORY = 300, 1 << 30
 # Seconds after which a signal is said not to end a script.
 PROMPT = 60
 
-# A program `sftpv3` whose `infer` hangs, in which another process is started first, or needs more memory than it gets.
+# A program `sftpv3` whose `infer` hangs, in which another process is started first, or needs more memory than it gets,
+# or says of which files that is so.
 HANGING = """#!/bin/sh
 [ "$*" = "help infer" ] || { echo $$ >"$MARK"; sleep 600; }
 """
@@ -32,6 +33,12 @@ GREEDY = """#!/bin/sh
 [ "$*" = "help infer" ] && exit
 sleep 1
 dd if=/dev/zero of=/dev/null bs=400000000 count=1 2>/dev/null || { echo "sftpv3: out of memory" >&2; exit 3; }
+"""
+LARGE = """#!/bin/sh
+[ "$*" = "help infer" ] && exit
+echo "no tree: the files of the session have 5 bytes in all" >&2
+echo "sftpv3: out of memory: x needs more than '--memory' allows" >&2
+exit 3
 """
 
 # Servers of hostile.py at which the walk ends, and what it says.
@@ -252,6 +259,11 @@ def try_signals(steps, folder):
 def try_memory(steps, folder):
     """`infer` gets no more memory than --memory says."""
     greedy = {"env": {**os.environ, "SFTPV3": executable(os.path.join(folder, "greedy"), GREEDY)}}
+    large = {"env": {**os.environ, "SFTPV3": executable(os.path.join(folder, "large"), LARGE)}}
+    status, said = run([WALK, "--memory", "4", "--to", "x", "--", *HOSTILE, "Right"], folder, **large)
+    steps.check("--memory 4: what is too large is said", status == 3 and is_clean(said) and
+                "needs more than 4 bytes of memory (--memory); no tree: the files of the session have 5 bytes in all"
+                in said, f"{status}: {said}")
     for options, most in ((["--memory", "100000000"], 100_000_000), (["--memory", "1"], 1)):
         status, said = run([WALK, *options, "--to", "x", "--", *HOSTILE, "Right"], folder, **greedy)
         steps.check(f"{' '.join(options)}: more than that infer does not get", status == 3 and is_clean(said) and

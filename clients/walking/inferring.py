@@ -3,7 +3,7 @@ import subprocess
 
 from probing import servers, verdicts
 
-# The most memory of `infer`, unless it is told otherwise: it takes four times the bytes of a record with files.
+# The most memory of `infer`, unless it is told otherwise: it takes twice the bytes of a record with files.
 MEMORY = 1 << 32
 
 # The least that its address space is bounded by: the program has to be loaded, and then says by itself what it lacks.
@@ -26,8 +26,10 @@ def infer(program, transcript, tree, words=(), memory=MEMORY, stop=None):
     done = verdicts.run([program, "infer", "--explain", "--memory", str(memory), *words, "--transcript", transcript,
                          tree], stop, max(memory, LEAST_SPACE))
     said, why = (stream.decode(errors="replace").rstrip("\n") for stream in (done.stdout, done.stderr))
-    if done.returncode == 3 and why.startswith("sftpv3: out of memory"):
-        raise NotInferred(f"`sftpv3 infer` needs more than {memory:,} bytes of memory (--memory)")
+    lines = why.splitlines()
+    if done.returncode == 3 and any(line.startswith("sftpv3: out of memory") for line in lines):
+        more = "".join(f"; {line}" for line in lines if line.startswith("no tree: "))
+        raise NotInferred(f"`sftpv3 infer` needs more than {memory:,} bytes of memory (--memory){more}")
     if done.returncode not in (0, 1):
         raise NotInferred(f"`sftpv3 infer` ended {servers.ending(done.returncode)}: {said} {why}".rstrip())
     return done.returncode == 0, said, why

@@ -77,18 +77,20 @@ def files_that_are_too_long(field):
     for words, named in ((["show", "--full", "long"], "long"), (["diff", "long", blank], "long"),
                          (["diff", blank, "long"], "long"), (["import", "made"], "standard input"),
                          (["audit", "--tree", "long", "--transcript", blank], "long")):
-        asked = b"x" * (16 * MEBI) if words[0] == "import" else b""
+        asked = archive_of(["f"], b"x" * (16 * MEBI)) if words[0] == "import" else b""
         said = f": {named} needs more than '--memory' allows"
         yield from wrong_end(run(field, [*words, "--memory", str(8 * MEBI)], asked), said, 40 * MEBI)
     os.remove(long)
 
 
-def archive_of(paths):
-    """An archive of empty files at these paths, which names no directory."""
+def archive_of(paths, content=b""):
+    """An archive of files of this content at these paths, which names no directory."""
     made = io.BytesIO()
     with tarfile.open(fileobj=made, mode="w", format=tarfile.GNU_FORMAT) as archive:
         for path in paths:
-            archive.addfile(tarfile.TarInfo(path))
+            member = tarfile.TarInfo(path)
+            member.size = len(content)
+            archive.addfile(member, io.BytesIO(content))
     return made.getvalue()
 
 

@@ -14,8 +14,6 @@ use Rattle.sftp_transcript.specs.Transcript.{IsRecord}
 use Rattle.sftp_transcript.specs.Explained.{StepOf}
 use Rattle.sftp_transcript.specs.Sound.{Sound}
 use Rattle.sftp_audit.specs.Exchanges.{recorded_exchanges, is_answered, unsettled}
-use Rattle.sftp_audit.specs.Auditor.{Audited}
-use Rattle.sftp_audit.specs.Audit.{WasFed}
 
 -- The tree file is the start, and the transcript records the events. These are sound from the start: no event came out
 -- of turn or too late, and the requests before the oldest unanswered one, carried out singly and in sequence, allow
@@ -50,14 +48,3 @@ unsettled_count events = length (unsettled (recorded_exchanges events))
 abbrev pub IsUnanswered : AuditError → Type 0
 IsUnanswered (audit_errors.Refused (refusals.Unanswered number)) = ⊤
 IsUnanswered other = ⊥
-
--- ---- a transcript that was fed whole
-
--- the tree file is that of one tree, and the auditor stands for the events of the transcript from that tree
-pub record IsFed {S : Type 0} (step : StepOf S) (begin : Tree → S) (tree transcript : List ℕ) (requests : ℕ)
-    (auditor : Audited S) : Type 0
-  where
-    pub start : Tree
-    pub is : IsStart start tree
-    pub only : (other : Tree) → IsStart other tree → start ≡ other
-    pub was : WasFed step (begin start) transcript requests auditor

@@ -4,3 +4,4 @@ pub mod Cuts
 pub mod Examples
 pub mod Exchanges
 pub mod Ledger
+pub mod Trees

@@ -8,10 +8,11 @@ ghost use Rattle.sftp_audit.specs.Audit.{CountsFailure, IsExcusedBy, IsNew};
 ghost use Rattle.sftp_audit.specs.Audit.{HasStart, JudgesTree, IsPlain, IsToldBy, request_count};
 
 use crate::errors::AuditError;
-use crate::feeding::{Fed, begin_and_feed};
+use crate::trees::{Ended, audit_tree_by};
 use sftp_handles::{GivenTable, Session};
 use sftp_judges::Judges;
 use sftp_transcript::{Memory, Reader, Source};
+use sftp_tree::Tree;
 use std::alloc::Global;
 
 /// The result of an accepted session.
@@ -169,8 +170,12 @@ pub fn audit_stream_by<J: Judges, R: Source>(
     ensures may_fail { records.old.fault ≡ None → IfErr result (IsExcusedBy R.may_fail) }
     ensures plain { IfErr result IsPlain }
 {
-    let Fed { auditor, requests } = begin_and_feed::<J, R>(alloc, by, tree, records, follows)?;
-    let end = auditor.end()?;
+    *follows = true;
+    let start = Tree::read(alloc, tree)?;
+    let Ended {
+        tree: end,
+        requests,
+    } = audit_tree_by::<J, R>(by, start, records, follows)?;
     let written = end.write();
     drop(end);
     let tree = written?;

@@ -1,11 +1,8 @@
 //! Feeds an auditor the events of a transcript.
 ghost use Rattle.std.specs.Prelude.{◌≡◌, ℕ, [], List, None, true, OnOk, IfOk, IfErr, MatchResult};
-ghost use Rattle.sftp_tree.specs.Tree as values;
 ghost use Rattle.sftp_audit.specs.Auditor.{StandsFor};
-ghost use Rattle.sftp_audit.specs.Audit.{IsFirstFaultBy, IsNoJudgement, CountsFailure, IsExcusedBy, IsNew};
-ghost use Rattle.sftp_audit.specs.Audit.{HasStart, HasRefused, IsTreeError, JudgesTree};
-ghost use Rattle.sftp_audit.specs.Audit.{IsPlain, WasFed, StopsFeed, IsToldOf, IsToldBy, is_request};
-ghost use Rattle.sftp_audit.specs.Cuts.{AccountsCutBy, IsUnanswered, IsFed};
+ghost use Rattle.sftp_audit.specs.Audit.{IsNoJudgement, CountsFailure, IsExcusedBy, IsNew, HasRefused, IsTreeError};
+ghost use Rattle.sftp_audit.specs.Audit.{IsPlain, WasFed, StopsFeed, IsToldOf, is_request};
 
 use crate::auditor::Auditor;
 use crate::errors::AuditError;
@@ -24,37 +21,29 @@ pub(crate) struct Fed<J: Judges> {
     pub(crate) requests: u64,
 }
 
-/// Reads a tree file, and feeds an auditor of a session that begins on this tree the events of a transcript, of which
-/// nothing was read yet. The auditor judges by a judge that is made by `by`. `follows` is set to whether the judge
-/// follows the session up to where it is refused.
+/// Feeds an auditor of a session that begins on this tree the events of a transcript, of which nothing was read yet.
+/// The auditor judges by a judge that is made by `by`. `follows` is set to whether the judge follows the session up to
+/// where it is refused.
 ///
 /// # Errors
 ///
-/// The first one: `Tree` if the bytes are not a tree file, and those of `feed_all`.
+/// Those of `feed_all`.
 // It has two callers, for sessions that are whole and for those that were cut. Called, and not inlined, it makes an
 // audit take 7 percent more instructions: the loop in it then copies each event more often.
 #[inline(always)]
 pub(crate) fn begin_and_feed<J: Judges, R: Source>(
-    alloc: Global,
     by: J::By,
-    tree: &[u8],
+    start: Tree,
     records: &mut Reader<R>,
     follows: &mut bool,
 ) -> Result<Fed<J>, AuditError>
     ensures fed { IfOk result (λ fed. (transcript : List ℕ) → IsNew transcript records.old →
-        IsFed J.allowed (J.begun by) tree.now transcript fed.requests fed.auditor) }
-    // No session of these files is sound to its end.
-    ensures lost { IfErr result (λ e. (IsNoJudgement e → ⊥) → (transcript : List ℕ) → IsNew transcript records.old →
-        (start : values.Tree) (events : List _) (end : values.Tree)
-        → AccountsCutBy J.allowed (J.begun by) J.closed tree.now transcript start events end → ⊥) }
-    ensures first { IfErr result (λ e. (IsNoJudgement e → ⊥) → (transcript : List ℕ) → IsNew transcript records.old →
-        IsFirstFaultBy J.allowed (J.begun by) tree.now transcript e) }
+        WasFed J.allowed (J.begun by start) transcript fed.requests fed.auditor) }
+    ensures stopped { IfErr result (λ e. (IsNoJudgement e → ⊥) → (transcript : List ℕ) → IsNew transcript records.old →
+        StopsFeed J.allowed (J.begun by start) transcript e) }
     ensures told { IfErr result (λ e. (IsNoJudgement e → ⊥) → (transcript : List ℕ) → IsNew transcript records.old →
-        IsToldBy J.allowed J.follows (J.begun by) tree.now transcript follows.new e) }
-    ensures judged { MatchResult result (λ _. HasStart tree.now) (JudgesTree tree.now) }
-    // It is not that a request has no reply.
-    ensures answered { IfErr result (λ e. (IsNoJudgement e → ⊥) → (transcript : List ℕ) → IsNew transcript records.old →
-        IsUnanswered e → ⊥) }
+        IsToldOf J.allowed J.follows (J.begun by start) transcript follows.new e) }
+    ensures treeless { IfErr result (λ e. IsTreeError e → ⊥) }
     ensures counts { records.old.fault ≡ None → MatchResult result
         (λ _. records.new.ahead.failures ≡ records.old.ahead.failures)
         (λ e. CountsFailure e records.old.ahead.failures records.new.ahead.failures) }
@@ -63,8 +52,8 @@ pub(crate) fn begin_and_feed<J: Judges, R: Source>(
     ensures followed { OnOk result (follows.new ≡ true) }
 {
     *follows = true;
-    keep_freed_memory(alloc);
-    let mut auditor = Auditor::<J>::by(by, Tree::read(alloc, tree)?)?;
+    keep_freed_memory(start.allocator());
+    let mut auditor = Auditor::<J>::by(by, start)?;
     match feed_all(&mut auditor, records) {
         Ok(requests) => Ok(Fed { auditor, requests }),
         Err(error) => {
@@ -119,11 +108,17 @@ pub fn feed_all<J: Judges, R: Source>(
     ensures plain { IfErr result IsPlain }
 {
     let mut requests: u64 = 0;
-    'events: while let Some(event) = records.next()? {
-        requests = requests.saturating_add(u64::from(is_request(&event)));
-        auditor.judge_event(event)?;
+    // Not by `?` on the event, which would copy it.
+    'events: loop {
+        match records.next() {
+            Ok(Some(event)) => {
+                requests = requests.saturating_add(u64::from(is_request(&event)));
+                auditor.judge_event(event)?;
+            }
+            Ok(None) => return Ok(requests),
+            Err(error) => return Err(AuditError::from(error)),
+        }
     }
-    Ok(requests)
 }
 
 /// Whether the event is a request.

@@ -3,6 +3,7 @@
 ghost use Rattle.std.specs.Prelude.{◌≡◌, ◌≢◌, ◌⊎◌, ℕ, List};
 ghost use Rattle.sftp_transcript.specs.declared.events.Event.{Event};
 ghost use Rattle.sftp_tree.specs.Tree.{Tree};
+ghost use Rattle.sftp_tree.specs.Picture.{IsStart};
 ghost use Rattle.sftp_handles.specs.State.{State};
 ghost use Rattle.sftp_handles.specs.Allowed.{Allowed};
 ghost use Rattle.sftp_transcript.specs.Explained.{Explained, exchanges_of};
@@ -16,6 +17,7 @@ ghost use Rattle.sftp_audit.specs.Audit.{Accounts, AccountsBy, IsFirstFault, IsF
 ghost use Rattle.sftp_audit.specs.Audit.{IsTreeError, IsPlain};
 ghost use Rattle.sftp_audit.specs.Cuts.{AccountsCutBy, unanswered_count, unsettled_count};
 ghost use Rattle.sftp_audit.specs.Exchanges.{recorded_exchanges, ledger_of};
+ghost use Rattle.sftp_audit.specs.Trees.{AccountsFrom, AccountsCutFrom, IsFirstFaultFrom};
 
 use sftp_judges::Judges;
 
@@ -88,6 +90,31 @@ pub fn complete_if_none_is_unanswered<J: Judges>()
         AccountsBy J.allowed (J.begun by) J.closed tree transcript start events end }
     ensures judged { (events : List Event) → unanswered_count (recorded_exchanges events) ≡ 0 →
         unsettled_count events ≡ 0 }
+{}
+
+/// By any judge, a tree file and a transcript account for a run exactly if the tree file is that of the run's start,
+/// and the transcript accounts for the run from there. So what `audit_tree_by` and `audit_cut_tree_by` say of a tree,
+/// they say of each tree file of it.
+pub fn accounts_are_from_starts<J: Judges>()
+    ensures from { (by : J.By) (tree transcript : List ℕ) (start : Tree) (events : List Event) (end : Tree) →
+        AccountsBy J.allowed (J.begun by) J.closed tree transcript start events end →
+        IsStart start tree × AccountsFrom J.allowed J.closed (J.begun by start) transcript events end }
+    ensures accounts { (by : J.By) (tree transcript : List ℕ) (start : Tree) (events : List Event) (end : Tree) →
+        IsStart start tree → AccountsFrom J.allowed J.closed (J.begun by start) transcript events end →
+        AccountsBy J.allowed (J.begun by) J.closed tree transcript start events end }
+    ensures cut_from { (by : J.By) (tree transcript : List ℕ) (start : Tree) (events : List Event) (end : Tree) →
+        AccountsCutBy J.allowed (J.begun by) J.closed tree transcript start events end →
+        IsStart start tree × AccountsCutFrom J.allowed J.closed (J.begun by start) transcript events end }
+    ensures cut { (by : J.By) (tree transcript : List ℕ) (start : Tree) (events : List Event) (end : Tree) →
+        IsStart start tree → AccountsCutFrom J.allowed J.closed (J.begun by start) transcript events end →
+        AccountsCutBy J.allowed (J.begun by) J.closed tree transcript start events end }
+    // The same of what is met first.
+    ensures first_from { (by : J.By) (tree transcript : List ℕ) (start : Tree) (e : AuditError) → IsStart start tree →
+        IsFirstFaultBy J.allowed (J.begun by) tree transcript e →
+        IsFirstFaultFrom J.allowed (J.begun by start) transcript e }
+    ensures first { (by : J.By) (tree transcript : List ℕ) (start : Tree) (e : AuditError) → IsStart start tree →
+        IsFirstFaultFrom J.allowed (J.begun by start) transcript e →
+        IsFirstFaultBy J.allowed (J.begun by) tree transcript e }
 {}
 
 /// By any judge, an event is refused for one reason at most after given events, unless memory runs out.

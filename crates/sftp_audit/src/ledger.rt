@@ -126,7 +126,7 @@ impl Ledger {
         let position = position_of(ordinal, self.first);
         match self.exchanges.get_mut(position) {
             Some(exchange) => {
-                drop(exchange.reply.replace(recorded));
+                exchange.reply = Some(recorded);
                 Ok(())
             }
             None => unreachable!(),

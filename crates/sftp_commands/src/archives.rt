@@ -1,29 +1,31 @@
 //! The subcommands `import` and `export`: an archive as a tree file, and a tree file as an archive.
-ghost use Rattle.std.specs.Prelude.{◌≡◌, IfOk, MatchResult};
+ghost use Rattle.std.specs.Prelude.{◌≡◌, ℕ, List, Some, IfOk, OnOk};
+ghost use Rattle.std.specs.Io.KnownBytes.{Appends};
 ghost use Rattle.sftp_treefile.specs.declared.files.TreeFile.{TreeFile as file};
 ghost use Rattle.sftp_treefile.specs.TreeFile.{IsSpelled, IsTreeFile};
 ghost use Rattle.sftp_tar.specs.Archive.{archive};
 ghost use Rattle.sftp_files.specs.declared.messages.Ending.TheVariants as endings;
-ghost use Rattle.sftp_files.specs.declared.messages.Failure.TheVariants as failures;
 
-use crate::gathering::Gathered;
 use sftp_files::{
-    Ending, Failure, ImportOptions, Meter, STANDARD_INPUT, STANDARD_OUTPUT, System, read,
-    write_flushed, write_last,
+    Content, Ending, Failure, FileSink, ImportOptions, Keeping, Meter, STANDARD_INPUT,
+    STANDARD_OUTPUT, System, Watched, open, write_content, write_flushed,
 };
 use sftp_show::Quoted;
-use sftp_tar::{ImportError, Refusal, SpecialChoice, Taking, bounds, next_special};
-use sftp_treefile::{TreeFile, read_rows, write_rows};
+use sftp_streams::{Sink, Source, Tally};
+use sftp_tar::{
+    ExportError, ImportError, Imported, Refusal, Special, SpecialChoice, Taking, export_to,
+    import_from,
+};
+use sftp_treefile::{TreeError, TreeFile, read_rows_from, write_rows_to};
 use std::alloc::{AllocError, Global};
-use std::fs::Files;
+use std::fs::{File, Files};
 use std::io;
 use std::io::{Read, Write};
+use std::marker::Model;
 
-/// How many times the bytes of an archive the memory has at most that its import takes.
-const SHARE: u64 = 4;
-
-/// Writes the tree file of the archive on standard input. The archive is judged before the file is written. Standard
-/// error names the devices and FIFOs that are passed over, or in whose place are empty files.
+/// Writes the tree file of the archive on standard input, which is read an entry at a time. The archive is judged
+/// before the file is written. Standard error names the devices and FIFOs that are passed over, or in whose place are
+/// empty files.
 pub fn import<'a, R: System, I: Read, E: Write>(
     rt: &R,
     options: &ImportOptions<'a>,
@@ -33,86 +35,78 @@ pub fn import<'a, R: System, I: Read, E: Write>(
     ensures { IfOk result (λ ending. ending ≡ endings.Done) }
 {
     let mut meter = Meter::new(rt, options.memory)?;
-    let most = options.memory.map_or(u64::MAX, |bytes| bytes / SHARE);
-    let longest = bounds(options.taking.limits).file_bytes;
-    let mut archive = Gathered::new(rt.alloc(), most, longest);
-    match archive.gather(input) {
-        Ok(()) => import_from(rt, options, &mut meter, archive.into_bytes(), errors),
-        Err(error) => {
-            let failure = unread(archive.is_over(), &error);
-            drop(archive);
-            Err(failure)
-        }
+    let Imported { file, specials } = taken(rt.alloc(), options.taking, &mut meter, input)?;
+    name_specials(options.taking.special, specials.as_slice(), errors);
+    drop(specials);
+    write_rows_last(rt, options.file, options.keeping, Made::new(file))
+}
+
+/// A tree file that an archive gave.
+#[derive(Drop)]
+struct Made {
+    file: TreeFile,
+}
+
+impl Model for Made {
+    ghost use Rattle.sftp_treefile.specs.declared.files.TreeFile.{TreeFile};
+    ghost use Rattle.sftp_treefile.specs.TreeFile.{IsTreeFile};
+
+    ghost Value = { TreeFile };
+
+    ghost view = { λ made. made.file };
+
+    ghost invariant = { λ made. IsTreeFile made.file };
+}
+
+impl Made {
+    fn new(file: TreeFile) -> Made
+        requires { IsTreeFile file }
+        ensures { result ≡ file }
+    {
+        Made { file }
     }
 }
 
-/// Why an archive was not read: it has more bytes than it may, or its stream failed.
-fn unread<'a>(is_over: bool, error: &io::Error) -> Failure<'a> {
-    if is_over {
-        Failure::OverLimit(STANDARD_INPUT)
-    } else {
-        Failure::reading(STANDARD_INPUT, error)
+impl Content for Made {
+    fn put(&self, alloc: Global, file: &mut File) -> io::Result<()> {
+        let mut sink = FileSink::new(alloc, file)?;
+        let sent = write_rows_to(alloc, &self.file, &mut sink);
+        sink.finish(sent)
     }
 }
 
-/// Writes the tree file of an archive.
-fn import_from<'a, R: System, E: Write>(
+/// Writes a tree file to the file `name`, as the last step of a run.
+fn write_rows_last<'a, R: System>(
     rt: &R,
-    options: &ImportOptions<'a>,
-    meter: &mut Meter,
-    archive: Vec<u8>,
-    errors: &mut E,
+    name: &'a str,
+    keeping: Keeping,
+    made: Made,
 ) -> Result<Ending, Failure<'a>>
     ensures { IfOk result (λ ending. ending ≡ endings.Done) }
 {
-    let tree = tree_of(rt.alloc(), options.taking, meter, archive, errors)?;
-    write_last(rt, options.file, options.keeping, tree)
-}
-
-/// The tree file of an archive. The archive is dropped before the file is made, since each has the bytes of all files.
-fn tree_of<'a, E: Write>(
-    alloc: Global,
-    taking: Taking,
-    meter: &mut Meter,
-    archive: Vec<u8>,
-    errors: &mut E,
-) -> Result<Vec<u8>, Failure<'a>> {
-    let taken = taken(alloc, taking, meter, archive.as_slice(), errors);
-    drop(archive);
-    let file = taken?;
-    let tree = written(alloc, meter, &file);
-    drop(file);
-    tree
-}
-
-/// The bytes of a tree file, which are no more than those that are held of it.
-fn written<'a>(alloc: Global, meter: &mut Meter, file: &TreeFile) -> Result<Vec<u8>, Failure<'a>>
-    requires { IsTreeFile file.now }
-{
-    if !meter.may_double() {
-        return Err(Failure::OverLimit(STANDARD_INPUT));
+    let written = write_content(rt, name, keeping, &made);
+    drop(made);
+    match written {
+        Ok(()) => Ok(Ending::Done),
+        Err(failure) => Err(failure),
     }
-    Ok(write_rows(alloc, file)?)
 }
 
-/// What the tree file of an archive says. Standard error names what no tree holds.
-fn taken<'a, E: Write>(
+/// What the archive in a stream gives.
+fn taken<'a, I: Read>(
     alloc: Global,
     taking: Taking,
     meter: &mut Meter,
-    archive: &[u8],
-    errors: &mut E,
-) -> Result<TreeFile, Failure<'a>>
-    ensures { IfOk result (λ file. IsTreeFile file) }
+    input: &mut I,
+) -> Result<Imported, Failure<'a>>
+    ensures { IfOk result (λ imported. IsTreeFile imported.file) }
 {
-    match sftp_tar::import(alloc, taking, meter, archive) {
-        Ok(file) => match name_specials(alloc, taking.special, archive, errors) {
-            Ok(()) => Ok(file),
-            Err(error) => {
-                drop(file);
-                Err(error.into())
-            }
-        },
+    let mut bytes = Watched::new(input);
+    let imported = import_from(alloc, taking, meter, Tally::new(&mut bytes));
+    let code = bytes.flow().code;
+    match imported {
+        Ok(imported) => Ok(imported),
+        Err(ImportError::Io) => Err(Failure::CannotRead(STANDARD_INPUT, code)),
         Err(error) => {
             let failure = unimported(alloc, meter, &error);
             drop(error);
@@ -127,43 +121,24 @@ const LEFT_OUT: &str = "left out (--special file keeps its name)";
 /// What is said of one that is a file in the tree.
 const IN_ITS_PLACE: &str = "an empty file in its place (for audit --allow special)";
 
-/// Names the devices and FIFOs of an archive, and what became of them.
-fn name_specials<E: Write>(
-    alloc: Global,
-    choice: SpecialChoice,
-    archive: &[u8],
-    errors: &mut E,
-) -> Result<(), AllocError> {
-    match choice {
+/// Names the devices and FIFOs of an archive, and what became of them. If the stream cannot be written, there is
+/// nothing left to do.
+fn name_specials<E: Write>(choice: SpecialChoice, specials: &[Special], errors: &mut E) {
+    let became = match choice {
         // an archive with one is refused
-        SpecialChoice::Refuse => Ok(()),
-        SpecialChoice::Skip => name_each(alloc, archive, LEFT_OUT, errors),
-        SpecialChoice::File => name_each(alloc, archive, IN_ITS_PLACE, errors),
-    }
-}
-
-/// Names each device and FIFO of an archive, with this behind it. If the stream cannot be written, there is nothing
-/// left to do.
-fn name_each<E: Write>(
-    alloc: Global,
-    archive: &[u8],
-    became: &str,
-    errors: &mut E,
-) -> Result<(), AllocError> {
-    let mut rest = archive;
-    let mut number: u32 = 0;
-    'specials: while let Some((special, behind)) = next_special(alloc, rest)? {
-        number = number.saturating_add(special.number);
+        SpecialChoice::Refuse => return,
+        SpecialChoice::Skip => LEFT_OUT,
+        SpecialChoice::File => IN_ITS_PLACE,
+    };
+    for special in specials {
+        let number = special.number;
         let path = Quoted(special.path.as_slice());
         let refusal = Refusal::Device;
         let _ = write_flushed(
             errors,
             format_args!("sftpv3: archive: entry {number}, {path}: {refusal}: {became}\n"),
         );
-        drop(special);
-        rest = behind;
     }
-    Ok(())
 }
 
 /// The failure of a run whose import ended in this error: the process had more memory than it may, or the error's own.
@@ -179,6 +154,7 @@ fn unimported<'a>(alloc: Global, meter: &Meter, error: &ImportError) -> Failure<
 fn archive_failure<'a>(alloc: Global, error: &ImportError) -> Failure<'a> {
     match error {
         ImportError::NoMemory => Failure::OutOfMemory,
+        ImportError::Io => Failure::CannotRead(STANDARD_INPUT, None),
         ImportError::Compressed(compression) => {
             Failure::of_text(format!(in alloc;
                 "archive: compressed by {compression}: decompress it first"
@@ -202,7 +178,8 @@ fn refused(alloc: Global, entry: u32, path: &[u8], refusal: Refusal) -> Result<S
     }
 }
 
-/// Writes the archive of the tree file `name` to standard output.
+/// Writes the archive of the tree file `name` to standard output, a member at a time. No more of the file is held than
+/// the tree and a buffer. The file is judged before the archive is written.
 pub fn export<'a, R: Files + AllocGlobal, O: Write>(
     rt: &R,
     name: &'a str,
@@ -210,37 +187,53 @@ pub fn export<'a, R: Files + AllocGlobal, O: Write>(
 ) -> Result<Ending, Failure<'a>>
     ensures { IfOk result (λ ending. ending ≡ endings.Done) }
 {
-    let tree = read(rt, name)?;
-    print_last(output, archive_of(rt.alloc(), tree)?)
-}
-
-/// Writes bytes to standard output, as the last step of a run.
-fn print_last<'a, O: Write>(output: &mut O, bytes: Vec<u8>) -> Result<Ending, Failure<'a>>
-    ensures { IfOk result (λ ending. ending ≡ endings.Done) }
-{
-    let written = write_all_flushed(output, bytes.as_slice());
+    let mut bytes = Watched::new(open(rt, name)?);
+    let mut archive = Watched::new(output);
+    let written = archived(
+        rt.alloc(),
+        Tally::new(&mut bytes),
+        &mut Tally::new(&mut archive),
+    );
+    let code = bytes.flow().code;
     drop(bytes);
     match written {
         Ok(()) => Ok(Ending::Done),
-        Err(error) => Err(Failure::writing(STANDARD_OUTPUT, &error)),
+        Err(Unexported::Tree(TreeError::Io { .. })) => Err(Failure::CannotRead(name, code)),
+        Err(Unexported::Tree(error)) => Err(Failure::from(error)),
+        Err(Unexported::Archive(ExportError::NoMemory)) => Err(Failure::OutOfMemory),
+        Err(Unexported::Archive(ExportError::Failed)) => {
+            Err(Failure::CannotWrite(STANDARD_OUTPUT, archive.flow().code))
+        }
     }
 }
 
-fn write_all_flushed<O: Write>(output: &mut O, bytes: &[u8]) -> io::Result<()> {
-    output.write_all(bytes)?;
-    output.flush()?;
-    Ok(())
+/// Why a tree file was not written as an archive.
+#[derive(Clone, Copy)]
+enum Unexported {
+    /// Its tree could not be read.
+    Tree(TreeError),
+    /// The archive could not be written.
+    Archive(ExportError),
 }
 
-/// The archive of a tree file.
-fn archive_of<'a>(alloc: Global, tree: Vec<u8>) -> Result<Vec<u8>, Failure<'a>>
-    ensures { (f : file) → IsSpelled f tree.items →
-        MatchResult result (λ made. made.items ≡ archive f) (λ failure. failure ≡ failures.OutOfMemory) }
+/// Writes the archive of the tree file in a source to a sink, and flushes the sink.
+fn archived<R: Source, L: Sink>(alloc: Global, source: R, sink: &mut L) -> Result<(), Unexported>
+where
+    R: Drop,
+    ensures { OnOk result ((f : file) (bytes : List ℕ) → R.left source ≡ Some bytes → IsSpelled f bytes
+        → Appends (L.written sink.old) (L.written sink.new) (archive f)) }
 {
-    let file = read_rows(alloc, tree.as_slice());
-    drop(tree);
-    let file = file?;
-    let made = sftp_tar::export(alloc, &file);
+    let file = match read_rows_from(alloc, source) {
+        Ok(file) => file,
+        Err(error) => return Err(Unexported::Tree(error)),
+    };
+    let written = export_to(alloc, &file, sink);
     drop(file);
-    Ok(made?)
+    if let Err(error) = written {
+        return Err(Unexported::Archive(error));
+    }
+    match sink.flush() {
+        Ok(()) => Ok(()),
+        Err(_failed) => Err(Unexported::Archive(ExportError::Failed)),
+    }
 }

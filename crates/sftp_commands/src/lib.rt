@@ -7,7 +7,6 @@ mod bearings;
 mod cuts;
 mod diffing;
 mod faulty;
-mod gathering;
 mod leaving_out;
 mod objects;
 mod raising;
@@ -15,6 +14,7 @@ mod selecting;
 mod showing;
 mod spotting;
 mod texts;
+mod trees;
 mod viewing;
 mod words;
 
@@ -30,6 +30,7 @@ pub use spotting::spot_of;
 use std::fs::Files;
 use std::io::Write;
 pub use texts::make;
+pub use trees::write_tree;
 
 /// Shows every field of a file, a line for each record or entry that sums it up, or what was selected.
 pub fn show<'a, R: Files + AllocGlobal, O: Write>(

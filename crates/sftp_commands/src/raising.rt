@@ -1,15 +1,18 @@
 //! The subcommand `raise`: the tree of a tree file, with the highest limits.
-ghost use Rattle.std.specs.Prelude.{◌≡◌, IfOk, MatchResult};
+ghost use Rattle.std.specs.Prelude.{◌≡◌, ℕ, List, Some, IfOk};
 ghost use Rattle.sftp_tree.specs.Tree.{Tree as tree, raised};
-ghost use Rattle.sftp_tree.specs.Picture.{IsStart, picture};
+ghost use Rattle.sftp_tree.specs.Picture.{IsStart, GivesTreeUnless};
 ghost use Rattle.sftp_files.specs.declared.messages.Ending.TheVariants as endings;
-ghost use Rattle.sftp_files.specs.declared.messages.Failure.TheVariants as failures;
 
-use sftp_files::{Ending, Failure, Keeping, System, read, write_last};
+use crate::trees::write_tree;
+use sftp_files::{Ending, Failure, Keeping, System, Watched, open};
+use sftp_streams::{Source, Tally};
 use sftp_tree::Tree;
+use sftp_treefile::TreeError;
 use std::alloc::Global;
 
-/// Writes the tree of the tree file `tree`, with the highest limits, to the file `name`.
+/// Writes the tree of the tree file `tree`, with the highest limits, to the file `name`. It holds the tree alone, and
+/// buffers.
 pub fn raise<'a, R: System>(
     rt: &R,
     tree: &'a str,
@@ -18,20 +21,35 @@ pub fn raise<'a, R: System>(
 ) -> Result<Ending, Failure<'a>>
     ensures ok { IfOk result (λ ending. ending ≡ endings.Done) }
 {
-    let bytes = read(rt, tree)?;
-    let raised = raised_file(rt.alloc(), bytes.as_slice());
-    drop(bytes);
-    write_last(rt, name, keeping, raised?)
+    let raised = read_raised(rt, tree)?;
+    let written = write_tree(rt, name, keeping, &raised);
+    drop(raised);
+    match written {
+        Ok(()) => Ok(Ending::Done),
+        Err(failure) => Err(failure),
+    }
 }
 
-/// The file of this one's tree, with the highest limits.
-fn raised_file<'a>(alloc: Global, bytes: &[u8]) -> Result<Vec<u8>, Failure<'a>>
-    ensures { (t : tree) → IsStart t bytes.now →
-        MatchResult result (λ made. made.items ≡ picture (raised t)) (λ failure. failure ≡ failures.OutOfMemory) }
+/// The tree of the tree file `name`, with the highest limits.
+fn read_raised<'a, R: System>(rt: &R, name: &'a str) -> Result<Tree, Failure<'a>> {
+    let mut bytes = Watched::new(open(rt, name)?);
+    let raised = raised_tree(rt.alloc(), Tally::new(&mut bytes));
+    let flow = bytes.flow();
+    drop(bytes);
+    match raised {
+        Ok(tree) => Ok(tree),
+        Err(TreeError::Io { .. }) => Err(Failure::CannotRead(name, flow.code)),
+        Err(error) => Err(Failure::from(error)),
+    }
+}
+
+/// The tree of the tree file that a source gives, with the highest limits.
+fn raised_tree<S: Source>(alloc: Global, source: S) -> Result<Tree, TreeError>
+where
+    S: Drop,
+    ensures { (bytes : List ℕ) → S.left source ≡ Some bytes → (t : tree) → IsStart t bytes →
+        GivesTreeUnless result (raised t) }
 {
-    let tree = Tree::read(alloc, bytes)?;
-    let tree = tree.raise();
-    let made = tree.write();
-    drop(tree);
-    Ok(made?)
+    let tree = Tree::read_from(alloc, source)?;
+    Ok(tree.raise())
 }

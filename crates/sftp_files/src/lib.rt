@@ -2,6 +2,7 @@
 //! the messages that say why.
 #![tactic(auto)]
 
+mod contents;
 mod links;
 mod memory;
 mod messages;
@@ -13,6 +14,7 @@ mod saving;
 mod system;
 mod watching;
 
+pub use contents::{Content, FileSink};
 pub use memory::{Bounded, Meter};
 pub use messages::{
     Ending, Failure, MORE, STANDARD_INPUT, STANDARD_OUTPUT, print, report, write_flushed,
@@ -21,6 +23,6 @@ pub use names::Named;
 pub use options::{ImportOptions, ServeOptions, ShowOptions};
 pub use reading::{open, read, read_at_most};
 pub use recording::{Record, Recording};
-pub use saving::{Keeping, PRIVATE, require_fit, write, write_last};
+pub use saving::{Keeping, PRIVATE, require_fit, write, write_content, write_last};
 pub use system::System;
 pub use watching::{Announcing, Flow, Watched};

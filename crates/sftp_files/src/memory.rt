@@ -73,17 +73,6 @@ impl Meter {
             }
         }
     }
-
-    /// Whether the process may have twice as many bytes as it has.
-    pub fn may_double(&mut self) -> bool {
-        match self.room() {
-            Ok(room) => {
-                self.is_over = self.limit.saturating_sub(room) > room;
-                !self.is_over
-            }
-            Err(_) => false,
-        }
-    }
 }
 
 impl Gauge for Meter {

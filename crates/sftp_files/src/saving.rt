@@ -1,15 +1,16 @@
-//! Files that are replaced whole: the bytes go into a new file beside the old one, which then takes its name. Until
+//! Files that are replaced whole: the content goes into a new file beside the old one, which then takes its name. Until
 //! then the old file is unchanged.
 ghost use Rattle.std.specs.Prelude.{◌≡◌, ◌≢◌, IfOk, IfErr};
 ghost use Rattle.std.specs.Int.RustNames.{bit_and};
 ghost use Rattle.sftp_files.specs.declared.messages.Ending.TheVariants as endings;
 ghost use Rattle.sftp_files.specs.Failures.{IsUnwritten};
 
+use crate::contents::Content;
 use crate::links::{Owned, UNTRUSTED, folder_of, is_link, is_planted_at, owner_of, path_of};
 use crate::messages::{Ending, Failure};
 use crate::system::System;
 use std::fs::{File, Files, Metadata, OpenOptions, Permissions};
-use std::io::{ErrorKind, Write};
+use std::io::ErrorKind;
 use std::os::fd::AsFd;
 use std::os::unix::fs::{MetadataExt, OpenOptionsExt, PermissionsExt, fchown};
 use std::{fs, io};
@@ -52,10 +53,7 @@ enum Place {
     Unfit,
 }
 
-/// Writes these bytes to the file `name`, which is made or replaced. If that fails, the file is unchanged.
-///
-/// Links are followed, and stay, but for one that another user may have put there. What is no regular file is written
-/// to only if it is standard output.
+/// Writes these bytes to the file `name`, as `write_content` does.
 pub fn write<'a, R: System>(
     rt: &R,
     name: &'a str,
@@ -64,9 +62,24 @@ pub fn write<'a, R: System>(
 ) -> Result<(), Failure<'a>>
     ensures { IfErr result IsUnwritten }
 {
+    write_content(rt, name, keeping, &bytes)
+}
+
+/// Writes this content to the file `name`, which is made or replaced. If that fails, the file is unchanged.
+///
+/// Links are followed, and stay, but for one that another user may have put there. What is no regular file is written
+/// to only if it is standard output.
+pub fn write_content<'a, R: System, C: Content>(
+    rt: &R,
+    name: &'a str,
+    keeping: Keeping,
+    content: &C,
+) -> Result<(), Failure<'a>>
+    ensures { IfErr result IsUnwritten }
+{
     match path_of(rt, name) {
         Ok(Some(path)) => {
-            let written = write_to(rt, name, path.as_str(), keeping, bytes);
+            let written = write_to(rt, name, path.as_str(), keeping, content);
             drop(path);
             written
         }
@@ -75,19 +88,19 @@ pub fn write<'a, R: System>(
     }
 }
 
-/// Writes these bytes to the file `name`, which leads to this path.
-fn write_to<'a, R: System>(
+/// Writes this content to the file `name`, which leads to this path.
+fn write_to<'a, R: System, C: Content>(
     rt: &R,
     name: &'a str,
     path: &str,
     keeping: Keeping,
-    bytes: &[u8],
+    content: &C,
 ) -> Result<(), Failure<'a>>
     ensures { IfErr result IsUnwritten }
 {
     match place_of(rt, name) {
-        Place::File => write_at(rt, name, path, keeping, bytes),
-        Place::Output => match write_output(rt, bytes) {
+        Place::File => write_at(rt, name, path, keeping, content),
+        Place::Output => match write_output(rt, content) {
             Ok(()) => Ok(()),
             Err(error) => Err(Failure::writing(name, &error)),
         },
@@ -192,24 +205,24 @@ pub(crate) fn is_file_of<R: Files>(rt: &R, name: &str, file: &Metadata) -> bool 
     }
 }
 
-fn write_output<R: Files<File = File>>(rt: &R, bytes: &[u8]) -> io::Result<()> {
+fn write_output<R: System, C: Content>(rt: &R, content: &C) -> io::Result<()> {
     let mut file = OpenOptions::new().write(true).open(rt, OUTPUT)?;
-    let written = file.write_all(bytes);
+    let written = content.put(rt.alloc(), &mut file);
     drop(file);
     written
 }
 
 /// Replaces the file at the path to which the name leads, or makes it. Then the folder is on the disk, too.
-fn write_at<'a, R: System>(
+fn write_at<'a, R: System, C: Content>(
     rt: &R,
     name: &'a str,
     path: &str,
     keeping: Keeping,
-    bytes: &[u8],
+    content: &C,
 ) -> Result<(), Failure<'a>>
     ensures { IfErr result IsUnwritten }
 {
-    if let Err(error) = replace(rt, path, keeping, bytes) {
+    if let Err(error) = replace(rt, path, keeping, content) {
         return Err(Failure::replacing(name, &error));
     }
     match sync_folder(rt, path, keeping) {
@@ -219,9 +232,14 @@ fn write_at<'a, R: System>(
 }
 
 /// Replaces the file at this path, which is no link, or makes it.
-fn replace<R: System>(rt: &R, path: &str, keeping: Keeping, bytes: &[u8]) -> io::Result<()> {
+fn replace<R: System, C: Content>(
+    rt: &R,
+    path: &str,
+    keeping: Keeping,
+    content: &C,
+) -> io::Result<()> {
     let fresh = fresh_path(rt, path)?;
-    let replaced = replace_by(rt, path, fresh.as_str(), keeping, bytes);
+    let replaced = replace_by(rt, path, fresh.as_str(), keeping, content);
     drop(fresh);
     replaced
 }
@@ -235,15 +253,15 @@ fn fresh_path<R: System>(rt: &R, path: &str) -> io::Result<String> {
 }
 
 /// Makes a new file at the path `fresh`, and gives it this path.
-fn replace_by<R: System>(
+fn replace_by<R: System, C: Content>(
     rt: &R,
     path: &str,
     fresh: &str,
     keeping: Keeping,
-    bytes: &[u8],
+    content: &C,
 ) -> io::Result<()> {
     let file = new_file(rt, fresh, PRIVATE)?;
-    let replaced = match fill(rt, path, file, keeping, bytes) {
+    let replaced = match fill(rt, path, file, keeping, content) {
         Ok(()) => fs::rename(rt, fresh, path),
         Err(error) => Err(error),
     };
@@ -263,26 +281,26 @@ pub(crate) fn new_file<R: Files>(rt: &R, name: &str, mode: u32) -> io::Result<R:
 }
 
 /// Fills the new file that is to take this path, and gives it its owner and permissions.
-fn fill<R: Files<File = File>>(
+fn fill<R: System, C: Content>(
     rt: &R,
     path: &str,
     mut file: File,
     keeping: Keeping,
-    bytes: &[u8],
+    content: &C,
 ) -> io::Result<()> {
-    let filled = fill_open(rt, path, &mut file, keeping, bytes);
+    let filled = fill_open(rt, path, &mut file, keeping, content);
     drop(file);
     filled
 }
 
-fn fill_open<R: Files<File = File>>(
+fn fill_open<R: System, C: Content>(
     rt: &R,
     path: &str,
     file: &mut File,
     keeping: Keeping,
-    bytes: &[u8],
+    content: &C,
 ) -> io::Result<()> {
-    file.write_all(bytes)?;
+    content.put(rt.alloc(), file)?;
     let mode = mode_of(rt, path, file, keeping.mode);
     let _ = file.set_permissions(Permissions::from_mode(mode));
     if keeping.is_synced {

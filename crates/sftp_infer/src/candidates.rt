@@ -1,15 +1,17 @@
 //! Trees that a search gives.
 
 use crate::facts::{Fact, Says};
-use crate::search::Search;
+use crate::rows::Drawn;
+use crate::search::{Search, Step};
+use crate::texts::TreeText;
 use crate::world::World;
 use sftp_path::NoMemory;
 
 /// A tree that explains the session, as far as a pass can see.
 #[derive(Drop)]
-pub struct Candidate {
+pub struct Candidate<'a> {
     /// The bytes of the tree file.
-    pub tree: Vec<u8>,
+    pub tree: TreeText<'a>,
     /// How many entries it has below its root.
     pub entries: u64,
     /// What it assumes beyond what replies tell.
@@ -18,19 +20,42 @@ pub struct Candidate {
     pub is_large: bool,
 }
 
+/// Why there is no tree of what a session tells: it would be larger than it may.
+#[derive(Clone, Copy, Debug)]
+pub enum Excess {
+    /// The files of the session, each as large as it was at most, would have so many bytes in all.
+    Files(u64),
+    /// A file would have so many bytes at the start, which no tree has.
+    File(u64),
+    /// Its paths and the targets of its links would have so many bytes in all.
+    Paths(u64),
+    /// It would have more entries than any tree.
+    Entries,
+}
+
 impl<'a> Search<'a> {
     /// The tree of a pass that went through.
     pub(crate) fn candidate(
         &self,
         choice: usize,
         world: &mut World<'a>,
-    ) -> Result<Option<Candidate>, NoMemory> {
-        let Some((tree, entries)) = world.tree_file()? else {
-            return Ok(None);
-        };
+    ) -> Result<Step<'a>, NoMemory> {
+        match world.draw()? {
+            Drawn::Text(tree, entries) => self.candidate_of(choice, world, tree, entries),
+            Drawn::TooLarge(excess) => Ok(Step::TooLarge(excess)),
+        }
+    }
+
+    fn candidate_of(
+        &self,
+        choice: usize,
+        world: &mut World<'a>,
+        tree: TreeText<'a>,
+        entries: u64,
+    ) -> Result<Step<'a>, NoMemory> {
         let mut assumed = std::mem::replace(&mut world.invented, Vec::new(self.alloc));
         match self.put_assumed(choice, world, &mut assumed) {
-            Ok(()) => Ok(Some(Candidate {
+            Ok(()) => Ok(Step::Tree(Candidate {
                 tree,
                 entries,
                 assumed,

@@ -23,12 +23,13 @@ pub enum What {
     Target,
     /// The first one that a name is in a directory, the second one that all names were listed.
     Unlisted,
-    /// The first one that a directory is empty, or that it has entries.
+    /// The first one that a directory has entries, the second one that it was removed as an empty one.
     Entries,
     /// Where relative paths begin, or where a path leads.
     Place,
-    /// The second one is a refusal for which no reason is left.
-    Refused,
+    /// The first one of which kind something is, or that nothing is there; the second one is a refusal for which that
+    /// is no reason.
+    Refused(Option<Sort>),
 }
 
 /// A contradiction.
@@ -41,4 +42,6 @@ pub struct Clash {
     /// The path of the thing at the start of the session, or as it is now.
     pub place: Vec<u8>,
     pub what: What,
+    /// Of a target or a place: what the first record says, and what the second one says.
+    pub texts: Option<(Vec<u8>, Vec<u8>)>,
 }

@@ -26,6 +26,8 @@ pub(crate) struct File {
     /// The end of what the session wrote furthest, and the request that wrote it.
     pub(crate) furthest: u64,
     pub(crate) written_by: u64,
+    /// The most bytes that the session gave it.
+    pub(crate) peak: u64,
     /// From here on bytes that the session did not write are zeros.
     pub(crate) zeros: u64,
     /// What the session wrote.
@@ -53,6 +55,7 @@ impl File {
             sized: 0,
             furthest: 0,
             written_by: 0,
+            peak: 0,
             zeros: u64::MAX,
             written: Pieces::new(alloc),
             shown: Pieces::new(alloc),

@@ -69,7 +69,18 @@ impl<'a> World<'a> {
         if path.first() != Some(&b'/') {
             self.propose_home(path, text)?;
         }
-        Err(self.clash(place, told, What::Place))
+        self.clash_at_place(place, told, text)
+    }
+
+    /// The contradiction of two places to which a path leads.
+    fn clash_at_place(&mut self, place: Vec<u8>, told: u64, text: &[u8]) -> Result<(), Stop> {
+        let known = Vec::from_slice(self.alloc, place.as_slice());
+        let stop = self.clash(place, told, What::Place);
+        let known = known?;
+        let noted = self.note_texts(known.as_slice(), text);
+        drop(known);
+        noted?;
+        Err(stop)
     }
 
     /// Proposes that an entry, or the directory that it is in, is a link to what this text is the place of.

@@ -34,13 +34,15 @@ mod settings;
 mod sizes;
 mod successes;
 mod targets;
+mod texts;
 mod ways;
 mod world;
 
-pub use candidates::Candidate;
+pub use candidates::{Candidate, Excess};
 pub use clashes::{Clash, What};
 pub use facts::{Fact, Says};
 pub use nodes::Sort;
 pub use search::{Search, Step};
 pub use settings::Settings;
 pub use sftp_path::NoMemory;
+pub use texts::{TextStream, TreeText};

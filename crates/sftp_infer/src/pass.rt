@@ -83,11 +83,12 @@ impl<'a> World<'a> {
         }
     }
 
-    /// Whether what is known takes more memory than it may: as many bytes as the session has, and some for each place.
+    /// Whether what is known takes more memory than it may: half as many bytes as the session has, and some for each
+    /// place.
     fn is_over(&self) -> bool {
         let facts = self.taken.saturating_mul(64);
         let places = (self.nodes.len() as u64).saturating_mul(512);
-        let most = (self.session.len() as u64).saturating_add(places);
+        let most = (self.session.len() as u64 / 2).saturating_add(places);
         facts > most.saturating_add(FREE_BYTES)
     }
 }

@@ -136,11 +136,35 @@ impl<'a> World<'a> {
                 found: self.replied,
                 place,
                 what,
+                texts: None,
             });
         } else {
             drop(place);
         }
         Stop::Clash
+    }
+
+    /// Notes what the two records of the contradiction at hand say.
+    pub(crate) fn note_texts(&mut self, told: &[u8], found: &[u8]) -> Result<(), Stop> {
+        let told = Vec::from_slice(self.alloc, told)?;
+        match Vec::from_slice(self.alloc, found) {
+            Ok(found) => self.set_texts(told, found),
+            Err(_) => {
+                drop(told);
+                return Err(Stop::NoMemory);
+            }
+        }
+        Ok(())
+    }
+
+    fn set_texts(&mut self, told: Vec<u8>, found: Vec<u8>) {
+        match &mut self.clash {
+            Some(clash) => clash.texts = Some((told, found)),
+            None => {
+                drop(told);
+                drop(found);
+            }
+        }
     }
 
     /// The contradiction at a name.

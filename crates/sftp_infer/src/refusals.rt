@@ -271,12 +271,17 @@ impl<'a> World<'a> {
                     self.propose_of(at, Says::Link(target))?;
                 }
                 let told = self.told(at);
-                Ok(self.clash_at(at, told, What::Refused))
+                let sort = self.sort(at);
+                Ok(self.clash_at(at, told, What::Refused(Some(sort))))
             }
             Look::Nothing(told) | Look::NoEntry(told) => {
-                Ok(self.clash_name(found.parent, found.name.as_slice(), told, What::Refused))
+                let what = What::Refused(None);
+                Ok(self.clash_name(found.parent, found.name.as_slice(), told, what))
             }
-            _ => Ok(self.clash_name(found.parent, found.name.as_slice(), 0, What::Refused)),
+            _ => {
+                let what = What::Refused(None);
+                Ok(self.clash_name(found.parent, found.name.as_slice(), 0, what))
+            }
         }
     }
 }

@@ -16,6 +16,7 @@ impl File {
         self.sized = 0;
         self.furthest = 0;
         self.written_by = 0;
+        self.peak = 0;
         self.zeros = u64::MAX;
         self.first = 0;
         self.last = 0;
@@ -109,6 +110,7 @@ impl<'a> World<'a> {
             self.taken = self.taken.saturating_add(shown);
             return entry.rewind(alloc);
         }
+        entry.file.rewind(alloc);
         self.spare.push(at)?;
         Ok(())
     }

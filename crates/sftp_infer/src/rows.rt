@@ -1,7 +1,9 @@
 //! The tree file of what is known of the start.
 
+use crate::candidates::Excess;
+use crate::files::File;
 use crate::nodes::{Held, Node, Sort};
-use crate::pieces::Piece;
+use crate::texts::TreeText;
 use crate::world::World;
 use sftp_path::NoMemory;
 use sftp_treefile::{
@@ -13,23 +15,19 @@ use sftp_wire::ByteString;
 /// The most entries of a tree.
 const ENTRIES: usize = 1_048_576;
 
-/// The most bytes of all files of a tree together.
-const ALL_BYTES: u64 = 1 << 30;
+/// The most bytes of a file of a tree, with the highest limits.
+const FILE_BYTES: u32 = 67_108_864;
 
-/// Zeros that are written at once.
-const ZEROS: &[u8] = &[0; 4_096];
+/// How many bytes the paths and targets of each place may have, and those of all places besides.
+const PATH_BYTES: u64 = 384;
+
+const FREE_BYTES: u64 = 1 << 20;
 
 /// The bytes of the field that says how long a file is.
 const LENGTH_BYTES: usize = 4;
 
 /// The longest text of a field.
 const LONGEST: usize = 4_294_967_295;
-
-/// The bytes of an entry in a tree file beside its path and what it has: at most so many.
-const ENTRY_BYTES: usize = 32;
-
-/// The bytes of the head of a tree file beside the home: at most so many.
-const HEAD_BYTES: usize = 64;
 
 /// A place of the start: the entry, its name, and how long the path of its directory is.
 #[derive(Clone, Copy)]
@@ -54,34 +52,60 @@ fn within(number: u64, least: u32, most: u32) -> u32 {
     }
 }
 
+/// What a pass makes of the start.
+#[derive(Drop)]
+pub(crate) enum Drawn<'a> {
+    /// The bytes of its tree file, and how many entries it has.
+    Text(TreeText<'a>, u64),
+    /// It would be larger than it may.
+    TooLarge(Excess),
+}
+
 impl<'a> World<'a> {
-    /// The bytes of the tree file, and how many entries it has; `None` if it would be too large.
-    pub(crate) fn tree_file(&self) -> Result<Option<(Vec<u8>, u64)>, NoMemory> {
+    /// The tree file of what is known of the start.
+    pub(crate) fn draw(&self) -> Result<Drawn<'a>, NoMemory> {
         let Some(rows) = self.rows()? else {
-            return Ok(None);
+            return Ok(Drawn::TooLarge(Excess::Entries));
         };
-        if rows.len() > ENTRIES || self.all_bytes() > ALL_BYTES {
-            drop(rows);
-            return Ok(None);
-        }
-        let entries = rows.len() as u64;
-        let mut out = Vec::with_capacity(self.alloc, self.length_of(rows.as_slice()))?;
-        let done = self.put_tree(rows.as_slice(), &mut out);
+        let drawn = self.draw_rows(rows.as_slice());
         drop(rows);
-        done?;
-        Ok(Some((out, entries)))
+        drawn
     }
 
-    /// How many bytes a tree file of these places takes at most.
-    fn length_of(&self, rows: &[Listed<'_>]) -> usize {
-        let mut sum = HEAD_BYTES.saturating_add(self.home.len());
+    fn draw_rows(&self, rows: &[Listed<'_>]) -> Result<Drawn<'a>, NoMemory> {
+        let largest = self.largest();
+        if largest > u64::from(FILE_BYTES) {
+            return Ok(Drawn::TooLarge(Excess::File(largest)));
+        }
+        let bytes = self.all_bytes();
+        if bytes > self.settings.most {
+            return Ok(Drawn::TooLarge(Excess::Files(bytes)));
+        }
+        let paths = self.paths_of(rows);
+        if paths > self.most_of_paths(rows.len()) {
+            return Ok(Drawn::TooLarge(Excess::Paths(paths)));
+        }
+        let text = self.text_of_rows(rows)?;
+        Ok(Drawn::Text(text, rows.len() as u64))
+    }
+
+    /// How many bytes the paths and the targets of these places have.
+    fn paths_of(&self, rows: &[Listed<'_>]) -> u64 {
+        let mut sum = self.home.len();
         for listed in rows {
             sum = sum
                 .saturating_add(listed.length())
-                .saturating_add(ENTRY_BYTES);
-            sum = sum.saturating_add(self.target_length(listed.at));
+                .saturating_add(self.target_length(listed.at));
         }
-        sum.saturating_add(self.all_bytes() as usize)
+        sum as u64
+    }
+
+    /// How many bytes paths and targets may have: as many as half of the session, and some for each place.
+    fn most_of_paths(&self, places: usize) -> u64 {
+        let free = (places as u64)
+            .saturating_mul(PATH_BYTES)
+            .saturating_add(FREE_BYTES);
+        free.saturating_add(self.session.len() as u64 / 2)
     }
 
     /// How long the target of an entry is, if it has one that is known.
@@ -97,39 +121,67 @@ impl<'a> World<'a> {
         }
     }
 
-    /// The bytes of all files of the start.
-    pub(crate) fn all_bytes(&self) -> u64 {
-        let mut sum: u64 = 0;
+    /// How many bytes the largest file has at the start.
+    fn largest(&self) -> u64 {
+        let mut most: u64 = 0;
         for entry in self.nodes.iter() {
             if entry.is_old && entry.sort == Sort::File {
-                sum = sum.saturating_add(entry.file.least);
+                most = most.max(entry.file.least);
+            }
+        }
+        most
+    }
+
+    /// The most bytes that all files have in an audit of the session, each at the start or later.
+    fn all_bytes(&self) -> u64 {
+        let mut sum: u64 = 0;
+        for entry in self.nodes.iter() {
+            if entry.sort == Sort::File {
+                let bytes = entry.file.least.max(entry.file.peak);
+                sum = sum.saturating_add(bytes.min(u64::from(FILE_BYTES)));
             }
         }
         sum
     }
 
-    /// The places of the start in the order of a tree file.
+    /// The places of the start in the order of a tree file; `None` if there are more than a tree may have.
     fn rows(&self) -> Result<Option<Vec<Listed<'_>>>, NoMemory> {
         let mut rows = Vec::new(self.alloc);
         let mut waiting = Vec::new(self.alloc);
-        self.push_names(0, 0, &mut waiting)?;
+        let done = self.list_all(&mut waiting, &mut rows);
+        drop(waiting);
+        match done {
+            Ok(true) => Ok(Some(rows)),
+            Ok(false) => {
+                drop(rows);
+                Ok(None)
+            }
+            Err(error) => {
+                drop(rows);
+                Err(error)
+            }
+        }
+    }
+
+    /// Appends the places, and says whether these are all.
+    fn list_all<'w>(
+        &'w self,
+        waiting: &mut Vec<Listed<'w>>,
+        rows: &mut Vec<Listed<'w>>,
+    ) -> Result<bool, NoMemory> {
+        self.push_names(0, 0, waiting)?;
         for _ in 0..=ENTRIES {
             match waiting.pop() {
                 Some(listed) => {
                     if self.sort(listed.at) == Sort::Directory {
-                        self.push_names(listed.at, listed.length(), &mut waiting)?;
+                        self.push_names(listed.at, listed.length(), waiting)?;
                     }
                     rows.push(listed)?;
                 }
-                None => {
-                    drop(waiting);
-                    return Ok(Some(rows));
-                }
+                None => return Ok(true),
             }
         }
-        drop(waiting);
-        drop(rows);
-        Ok(None)
+        Ok(false)
     }
 
     /// Pushes what a directory had at the start, the last name first.
@@ -154,20 +206,45 @@ impl<'a> World<'a> {
         Ok(())
     }
 
-    fn put_tree(&self, rows: &[Listed<'_>], out: &mut Vec<u8>) -> Result<(), NoMemory> {
-        self.put_start(rows.len(), out)?;
-        let mut firsts: Vec<u32> = vec![in self.alloc; 0; self.nodes.len()]?;
-        let mut path = Vec::new(self.alloc);
+    fn text_of_rows(&self, rows: &[Listed<'_>]) -> Result<TreeText<'a>, NoMemory> {
+        let mut text = TreeText::new(self.alloc, self.session)?;
+        match self.put_rows(rows, &mut text) {
+            Ok(()) => Ok(text),
+            Err(error) => {
+                drop(text);
+                Err(error)
+            }
+        }
+    }
+
+    fn put_rows(&self, rows: &[Listed<'_>], text: &mut TreeText<'a>) -> Result<(), NoMemory> {
+        let mut pen = Pen {
+            path: Vec::new(self.alloc),
+            head: Vec::new(self.alloc),
+            firsts: vec![in self.alloc; 0; self.nodes.len()]?,
+        };
+        let done = self.put_all(rows, &mut pen, text);
+        drop(pen);
+        done
+    }
+
+    fn put_all(
+        &self,
+        rows: &[Listed<'_>],
+        pen: &mut Pen,
+        text: &mut TreeText<'a>,
+    ) -> Result<(), NoMemory> {
+        self.put_start(rows.len(), &mut pen.head)?;
+        text.push(pen.head.as_slice())?;
         let mut number: u32 = 0;
         for listed in rows {
             number = number.saturating_add(1);
-            path.truncate(listed.above);
-            path.push(b'/')?;
-            path.extend_from_slice(listed.name)?;
-            self.put_row(path.as_slice(), listed.at, number, &mut firsts, out)?;
+            pen.begin(listed)?;
+            let path = pen.path.as_slice();
+            self.put_row(path, listed.at, number, &mut pen.firsts, &mut pen.head)?;
+            text.push(pen.head.as_slice())?;
+            self.put_bytes(listed.at, number, pen, text)?;
         }
-        drop(path);
-        drop(firsts);
         Ok(())
     }
 
@@ -224,6 +301,7 @@ impl<'a> World<'a> {
         }
     }
 
+    /// Has the entry of a place written, but for the bytes of a file.
     fn put_row(
         &self,
         path: &[u8],
@@ -235,15 +313,12 @@ impl<'a> World<'a> {
         if path.len() > LONGEST {
             return Err(NoMemory);
         }
-        let Some(entry) = self.entry(at) else {
-            return Ok(());
-        };
-        match entry.sort {
+        match self.sort(at) {
             Sort::Directory => put_directory(out, path, &self.owner_of(at, 0o755)),
             Sort::Link => self.put_link_row(path, at, out),
             _ => match take_first(firsts, at, number) {
                 Some(first) => put_further_name(out, path, first),
-                None => self.put_file_row(path, at, entry, out),
+                None => self.put_file_row(path, at, out),
             },
         }
     }
@@ -263,48 +338,76 @@ impl<'a> World<'a> {
         }
     }
 
-    /// Appends the entry of a file: that of an empty one, then its length in the place of the last field, and its bytes
-    /// from where the transcript has them.
-    fn put_file_row(
-        &self,
-        path: &[u8],
-        at: usize,
-        entry: &Node,
-        out: &mut Vec<u8>,
-    ) -> Result<(), NoMemory> {
-        let owner = self.owner_of(at, 0o644);
-        let size = entry.file.least;
-        let Ok(length) = u32::try_from(size) else {
+    /// Appends the entry of a file: that of an empty one, and then its length in the place of the last field.
+    fn put_file_row(&self, path: &[u8], at: usize, out: &mut Vec<u8>) -> Result<(), NoMemory> {
+        let Ok(length) = u32::try_from(self.size_at_start(at)) else {
             return Err(NoMemory);
         };
         if path.len() > LONGEST {
             return Err(NoMemory);
         }
-        put_file(out, path, &owner, &[])?;
+        put_file(out, path, &self.owner_of(at, 0o644), &[])?;
         out.truncate(out.len().saturating_sub(LENGTH_BYTES));
         out.extend_from_slice(&length.to_be_bytes())?;
-        self.put_bytes(entry, out)
+        Ok(())
     }
 
-    /// Appends the bytes of a file at the start: those that were shown, and zeros.
-    fn put_bytes(&self, entry: &Node, out: &mut Vec<u8>) -> Result<(), NoMemory> {
-        let size = entry.file.least;
-        let start = out.len();
-        for (offset, piece) in entry.file.shown.iter() {
-            put_zeros(out, start, (*offset).min(size))?;
-            out.extend_from_slice(self.text_of(piece, size.saturating_sub(*offset)))?;
+    fn size_at_start(&self, at: usize) -> u64 {
+        match self.entry(at) {
+            Some(entry) => entry.file.least,
+            None => 0,
         }
-        put_zeros(out, start, size)
     }
 
-    /// The bytes of a piece, at most so many.
-    fn text_of(&self, piece: &Piece, most: u64) -> &[u8] {
-        let len = piece.len.min(most) as usize;
-        match self.session.get(piece.from..piece.from.saturating_add(len)) {
-            Some(text) => text,
-            None => &[],
+    /// Appends the bytes of a file behind its first name: those that were shown, and zeros.
+    fn put_bytes(
+        &self,
+        at: usize,
+        number: u32,
+        pen: &Pen,
+        text: &mut TreeText<'a>,
+    ) -> Result<(), NoMemory> {
+        let is_first = pen.firsts.get(at).copied() == Some(number);
+        match self.entry(at) {
+            Some(entry) if is_first => put_shown(&entry.file, text),
+            _ => Ok(()),
         }
     }
+}
+
+/// What entries are written with.
+#[derive(Drop)]
+struct Pen {
+    /// The path of the entry at hand.
+    path: Vec<u8>,
+    /// Its bytes, but for those of a file.
+    head: Vec<u8>,
+    /// The numbers of the entries that have the first name of each file.
+    firsts: Vec<u32>,
+}
+
+impl Pen {
+    /// Begins the entry of a place, of which the path of the one before has what is above it.
+    fn begin(&mut self, listed: &Listed<'_>) -> Result<(), NoMemory> {
+        self.head.clear();
+        self.path.truncate(listed.above);
+        self.path.push(b'/')?;
+        self.path.extend_from_slice(listed.name)?;
+        Ok(())
+    }
+}
+
+/// Appends the bytes of a file at the start.
+fn put_shown(file: &File, text: &mut TreeText<'_>) -> Result<(), NoMemory> {
+    let mut done: u64 = 0;
+    for (offset, piece) in file.shown.iter() {
+        let begin = (*offset).min(file.least);
+        text.push_zeros(begin.saturating_sub(done))?;
+        let len = piece.len.min(file.least.saturating_sub(begin));
+        text.push_given(piece.from, len as usize)?;
+        done = begin.saturating_add(len);
+    }
+    text.push_zeros(file.least.saturating_sub(done))
 }
 
 /// The number of the entry that has the first name of a file, unless it is the one at hand.
@@ -317,23 +420,6 @@ fn take_first(firsts: &mut Vec<u32>, at: usize, number: u32) -> Option<u32> {
         Some(first) => Some(*first),
         None => None,
     }
-}
-
-/// Appends zeros until there are so many bytes from a place on.
-fn put_zeros(bytes: &mut Vec<u8>, start: usize, size: u64) -> Result<(), NoMemory> {
-    let end = start.saturating_add(size as usize);
-    for _ in 0..u64::MAX {
-        let left = end.saturating_sub(bytes.len());
-        if left == 0 {
-            return Ok(());
-        }
-        let some = left.min(ZEROS.len());
-        match ZEROS.get(..some) {
-            Some(zeros) => bytes.extend_from_slice(zeros)?,
-            None => return Ok(()),
-        }
-    }
-    Ok(())
 }
 
 /// Appends the entry of a link, unless it is longer than the format allows.

@@ -1,12 +1,14 @@
 //! The search: pass after pass, each with further facts, until one goes through.
 
-use crate::candidates::Candidate;
+use crate::candidates::{Candidate, Excess};
 use crate::clashes::{Clash, What};
 use crate::errors::Stop;
 use crate::facts::Fact;
 use crate::pass::Passed;
 use crate::refusals::Guess;
+use crate::rows::Drawn;
 use crate::settings::Settings;
+use crate::texts::TreeText;
 use crate::world::World;
 use sftp_path::NoMemory;
 use std::alloc::Global;
@@ -20,13 +22,10 @@ const PROPOSALS: usize = 8;
 /// The most refusals for which another reason is tried after a contradiction.
 const GUESSES: usize = 8;
 
-/// The most bytes of the files of a tree that did not explain the session, which is kept as the one that came furthest.
-const BEST_BYTES: u64 = 1 << 24;
-
 /// How much memory a choice takes beside its facts, in units of 64 bytes.
 const CHOICE_UNITS: u64 = 2;
 
-/// How much memory all choices may take beside as many bytes as the session has.
+/// How much memory all choices may take beside half as many bytes as the session has.
 const FREE_BYTES: u64 = 1 << 22;
 
 /// A reason to take for a refusal.
@@ -63,11 +62,13 @@ impl Choice {
 
 /// What a step of the search comes to.
 #[derive(Drop)]
-pub enum Step {
+pub enum Step<'a> {
     /// This tree.
-    Tree(Candidate),
+    Tree(Candidate<'a>),
     /// Nothing is left to try.
     Nothing,
+    /// The tree of a pass that went through would be larger than it may. No other one is tried.
+    TooLarge(Excess),
 }
 
 /// A search for a tree at the start of a session.
@@ -87,7 +88,7 @@ pub struct Search<'a> {
     /// The contradiction that came last in the session of those that were met.
     pub(crate) clash: Option<Clash>,
     /// The tree of the pass that came furthest.
-    pub(crate) best: Option<Vec<u8>>,
+    pub(crate) best: Option<TreeText<'a>>,
     pub(crate) furthest: u64,
     /// The choice of the last tree, and its refusals for which a reason was taken that nothing tells.
     pub(crate) last: usize,
@@ -149,11 +150,8 @@ impl<'a> Search<'a> {
     }
 
     /// The tree file of the pass that came furthest, if there was one.
-    pub fn best(&self) -> Option<&[u8]> {
-        match &self.best {
-            Some(tree) => Some(tree.as_slice()),
-            None => None,
-        }
+    pub fn best(&self) -> Option<&TreeText<'a>> {
+        self.best.as_ref()
     }
 
     /// The next tree that explains the session, as far as a pass can see.
@@ -161,30 +159,29 @@ impl<'a> Search<'a> {
     /// # Errors
     ///
     /// `NoMemory` if memory runs out.
-    pub fn next(&mut self) -> Result<Step, NoMemory> {
+    pub fn next(&mut self) -> Result<Step<'a>, NoMemory> {
         for _ in 0..self.settings.passes {
             if self.passes >= self.settings.passes || self.work_left() == 0 || self.is_full() {
                 return Ok(Step::Nothing);
             }
             match self.cheapest() {
-                Some(choice) => {
-                    if let Some(candidate) = self.try_choice(choice)? {
-                        return Ok(Step::Tree(candidate));
-                    }
-                }
+                Some(choice) => match self.try_choice(choice)? {
+                    Step::Nothing => {}
+                    step => return Ok(step),
+                },
                 None => return Ok(Step::Nothing),
             }
         }
         Ok(Step::Nothing)
     }
 
-    /// Whether the choices take more memory than they may: as many bytes as the session has, and some.
+    /// Whether the choices take more memory than they may: half as many bytes as the session has, and some.
     fn is_full(&self) -> bool {
         let mut units: u64 = 0;
         for choice in self.choices.iter() {
             units = units.saturating_add(choice.units());
         }
-        units.saturating_mul(64) > (self.session.len() as u64).saturating_add(FREE_BYTES)
+        units.saturating_mul(64) > (self.session.len() as u64 / 2).saturating_add(FREE_BYTES)
     }
 
     fn work_left(&self) -> u64 {
@@ -206,7 +203,7 @@ impl<'a> Search<'a> {
     }
 
     /// Goes through the session with a choice.
-    fn try_choice(&mut self, choice: usize) -> Result<Option<Candidate>, NoMemory> {
+    fn try_choice(&mut self, choice: usize) -> Result<Step<'a>, NoMemory> {
         if let Some(choice) = self.choices.get_mut(choice) {
             choice.is_waiting = false;
         }
@@ -293,9 +290,9 @@ impl<'a> Search<'a> {
         choice: usize,
         passed: Passed,
         world: &mut World<'a>,
-    ) -> Result<Option<Candidate>, NoMemory> {
+    ) -> Result<Step<'a>, NoMemory> {
         if passed == Passed::Over {
-            return Ok(None);
+            return Ok(Step::Nothing);
         }
         let base = self.learn(choice, world)?;
         match passed {
@@ -307,9 +304,9 @@ impl<'a> Search<'a> {
             Passed::Stuck => {
                 self.branch(base, world)?;
                 self.keep_best(world)?;
-                Ok(None)
+                Ok(Step::Nothing)
             }
-            _ => Ok(None),
+            _ => Ok(Step::Nothing),
         }
     }
 
@@ -349,21 +346,32 @@ impl<'a> Search<'a> {
             Some(clash) => (clash.told, clash.found),
             None => (0, 0),
         };
-        let mut cost = self.cost(base);
-        for fact in world.proposals.iter().take(PROPOSALS) {
-            let mut facts = Vec::new(self.alloc);
-            facts.push(fact.try_clone(self.alloc)?)?;
-            self.add(Choice {
-                parent: Some(base),
-                facts,
-                take: None,
-                cost,
-                is_waiting: true,
-            })?;
-            cost = cost.saturating_add(1);
-        }
+        let cost = self.add_each(base, world.proposals.as_slice())?;
         let cost = self.guess_otherwise(base, cost, world.guesses.as_slice(), told, true)?;
         self.guess_otherwise(base, cost, world.guesses.as_slice(), found, false)?;
+        Ok(())
+    }
+
+    /// Adds a choice for each proposal. Returns the cost of the next one.
+    fn add_each(&mut self, base: usize, proposals: &[Fact]) -> Result<usize, NoMemory> {
+        let mut cost = self.cost(base);
+        for fact in proposals.iter().take(PROPOSALS) {
+            self.add_fact(base, fact, cost)?;
+            cost = cost.saturating_add(1);
+        }
+        Ok(cost)
+    }
+
+    fn add_fact(&mut self, base: usize, fact: &Fact, cost: usize) -> Result<(), NoMemory> {
+        let fact = fact.try_clone(self.alloc)?;
+        let facts = vec![in self.alloc; fact]?;
+        self.add(Choice {
+            parent: Some(base),
+            facts,
+            take: None,
+            cost,
+            is_waiting: true,
+        })?;
         Ok(())
     }
 
@@ -427,11 +435,7 @@ impl<'a> Search<'a> {
         }
         self.furthest = found;
         self.clash = world.clash.take();
-        self.best = if world.all_bytes() > BEST_BYTES {
-            None
-        } else {
-            best_of(world)?
-        };
+        self.best = best_of(world)?;
         Ok(())
     }
 
@@ -449,16 +453,17 @@ impl<'a> Search<'a> {
                 told: 0,
                 found,
                 place: Vec::new(self.alloc),
-                what: What::Refused,
+                what: What::Refused(None),
+                texts: None,
             });
         }
     }
 }
 
 /// The tree file of what a pass found.
-fn best_of(world: &World<'_>) -> Result<Option<Vec<u8>>, NoMemory> {
-    match world.tree_file()? {
-        Some((tree, _)) => Ok(Some(tree)),
-        None => Ok(None),
+fn best_of<'a>(world: &World<'a>) -> Result<Option<TreeText<'a>>, NoMemory> {
+    match world.draw()? {
+        Drawn::Text(tree, _) => Ok(Some(tree)),
+        Drawn::TooLarge(_) => Ok(None),
     }
 }

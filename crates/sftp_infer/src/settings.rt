@@ -19,6 +19,8 @@ pub struct Settings<'a> {
     pub umask: Option<u32>,
     /// Whether SYMLINK has the path of the link first.
     pub link_first: bool,
+    /// The most bytes that all files of the session may have, those that it makes, too.
+    pub most: u64,
     /// The most passes.
     pub passes: u32,
 }

@@ -234,16 +234,31 @@ impl<'a> World<'a> {
             let known = self.sort(at);
             return Err(self.clash_at(at, told, What::Kind(known, Sort::Link)));
         }
-        match self.target(at) {
-            Some(known) if known == target => Ok(()),
-            Some(_) => {
-                let text = Vec::from_slice(self.alloc, target)?;
-                self.propose_of(at, Says::Link(text))?;
-                let told = self.told(at);
-                Err(self.clash_at(at, told, What::Target))
-            }
+        let is_known = match self.target(at) {
+            Some(known) => Some(known == target),
+            None => None,
+        };
+        match is_known {
+            Some(true) => Ok(()),
+            Some(false) => self.clash_target(at, target),
             None => self.set_target(at, target),
         }
+    }
+
+    /// The contradiction of two targets of a link.
+    fn clash_target(&mut self, at: usize, target: &[u8]) -> Result<(), Stop> {
+        let text = Vec::from_slice(self.alloc, target)?;
+        self.propose_of(at, Says::Link(text))?;
+        let known = match self.target(at) {
+            Some(known) => Vec::from_slice(self.alloc, known)?,
+            None => Vec::new(self.alloc),
+        };
+        let told = self.told(at);
+        let stop = self.clash_at(at, told, What::Target);
+        let noted = self.note_texts(known.as_slice(), target);
+        drop(known);
+        noted?;
+        Err(stop)
     }
 
     fn set_target(&mut self, at: usize, target: &[u8]) -> Result<(), Stop> {

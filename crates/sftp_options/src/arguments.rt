@@ -89,6 +89,16 @@ pub(crate) const SERVE: &[Argument] = &[
         "With --vary: texts and long names of any bytes, which the draft does not allow",
     ),
     (
+        "texts",
+        Form::Flag,
+        "Say in the message of each refusal why, and which limit of the tree was met",
+    ),
+    (
+        "long-names",
+        Form::Flag,
+        "Give directories with lines as 'ls -l' writes them",
+    ),
+    (
         "verbose",
         Form::Flag,
         "Print on standard error when the session opens and how it ends",
@@ -196,7 +206,7 @@ pub(crate) const INFER: &[Argument] = &[
     (
         "memory",
         Form::Number("BYTES"),
-        "The most bytes of a transcript that is read; the run takes more, which is not bounded",
+        "The most bytes that the transcript and the files of the session may have together",
     ),
     MODE,
     NO_SYNC,

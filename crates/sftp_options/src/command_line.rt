@@ -17,14 +17,14 @@ use clap::error::ErrorKind;
 use clap::{Arg, ArgAction, ArgMatches, Command, Error, value_parser};
 use sftp_files::{Failure, ImportOptions, Keeping, MORE, PRIVATE, ServeOptions, ShowOptions};
 use sftp_profile::Profile;
-use sftp_vary::{Freedoms, Variation};
+use sftp_vary::{Freedoms, Style, Variation, Words};
 use std::alloc::{AllocError, Global};
 
 /// What a command line asks for.
 #[derive(Drop)]
 pub enum Request<'a> {
-    /// Serve a session, with varied replies if they are asked for.
-    Serve(ServeOptions<'a>, Option<Variation>),
+    /// Serve a session, with replies of this style.
+    Serve(ServeOptions<'a>, Style),
     /// Audit a session.
     Audit(AuditOptions<'a>),
     /// Infer a tree from a session, and audit the session with it.
@@ -267,7 +267,17 @@ fn mode_of(text: Option<&str>) -> u32
 
 fn serve_request<'a>(given: &ArgMatches<'a>) -> Option<Request<'a>> {
     let options = serve_options(given)?;
-    Some(Request::Serve(options, variation_of(given)))
+    let words = Words {
+        texts: given.get_flag("texts"),
+        long_names: given.get_flag("long-names"),
+    };
+    Some(Request::Serve(
+        options,
+        Style {
+            variation: variation_of(given),
+            words,
+        },
+    ))
 }
 
 /// How the replies of a session are varied, if they are: by the seed 0, if only what is free is given.

@@ -24,8 +24,9 @@ session may be recording into, and which may not be that of --tree or --save.
 
 With --shuffle N, N fixes the choice among the requests that have arrived; how many have depends on the client's timing.
 With --replay, each request is awaited where the transcript has it, and each reply sent there, so a client that asks the
-same gets the same order. Where it asks otherwise or ends its input, the session goes on in the order asked, and a line
-on standard error says so: 'sftpv3: replay: left at record N: WHY'.
+same gets the same order. Each reply is that of the transcript where the tree allows it, names of handles too. Where the
+client asks otherwise or ends its input, the session goes on in the order asked, and a line on standard error says so:
+'sftpv3: replay: left at record N: WHY'. The transcript is read twice, so it cannot be a pipe.
 
 With --memory, the session ends as if memory ran out when a reply is due and the process has more than BYTES. One
 request may take as much as a file or a listing has before that, and saving the tree takes its bytes once more.
@@ -40,6 +41,10 @@ With --vary, replies use what the draft leaves free, by choices that N fixes in 
   codes       the code of a refusal, where several fit
   texts       messages and language tags
 --only uses some of these, by the same choices. --only or --wild without --vary takes 0 for N.
+
+With --texts, the message of each refusal says in English why, and which limit of the tree was met. With --long-names,
+'ls -l' of a client shows what it does on a folder, but for the count of names, which is 1, and the date, which is that
+of 1970: trees have neither. The freedoms texts and longnames of --vary come before them.
 
 With --verbose, standard error has a line when the session opens, and one when it ends: how, the number of requests, the
 bytes read and written, the number of entries in the tree, and whether the tree was saved.
@@ -71,12 +76,17 @@ If no tree is found, the exit status is 1, and the two records are named that co
 
   no tree found: record 34 contradicts record 20
 
-This is no proof that there is none. With --explain, standard error has both records, what each told, and how many
-passes were tried. A pass begins anew with what an earlier one learned.
+This is no proof that there is none. With --explain, standard error has both records, what each told, the request that
+the second one answers, how many passes were tried, and how to look closer. A pass begins anew with what an earlier one
+learned. --best writes the tree that came furthest: 'audit --keep-going' with it says what else is wrong.
 
-With --memory, a transcript of more than BYTES is not read, and the status is 3. It bounds nothing else. The transcript,
-the tree file and the tree are in memory at once: up to three times the bytes of the transcript, 1 KB for each place,
-and twice the size of a file of which replies told the size alone, up to 2 GiB for all files.
+The transcript is in memory, and so are the files that the session has, which are made of its bytes: up to twice the
+transcript together, and 1 KB for each place. With --out, the tree file of the end comes on top. A file of which the
+size alone is known takes as much as it has. All files together may have as many bytes as the transcript, and 1 GiB;
+with --memory they and the transcript together may have BYTES. Otherwise the status is 3, and standard error says so:
+
+  no tree: the files of the session have 8589934592 bytes in all
+  sftpv3: out of memory: session.transcript needs more than '--memory' allows
 
 'sftpv3 audit --tree unknown' does the same, and writes no tree at the start. A tree file of that name is './unknown'.";
 
@@ -181,9 +191,8 @@ Refused are, among others, a wrong checksum, a path with '..', a device, a FIFO,
 that does not come before it, a directory that is also a file or a link, a name of more than 255 bytes, a path of more
 than 64 names, and what the limits have no room for; and a compressed archive, by the name of what compressed it.
 
-With --memory, an archive of more than a quarter of BYTES is not taken; zeros at its end do not count. Nor is one whose
-entries, with the directories that it does not name, take more than BYTES, or more than half of BYTES once it is read,
-since the tree file is made beside them. The memory is looked at before each entry, and one entry may go beyond.
+With --memory, an archive is not taken whose entries, with the directories that it does not name, take more than BYTES.
+The memory is looked at before each entry, and before more of a long one is read; one entry may go beyond.
 
 --limits usual    65,536 entries, and files of 16,777,216 bytes, as without the option
 --limits raised   1,048,576 entries, and files of 67,108,864 bytes: the highest limits, which 'sftpv3 raise' sets
@@ -275,5 +284,5 @@ failure; with --keep-going one for each finding, and one for the last line. The 
 
 With --memory, a tree file of more than BYTES is not read, and the audit ends with status 3 once the process has more
 than BYTES. That is looked at as the transcript is read; one request may take as much as a file or a listing has before
-that, and the tree at the end is encoded once more. With '--tree unknown' it bounds the transcript alone, as that of
-'infer' does.";
+that, and the tree at the end is encoded once more. With '--tree unknown' it says how many bytes the transcript and the
+files of the session may have together, as with 'infer'.";

@@ -1,1 +1,2 @@
 mod VerdictLaws
+pub mod Inferring

@@ -3,22 +3,26 @@ use Rattle.std.proofs.Common.{◌≡◌, ℕ, Bool, true, false, List, [], Optio
 use Rattle.std.proofs.Common.{refl, sym, subst}
 use Rattle.std.specs.Result.{IfOk, IfErr}
 use Rattle.sftp_tree.specs.Tree.{Tree}
+use Rattle.sftp_tree.specs.Picture.{IsStart}
 use Rattle.sftp_profile.specs.declared.profiles.Profile.{Profile}
 use Rattle.sftp_transcript.specs.declared.events.Event.{Event}
 use Rattle.sftp_transcript.specs.declared.stage.Stage.TheVariants as stages
 use Rattle.sftp_transcript.specs.Recorded.{Reading}
-use Rattle.sftp_tree.specs.Picture.{picture}
-use Rattle.sftp_audit.specs.declared.audits.Accepted.{Accepted}
-use Rattle.sftp_audit.specs.declared.cuts.AcceptedCut.{AcceptedCut}
+use Rattle.sftp_transcript.specs.Explained.{StepOf}
+use Rattle.sftp_audit.specs.declared.cuts.EndedCut.{EndedCut}
+use Rattle.sftp_audit.specs.declared.trees.Ended.{Ended}
 use Rattle.sftp_audit.specs.declared.errors.AuditError.{AuditError}
 use Rattle.sftp_audit.specs.declared.errors.AuditError.TheVariants as audit_errors
-use Rattle.sftp_audit.specs.Audit.{IsNoJudgement, IsNew, request_count}
-use Rattle.sftp_audit.specs.Cuts.{unanswered_count, unsettled_count}
+use Rattle.sftp_audit.specs.Audit.{AccountsBy, IsFirstFaultBy, IsNoJudgement, IsNew, request_count}
+use Rattle.sftp_audit.specs.Cuts.{AccountsCutBy, unanswered_count, unsettled_count}
+use Rattle.sftp_audit.specs.Trees.{AccountsFrom, AccountsCutFrom, IsFirstFaultFrom}
+use Rattle.sftp_audit.proofs.streams.Judged.{HasNoRunFrom, HasNoCutFrom}
+use Rattle.sftp_audit.proofs.streams.Starts.{by_from, cut_by_from, none_by, none_cut_by, first_by}
 use Rattle.sftp_audit.specs.Exchanges.{recorded_exchanges}
 use Rattle.sftp_files.specs.declared.messages.Ending.{Ending}
 use Rattle.sftp_files.specs.declared.messages.Ending.TheVariants as endings
 use Rattle.sftp_files.specs.declared.messages.Failure.{Failure}
-use Rattle.sftp_tool.specs.Verdicts.{AccountOf, FaultOf, ResultOf, HasNoRun, HasEnd, HasCutEnd, IsAudit, IsVerdict}
+use Rattle.sftp_tool.specs.Verdicts.{AccountOf, FaultOf, ResultOf, HasEnd, HasCutEnd, IsAudit, IsVerdict}
 use Rattle.sftp_tool.specs.Verdicts.{IsReportOf}
 use Rattle.sftp_tool.specs.Verdicts.{IsStrictVerdict, IsVerdictUnder, IsStrictCutVerdict, IsCutVerdictUnder}
 use Rattle.sftp_tool.specs.Verdicts.{IsVerdictAsked}
@@ -45,42 +49,59 @@ is_new known left failures reads records same are bytes is =
     (subst (λ (o : Option (List ℕ)). IsNew bytes (fresh o failures reads)) (sym is)
     (fresh-is_new bytes failures reads)))
 
--- ---- an audit of it
+-- ---- an audit of it, from the tree of a tree file
 
-module _ (accounts : AccountOf) (faults : FaultOf) (tree : List ℕ) (known : Option (List ℕ)) where
-  -- of a session that has to be complete
-  pub audited : (records : Reading) → ((bytes : List ℕ) → known ≡ Some bytes → IsNew bytes records)
-      → (result : Result Accepted AuditError)
-      → IfOk result (λ accepted. (bytes : List ℕ) → IsNew bytes records
-      → (start : Tree) × (events : List Event) × (end : Tree)
-      × accounts tree bytes start events end × (accepted.tree.items ≡ picture end)
-      × (accepted.requests ≡ request_count events))
-      → IfErr result (λ e. (IsNoJudgement e → ⊥) → (bytes : List ℕ) → IsNew bytes records
-      → HasNoRun accounts tree bytes)
-      → IfErr result (λ e. (IsNoJudgement e → ⊥) → (bytes : List ℕ) → IsNew bytes records → faults tree bytes e)
-      → IsAudit accounts faults HasEnd tree known result
-  audited records new (Ok accepted) accepts refuses first = λ bytes is.
-      let told = accepts bytes (new bytes is) in (told.0, told.1, told.2, told.3, (told.4, told.5))
-  audited records new (Err e) accepts refuses first = λ judged bytes is.
-      (refuses judged bytes (new bytes is), first judged bytes (new bytes is))
+module _ {S : Type 0} (step : StepOf S) (begin : Tree → S) (close : S → Tree) (start : Tree) (tree : List ℕ)
+    (is : IsStart start tree) (known : Option (List ℕ))
+  where
+    -- of a session that has to be complete
+    pub audited : (records : Reading) → ((bytes : List ℕ) → known ≡ Some bytes → IsNew bytes records)
+        → (result : Result Ended AuditError)
+        → IfOk result (λ ended. (bytes : List ℕ) → IsNew bytes records
+        → (events : List Event) × AccountsFrom step close (begin start) bytes events ended.tree
+        × (ended.requests ≡ request_count events))
+        → IfErr result (λ e. (IsNoJudgement e → ⊥) → (bytes : List ℕ) → IsNew bytes records
+        → HasNoRunFrom step close (begin start) bytes)
+        → IfErr result (λ e. (IsNoJudgement e → ⊥) → (bytes : List ℕ) → IsNew bytes records
+        → IsFirstFaultFrom step (begin start) bytes e)
+        → IsAudit (AccountsBy step begin close) (IsFirstFaultBy step begin) HasEnd tree known result
+    audited records new (Ok ended) accepts refuses first = λ bytes told.
+        let run = accepts bytes (new bytes told) in (
+          start,
+          run.0,
+          ended.tree,
+          by_from step begin close tree bytes start run.0 ended.tree is run.1,
+          (refl, run.2),
+        )
+    audited records new (Err e) accepts refuses first = λ judged bytes told. (
+      none_by step begin close tree bytes start is (refuses judged bytes (new bytes told)),
+      first_by step begin close tree bytes start e is (first judged bytes (new bytes told)),
+    )
 
-  -- of one that may have been cut
-  pub audited_cut : (records : Reading) → ((bytes : List ℕ) → known ≡ Some bytes → IsNew bytes records)
-      → (result : Result AcceptedCut AuditError)
-      → IfOk result (λ accepted. (bytes : List ℕ) → IsNew bytes records
-      → (start : Tree) × (events : List Event) × (end : Tree)
-      × accounts tree bytes start events end × (accepted.tree.items ≡ picture end)
-      × (accepted.requests ≡ request_count events) × (accepted.unsettled ≡ unsettled_count events)
-      × (accepted.unanswered ≡ unanswered_count (recorded_exchanges events)))
-      → IfErr result (λ e. (IsNoJudgement e → ⊥) → (bytes : List ℕ) → IsNew bytes records
-      → HasNoRun accounts tree bytes)
-      → IfErr result (λ e. (IsNoJudgement e → ⊥) → (bytes : List ℕ) → IsNew bytes records → faults tree bytes e)
-      → IsAudit accounts faults HasCutEnd tree known result
-  audited_cut records new (Ok accepted) accepts refuses first = λ bytes is.
-      let told = accepts bytes (new bytes is) in
-      (told.0, told.1, told.2, told.3, (told.4, told.5, told.6, told.7))
-  audited_cut records new (Err e) accepts refuses first = λ judged bytes is.
-      (refuses judged bytes (new bytes is), first judged bytes (new bytes is))
+    -- of one that may have been cut
+    pub audited_cut : (records : Reading) → ((bytes : List ℕ) → known ≡ Some bytes → IsNew bytes records)
+        → (result : Result EndedCut AuditError)
+        → IfOk result (λ ended. (bytes : List ℕ) → IsNew bytes records
+        → (events : List Event) × AccountsCutFrom step close (begin start) bytes events ended.tree
+        × (ended.requests ≡ request_count events) × (ended.unsettled ≡ unsettled_count events)
+        × (ended.unanswered ≡ unanswered_count (recorded_exchanges events)))
+        → IfErr result (λ e. (IsNoJudgement e → ⊥) → (bytes : List ℕ) → IsNew bytes records
+        → HasNoCutFrom step close (begin start) bytes)
+        → IfErr result (λ e. (IsNoJudgement e → ⊥) → (bytes : List ℕ) → IsNew bytes records
+        → IsFirstFaultFrom step (begin start) bytes e)
+        → IsAudit (AccountsCutBy step begin close) (IsFirstFaultBy step begin) HasCutEnd tree known result
+    audited_cut records new (Ok ended) accepts refuses first = λ bytes told.
+        let run = accepts bytes (new bytes told) in (
+          start,
+          run.0,
+          ended.tree,
+          cut_by_from step begin close tree bytes start run.0 ended.tree is run.1,
+          (refl, run.2, run.3, run.4),
+        )
+    audited_cut records new (Err e) accepts refuses first = λ judged bytes told. (
+      none_cut_by step begin close tree bytes start is (refuses judged bytes (new bytes told)),
+      first_by step begin close tree bytes start e is (first judged bytes (new bytes told)),
+    )
 
 -- ---- whatever an accepted one says
 

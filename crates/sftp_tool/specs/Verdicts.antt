@@ -1,15 +1,14 @@
 -- What an audit of a tree file and of a transcript says, where the bytes of the transcript are known.
 use Rattle.std.specs.Prelude.{◌≡◌, ℕ, Bool, true, false, List, Option, Some, None, Result, Ok, Err, IfOk}
 use Rattle.sftp_tree.specs.Tree.{Tree}
-use Rattle.sftp_tree.specs.Picture.{picture}
 use Rattle.sftp_handles.specs.State.{started, closed_tree}
 use Rattle.sftp_handles.specs.Allowed.{Allowed}
 use Rattle.sftp_profile.specs.declared.profiles.Profile.{Profile}
 use Rattle.sftp_profile.specs.State.{begun}
 use Rattle.sftp_profile.specs.Permitted.{Permitted}
 use Rattle.sftp_transcript.specs.declared.events.Event.{Event}
-use Rattle.sftp_audit.specs.declared.audits.Accepted.{Accepted}
-use Rattle.sftp_audit.specs.declared.cuts.AcceptedCut.{AcceptedCut}
+use Rattle.sftp_audit.specs.declared.cuts.EndedCut.{EndedCut}
+use Rattle.sftp_audit.specs.declared.trees.Ended.{Ended}
 use Rattle.sftp_audit.specs.declared.errors.AuditError.{AuditError}
 use Rattle.sftp_audit.specs.Exchanges.{recorded_exchanges}
 use Rattle.sftp_audit.specs.Audit.{Accounts, AccountsBy, IsFirstFault, IsFirstFaultBy, IsNoJudgement, request_count}
@@ -80,13 +79,13 @@ abbrev pub IsFirstFaultUnder : Profile → FaultOf
 IsFirstFaultUnder profile = IsFirstFaultBy Permitted (begun profile)
 
 -- the tree where the session ends, and the number of its requests
-abbrev pub HasEnd : ResultOf Accepted
-HasEnd accepted events end = (accepted.tree.items ≡ picture end) × (accepted.requests ≡ request_count events)
+abbrev pub HasEnd : ResultOf Ended
+HasEnd ended events end = (ended.tree ≡ end) × (ended.requests ≡ request_count events)
 
-abbrev pub IsStrictAudit : List ℕ → Option (List ℕ) → Result Accepted AuditError → Type 0
+abbrev pub IsStrictAudit : List ℕ → Option (List ℕ) → Result Ended AuditError → Type 0
 IsStrictAudit = IsAudit Accounts IsFirstFault HasEnd
 
-abbrev pub IsAuditUnder : Profile → List ℕ → Option (List ℕ) → Result Accepted AuditError → Type 0
+abbrev pub IsAuditUnder : Profile → List ℕ → Option (List ℕ) → Result Ended AuditError → Type 0
 IsAuditUnder profile = IsAudit (AccountsUnder profile) (IsFirstFaultUnder profile) HasEnd
 
 abbrev pub IsStrictVerdict : List ℕ → Option (List ℕ) → Ending → Type 0
@@ -102,16 +101,16 @@ AccountsCutUnder profile = AccountsCutBy Permitted (begun profile) (λ s. closed
 
 -- The tree after the requests before the oldest unanswered one, the number of all requests, of those from that one on,
 -- which are not judged, and of those that are unanswered.
-abbrev pub HasCutEnd : ResultOf AcceptedCut
-HasCutEnd accepted events end =
-    (accepted.tree.items ≡ picture end) × (accepted.requests ≡ request_count events)
-    × (accepted.unsettled ≡ unsettled_count events)
-    × (accepted.unanswered ≡ unanswered_count (recorded_exchanges events))
+abbrev pub HasCutEnd : ResultOf EndedCut
+HasCutEnd ended events end =
+    (ended.tree ≡ end) × (ended.requests ≡ request_count events)
+    × (ended.unsettled ≡ unsettled_count events)
+    × (ended.unanswered ≡ unanswered_count (recorded_exchanges events))
 
-abbrev pub IsStrictCutAudit : List ℕ → Option (List ℕ) → Result AcceptedCut AuditError → Type 0
+abbrev pub IsStrictCutAudit : List ℕ → Option (List ℕ) → Result EndedCut AuditError → Type 0
 IsStrictCutAudit = IsAudit AccountsCut IsFirstFault HasCutEnd
 
-abbrev pub IsCutAuditUnder : Profile → List ℕ → Option (List ℕ) → Result AcceptedCut AuditError → Type 0
+abbrev pub IsCutAuditUnder : Profile → List ℕ → Option (List ℕ) → Result EndedCut AuditError → Type 0
 IsCutAuditUnder profile = IsAudit (AccountsCutUnder profile) (IsFirstFaultUnder profile) HasCutEnd
 
 abbrev pub IsStrictCutVerdict : List ℕ → Option (List ℕ) → Ending → Type 0

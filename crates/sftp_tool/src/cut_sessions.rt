@@ -1,19 +1,25 @@
 //! `audit --cut`: audits of sessions whose connection may have been cut.
-ghost use Rattle.std.specs.Prelude.{◌≡◌, ◌-◌, None, Some, IfOk, IfErr};
+ghost use Rattle.std.specs.Prelude.{◌≡◌, ◌-◌, ℕ, List, None, Some, IfOk, IfErr};
+ghost use Rattle.sftp_tree.specs.Picture.{IsStart};
 ghost use Rattle.sftp_profile.specs.declared.profiles.Profile.{Profile as profile};
+ghost use Rattle.sftp_audit.specs.Audit.{IsFirstFaultBy};
+ghost use Rattle.sftp_audit.specs.Cuts.{AccountsCutBy};
 ghost use Rattle.sftp_files.specs.declared.messages.Ending.TheVariants as endings;
 ghost use Rattle.sftp_files.specs.Failures.{IsUnwritten};
 ghost use Rattle.sftp_tool.specs.Outcomes.{IsAuditStatus};
-ghost use Rattle.sftp_tool.specs.Verdicts.{IsStrictCutAudit, IsCutAuditUnder, IsReportOf};
+ghost use Rattle.sftp_tool.specs.Verdicts.{IsAudit, IsStrictCutAudit, IsCutAuditUnder, HasCutEnd, IsReportOf};
 ghost use Rattle.sftp_tool.specs.Verdicts.{IsStrictCutVerdict, IsCutVerdictUnder};
 
 use crate::subcommands::{keep_end, report_error};
 use crate::verdict_objects::print_accepted;
-use sftp_audit::{AcceptedCut, AuditError};
+use sftp_audit::{AuditError, EndedCut, audit_cut_tree_by};
 use sftp_files::{Ending, Failure, System, print};
+use sftp_handles::{GivenTable, Session};
+use sftp_judges::Judges;
 use sftp_options::AuditOptions;
 use sftp_profile::{Judge, Profile};
 use sftp_transcript::{Reader, Tally};
+use sftp_tree::Tree;
 use std::alloc::Global;
 use std::fmt;
 use std::io::{Read, Write};
@@ -57,19 +63,22 @@ impl Counts {
 pub(crate) fn judge_cut_and_report<'a, F: Read + Drop, R: System, O: Write, E: Write>(
     rt: &R,
     files: &AuditOptions<'a>,
-    tree: &[u8],
+    start: Tree,
+    kept: Option<&[u8]>,
     transcript: F,
     output: &mut O,
     errors: &mut E,
 ) -> Result<Ending, Failure<'a>>
-    ensures strictly { files.now.profile ≡ None → IfOk result (IsStrictCutVerdict tree.now (F.remaining transcript)) }
-    ensures under { (by : profile) → files.now.profile ≡ Some by →
-        IfOk result (IsCutVerdictUnder by tree.now (F.remaining transcript)) }
+    // The verdict on each tree file of this tree.
+    ensures strictly { (tree : List ℕ) → IsStart start tree → files.now.profile ≡ None →
+        IfOk result (IsStrictCutVerdict tree (F.remaining transcript)) }
+    ensures under { (tree : List ℕ) → IsStart start tree → (by : profile) → files.now.profile ≡ Some by →
+        IfOk result (IsCutVerdictUnder by tree (F.remaining transcript)) }
     ensures status { IsAuditStatus result }
 {
     let mut follows = true;
-    let judged = judge_cut(rt.alloc(), files.profile, tree, transcript, &mut follows);
-    let ending = report_cut(rt, files, tree, &judged, follows, output, errors);
+    let judged = judge_cut(rt.alloc(), files.profile, start, transcript, &mut follows);
+    let ending = report_cut(rt, files, kept, &judged, follows, output, errors);
     drop(judged);
     ending
 }
@@ -78,8 +87,8 @@ pub(crate) fn judge_cut_and_report<'a, F: Read + Drop, R: System, O: Write, E: W
 fn report_cut<'a, R: System, O: Write, E: Write>(
     rt: &R,
     files: &AuditOptions<'a>,
-    tree: &[u8],
-    judged: &Result<AcceptedCut, AuditError>,
+    kept: Option<&[u8]>,
+    judged: &Result<EndedCut, AuditError>,
     follows: bool,
     output: &mut O,
     errors: &mut E,
@@ -88,8 +97,8 @@ fn report_cut<'a, R: System, O: Write, E: Write>(
     ensures status { IsAuditStatus result }
 {
     match judged {
-        Ok(accepted) => accept_cut(rt, accepted, files, output),
-        Err(error) => report_error(rt, files, tree, *error, follows, output, errors),
+        Ok(ended) => accept_cut(rt, ended, files, output),
+        Err(error) => report_error(rt, files, kept, *error, follows, output, errors),
     }
 }
 
@@ -98,71 +107,59 @@ fn report_cut<'a, R: System, O: Write, E: Write>(
 fn judge_cut<F: Read + Drop>(
     alloc: Global,
     by: Option<Profile>,
-    tree: &[u8],
+    start: Tree,
     transcript: F,
     follows: &mut bool,
-) -> Result<AcceptedCut, AuditError>
-    ensures strictly { by ≡ None → IsStrictCutAudit tree.now (F.remaining transcript) result }
-    ensures under { (it : profile) → by ≡ Some it → IsCutAuditUnder it tree.now (F.remaining transcript) result }
+) -> Result<EndedCut, AuditError>
+    ensures strictly { (tree : List ℕ) → IsStart start tree → by ≡ None →
+        IsStrictCutAudit tree (F.remaining transcript) result }
+    ensures under { (tree : List ℕ) → IsStart start tree → (it : profile) → by ≡ Some it →
+        IsCutAuditUnder it tree (F.remaining transcript) result }
 {
     match by {
-        None => {
-            *follows = true;
-            judge_cut_strictly(alloc, tree, transcript)
-        }
-        Some(profile) => judge_cut_under(alloc, profile, tree, transcript, follows),
+        None => judge_cut_by::<Session<GivenTable>, F>(alloc, (), start, transcript, follows),
+        Some(profile) => judge_cut_by::<Judge, F>(alloc, profile, start, transcript, follows),
     }
 }
 
-/// Audits such a session strictly.
-fn judge_cut_strictly<F: Read + Drop>(
+/// Audits such a session by a judge that is made by `by`.
+fn judge_cut_by<J: Judges, F: Read + Drop>(
     alloc: Global,
-    tree: &[u8],
-    transcript: F,
-) -> Result<AcceptedCut, AuditError>
-    ensures { IsStrictCutAudit tree.now (F.remaining transcript) result }
-{
-    let mut records = Reader::new(alloc, Tally::new(transcript))?;
-    let audited = sftp_audit::audit_cut_stream(alloc, tree, &mut records);
-    drop(records);
-    audited
-}
-
-/// Audits such a session under a profile.
-fn judge_cut_under<F: Read + Drop>(
-    alloc: Global,
-    profile: Profile,
-    tree: &[u8],
+    by: J::By,
+    start: Tree,
     transcript: F,
     follows: &mut bool,
-) -> Result<AcceptedCut, AuditError>
-    ensures { IsCutAuditUnder profile tree.now (F.remaining transcript) result }
+) -> Result<EndedCut, AuditError>
+    ensures { (tree : List ℕ) → IsStart start tree →
+        IsAudit (AccountsCutBy J.allowed (J.begun by) J.closed) (IsFirstFaultBy J.allowed (J.begun by)) HasCutEnd
+        tree (F.remaining transcript) result }
 {
-    let mut records = Reader::new(alloc, Tally::new(transcript))?;
-    let audited = sftp_audit::audit_cut_stream_by::<Judge, Tally<F>>(
-        alloc,
-        profile,
-        tree,
-        &mut records,
-        follows,
-    );
-    drop(records);
-    audited
+    match Reader::new(alloc, Tally::new(transcript)) {
+        Ok(mut records) => {
+            let audited = audit_cut_tree_by::<J, Tally<F>>(by, start, &mut records, follows);
+            drop(records);
+            audited
+        }
+        Err(error) => {
+            drop(start);
+            Err(AuditError::from(error))
+        }
+    }
 }
 
 /// Writes the tree before the oldest unanswered request, if a file is named for it, and then says that the session is
 /// accepted, and how much of it was not judged. A complete session gets the same line as without `--cut`.
 fn accept_cut<'a, R: System, O: Write>(
     rt: &R,
-    accepted: &AcceptedCut,
+    ended: &EndedCut,
     files: &AuditOptions<'a>,
     output: &mut O,
 ) -> Result<Ending, Failure<'a>>
     ensures ok { IfOk result (λ ending. ending ≡ endings.Done) }
     ensures err { IfErr result IsUnwritten }
 {
-    keep_end(rt, files, accepted.tree.as_slice())?;
-    let counts = counts_of(accepted);
+    keep_end(rt, files, &ended.tree)?;
+    let counts = counts_of(ended);
     if files.is_json {
         return print_accepted(counts.judged, Some(counts.others()), output);
     }
@@ -170,14 +167,14 @@ fn accept_cut<'a, R: System, O: Write>(
 }
 
 /// How many requests of an accepted session there are of each kind.
-fn counts_of(accepted: &AcceptedCut) -> Counts
-    ensures judged { result.judged ≡ accepted.now.requests - accepted.now.unsettled }
-    ensures unanswered { result.unanswered ≡ accepted.now.unanswered }
-    ensures unjudged { result.unjudged ≡ accepted.now.unsettled - accepted.now.unanswered }
+fn counts_of(ended: &EndedCut) -> Counts
+    ensures judged { result.judged ≡ ended.now.requests - ended.now.unsettled }
+    ensures unanswered { result.unanswered ≡ ended.now.unanswered }
+    ensures unjudged { result.unjudged ≡ ended.now.unsettled - ended.now.unanswered }
 {
     Counts {
-        judged: accepted.requests.saturating_sub(accepted.unsettled as u64),
-        unanswered: accepted.unanswered,
-        unjudged: accepted.unsettled.saturating_sub(accepted.unanswered),
+        judged: ended.requests.saturating_sub(ended.unsettled as u64),
+        unanswered: ended.unanswered,
+        unjudged: ended.unsettled.saturating_sub(ended.unanswered),
     }
 }

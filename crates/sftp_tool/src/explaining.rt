@@ -1,6 +1,7 @@
 //! `audit --explain`: why a session is refused, as lines of text.
 use crate::feeding::feed_rest;
-use crate::readings::{taken_for, undue, wrong_piece};
+use crate::newcomers::{Newcomer, find_newcomer};
+use crate::readings::{content_of, content_of_removed, taken_for, undue, wrong_piece};
 use sftp_audit::{AuditError, Auditor, Refusal};
 use sftp_commands::LeftOut;
 use sftp_files::{Failure, open, write_flushed};
@@ -333,13 +334,34 @@ impl<R: Files + AllocGlobal, E: Write> Explanation<'_, '_, R, E> {
     fn put_undue(&mut self, auditor: &Auditor<Judge>, ask: &Ask, answer: &Answer) -> bool {
         match undue(self.rt.alloc(), auditor.judge(), ask, answer) {
             Ok(Some(undue)) => {
-                let put = self.put_strict(auditor, ask, &undue);
+                let put = self.put_wrong_names(auditor, ask, &undue);
                 drop(undue);
                 put
             }
             Ok(None) => self.put_piece(auditor, ask, answer),
             Err(_) => self.stop(Unexplained::OutOfMemory),
         }
+    }
+
+    /// What it allows in place of names that the listing may not give: where the first came since OPENDIR and may be
+    /// given, what LSTAT shows of it.
+    fn put_wrong_names(&mut self, auditor: &Auditor<Judge>, ask: &Ask, undue: &Answer) -> bool {
+        match find_newcomer(self.rt.alloc(), auditor.judge(), ask, undue) {
+            Ok(Some(newcomer)) => {
+                let put = self.put_newcomer(auditor, &newcomer);
+                drop(newcomer);
+                put
+            }
+            Ok(None) => self.put_strict(auditor, ask, undue),
+            Err(_) => self.stop(Unexplained::OutOfMemory),
+        }
+    }
+
+    /// A name that came since OPENDIR, and what LSTAT shows of it in place of what the listing gives.
+    fn put_newcomer(&mut self, auditor: &Auditor<Judge>, newcomer: &Newcomer) -> bool {
+        let name = Quoted(newcomer.name.as_slice());
+        let written = writeln!(self.errors, "name: {name}, which came after OPENDIR");
+        self.is_written(written) && self.put_strict(auditor, &newcomer.ask, &newcomer.answer)
     }
 
     /// What it allows in place of an answer, but for the bytes beyond the limit of one READ that the profile permits:
@@ -361,7 +383,7 @@ impl<R: Files + AllocGlobal, E: Write> Explanation<'_, '_, R, E> {
     fn put_strict(&mut self, auditor: &Auditor<Judge>, ask: &Ask, answer: &Answer) -> bool {
         let session = auditor.judge().session();
         match explain_reply(self.rt.alloc(), session, ask, answer, self.errors) {
-            Ok(()) => self.put_other_codes(auditor, ask),
+            Ok(()) => self.put_other_codes(auditor, ask) && self.put_further(auditor, ask),
             Err(error) => self.stop(Unexplained::from(error)),
         }
     }
@@ -383,6 +405,28 @@ impl<R: Files + AllocGlobal, E: Write> Explanation<'_, '_, R, E> {
             "also by codes: STATUS with code 2, 3, 4, 5 or 8"
         );
         self.is_written(written)
+    }
+
+    /// What the profile permits besides, where the session itself refuses the request.
+    fn put_further(&mut self, auditor: &Auditor<Judge>, ask: &Ask) -> bool {
+        match content_of_removed(auditor.judge(), ask) {
+            Ok(content) => {
+                self.put_also("open-dir", content)
+                    && self.put_also("extensions", content_of(self.profile(), ask))
+            }
+            Err(_) => self.stop(Unexplained::OutOfMemory),
+        }
+    }
+
+    /// What a departure permits besides, if it does.
+    fn put_also(&mut self, departure: &str, content: Option<&str>) -> bool {
+        match content {
+            Some(content) => {
+                let written = writeln!(self.errors, "also by {departure}: {content}");
+                self.is_written(written)
+            }
+            None => true,
+        }
     }
 
     /// The profile by which the session was judged. Where that was done strictly, the strict one permits the same.

@@ -1,16 +1,18 @@
 //! Trees that are inferred from a session, each judged by the audit before it is believed.
 ghost use Rattle.std.specs.Prelude.{◌≡◌, List, ℕ, None, Some, IfOk};
 ghost use Rattle.sftp_audit.specs.Audit.{Accounts, AccountsBy};
+ghost use Rattle.sftp_infer.specs.Texts.{bytes_of};
 ghost use Rattle.sftp_profile.specs.declared.profiles.Profile.{Profile as profile};
-ghost use Rattle.sftp_tool.specs.Verdicts.{AccountsUnder};
+ghost use Rattle.sftp_tool.specs.Verdicts.{AccountsUnder, HasRun};
 ghost use Rattle.sftp_tool.specs.Inferences.{IsJudged, IsExplained};
 
-use sftp_audit::{Accepted, AuditError, Refusal, TranscriptError};
+use sftp_audit::{AuditError, Ended as End, Refusal, TranscriptError, audit_streams_by};
 use sftp_handles::{GivenTable, Session};
-use sftp_infer::{Candidate, Search, Step};
+use sftp_infer::{Candidate, Excess, Search, Step, TextStream, TreeText};
 use sftp_judges::Judges;
 use sftp_path::NoMemory;
 use sftp_profile::{Judge, Profile};
+use sftp_transcript::{Memory, Reader};
 use std::alloc::Global;
 
 /// How many trees are judged at most.
@@ -27,8 +29,8 @@ pub(crate) struct Ended {
 
 /// A tree that explains a session, and what the audit of the session with it gave.
 #[derive(Drop)]
-pub(crate) struct Inferred {
-    pub(crate) candidate: Candidate,
+pub(crate) struct Inferred<'a> {
+    pub(crate) candidate: Candidate<'a>,
     pub(crate) ended: Ended,
 }
 
@@ -44,15 +46,17 @@ pub(crate) struct Judging {
 
 /// What a search for a tree comes to.
 #[derive(Drop)]
-pub(crate) enum Found {
+pub(crate) enum Found<'a> {
     /// The session is accepted with this tree.
-    Inferred(Inferred),
+    Inferred(Inferred<'a>),
     /// The session is refused with every tree, since its records do not pair off.
     Refused(Refusal),
     /// The transcript is malformed.
     Malformed(TranscriptError),
     /// No tree was found.
     Nothing,
+    /// The tree of what the session tells would be larger than it may.
+    TooLarge(Excess),
     /// The tree at hand was refused at this record.
     Unfit(u64),
     /// Memory ran out.
@@ -60,9 +64,10 @@ pub(crate) enum Found {
 }
 
 /// Audits a session with a tree: strictly, or under a profile.
-pub(crate) fn judge(how: Judging, tree: &[u8], session: &[u8]) -> Result<Ended, AuditError>
-    ensures strictly { how.by ≡ None → IsJudged Accounts tree.now session.now result }
-    ensures under { (it : profile) → how.by ≡ Some it → IsJudged (AccountsUnder it) tree.now session.now result }
+pub(crate) fn judge(how: Judging, tree: &TreeText<'_>, session: &[u8]) -> Result<Ended, AuditError>
+    ensures strictly { how.by ≡ None → IsJudged Accounts (bytes_of tree.now) session.now result }
+    ensures under { (it : profile) → how.by ≡ Some it →
+        IsJudged (AccountsUnder it) (bytes_of tree.now) session.now result }
 {
     match how.by {
         None => judge_strictly(how, tree, session),
@@ -70,8 +75,8 @@ pub(crate) fn judge(how: Judging, tree: &[u8], session: &[u8]) -> Result<Ended, 
     }
 }
 
-fn judge_strictly(how: Judging, tree: &[u8], session: &[u8]) -> Result<Ended, AuditError>
-    ensures { IsJudged Accounts tree.now session.now result }
+fn judge_strictly(how: Judging, tree: &TreeText<'_>, session: &[u8]) -> Result<Ended, AuditError>
+    ensures { IsJudged Accounts (bytes_of tree.now) session.now result }
 {
     judge_by::<Session<GivenTable>>(how, (), tree, session)
 }
@@ -79,51 +84,83 @@ fn judge_strictly(how: Judging, tree: &[u8], session: &[u8]) -> Result<Ended, Au
 fn judge_under(
     how: Judging,
     profile: Profile,
-    tree: &[u8],
+    tree: &TreeText<'_>,
     session: &[u8],
 ) -> Result<Ended, AuditError>
-    ensures { IsJudged (AccountsUnder profile) tree.now session.now result }
+    ensures { IsJudged (AccountsUnder profile) (bytes_of tree.now) session.now result }
 {
     judge_by::<Judge>(how, profile, tree, session)
 }
 
-/// Audits a session, and keeps the tree file of the end only if it is wanted.
+/// Audits a session. The tree is made from the stream of its file, which is in memory nowhere.
 fn judge_by<J: Judges>(
     how: Judging,
     by: J::By,
-    tree: &[u8],
+    tree: &TreeText<'_>,
     session: &[u8],
 ) -> Result<Ended, AuditError>
-    ensures { IsJudged (AccountsBy J.allowed (J.begun by) J.closed) tree.now session.now result }
+    ensures { IsJudged (AccountsBy J.allowed (J.begun by) J.closed) (bytes_of tree.now) session.now result }
 {
-    match sftp_audit::audit_by::<J>(how.alloc, by, tree, session) {
-        Ok(accepted) => Ok(outcome_of(how, accepted)),
+    match audit_text::<J>(how.alloc, by, tree, session) {
+        Ok(end) => outcome_of(how, end),
         Err(error) => Err(error),
     }
 }
 
-fn outcome_of(how: Judging, accepted: Accepted) -> Ended {
-    let Accepted { tree, requests } = accepted;
-    if how.wants_end {
-        Ended {
+fn audit_text<J: Judges>(
+    alloc: Global,
+    by: J::By,
+    tree: &TreeText<'_>,
+    session: &[u8],
+) -> Result<End, AuditError>
+    ensures { IfOk result
+        (λ _. HasRun (AccountsBy J.allowed (J.begun by) J.closed) (bytes_of tree.now) session.now) }
+{
+    match Reader::new(alloc, Memory::new(session)) {
+        Ok(mut records) => {
+            let mut follows = true;
+            let audited = audit_streams_by::<J, TextStream<'_>, Memory<'_>>(
+                alloc,
+                by,
+                tree.stream(),
+                &mut records,
+                &mut follows,
+            );
+            drop(records);
+            audited
+        }
+        Err(error) => Err(AuditError::from(error)),
+    }
+}
+
+/// What an audit gave, with the tree file of the end only if it is wanted.
+fn outcome_of(how: Judging, end: End) -> Result<Ended, AuditError> {
+    let requests = end.requests;
+    let written = if how.wants_end {
+        Some(end.tree.write())
+    } else {
+        None
+    };
+    drop(end);
+    match written {
+        Some(Ok(tree)) => Ok(Ended {
             requests,
             tree: Some(tree),
-        }
-    } else {
-        drop(tree);
-        Ended {
+        }),
+        Some(Err(_no_memory)) => Err(AuditError::NoMemory),
+        None => Ok(Ended {
             requests,
             tree: None,
-        }
+        }),
     }
 }
 
 /// Judges a session with the tree that a search gave.
-fn judged(how: Judging, session: &[u8], candidate: Candidate) -> Found
+fn judged<'a>(how: Judging, session: &[u8], candidate: Candidate<'a>) -> Found<'a>
     ensures strictly { how.by ≡ None → IsExplained Accounts session.now result }
     ensures under { (it : profile) → how.by ≡ Some it → IsExplained (AccountsUnder it) session.now result }
 {
-    match judge(how, candidate.tree.as_slice(), session) {
+    match judge(how, &candidate.tree, session) {
         Ok(ended) => Found::Inferred(Inferred { candidate, ended }),
         Err(error) => {
             drop(candidate);
@@ -133,7 +170,7 @@ fn judged(how: Judging, session: &[u8], candidate: Candidate) -> Found
 }
 
 /// What the error of an audit says of a session and its tree.
-fn found_by(error: AuditError) -> Found
+fn found_by<'a>(error: AuditError) -> Found<'a>
     ensures strictly { (session : List ℕ) → IsExplained Accounts session result }
     ensures under { (session : List ℕ) (it : profile) → IsExplained (AccountsUnder it) session result }
 {
@@ -147,18 +184,27 @@ fn found_by(error: AuditError) -> Found
 }
 
 /// The next tree of a search, judged.
-fn next_judged(how: Judging, session: &[u8], search: &mut Search<'_>) -> Result<Found, NoMemory>
+fn next_judged<'a>(
+    how: Judging,
+    session: &[u8],
+    search: &mut Search<'a>,
+) -> Result<Found<'a>, NoMemory>
     ensures strictly { how.by ≡ None → IfOk result (IsExplained Accounts session.now) }
     ensures under { (it : profile) → how.by ≡ Some it → IfOk result (IsExplained (AccountsUnder it) session.now) }
 {
     match search.next()? {
         Step::Tree(candidate) => Ok(judged(how, session, candidate)),
         Step::Nothing => Ok(Found::Nothing),
+        Step::TooLarge(excess) => Ok(Found::TooLarge(excess)),
     }
 }
 
 /// A tree with which a session is accepted, if the search finds one: each tree that it gives is judged by the audit.
-pub(crate) fn find(how: Judging, session: &[u8], search: &mut Search<'_>) -> Result<Found, NoMemory>
+pub(crate) fn find<'a>(
+    how: Judging,
+    session: &[u8],
+    search: &mut Search<'a>,
+) -> Result<Found<'a>, NoMemory>
     ensures strictly { how.by ≡ None → IfOk result (IsExplained Accounts session.now) }
     ensures under { (it : profile) → how.by ≡ Some it → IfOk result (IsExplained (AccountsUnder it) session.now) }
 {

@@ -3,9 +3,10 @@ ghost use Rattle.sftp_tool.specs.Outcomes.{IsAuditStatus};
 
 use sftp_audit::Refusal;
 use sftp_files::{Ending, Failure, print, write_flushed};
-use sftp_infer::{Candidate, Clash, Fact, Says, Search, Sort, What};
-use sftp_show::{Quoted, find_record, put_record};
+use sftp_infer::{Candidate, Clash, Excess, Fact, Says, Search, Sort, What};
+use sftp_show::{Quoted, find_record, last_of_id, put_record};
 use sftp_transcript::{Memory, Reader};
+use sftp_wire::Side;
 use std::alloc::Global;
 use std::fmt;
 use std::io::Write;
@@ -45,7 +46,7 @@ fn put_number<W: fmt::Write>(number: u64, f: &mut fmt::Formatter<W>) -> fmt::Res
 }
 
 /// Writes what a tree assumes beyond what replies tell, a line each.
-pub(crate) fn put_assumed<E: Write>(candidate: &Candidate, errors: &mut E) {
+pub(crate) fn put_assumed<E: Write>(candidate: &Candidate<'_>, errors: &mut E) {
     for fact in candidate.assumed.iter() {
         let line = Assumption(fact);
         let _ = write_flushed(errors, format_args!("assumed: {line}\n"));
@@ -70,6 +71,30 @@ pub(crate) fn put_refusal<'a, O: Write>(
         format_args!("no tree found: {refusal}\n"),
         Ending::Refused,
     )
+}
+
+/// Says why the tree of what a session tells would be larger than it may.
+pub(crate) fn put_excess<E: Write>(excess: Excess, errors: &mut E) {
+    let _ = match excess {
+        Excess::Files(bytes) => write_flushed(
+            errors,
+            format_args!("no tree: the files of the session have {bytes} bytes in all\n"),
+        ),
+        Excess::File(bytes) => write_flushed(
+            errors,
+            format_args!(
+                "no tree: a file has {bytes} bytes, and that of a tree has 67108864 at most\n"
+            ),
+        ),
+        Excess::Paths(bytes) => write_flushed(
+            errors,
+            format_args!("no tree: the paths that replies tell of have {bytes} bytes in all\n"),
+        ),
+        Excess::Entries => write_flushed(
+            errors,
+            "no tree: replies tell of more entries than a tree may have\n",
+        ),
+    };
 }
 
 /// The word for a kind.
@@ -99,6 +124,7 @@ impl fmt::Display for Told<'_> {
             What::Size(size, _) => write!(f, "{place} has {size} bytes"),
             What::Byte(offset, byte, _) => write!(f, "byte {offset} of {place} is 0x{byte:02x}"),
             What::Unlisted => write!(f, "{place} is there"),
+            What::Target => put_target(self.0, f),
             other => put_told_rest(other, self.0.place.as_slice(), f),
         }
     }
@@ -113,10 +139,35 @@ fn put_told_rest<W: fmt::Write>(
     match what {
         What::Owner((uid, gid), _) => write!(f, "{place} is owned by {uid},{gid}"),
         What::Permissions(bits, _) => write!(f, "{place} has the permissions {bits:04o}"),
-        What::Target => write!(f, "{place} has another target"),
-        What::Entries => write!(f, "{place} has entries, or none"),
+        What::Entries => write!(f, "{place} has entries"),
         What::Place => write!(f, "the path leads to {place}"),
-        _ => write!(f, "what is at {place}"),
+        What::Refused(Some(sort)) => {
+            let sort = word(sort);
+            write!(f, "{place} is {sort}")
+        }
+        _ => write!(f, "nothing is at {place}"),
+    }
+}
+
+fn put_target<W: fmt::Write>(clash: &Clash, f: &mut fmt::Formatter<W>) -> fmt::Result {
+    let place = Quoted(clash.place.as_slice());
+    match &clash.texts {
+        Some((told, _)) => {
+            let told = Quoted(told.as_slice());
+            write!(f, "{place} is a link to {told}")
+        }
+        None => write!(f, "{place} is a link"),
+    }
+}
+
+/// Writes what the second record says of a target or a place, behind these words.
+fn put_text<W: fmt::Write>(words: &str, clash: &Clash, f: &mut fmt::Formatter<W>) -> fmt::Result {
+    match &clash.texts {
+        Some((_, found)) => {
+            let found = Quoted(found.as_slice());
+            write!(f, "{words} {found}")
+        }
+        None => write!(f, "{words} another place"),
     }
 }
 
@@ -134,11 +185,11 @@ impl fmt::Display for Otherwise<'_> {
             What::Byte(_, _, byte) => write!(f, "0x{byte:02x}"),
             What::Owner(_, (uid, gid)) => write!(f, "{uid},{gid}"),
             What::Permissions(_, bits) => write!(f, "{bits:04o}"),
-            What::Target => f.write_str("this target"),
+            What::Target => put_text("it leads to", self.0, f),
             What::Unlisted => f.write_str("the listing ends without it"),
-            What::Entries => f.write_str("the opposite"),
-            What::Place => f.write_str("it leads elsewhere"),
-            What::Refused => f.write_str("a refusal for which nothing is a reason"),
+            What::Entries => f.write_str("it was removed as an empty directory"),
+            What::Place => put_text("it leads to", self.0, f),
+            What::Refused(_) => f.write_str("a refusal for which that is no reason"),
         }
     }
 }
@@ -151,18 +202,76 @@ pub(crate) fn put_clash<E: Write>(
     errors: &mut E,
 ) {
     if let Some(clash) = search.clash() {
-        put_line(alloc, session, "told", clash.told, errors);
         if clash.told != 0 {
+            put_exchange(alloc, session, "told", clash.told, errors);
             let told = Told(clash);
             let _ = write_flushed(errors, format_args!("told: {told}\n"));
         }
-        put_line(alloc, session, "found", clash.found, errors);
+        put_exchange(alloc, session, "found", clash.found, errors);
         let otherwise = Otherwise(clash);
         let _ = write_flushed(errors, format_args!("found: {otherwise}\n"));
     }
     let passes = search.passes();
     let _ = write_flushed(errors, format_args!("tried: {passes} passes\n"));
     let _ = write_flushed(errors, "This is no proof that there is no tree.\n");
+    if let Some(clash) = search.clash() {
+        put_hint(clash, errors);
+    }
+}
+
+/// Says how to look closer.
+fn put_hint<E: Write>(clash: &Clash, errors: &mut E) {
+    let found = clash.found;
+    let first = match clash.told {
+        0 => found,
+        told => told.min(found),
+    };
+    let _ = write_flushed(
+        errors,
+        format_args!("To look closer: sftpv3 show --full --records {first}-{found} FILE\n"),
+    );
+}
+
+/// Writes the line of a record, if it can be found; before it that of the request that it answers.
+pub(crate) fn put_exchange<E: Write>(
+    alloc: Global,
+    session: &[u8],
+    label: &str,
+    number: u64,
+    errors: &mut E,
+) {
+    if let Some(asked) = request_of(alloc, session, number) {
+        put_line(alloc, session, "asked", asked, errors);
+    }
+    put_line(alloc, session, label, number, errors);
+}
+
+/// The number of the request that this record answers, if it is a reply and both can be found.
+fn request_of(alloc: Global, session: &[u8], number: u64) -> Option<u64> {
+    let (side, id) = head_of(alloc, session, number)?;
+    if side == Side::Client {
+        return None;
+    }
+    let mut reader = Reader::new(alloc, Memory::new(session)).ok()?;
+    let last = last_of_id(&mut reader, Side::Client, id, number);
+    drop(reader);
+    last.ok()?
+}
+
+/// Who sent a record, and its id, if it has one and can be found.
+fn head_of(alloc: Global, session: &[u8], number: u64) -> Option<(Side, u32)> {
+    let mut reader = Reader::new(alloc, Memory::new(session)).ok()?;
+    let found = find_record(&mut reader, number);
+    drop(reader);
+    match found {
+        Ok(Some(record)) => {
+            let (side, id) = (record.side, record.id());
+            drop(record);
+            Some((side, id?))
+        }
+        Ok(None) => None,
+        Err(_) => None,
+    }
 }
 
 /// Writes the line of a record, if it can be found.

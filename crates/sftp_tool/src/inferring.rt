@@ -1,12 +1,15 @@
 //! `infer`, and `audit --tree unknown`: audits of sessions whose tree nobody knows.
+ghost use Rattle.std.specs.Prelude.{IfErr};
+ghost use Rattle.sftp_files.specs.Failures.{IsUnwritten};
 ghost use Rattle.sftp_tool.specs.Outcomes.{IsAuditStatus};
 
 use crate::inferences::{Found, Inferred, Judging, find};
-use crate::inferred_lines::{put_assumed, put_clash, put_refusal};
+use crate::inferred_lines::{put_assumed, put_clash, put_excess, put_exchange, put_refusal};
 use crate::subcommands;
+use crate::twice::is_lost;
 use crate::verdict_objects::{print_inferred, print_untold};
-use sftp_files::{Ending, Failure, System, print, read_at_most, write};
-use sftp_infer::{Search, Settings};
+use sftp_files::{Ending, Failure, Keeping, System, print, read_at_most, write};
+use sftp_infer::{Excess, Search, Settings, TreeText};
 use sftp_options::{AuditOptions, InferOptions, umask_of, with_umask};
 use sftp_profile::Profile;
 use std::alloc::Global;
@@ -19,8 +22,14 @@ pub(crate) const UNKNOWN: &str = "unknown";
 const NEEDS_TREE: &str =
     "--cut, --keep-going and --most cannot be used with '--tree unknown': infer a tree first";
 
+/// Why no tree is written.
+const TRANSCRIPT_LOST: &str = "the tree would be written into the file of '--transcript'";
+
 /// The passes of a search, without an option.
 const PASSES: u32 = 300;
+
+/// The most bytes that the files of a session may have in all beside those of the transcript, without an option.
+const FILES: u64 = 1 << 30;
 
 /// The options of an audit without a tree.
 fn options_of_audit<'a>(files: &AuditOptions<'a>) -> InferOptions<'a> {
@@ -50,6 +59,9 @@ pub(crate) fn audit<'a, R: System, O: Write, E: Write>(
 ) -> Result<Ending, Failure<'a>>
     ensures { IsAuditStatus result }
 {
+    if is_lost(rt, files.out, Some(files.transcript)) {
+        return Err(Failure::of_misuse(rt.alloc(), TRANSCRIPT_LOST));
+    }
     if files.tree != UNKNOWN {
         return subcommands::audit(rt, files, output, errors);
     }
@@ -68,6 +80,9 @@ pub(crate) fn infer<'a, R: System, O: Write, E: Write>(
 ) -> Result<Ending, Failure<'a>>
     ensures { IsAuditStatus result }
 {
+    if is_lost(rt, options.out, Some(options.transcript)) {
+        return Err(Failure::of_misuse(rt.alloc(), TRANSCRIPT_LOST));
+    }
     let umask = umask_of(rt.alloc(), options.umask)?;
     let mut options = *options;
     options.profile = with_umask(options.profile, umask);
@@ -77,8 +92,8 @@ pub(crate) fn infer<'a, R: System, O: Write, E: Write>(
     ending
 }
 
-/// What a search takes for granted by these options.
-fn settings_of<'s>(options: &InferOptions<'s>) -> Settings<'s> {
+/// What a search takes for granted by these options, of a session of so many bytes.
+fn settings_of<'s>(options: &InferOptions<'s>, length: usize) -> Settings<'s> {
     let profile = options.profile.unwrap_or(Profile::strict());
     let passes = options.passes.unwrap_or(u64::from(PASSES));
     Settings {
@@ -97,6 +112,10 @@ fn settings_of<'s>(options: &InferOptions<'s>) -> Settings<'s> {
             None
         },
         link_first: profile.symlink_draft,
+        most: match options.memory {
+            Some(memory) => memory.saturating_sub(length as u64),
+            None => FILES.saturating_add(length as u64),
+        },
         passes: u32::try_from(passes).unwrap_or(PASSES).min(100_000),
     }
 }
@@ -111,7 +130,7 @@ fn infer_from<'a, R: System, O: Write, E: Write>(
     ensures { IsAuditStatus result }
 {
     let home = options.home;
-    let mut settings = settings_of(options);
+    let mut settings = settings_of(options, session.len());
     settings.home = match home {
         Some(home) => Some(home.as_bytes()),
         None => None,
@@ -137,7 +156,7 @@ fn report<'a, R: System, O: Write, E: Write>(
     options: &InferOptions<'a>,
     session: &[u8],
     search: &Search<'_>,
-    found: Found,
+    found: Found<'_>,
     output: &mut O,
     errors: &mut E,
 ) -> Result<Ending, Failure<'a>>
@@ -156,11 +175,49 @@ fn report<'a, R: System, O: Write, E: Write>(
                 return print_untold(refusal_record(refusal), 0, output);
             }
             put_refusal(refusal, output)?;
+            if options.explains {
+                put_exchange(
+                    rt.alloc(),
+                    session,
+                    "found",
+                    refusal_record(refusal),
+                    errors,
+                );
+            }
             Ok(Ending::Refused)
         }
+        Found::TooLarge(excess) => exceed(options, excess, output, errors),
         Found::Nothing => refuse(rt, options, session, search, output, errors),
         Found::Unfit(_) => refuse(rt, options, session, search, output, errors),
     }
+}
+
+/// Says that the tree of what a session tells would be larger than it may be, or than any tree is.
+fn exceed<'a, O: Write, E: Write>(
+    options: &InferOptions<'a>,
+    excess: Excess,
+    output: &mut O,
+    errors: &mut E,
+) -> Result<Ending, Failure<'a>>
+    ensures { IsAuditStatus result }
+{
+    put_excess(excess, errors);
+    match excess {
+        Excess::File(_) => print_none(options.is_json, output),
+        Excess::Entries => print_none(options.is_json, output),
+        Excess::Files(_) => Err(Failure::OverLimit(options.transcript)),
+        Excess::Paths(_) => Err(Failure::OverLimit(options.transcript)),
+    }
+}
+
+/// Says that there is no tree, and names no records.
+fn print_none<'a, O: Write>(is_json: bool, output: &mut O) -> Result<Ending, Failure<'a>>
+    ensures { IsAuditStatus result }
+{
+    if is_json {
+        return print_untold(0, 0, output);
+    }
+    print_contradiction(0, 0, output)
 }
 
 fn refusal_record(refusal: sftp_audit::Refusal) -> u64 {
@@ -178,19 +235,14 @@ fn refusal_record(refusal: sftp_audit::Refusal) -> u64 {
 fn accept<'a, R: System, O: Write, E: Write>(
     rt: &R,
     options: &InferOptions<'a>,
-    inferred: &Inferred,
+    inferred: &Inferred<'_>,
     output: &mut O,
     errors: &mut E,
 ) -> Result<Ending, Failure<'a>>
     ensures { IsAuditStatus result }
 {
     if let Some(name) = options.tree {
-        write(
-            rt,
-            name,
-            options.keeping,
-            inferred.candidate.tree.as_slice(),
-        )?;
+        write_text(rt, name, options.keeping, &inferred.candidate.tree)?;
     }
     if let (Some(name), Some(tree)) = (options.out, &inferred.ended.tree) {
         write(rt, name, options.keeping, tree.as_slice())?;
@@ -208,10 +260,29 @@ fn accept<'a, R: System, O: Write, E: Write>(
     )
 }
 
+/// Writes a tree file.
+fn write_text<'a, R: System>(
+    rt: &R,
+    name: &'a str,
+    keeping: Keeping,
+    text: &TreeText<'_>,
+) -> Result<(), Failure<'a>>
+    ensures { IfErr result IsUnwritten }
+{
+    match text.whole() {
+        Ok(bytes) => {
+            let written = write(rt, name, keeping, bytes.as_slice());
+            drop(bytes);
+            written
+        }
+        Err(_no_memory) => Err(Failure::OutOfMemory),
+    }
+}
+
 /// Prints the object of an accepted session, with what its tree assumes.
 fn print_object<'a, O: Write>(
     alloc: Global,
-    inferred: &Inferred,
+    inferred: &Inferred<'_>,
     output: &mut O,
 ) -> Result<Ending, Failure<'a>>
     ensures { IsAuditStatus result }
@@ -240,7 +311,7 @@ fn refuse<'a, R: System, O: Write, E: Write>(
     ensures { IsAuditStatus result }
 {
     if let (Some(name), Some(tree)) = (options.best, search.best()) {
-        write(rt, name, options.keeping, tree)?;
+        write_text(rt, name, options.keeping, tree)?;
     }
     let (told, found) = match search.clash() {
         Some(clash) => (clash.told, clash.found),

@@ -4,6 +4,7 @@
 
 ghost use Rattle.std.specs.Prelude.{◌≤◌};
 
+mod answers;
 mod cut_sessions;
 mod explaining;
 mod feeding;
@@ -11,12 +12,16 @@ mod going_on;
 mod inferences;
 mod inferred_lines;
 mod inferring;
+mod newcomers;
 mod readings;
+mod recorded;
 mod replaying;
 mod serving;
 mod subcommands;
 mod summaries;
 mod totals;
+mod trees;
+mod twice;
 mod verdict_objects;
 
 use serving::Unserved;
@@ -25,7 +30,7 @@ use sftp_faults::Spot;
 pub use sftp_files::System;
 use sftp_files::{Ending, Failure, ServeOptions, report, write_flushed};
 use sftp_options::{Request, parse};
-use sftp_vary::Variation;
+use sftp_vary::Style;
 use std::fs::Files;
 use std::io::{Read, Write};
 
@@ -176,9 +181,7 @@ fn perform_request<'a, R: System, I: Read, O: Write, E: Write>(
     errors: &mut E,
 ) -> Result<Ending, Failure<'a>> {
     match request {
-        Request::Serve(options, variation) => {
-            serve(rt, options, *variation, input, output, errors)
-        },
+        Request::Serve(options, style) => serve(rt, options, *style, input, output, errors),
         Request::Audit(files) => inferring::audit(rt, files, output, errors),
         Request::Infer(options) => inferring::infer(rt, options, output, errors),
         Request::Blank { file, keeping } => subcommands::blank(rt, file, *keeping),
@@ -205,12 +208,12 @@ fn perform_request<'a, R: System, I: Read, O: Write, E: Write>(
 fn serve<'a, R: System, I: Read, O: Write, E: Write>(
     rt: &R,
     options: &ServeOptions<'a>,
-    variation: Option<Variation>,
+    style: Style,
     input: &mut I,
     output: &mut O,
     errors: &mut E,
 ) -> Result<Ending, Failure<'a>> {
-    match serving::serve(rt, options, variation, input, output, errors) {
+    match serving::serve(rt, options, style, input, output, errors) {
         Ok(ending) => Ok(ending),
         Err(Unserved::Failed(failure)) => Err(failure),
         Err(Unserved::Fault(fault)) => {

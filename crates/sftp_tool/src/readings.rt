@@ -1,7 +1,7 @@
 //! What a profile takes a request and its answer for, where the refusal of the answer is explained.
-use sftp_profile::Judge;
+use sftp_profile::{Judge, Profile};
 use sftp_tree::NoMemory;
-use sftp_wire::{Answer, Ask, ByteString, NameItem, Names};
+use sftp_wire::{Answer, Ask, Attrs, ByteString, NameItem, Names};
 use std::alloc::Global;
 
 /// The request by which an answer to this one is explained: the one that the profile takes it for; `None` if that is
@@ -231,4 +231,91 @@ fn copy_of(item: &NameItem) -> Result<NameItem, NoMemory> {
         longname,
         attrs,
     })
+}
+
+/// What the reply to an extension that only looks may have besides a refusal, as text; `None` if the profile knows
+/// nothing of it.
+pub(crate) fn content_of(profile: Profile, ask: &Ask) -> Option<&'static str> {
+    match ask {
+        Ask::Unknown { name, .. } if profile.extensions => content_by(name.as_slice()),
+        _ => None,
+    }
+}
+
+/// What the reply to the extension of this name may have (PROFILES.md, `extensions`).
+fn content_by(name: &[u8]) -> Option<&'static str> {
+    if name == b"limits@openssh.com".as_slice() {
+        return Some("EXTENDED_REPLY of length 32");
+    }
+    if name == b"statvfs@openssh.com".as_slice() || name == b"fstatvfs@openssh.com".as_slice() {
+        return Some("EXTENDED_REPLY of length 88");
+    }
+    if name == b"users-groups-by-id@openssh.com".as_slice() {
+        return Some("EXTENDED_REPLY of any length");
+    }
+    if name == b"expand-path@openssh.com".as_slice() || name == b"home-directory".as_slice() {
+        return Some("NAME with one name");
+    }
+    None
+}
+
+/// What `open-dir` permits of a request through the handle of a directory that was removed, as text; `None` if the
+/// request is another one, or the profile has no `open-dir`.
+///
+/// # Errors
+///
+/// `NoMemory` if memory runs out.
+pub(crate) fn content_of_removed(
+    judge: &Judge,
+    ask: &Ask,
+) -> Result<Option<&'static str>, NoMemory> {
+    if !judge.profile().open_dir {
+        return Ok(None);
+    }
+    match ask {
+        Ask::Fstat { handle } => of_removed(judge, handle, "ATTRS of any directory"),
+        Ask::Fsetstat { handle, .. } => of_removed(judge, handle, "STATUS with code 0 (OK)"),
+        _ => Ok(None),
+    }
+}
+
+/// The text, if the directory that is open under the handle was removed.
+///
+/// # Errors
+///
+/// `NoMemory` if memory runs out.
+fn of_removed(
+    judge: &Judge,
+    handle: &ByteString,
+    text: &'static str,
+) -> Result<Option<&'static str>, NoMemory> {
+    if is_removed(judge, handle)? {
+        Ok(Some(text))
+    } else {
+        Ok(None)
+    }
+}
+
+/// Whether the directory that is open under a handle was removed: nothing stands for an FSTAT of it.
+///
+/// # Errors
+///
+/// `NoMemory` if memory runs out.
+fn is_removed(judge: &Judge, handle: &ByteString) -> Result<bool, NoMemory> {
+    if judge.session().listing(handle.as_slice()).is_none() {
+        return Ok(false);
+    }
+    let handle = handle.clone()?;
+    let ask = Ask::Fstat { handle };
+    let answer = Answer::Attrs(Attrs {
+        size: None,
+        owner: None,
+        permissions: None,
+        times: None,
+        extended: None,
+    });
+    let stat = judge.standing(&ask, &answer);
+    drop(answer);
+    drop(ask);
+    Ok(stat?.is_none())
 }

@@ -57,11 +57,16 @@ enum Why {
 impl Replay {
     /// The order of the session in the transcript `name`. Its greetings are read.
     pub(crate) fn new<'a, R: System>(rt: &R, name: &'a str) -> Result<Replay, Failure<'a>> {
-        let file = open(rt, name)?;
-        match Reader::new(rt.alloc(), Tally::new(file)) {
-            Ok(events) => begun(rt.alloc(), events, name),
-            Err(error) => Err(Failure::of_transcript(error, name)),
-        }
+        Ok(Replay {
+            alloc: rt.alloc(),
+            events: open_record(rt, name)?,
+            expected: None,
+            parting: Parting {
+                record: VERSION,
+                requests: 0,
+                why: Why::Over,
+            },
+        })
     }
 
     /// How far the session has followed so far, and why it does not go on.
@@ -84,23 +89,25 @@ impl Replay {
     }
 }
 
-/// The order of the events behind the greetings.
+/// The transcript `name`, behind its greetings.
+pub(crate) fn open_record<'a, R: System>(
+    rt: &R,
+    name: &'a str,
+) -> Result<Reader<Tally<File>>, Failure<'a>> {
+    let file = open(rt, name)?;
+    match Reader::new(rt.alloc(), Tally::new(file)) {
+        Ok(events) => begun(events, name),
+        Err(error) => Err(Failure::of_transcript(error, name)),
+    }
+}
+
+/// The events behind the greetings.
 fn begun<'a>(
-    alloc: Global,
     mut events: Reader<Tally<File>>,
     name: &'a str,
-) -> Result<Replay, Failure<'a>> {
+) -> Result<Reader<Tally<File>>, Failure<'a>> {
     match pass_greetings(&mut events) {
-        Ok(()) => Ok(Replay {
-            alloc,
-            events,
-            expected: None,
-            parting: Parting {
-                record: VERSION,
-                requests: 0,
-                why: Why::Over,
-            },
-        }),
+        Ok(()) => Ok(events),
         Err(error) => {
             drop(events);
             Err(Failure::of_transcript(error, name))

@@ -4,27 +4,32 @@ ghost use Rattle.sftp_server.specs.Served.{IsUnused};
 ghost use Rattle.sftp_files.specs.declared.messages.Ending.TheVariants as endings;
 ghost use Rattle.sftp_tool.specs.declared.serving.Unserved.TheVariants as unserveds;
 
+use crate::answers::{Answers, served};
 use crate::replaying::{Parting, Replay};
 use crate::summaries::{Close, Summary, Traffic};
+use crate::trees::read_tree;
+use crate::twice::is_lost;
+use sftp_commands::write_tree;
 use sftp_files::{
     Announcing, Bounded, Ending, Failure, Keeping, Meter, Record, Recording, STANDARD_INPUT,
-    STANDARD_OUTPUT, ServeOptions, System, Watched, open, report, require_fit, write,
-    write_flushed,
+    STANDARD_OUTPUT, ServeOptions, System, Watched, report, require_fit, write_flushed,
 };
-use sftp_handles::GivenTable;
-use sftp_server::{
-    Ended, InOrder, Schedule, SessionEnd, SessionFault, Shuffle, Step, Stream, serve_as,
-    serve_keeping_tree,
-};
-use sftp_transcript::{Sink, Source, Tally, Writer};
+use sftp_server::{Ended, InOrder, Schedule, SessionEnd, SessionFault, Shuffle, Step, Stream};
+use sftp_transcript::{Tally, Writer};
 use sftp_tree::Tree;
-use sftp_treefile::TreeError;
-use sftp_vary::{Variation, Vary};
+use sftp_vary::Style;
 use sftp_wire::Request;
 use std::io::{Read, Write};
 
+/// How many bytes are set aside for saving: buffers, and 32 bytes for each entry that a tree has at most, since the
+/// first names of files are kept in mind.
+const ROOM_TO_SAVE: usize = 33_816_576;
+
 /// Why there cannot be two orders.
 const TWO_ORDERS: &str = "'--shuffle' and '--replay' cannot be used together";
+
+/// Why a tree is not saved.
+const SCRIPT_LOST: &str = "'--save' names the file of '--replay'";
 
 /// Why a session was not served to the end of its input.
 #[derive(Drop)]
@@ -48,22 +53,25 @@ impl<'a> From<Failure<'a>> for Unserved<'a> {
 pub(crate) fn serve<'a, R: System, I: Read, O: Write, E: Write>(
     rt: &R,
     options: &ServeOptions<'a>,
-    variation: Option<Variation>,
+    style: Style,
     input: &mut I,
     output: &mut O,
     errors: &mut E,
 ) -> Result<Ending, Unserved<'a>>
     ensures { IfOk result (λ ending. ending ≡ endings.Done) }
 {
-    require_place(rt, options.save)?;
+    require_place(rt, options)?;
     let mut meter = Meter::new(rt, options.memory)?;
     let order = Order::new(rt, options)?;
-    let tree = read_tree(rt, options)?;
+    let answers = Answers::new(rt, options, style)?;
+    let room = room_to_save(rt, options)?;
+    let tree = start(rt, options)?;
     match new_log(rt, options) {
         Ok(log) => {
             let is_verbose = options.is_verbose;
             let output = Announcing::new(output, errors, is_verbose);
-            let (end, traffic) = session(tree, log, order, variation, &mut meter, input, output);
+            let (end, traffic) = session(tree, log, order, answers, &mut meter, input, output);
+            drop(room);
             conclude(rt, end, traffic, options, errors)
         }
         Err(failure) => {
@@ -73,31 +81,30 @@ pub(crate) fn serve<'a, R: System, I: Read, O: Write, E: Write>(
     }
 }
 
-/// Fails if the tree could not be saved to this file.
-fn require_place<'a, R: System>(rt: &R, save: Option<&'a str>) -> Result<(), Failure<'a>> {
-    match save {
+/// Fails if the tree could not be saved to its file, or would be saved in place of the record that is followed.
+fn require_place<'a, R: System>(rt: &R, options: &ServeOptions<'a>) -> Result<(), Failure<'a>> {
+    if is_lost(rt, options.save, options.replay) {
+        return Err(Failure::of_misuse(rt.alloc(), SCRIPT_LOST));
+    }
+    match options.save {
         Some(name) => require_fit(rt, name),
         None => Ok(()),
     }
 }
 
-/// The tree that the session starts from. No more of its file is held than the tree and a buffer.
-fn read_tree<'a, R: System>(rt: &R, options: &ServeOptions<'a>) -> Result<Tree, Failure<'a>> {
-    let file = open(rt, options.tree)?;
-    let most = options.memory.unwrap_or(u64::MAX);
-    let mut bytes = Watched::new(file.take(most.saturating_add(1)));
-    let tree = Tree::read_from(rt.alloc(), Tally::new(&mut bytes));
-    let flow = bytes.flow();
-    drop(bytes);
-    if flow.bytes > most {
-        drop(tree);
-        return Err(Failure::OverLimit(options.tree));
-    }
-    match tree {
-        Ok(tree) => Ok(tree),
-        Err(TreeError::Io { .. }) => Err(Failure::CannotRead(options.tree, flow.code)),
-        Err(error) => Err(Failure::from(error)),
-    }
+/// Memory that is set aside until the session ends, so that its tree is saved where the system gives no more. Within a
+/// limit of the program's own, a session ends before the system refuses memory.
+fn room_to_save<'a, R: System>(rt: &R, options: &ServeOptions<'a>) -> Result<Vec<u8>, Failure<'a>> {
+    let bytes = match (options.save, options.memory) {
+        (Some(_), None) => ROOM_TO_SAVE,
+        _ => 0,
+    };
+    Ok(Vec::with_capacity(rt.alloc(), bytes)?)
+}
+
+/// The tree that the session starts from.
+fn start<'a, R: System>(rt: &R, options: &ServeOptions<'a>) -> Result<Tree, Failure<'a>> {
+    Ok(read_tree(rt, options.tree, options.memory)??)
 }
 
 /// The writer of a new record.
@@ -120,7 +127,7 @@ fn session<I: Read, O: Write + Drop>(
     tree: Tree,
     mut log: Writer<Tally<Record>>,
     mut order: Order,
-    variation: Option<Variation>,
+    answers: Answers,
     meter: &mut Meter,
     input: &mut I,
     output: O,
@@ -135,7 +142,7 @@ fn session<I: Read, O: Write + Drop>(
         &mut writer,
         &mut log,
         &mut order,
-        variation,
+        answers,
     );
     let reader = reader.into_inner();
     let writer = writer.into_inner();
@@ -154,30 +161,6 @@ fn session<I: Read, O: Write + Drop>(
     drop(order);
     traffic.is_over = meter.is_over();
     (end, traffic)
-}
-
-/// Serves a session, whose replies are varied if that is asked for.
-fn served<R: Source, W: Sink, L: Sink, S: Schedule>(
-    tree: Tree,
-    reader: &mut R,
-    writer: &mut W,
-    log: &mut Writer<L>,
-    schedule: &mut S,
-    variation: Option<Variation>,
-) -> SessionEnd
-    requires { IsUnused log.old }
-{
-    match variation {
-        Some(variation) => serve_as::<R, W, L, S, GivenTable, Vary>(
-            tree,
-            reader,
-            writer,
-            log,
-            schedule,
-            &mut Vary::new(variation),
-        ),
-        None => serve_keeping_tree(tree, reader, writer, log, schedule),
-    }
 }
 
 /// The outcome of a run by how its session ended. The tree that it left is saved, unless the session was not opened.
@@ -339,13 +322,8 @@ fn save<'a, R: System>(
     name: &'a str,
     keeping: Keeping,
 ) -> Result<Option<u32>, Failure<'a>> {
-    let bytes = tree.write()?;
-    let written = write(rt, name, keeping, bytes.as_slice());
-    drop(bytes);
-    match written {
-        Ok(()) => Ok(Some(tree.entry_count())),
-        Err(failure) => Err(failure),
-    }
+    write_tree(rt, name, keeping, tree)?;
+    Ok(Some(tree.entry_count()))
 }
 
 /// Why a session could not go on when this stream failed.

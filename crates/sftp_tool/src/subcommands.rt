@@ -1,25 +1,32 @@
 //! The subcommands.
-ghost use Rattle.std.specs.Prelude.{◌≡◌, ◌≤◌, None, Some, IfOk, IfErr};
+ghost use Rattle.std.specs.Prelude.{◌≡◌, ◌≤◌, ℕ, List, None, Some, IfOk, IfErr};
+ghost use Rattle.sftp_tree.specs.Picture.{IsStart};
+ghost use Rattle.sftp_audit.specs.Audit.{AccountsBy, IsFirstFaultBy};
 ghost use Rattle.sftp_files.specs.declared.messages.Ending.TheVariants as endings;
 ghost use Rattle.sftp_profile.specs.declared.profiles.Profile.{Profile as profile};
 ghost use Rattle.sftp_files.specs.Failures.{IsUnwritten};
 ghost use Rattle.sftp_files.specs.Status.{failure_status};
 ghost use Rattle.sftp_tool.specs.Outcomes.{IsAuditStatus, IsOutcome};
-ghost use Rattle.sftp_tool.specs.Verdicts.{IsStrictAudit, IsAuditUnder, IsReportOf, IsReportOfError};
+ghost use Rattle.sftp_tool.specs.Verdicts.{IsAudit, IsStrictAudit, IsAuditUnder, HasEnd, IsReportOf, IsReportOfError};
 ghost use Rattle.sftp_tool.specs.Verdicts.{IsStrictVerdict, IsVerdictUnder, IsVerdictAsked};
 
 use crate::cut_sessions::judge_cut_and_report;
 use crate::explaining::explain;
 use crate::going_on::report_findings;
+use crate::trees::read_tree;
 use crate::verdict_objects::{print_accepted, print_refused};
-use sftp_audit::{Accepted, AuditError, Refusal};
-use sftp_commands::LeftOut;
+use sftp_audit::{AuditError, Ended, Refusal, audit_tree_by};
+use sftp_commands::{LeftOut, write_tree};
 use sftp_files::{
-    Bounded, Ending, Failure, Keeping, Meter, System, open, print, read_at_most, write, write_last,
+    Bounded, Ending, Failure, Keeping, Meter, System, open, print, read_at_most, write_last,
 };
+use sftp_handles::{GivenTable, Session};
+use sftp_judges::Judges;
 use sftp_options::{AuditOptions, umask_of, with_umask};
 use sftp_profile::{Judge, Profile};
 use sftp_transcript::{Reader, Tally};
+use sftp_tree::Tree;
+use sftp_treefile::TreeError;
 use std::alloc::Global;
 use std::fs::Files;
 use std::io::{Read, Write};
@@ -56,24 +63,55 @@ fn audit_by<'a, R: System, O: Write, E: Write>(
 ) -> Result<Ending, Failure<'a>>
     ensures { IsAuditStatus result }
 {
-    let tree = read_at_most(rt, files.tree, files.memory)?;
-    let ending = audit_from(rt, files, tree.as_slice(), output, errors);
-    drop(tree);
-    ending
+    if files.explains || files.keeps_going {
+        return audit_keeping(rt, files, output, errors);
+    }
+    let start = read_tree(rt, files.tree, files.memory)?;
+    audit_from(rt, files, start, None, output, errors)
 }
 
-/// Audits a session that starts from the tree of this file.
-fn audit_from<'a, R: System, O: Write, E: Write>(
+/// Audits such a session, and keeps the bytes of its tree file: what explains a refusal, and what goes on behind it,
+/// starts from the tree again, and its file may be a pipe.
+fn audit_keeping<'a, R: System, O: Write, E: Write>(
     rt: &R,
     files: &AuditOptions<'a>,
-    tree: &[u8],
     output: &mut O,
     errors: &mut E,
 ) -> Result<Ending, Failure<'a>>
     ensures { IsAuditStatus result }
 {
-    let transcript = open(rt, files.transcript)?;
-    audit_transcript(rt, files, tree, transcript, output, errors)
+    let bytes = read_at_most(rt, files.tree, files.memory)?;
+    let start = Tree::read(rt.alloc(), bytes.as_slice());
+    let ending = audit_from(rt, files, start, Some(bytes.as_slice()), output, errors);
+    drop(bytes);
+    ending
+}
+
+/// Audits a session that starts from this tree, unless its file has a fault. From here on `kept` has the bytes of the
+/// tree file if an explanation is asked for, or what else is wrong.
+fn audit_from<'a, R: System, O: Write, E: Write>(
+    rt: &R,
+    files: &AuditOptions<'a>,
+    start: Result<Tree, TreeError>,
+    kept: Option<&[u8]>,
+    output: &mut O,
+    errors: &mut E,
+) -> Result<Ending, Failure<'a>>
+    ensures { IsAuditStatus result }
+{
+    match (open(rt, files.transcript), start) {
+        (Ok(transcript), Ok(start)) => {
+            audit_transcript(rt, files, start, kept, transcript, output, errors)
+        }
+        (Ok(transcript), Err(error)) => {
+            drop(transcript);
+            Err(Failure::from(error))
+        }
+        (Err(failure), start) => {
+            drop(start);
+            Err(failure)
+        }
+    }
 }
 
 /// Audits the session of this transcript, within the limit on memory if there is one. Without an option of a profile
@@ -81,17 +119,20 @@ fn audit_from<'a, R: System, O: Write, E: Write>(
 fn audit_transcript<'a, F: Read + Drop, R: System, O: Write, E: Write>(
     rt: &R,
     files: &AuditOptions<'a>,
-    tree: &[u8],
+    start: Tree,
+    kept: Option<&[u8]>,
     transcript: F,
     output: &mut O,
     errors: &mut E,
 ) -> Result<Ending, Failure<'a>>
-    ensures verdict { IfOk result (IsVerdictAsked files.now.profile files.now.cuts tree.now (F.remaining transcript)) }
+    // The verdict on each tree file of this tree.
+    ensures verdict { (tree : List ℕ) → IsStart start tree →
+        IfOk result (IsVerdictAsked files.now.profile files.now.cuts tree (F.remaining transcript)) }
     ensures status { IsAuditStatus result }
 {
     match files.memory {
-        Some(_) => audit_within(rt, files, tree, transcript, output, errors),
-        None => judge_as_asked(rt, files, tree, transcript, output, errors),
+        Some(_) => audit_within(rt, files, start, kept, transcript, output, errors),
+        None => judge_as_asked(rt, files, start, kept, transcript, output, errors),
     }
 }
 
@@ -99,17 +140,20 @@ fn audit_transcript<'a, F: Read + Drop, R: System, O: Write, E: Write>(
 fn audit_within<'a, F: Read + Drop, R: System, O: Write, E: Write>(
     rt: &R,
     files: &AuditOptions<'a>,
-    tree: &[u8],
+    start: Tree,
+    kept: Option<&[u8]>,
     transcript: F,
     output: &mut O,
     errors: &mut E,
 ) -> Result<Ending, Failure<'a>>
-    ensures verdict { IfOk result (IsVerdictAsked files.now.profile files.now.cuts tree.now (F.remaining transcript)) }
+    // The verdict on each tree file of this tree.
+    ensures verdict { (tree : List ℕ) → IsStart start tree →
+        IfOk result (IsVerdictAsked files.now.profile files.now.cuts tree (F.remaining transcript)) }
     ensures status { IsAuditStatus result }
 {
     let mut meter = Meter::new(rt, files.memory)?;
     let bounded = Bounded::new(transcript, &mut meter);
-    match judge_as_asked(rt, files, tree, bounded, output, errors) {
+    match judge_as_asked(rt, files, start, kept, bounded, output, errors) {
         Err(_) if meter.is_over() => Err(Failure::OverLimit(files.transcript)),
         ending => ending,
     }
@@ -120,18 +164,21 @@ fn audit_within<'a, F: Read + Drop, R: System, O: Write, E: Write>(
 fn judge_as_asked<'a, F: Read + Drop, R: System, O: Write, E: Write>(
     rt: &R,
     files: &AuditOptions<'a>,
-    tree: &[u8],
+    start: Tree,
+    kept: Option<&[u8]>,
     transcript: F,
     output: &mut O,
     errors: &mut E,
 ) -> Result<Ending, Failure<'a>>
-    ensures verdict { IfOk result (IsVerdictAsked files.now.profile files.now.cuts tree.now (F.remaining transcript)) }
+    // The verdict on each tree file of this tree.
+    ensures verdict { (tree : List ℕ) → IsStart start tree →
+        IfOk result (IsVerdictAsked files.now.profile files.now.cuts tree (F.remaining transcript)) }
     ensures status { IsAuditStatus result }
 {
     if files.cuts {
-        judge_cut_and_report(rt, files, tree, transcript, output, errors)
+        judge_cut_and_report(rt, files, start, kept, transcript, output, errors)
     } else {
-        judge_and_report(rt, files, tree, transcript, output, errors)
+        judge_and_report(rt, files, start, kept, transcript, output, errors)
     }
 }
 
@@ -139,19 +186,22 @@ fn judge_as_asked<'a, F: Read + Drop, R: System, O: Write, E: Write>(
 fn judge_and_report<'a, F: Read + Drop, R: System, O: Write, E: Write>(
     rt: &R,
     files: &AuditOptions<'a>,
-    tree: &[u8],
+    start: Tree,
+    kept: Option<&[u8]>,
     transcript: F,
     output: &mut O,
     errors: &mut E,
 ) -> Result<Ending, Failure<'a>>
-    ensures strictly { files.now.profile ≡ None → IfOk result (IsStrictVerdict tree.now (F.remaining transcript)) }
-    ensures under { (by : profile) → files.now.profile ≡ Some by →
-        IfOk result (IsVerdictUnder by tree.now (F.remaining transcript)) }
+    // The verdict on each tree file of this tree.
+    ensures strictly { (tree : List ℕ) → IsStart start tree → files.now.profile ≡ None →
+        IfOk result (IsStrictVerdict tree (F.remaining transcript)) }
+    ensures under { (tree : List ℕ) → IsStart start tree → (by : profile) → files.now.profile ≡ Some by →
+        IfOk result (IsVerdictUnder by tree (F.remaining transcript)) }
     ensures status { IsAuditStatus result }
 {
     let mut follows = true;
-    let judged = judge(rt.alloc(), files.profile, tree, transcript, &mut follows);
-    let ending = report(rt, files, tree, &judged, follows, output, errors);
+    let judged = judge(rt.alloc(), files.profile, start, transcript, &mut follows);
+    let ending = report(rt, files, kept, &judged, follows, output, errors);
     drop(judged);
     ending
 }
@@ -160,8 +210,8 @@ fn judge_and_report<'a, F: Read + Drop, R: System, O: Write, E: Write>(
 fn report<'a, R: System, O: Write, E: Write>(
     rt: &R,
     files: &AuditOptions<'a>,
-    tree: &[u8],
-    judged: &Result<Accepted, AuditError>,
+    kept: Option<&[u8]>,
+    judged: &Result<Ended, AuditError>,
     follows: bool,
     output: &mut O,
     errors: &mut E,
@@ -170,8 +220,8 @@ fn report<'a, R: System, O: Write, E: Write>(
     ensures status { IsAuditStatus result }
 {
     match judged {
-        Ok(accepted) => accept(rt, accepted, files, output),
-        Err(error) => report_error(rt, files, tree, *error, follows, output, errors),
+        Ok(ended) => accept(rt, ended, files, output),
+        Err(error) => report_error(rt, files, kept, *error, follows, output, errors),
     }
 }
 
@@ -186,7 +236,7 @@ pub(crate) struct Finding {
 pub(crate) fn report_error<'a, R: System, O: Write, E: Write>(
     rt: &R,
     files: &AuditOptions<'a>,
-    tree: &[u8],
+    kept: Option<&[u8]>,
     error: AuditError,
     follows: bool,
     output: &mut O,
@@ -196,16 +246,16 @@ pub(crate) fn report_error<'a, R: System, O: Write, E: Write>(
     ensures status { IsAuditStatus result }
 {
     match refusal_or_failure(error, files.transcript) {
-        Ok(refusal) => report_refusal(rt, files, tree, refusal, follows, output, errors),
+        Ok(refusal) => report_refusal(rt, files, kept, refusal, follows, output, errors),
         Err(failure) => Err(failure),
     }
 }
 
-/// Says why a session of these files is refused, and what else is wrong with it if that is asked for.
+/// Says why a session of these files is refused, and what else is asked for.
 fn report_refusal<'a, R: System, O: Write, E: Write>(
     rt: &R,
     files: &AuditOptions<'a>,
-    tree: &[u8],
+    kept: Option<&[u8]>,
     refusal: Refusal,
     follows: bool,
     output: &mut O,
@@ -215,13 +265,18 @@ fn report_refusal<'a, R: System, O: Write, E: Write>(
     ensures err { IfErr result IsUnwritten }
 {
     let finding = Finding { refusal, follows };
-    if files.keeps_going {
-        return report_findings(rt, files, tree, finding, output, errors);
+    match kept {
+        Some(tree) if files.keeps_going => {
+            report_findings(rt, files, tree, finding, output, errors)
+        }
+        Some(tree) => {
+            let mut left_out = LeftOut::new(rt.alloc());
+            let ending = report_finding(rt, files, tree, &mut left_out, finding, output, errors);
+            drop(left_out);
+            ending
+        }
+        None => refuse(files, finding, output),
     }
-    let mut left_out = LeftOut::new(rt.alloc());
-    let ending = report_finding(rt, files, tree, &mut left_out, finding, output, errors);
-    drop(left_out);
-    ending
 }
 
 /// Says why a session of these files is refused where this is left out of it, and explains it if that is asked for.
@@ -237,17 +292,18 @@ pub(crate) fn report_finding<'a, R: Files + AllocGlobal, O: Write, E: Write>(
     ensures ok { IfOk result (λ ending. ending ≡ endings.Refused) }
     ensures err { IfErr result IsUnwritten }
 {
+    if !files.explains {
+        return refuse(files, finding, output);
+    }
     if files.is_json {
         return refuse_as_object(rt, files, tree, left_out, finding, output);
     }
-    let ending = refuse(finding.refusal, finding.follows, output)?;
-    if files.explains {
-        explain(rt, files, tree, left_out, finding.refusal, errors);
-    }
+    let ending = refuse(files, finding, output)?;
+    explain(rt, files, tree, left_out, finding.refusal, errors);
     Ok(ending)
 }
 
-/// Says why a session of these files is refused as a JSON object, with the explanation in it if that is asked for.
+/// Says why a session of these files is refused as a JSON object, with the explanation in it.
 fn refuse_as_object<'a, R: Files + AllocGlobal, O: Write>(
     rt: &R,
     files: &AuditOptions<'a>,
@@ -259,9 +315,6 @@ fn refuse_as_object<'a, R: Files + AllocGlobal, O: Write>(
     ensures ok { IfOk result (λ ending. ending ≡ endings.Refused) }
     ensures err { IfErr result IsUnwritten }
 {
-    if !files.explains {
-        return print_refused(finding.refusal, finding.follows, None, output);
-    }
     let mut lines = Vec::new(rt.alloc());
     explain(rt, files, tree, left_out, finding.refusal, &mut lines);
     let ending = print_refused(
@@ -279,56 +332,44 @@ fn refuse_as_object<'a, R: Files + AllocGlobal, O: Write>(
 fn judge<F: Read + Drop>(
     alloc: Global,
     by: Option<Profile>,
-    tree: &[u8],
+    start: Tree,
     transcript: F,
     follows: &mut bool,
-) -> Result<Accepted, AuditError>
-    ensures strictly { by ≡ None → IsStrictAudit tree.now (F.remaining transcript) result }
-    ensures under { (it : profile) → by ≡ Some it → IsAuditUnder it tree.now (F.remaining transcript) result }
+) -> Result<Ended, AuditError>
+    ensures strictly { (tree : List ℕ) → IsStart start tree → by ≡ None →
+        IsStrictAudit tree (F.remaining transcript) result }
+    ensures under { (tree : List ℕ) → IsStart start tree → (it : profile) → by ≡ Some it →
+        IsAuditUnder it tree (F.remaining transcript) result }
 {
     match by {
-        None => {
-            *follows = true;
-            judge_strictly(alloc, tree, transcript)
-        }
-        Some(profile) => judge_under(alloc, profile, tree, transcript, follows),
+        None => judge_by::<Session<GivenTable>, F>(alloc, (), start, transcript, follows),
+        Some(profile) => judge_by::<Judge, F>(alloc, profile, start, transcript, follows),
     }
 }
 
-/// Audits such a session strictly.
-fn judge_strictly<F: Read + Drop>(
+/// Audits such a session by a judge that is made by `by`.
+fn judge_by<J: Judges, F: Read + Drop>(
     alloc: Global,
-    tree: &[u8],
-    transcript: F,
-) -> Result<Accepted, AuditError>
-    ensures { IsStrictAudit tree.now (F.remaining transcript) result }
-{
-    let mut records = Reader::new(alloc, Tally::new(transcript))?;
-    let audited = sftp_audit::audit_stream(alloc, tree, &mut records);
-    drop(records);
-    audited
-}
-
-/// Audits such a session under a profile.
-fn judge_under<F: Read + Drop>(
-    alloc: Global,
-    profile: Profile,
-    tree: &[u8],
+    by: J::By,
+    start: Tree,
     transcript: F,
     follows: &mut bool,
-) -> Result<Accepted, AuditError>
-    ensures { IsAuditUnder profile tree.now (F.remaining transcript) result }
+) -> Result<Ended, AuditError>
+    ensures { (tree : List ℕ) → IsStart start tree →
+        IsAudit (AccountsBy J.allowed (J.begun by) J.closed) (IsFirstFaultBy J.allowed (J.begun by)) HasEnd
+        tree (F.remaining transcript) result }
 {
-    let mut records = Reader::new(alloc, Tally::new(transcript))?;
-    let audited = sftp_audit::audit_stream_by::<Judge, Tally<F>>(
-        alloc,
-        profile,
-        tree,
-        &mut records,
-        follows,
-    );
-    drop(records);
-    audited
+    match Reader::new(alloc, Tally::new(transcript)) {
+        Ok(mut records) => {
+            let audited = audit_tree_by::<J, Tally<F>>(by, start, &mut records, follows);
+            drop(records);
+            audited
+        }
+        Err(error) => {
+            drop(start);
+            Err(AuditError::from(error))
+        }
+    }
 }
 
 /// Writes the blank tree to the file `name`.
@@ -357,15 +398,15 @@ pub(crate) fn help<'a, O: Write>(text: &str, output: &mut O) -> Result<Ending, F
 /// Writes the final tree, if a file is named for it, and then says that the session is accepted.
 fn accept<'a, R: System, O: Write>(
     rt: &R,
-    accepted: &Accepted,
+    ended: &Ended,
     files: &AuditOptions<'a>,
     output: &mut O,
 ) -> Result<Ending, Failure<'a>>
     ensures ok { IfOk result (λ ending. ending ≡ endings.Done) }
     ensures err { IfErr result IsUnwritten }
 {
-    keep_end(rt, files, accepted.tree.as_slice())?;
-    let requests = accepted.requests;
+    keep_end(rt, files, &ended.tree)?;
+    let requests = ended.requests;
     if files.is_json {
         return print_accepted(requests, None, output);
     }
@@ -380,32 +421,36 @@ fn accept<'a, R: System, O: Write>(
 pub(crate) fn keep_end<'a, R: System>(
     rt: &R,
     files: &AuditOptions<'a>,
-    tree: &[u8],
+    tree: &Tree,
 ) -> Result<(), Failure<'a>>
     ensures { IfErr result IsUnwritten }
 {
     match files.out {
-        Some(name) => write(rt, name, files.keeping, tree),
+        Some(name) => write_tree(rt, name, files.keeping, tree),
         None => Ok(()),
     }
 }
 
-/// Says why the session is refused: `NotModelled` where the profile does not follow a request.
+/// Says why the session is refused, as a line or as a JSON object: `NotModelled` where the profile does not follow a
+/// request.
 fn refuse<'a, O: Write>(
-    refusal: Refusal,
-    follows: bool,
+    files: &AuditOptions<'a>,
+    finding: Finding,
     output: &mut O,
 ) -> Result<Ending, Failure<'a>>
     ensures ok { IfOk result (λ ending. ending ≡ endings.Refused) }
     ensures err { IfErr result IsUnwritten }
 {
-    match refusal {
-        Refusal::NotAllowed { record } if !follows => print(
+    if files.is_json {
+        return print_refused(finding.refusal, finding.follows, None, output);
+    }
+    match finding.refusal {
+        Refusal::NotAllowed { record } if !finding.follows => print(
             output,
             format_args!("refused record {record}: NotModelled\n"),
             Ending::Refused,
         ),
-        _ => print(output, format_args!("refused {refusal}\n"), Ending::Refused),
+        refusal => print(output, format_args!("refused {refusal}\n"), Ending::Refused),
     }
 }
 

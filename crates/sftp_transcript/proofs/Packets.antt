@@ -9,7 +9,7 @@ use Rattle.sftp_transcript.proofs.Imports.{GivesNext, IsStageThen, Begins, IsIni
 use Rattle.sftp_transcript.proofs.Imports.{rank, HasAhead, IsExcuse, transcript_opening}
 use Rattle.sftp_transcript.specs.Packets.{stage_opened, IsAfterOpening}
 use Rattle.sftp_transcript.specs.declared.stage.Stage.TheVariants as stages
-use Rattle.sftp_transcript.specs.Refused.{KindFault, IsEventPacket}
+use Rattle.sftp_transcript.specs.Refused.{KindFault, IsEventPacket, FaultIn}
 use Rattle.sftp_transcript.proofs.Faults.{fault_ahead, event_fault}
 use Rattle.sftp_transcript.proofs.Reaching.{memory_or}
 use Rattle.sftp_transcript.proofs.transcripts.Beginnings.{not_both}
@@ -24,6 +24,14 @@ stage_fault stages.Opening number m before error begun known end part some fault
 stage_fault stages.Init number m before error begun known end part some fault = fault_ahead IsInit 1 m before error known end part fault
 stage_fault stages.Version number m before error begun known end part some fault = fault_ahead IsVersion 2 m before error known end part fault
 stage_fault stages.Events number m before error begun known end part some fault = event_fault number m before error known end part (some refl) fault
+
+-- the fault of the bytes held is that of this stage
+pub fault_held : (stage : Stage) (number : ℕ) (held : List ℕ) (error : TranscriptError) → 1 ≤ rank stage
+    → KindFault (MayCome stage) (record_number stage number) held error → FaultIn stage number held error
+fault_held stages.Opening number held error begun fault = absurd (omega (arith, begun))
+fault_held stages.Init number held error begun fault = inr fault
+fault_held stages.Version number held error begun fault = inr fault
+fault_held stages.Events number held error begun fault = inr fault
 
 -- ---- after the opening
 

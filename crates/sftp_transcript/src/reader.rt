@@ -159,13 +159,14 @@ impl<R: Source> Reader<R> {
             → IfErr result (λ error. IsExcuse error ⊎ FaultAhead self.old.stage self.old.number before error) }
         ensures counts { CountsError R.may_fail result self.old.ahead.failures self.new.ahead.failures }
     {
-        match pass_record(self.alloc, &mut self.input, self.stage, self.number)? {
-            Some((packet, length)) => {
+        match pass_record(self.alloc, &mut self.input, self.stage, self.number) {
+            Ok(Some((packet, length))) => {
                 self.number = number_past(self.stage, self.number);
                 self.stage = stage_after(self.stage);
                 Ok(Some((sender(&packet), packet, length)))
             }
-            None => Ok(None),
+            Ok(None) => Ok(None),
+            Err(error) => Err(error),
         }
     }
 
@@ -257,12 +258,13 @@ impl<R: Source> Reader<R> {
         ensures falls { IfOk result (λ given. IfSome given (λ _. size_of self.new.ahead < size_of self.old.ahead)) }
     {
         'greetings: loop {
-            match self.next_record()? {
-                Some((_, packet, _)) => match event_of(packet) {
+            match self.next_record() {
+                Ok(Some((_, packet, _))) => match event_of(packet) {
                     Some(event) => return Ok(Some(event)),
                     None => {}
                 },
-                None => return Ok(None),
+                Ok(None) => return Ok(None),
+                Err(error) => return Err(error),
             }
         }
     }

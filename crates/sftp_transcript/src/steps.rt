@@ -90,9 +90,14 @@ pub(crate) fn pass_record<R: Source>(
     if is_end(input.held(), stage) {
         return Ok(None);
     }
-    let (packet, rest) = take_next(alloc, input.held(), stage, place)?;
-    let left = rest.len();
-    let taken = input.held().len() - left;
-    input.take(taken);
-    Ok(Some((packet, taken - 1)))
+    // Not by `?`, which would copy the packet.
+    match take_next(alloc, input.held(), stage, place) {
+        Ok((packet, rest)) => {
+            let left = rest.len();
+            let taken = input.held().len() - left;
+            input.take(taken);
+            Ok(Some((packet, taken - 1)))
+        }
+        Err(error) => Err(error),
+    }
 }

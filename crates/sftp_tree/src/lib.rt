@@ -38,6 +38,6 @@ pub use asks::{new_path_of, path_of};
 pub use causes::{Cause, Causes, EVERY_CAUSE, Refused};
 pub use file_numbers::FileNo;
 pub use listings::Item;
-pub use sftp_treefile::{NoMemory, TreeError, TreeLimits};
+pub use sftp_treefile::{NoMemory, TreeError, TreeLimits, WriteError};
 pub use ticks::Ticks;
 pub use trees::Tree;

@@ -1,5 +1,8 @@
 //! Trees, read from tree files and written to them.
-ghost use Rattle.std.specs.Prelude.{◌≡◌, ◌+◌, ℕ, List, Some, length, IfOk, IfErr};
+ghost use Rattle.std.specs.Prelude.{◌≡◌, ◌+◌, ℕ, List, Some, length, IfOk, IfErr, OnOk, OnErr};
+ghost use Rattle.std.specs.Io.KnownBytes.{Appends};
+ghost use Rattle.sftp_streams.specs.Streams.{AppendsPart};
+ghost use Rattle.sftp_treefile.specs.Sent.{CountsSink};
 ghost use Rattle.sftp_treefile.specs.Streamed.{MayFail};
 ghost use Rattle.sftp_tree.specs.Tree.{Tree as tree};
 ghost use Rattle.sftp_tree.specs.Picture.{IsStart, GivesTree, GivesTreeUnless, picture, blank};
@@ -15,10 +18,10 @@ use crate::files::Files;
 use crate::trees::Tree;
 use reading::tree_of;
 use sftp_path::{NoMemory, Place};
-use sftp_streams::Source;
-use sftp_treefile::{Owner, TreeError, read_rows, read_rows_from, usual_limits};
+use sftp_streams::{Sink, Source};
+use sftp_treefile::{Owner, TreeError, WriteError, read_rows, read_rows_from, usual_limits};
 use std::alloc::Global;
-use writing::picture_of;
+use writing::{picture_of, send_picture};
 
 impl Tree {
     /// The blank tree: the root alone, which is the home and has permissions 0o755. The user 0 and the group 0 own it,
@@ -79,6 +82,20 @@ impl Tree {
         ensures { result + 1 ≡ length self.now.names }
     {
         (self.names().len() - 1) as u32
+    }
+
+    /// Writes the tree file of the tree to a sink. No more of it is held than the entry that is written, without the
+    /// bytes of a file.
+    ///
+    /// # Errors
+    ///
+    /// `NoMemory` if memory runs out, and `Failed` if the sink fails. A beginning of the tree file is written then.
+    pub fn write_to<L: Sink>(&self, sink: &mut L) -> Result<(), WriteError>
+        ensures ok { OnOk result (Appends (L.written sink.old) (L.written sink.new) (picture self.now)) }
+        ensures err { OnErr result (AppendsPart (L.written sink.old) (L.written sink.new) (picture self.now)) }
+        ensures counts { CountsSink result (L.failures sink.old) (L.failures sink.new) }
+    {
+        send_picture(sink, self)
     }
 
     /// The tree file of the tree.

@@ -8,3 +8,4 @@ pub mod Files
 pub mod Pieces
 pub mod Bounds
 pub mod Front
+pub mod Sending

@@ -3,3 +3,4 @@ pub mod TreeFile
 pub mod TreeFileParts
 pub mod Examples
 pub mod Streamed
+pub mod Sent

@@ -1,7 +1,8 @@
-//! Why bytes are not a tree file.
+//! Why bytes are not a tree file, and why one is not written.
 ghost use Rattle.std.specs.Prelude.{◌≡◌};
 
 use sftp_path::NoMemory;
+use sftp_streams::Failed;
 use std::alloc::{AllocError, AllocFailed};
 use std::fmt;
 use thiserror::Error;
@@ -82,5 +83,36 @@ impl From<NoMemory> for TreeError {
 
     fn from(_error: NoMemory) -> TreeError {
         TreeError::NoMemory
+    }
+}
+
+/// Why a tree file was not written whole.
+#[derive(Clone, Copy, Debug, PartialEq, Eq, Error)]
+pub enum WriteError {
+    /// Memory ran out.
+    #[error("out of memory")]
+    NoMemory,
+    /// The sink failed.
+    #[error("the stream failed")]
+    Failed,
+}
+
+impl From<NoMemory> for WriteError {
+    ghost use Rattle.sftp_treefile.specs.declared.errors.WriteError.TheVariants.{NoMemory as no_memory};
+
+    ghost from_gives = { λ _ e. e ≡ no_memory };
+
+    fn from(_error: NoMemory) -> WriteError {
+        WriteError::NoMemory
+    }
+}
+
+impl From<Failed> for WriteError {
+    ghost use Rattle.sftp_treefile.specs.declared.errors.WriteError.TheVariants.{Failed as failed};
+
+    ghost from_gives = { λ _ e. e ≡ failed };
+
+    fn from(_error: Failed) -> WriteError {
+        WriteError::Failed
     }
 }

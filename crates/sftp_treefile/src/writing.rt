@@ -1,19 +1,18 @@
-//! Tree files, written piece by piece, and whole. Each piece is written as it is given: the caller makes sure that a
-//! path is the absolute text of a place, that entries come in the order of their places, that permissions have twelve
-//! bits, and that a further name has the number of a first name.
-ghost use Rattle.std.specs.Prelude.{◌≡◌, ◌++◌, ◌<◌, ◌^◌, true, length, IfOk, OnOk};
+//! The pieces of tree files, appended to bytes. Each piece is written as it is given: the caller makes sure that a path
+//! is the absolute text of a place, that entries come in the order of their places, that permissions have twelve bits,
+//! and that a further name has the number of a first name.
+ghost use Rattle.std.specs.Prelude.{◌≡◌, ◌++◌, ◌<◌, ◌^◌, true, length, OnOk};
 ghost use Rattle.sftp_packets.specs.Spelling.{uint32, string};
 ghost use Rattle.sftp_treefile.specs.declared.files.Kind.TheVariants.{Dir, First, Further, Link};
 ghost use Rattle.sftp_treefile.specs.Limits as spec;
-ghost use Rattle.sftp_treefile.specs.TreeFile.{IsTreeFile, tree_opening, limits_text, owner_text, row_text, spelled};
-ghost use Rattle.sftp_treefile.specs.TreeFileParts.{front_text, root_text, head_text, head_bytes, HasLengths};
+ghost use Rattle.sftp_treefile.specs.TreeFile.{tree_opening, limits_text, owner_text, row_text};
+ghost use Rattle.sftp_treefile.specs.TreeFileParts.{front_text, root_text, head_bytes};
+ghost use Rattle.sftp_treefile.specs.Streamed.{file_start_text};
 
-use crate::files::{Kind, Owner, Row, TreeFile};
+use crate::files::Owner;
 use crate::heads::Head;
 use crate::limits::{OPENING, OPENING_WITH_LIMITS, TreeLimits};
-use crate::measuring::file_size;
 use sftp_path::NoMemory;
-use std::alloc::Global;
 
 fn put_number(out: &mut Vec<u8>, number: u32) -> Result<(), NoMemory>
     ensures { OnOk result (out.new.items ≡ out.old.items ++ uint32 number) }
@@ -55,7 +54,7 @@ fn put_opening(out: &mut Vec<u8>, has_limits: bool) -> Result<(), NoMemory>
 
 /// Appends the opening, the home, and who owns what is made with no owner given. `has_limits` says whether limits are
 /// to follow.
-fn put_front(
+pub(crate) fn put_front(
     out: &mut Vec<u8>,
     has_limits: bool,
     home: &[u8],
@@ -84,7 +83,7 @@ fn put_four_limits(out: &mut Vec<u8>, limits: TreeLimits) -> Result<(), NoMemory
 }
 
 /// Appends the limits, unless they are all the usual ones.
-fn put_limits(out: &mut Vec<u8>, limits: TreeLimits) -> Result<(), NoMemory>
+pub(crate) fn put_limits(out: &mut Vec<u8>, limits: TreeLimits) -> Result<(), NoMemory>
     ensures { OnOk result (out.new.items ≡ out.old.items ++ limits_text (spec.are_own limits) limits) }
 {
     if !limits.are_own() {
@@ -95,7 +94,7 @@ fn put_limits(out: &mut Vec<u8>, limits: TreeLimits) -> Result<(), NoMemory>
 }
 
 /// Appends how many entries there are, and who owns the root.
-fn put_root(out: &mut Vec<u8>, count: u32, root: &Owner) -> Result<(), NoMemory>
+pub(crate) fn put_root(out: &mut Vec<u8>, count: u32, root: &Owner) -> Result<(), NoMemory>
     ensures { OnOk result (out.new.items ≡ out.old.items ++ root_text (count, root.now)) }
 {
     put_number(out, count)?;
@@ -140,6 +139,24 @@ pub fn put_directory(out: &mut Vec<u8>, path: &[u8], owner: &Owner) -> Result<()
     Ok(())
 }
 
+/// Appends what the entry of the first name of a file says before the file's bytes, of which there are `count`.
+pub(crate) fn put_file_start(
+    out: &mut Vec<u8>,
+    path: &[u8],
+    owner: &Owner,
+    count: u32,
+) -> Result<(), NoMemory>
+    requires { length path.now < 2 ^ 32 }
+    ensures { OnOk result
+        (out.new.items ≡ out.old.items ++ (string path.now ++ file_start_text (owner.now, count))) }
+{
+    put_string(out, path)?;
+    out.push(b'F')?;
+    put_owner(out, owner)?;
+    put_number(out, count)?;
+    Ok(())
+}
+
 /// Appends the entry of the first name of a file, with the file's bytes.
 ///
 /// # Errors
@@ -151,10 +168,8 @@ pub fn put_file(out: &mut Vec<u8>, path: &[u8], owner: &Owner, bytes: &[u8]) -> 
     ensures { OnOk result
         (out.new.items ≡ out.old.items ++ row_text (record { path = path.now; kind = First owner.now bytes.now })) }
 {
-    put_string(out, path)?;
-    out.push(b'F')?;
-    put_owner(out, owner)?;
-    put_string(out, bytes)?;
+    put_file_start(out, path, owner, bytes.len() as u32)?;
+    out.extend_from_slice(bytes)?;
     Ok(())
 }
 
@@ -189,52 +204,4 @@ pub fn put_link(out: &mut Vec<u8>, path: &[u8], target: &[u8]) -> Result<(), NoM
     out.push(b'L')?;
     put_string(out, target)?;
     Ok(())
-}
-
-fn put_row(out: &mut Vec<u8>, row: &Row) -> Result<(), NoMemory>
-    requires { HasLengths row.now }
-    ensures { OnOk result (out.new.items ≡ out.old.items ++ row_text row.now) }
-{
-    let path = row.path.as_slice();
-    match &row.kind {
-        Kind::Dir(owner) => put_directory(out, path, owner)?,
-        Kind::First(owner, bytes) => put_file(out, path, owner, bytes.as_slice())?,
-        Kind::Further(number) => put_further_name(out, path, *number)?,
-        Kind::Link(target) => put_link(out, path, target.as_slice())?,
-    }
-    Ok(())
-}
-
-/// Appends the head of a file.
-fn put_start(out: &mut Vec<u8>, file: &TreeFile) -> Result<(), NoMemory>
-    requires { IsTreeFile file.now }
-    ensures { OnOk result (out.new.items ≡ out.old.items ++ head_text file.now) }
-{
-    put_front(
-        out,
-        file.limits.are_own(),
-        file.home.as_slice(),
-        file.uid,
-        file.gid,
-    )?;
-    put_limits(out, file.limits)?;
-    put_root(out, file.rows.as_slice().len() as u32, &file.root)?;
-    Ok(())
-}
-
-/// The bytes of this tree file. They are allocated at once.
-///
-/// # Errors
-///
-/// `NoMemory` if memory runs out.
-pub fn write_rows(alloc: Global, file: &TreeFile) -> Result<Vec<u8>, NoMemory>
-    requires { IsTreeFile file.now }
-    ensures { IfOk result (λ v. v.items ≡ spelled file.now) }
-{
-    let mut out = Vec::with_capacity(alloc, file_size(file))?;
-    put_start(&mut out, file)?;
-    for row in file.rows.as_slice() {
-        put_row(&mut out, row)?;
-    }
-    Ok(out)
 }

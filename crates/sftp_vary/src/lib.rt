@@ -1,14 +1,23 @@
-//! A server that uses, pseudorandomly, what the rules leave free in its replies: a client that works with it takes no
-//! server's habit for the protocol's (draft-ietf-secsh-filexfer-02, sections 5 to 7).
+//! What the rules leave free in a server's replies, and answerers that use it (draft-ietf-secsh-filexfer-02, sections 5
+//! to 7): pseudorandomly, so that a client that works with it takes no server's habit for the protocol's, or for words
+//! that people read.
 #![tactic(auto)]
 
 mod attributes;
 mod dice;
 mod freedoms;
 mod handles;
+mod limits_met;
 mod listings;
+mod long_names;
+mod proposed;
+mod spelled;
 mod texts;
 mod vary;
+mod worded;
+mod words;
 
 pub use freedoms::{Freedom, Freedoms, NAMES, Variation};
+pub use proposed::{Proposed, Proposer};
 pub use vary::Vary;
+pub use worded::{Style, Worded, Words};

@@ -1,21 +1,16 @@
-//! The answerer that varies its replies.
-ghost use Rattle.std.specs.Prelude.{◌≡◌, IfOk, OnErr};
-ghost use Rattle.sftp_packets.specs.declared.packets.Packet.TheVariants.{Reply as reply_packet};
-ghost use Rattle.sftp_packets.specs.Packets.{HasSpelling};
-ghost use Rattle.sftp_handles.specs.Allowed.{Allowed};
-
+//! Proposals of replies that vary.
 use crate::attributes::{any_pairs, any_times, dummy};
 use crate::dice::Dice;
 use crate::freedoms::{Freedom, Freedoms, Variation};
 use crate::handles::{any_handle, plain_handle};
 use crate::listings::{Order, any_most};
+use crate::proposed::Proposer;
 use crate::texts::{longname, message, tag};
 use sftp_handles::{GivenTable, Listing, Session};
 use sftp_path::Name;
-use sftp_server::Answerer;
 use sftp_tree::{Causes, EVERY_CAUSE, NoMemory};
 use sftp_wire::status::{EOF, OK};
-use sftp_wire::{Answer, Ask, Attrs, ByteString, NameItem, Names, Reply, Request};
+use sftp_wire::{Answer, Ask, Attrs, ByteString, NameItem, Names, Request};
 use std::alloc::Global;
 
 /// How many names a reply to READDIR has at most, unless listings are free.
@@ -27,9 +22,8 @@ const FIRST_REFUSAL: u32 = 2;
 /// How many bytes the names of a reply have about at most.
 const LONG: usize = 131_072;
 
-/// Answers requests by replies that differ from those of this program's own sessions in what is free, pseudorandomly:
-/// a seed fixes the choices. It only proposes: the session judges each proposal as `audit` does, and one that is not
-/// allowed or cannot be encoded is not given; then the request is answered as the session's own `answer` does.
+/// Proposes answers that differ from those of this program's own sessions in what is free, pseudorandomly: a seed fixes
+/// the choices.
 ///
 /// Each freedom has a source of choices of its own, so that the choices of one do not depend on which others are used.
 #[derive(Drop)]
@@ -47,43 +41,18 @@ pub struct Vary {
     opened: u32,
 }
 
-impl Answerer<GivenTable> for Vary {
-    fn answer(
+impl Proposer for Vary {
+    fn propose(
         &mut self,
-        session: &mut Session<GivenTable>,
+        session: &Session<GivenTable>,
         request: &Request,
-    ) -> Result<Reply, NoMemory> {
-        match self.proposal(session, &request.ask) {
-            Ok(Some(answer)) => propose(session, request, answer),
-            Ok(None) => session.answer(request),
-            Err(error) => Err(error),
-        }
-    }
-}
-
-/// Answers a request so, if the session allows it, and else as the session does.
-fn propose(
-    session: &mut Session<GivenTable>,
-    request: &Request,
-    answer: Answer,
-) -> Result<Reply, NoMemory>
-    ensures allowed { IfOk result (λ reply. Allowed session.old request.now reply session.new) }
-    ensures spelled { IfOk result (λ reply. HasSpelling (reply_packet reply)) }
-    ensures err { OnErr result (session.new ≡ session.old) }
-{
-    let reply = Reply {
-        id: request.id,
-        answer,
-    };
-    match session.answer_as(request, reply) {
-        Ok(Some(reply)) => Ok(reply),
-        Ok(None) => session.answer(request),
-        Err(error) => Err(error),
+    ) -> Result<Option<Answer>, NoMemory> {
+        self.proposal(session, &request.ask)
     }
 }
 
 impl Vary {
-    /// The answerer that varies its replies so.
+    /// Proposes answers that are varied so.
     pub fn new(variation: Variation) -> Vary {
         let seed = variation.seed;
         Vary {

@@ -1,11 +1,17 @@
 -- The entries of directories are written branch by branch.
 use Rattle.sftp_tree.proofs.Imports.{◌≡◌, ℕ, suc, ◌+◌, ◌<◌, ◌≤◌, ◌^◌, List, [], ◌∷◌, ◌++◌, length, take, drop, Some}
+use Rattle.std.specs.Prelude.{Option}
+use Rattle.std.specs.Io.KnownBytes.{Appends}
+use Rattle.std.proofs.KnownBytes.{Appends-nil}
+use Rattle.sftp_streams.specs.Streams.{AppendsPart}
+use Rattle.sftp_streams.proofs.Putting.{Appends-then, AppendsPart-first, AppendsPart-then}
 use Rattle.sftp_tree.proofs.Imports.{refl, sym, ap, subst, ◌∙◌, append_assoc, append-nil, arith, flat_map-append}
 use Rattle.sftp_tree.proofs.Imports.{length-append, take-append_seam, flat_map, AllByRecursion, nat_cmp, IsTrue, Name}
 use Rattle.sftp_tree.proofs.Imports.{Place, place_cmp, absolute, InOrder, get, get-empty, Owner, Row, row_text, Child}
 use Rattle.sftp_tree.proofs.Imports.{Dir, Names, Files, Tree, IsKept, node_at, is_directory, Children, branch, placed}
 use Rattle.sftp_tree.proofs.Imports.{flat, IsBranch, AreBranches, rows_after, only_root, Firsts, firsts_with}
 use Rattle.sftp_tree.proofs.Imports.{known_kind, text_of, rows_from, firsts_from, AreWritable}
+use Rattle.sftp_treefile.specs.declared.files.Kind.{Kind}
 use Rattle.sftp_treefile.specs.declared.files.Kind.TheVariants as kinds
 use Rattle.sftp_tree.specs.declared.entries.directories.Child.TheVariants as children
 use Rattle.sftp_tree.specs.declared.pictures.branches.Progress.{Progress}
@@ -75,26 +81,44 @@ pub record At : Type 0 where
   pub text : List ℕ
   pub next : ℕ
   pub firsts : Firsts
-  pub out : List ℕ
+  pub out : Option (List ℕ)
 
-abbrev pub state_of : Progress → List ℕ → At
+abbrev pub state_of : Progress → Option (List ℕ) → At
 state_of at out = record { text = at.path.items; next = at.next; firsts = at.firsts.entries; out = out }
 
--- these entries were written, by places that start at the place of the text
+-- the bytes of these entries, which are written from there on, by places that start at the place of the text
+abbrev pub entries_text : Files → At → Names → List ℕ
+entries_text files at es = flat_map row_text (rows_from files at.firsts at.next at.text es)
+
+-- these entries were written
 pub record IsWritten (files : Files) (es : Names) (before after : At) : Type 0 where
-  pub out : after.out ≡ before.out ++ flat_map row_text (rows_from files before.firsts before.next before.text es)
+  pub out : Appends before.out after.out (entries_text files before es)
   pub path : after.text ≡ before.text
   pub next : after.next ≡ before.next + length es
   pub firsts : after.firsts ≡ firsts_from before.firsts before.next es
 
 -- of a whole, these entries are left
 pub record IsLeft (files : Files) (whole : Names) (start at : At) (rest : Names) : Type 0 where
-  pub out : at.out ++ flat_map row_text (rows_from files at.firsts at.next at.text rest)
-      ≡ start.out ++ flat_map row_text (rows_from files start.firsts start.next start.text whole)
+  pub done : List ℕ
+  pub out : Appends start.out at.out done
+  pub bytes : entries_text files start whole ≡ done ++ entries_text files at rest
   pub path : at.text ≡ start.text
   pub next : at.next + length rest ≡ start.next + length whole
   pub firsts : firsts_from at.firsts at.next rest ≡ firsts_from start.firsts start.next whole
   pub writable : AreWritable files at.text rest
+
+-- at first all are left
+pub none_written : (files : Files) (whole : Names) (at : At) (rest : Names) → rest ≡ whole
+    → AreWritable files at.text whole → IsLeft files whole at at rest
+none_written files whole at rest all fit = record {
+  done = [];
+  out = Appends-nil at.out;
+  bytes = ap (entries_text files at) (sym all);
+  path = refl;
+  next = ap (λ (ns : Names). at.next + length ns) all;
+  firsts = ap (firsts_from at.firsts at.next) all;
+  writable = subst (AreWritable files at.text) (sym all) fit;
+}
 
 -- one name further down the same is written
 written_placed : (files : Files) (es : Names) (name : Name) (at inside after : At)
@@ -104,7 +128,7 @@ written_placed files es name at inside after entered written =
     let w = subst (λ (s : At). IsWritten files es s after) entered written in
     let rows = sym (rows_placed files at.firsts at.next at.text name es) in
     record {
-      out = w.out ∙ ap (λ (rs : List Row). at.out ++ flat_map row_text rs) rows;
+      out = subst (Appends at.out after.out) (ap (flat_map row_text) rows) w.out;
       path = ap (take (length at.text)) w.path ∙ take-append_seam at.text (47 ∷ name);
       next = omega (arith, w.next, length-placed name es);
       firsts = w.firsts ∙ sym (firsts_placed at.firsts at.next name es);
@@ -122,9 +146,12 @@ left_both files whole start at after es rest left w =
     ≡ flat_map row_text here ++ flat_map row_text behind =
     ap (flat_map row_text) (rows_both files at.firsts at.next at.text es rest) ∙ flat_map-append row_text here behind in
     record {
-      out = (λ i. w.out i ++ flat_map row_text (rows_from files (w.firsts i) (w.next i) (w.path i) rest))
-          ∙ append_assoc at.out (flat_map row_text here) (flat_map row_text behind)
-          ∙ ap (λ (bs : List ℕ). at.out ++ bs) (sym bytes) ∙ left.out;
+      done = left.done ++ flat_map row_text here;
+      out = Appends-then start.out at.out after.out left.done (flat_map row_text here) left.out w.out;
+      bytes = left.bytes ∙ ap (λ (bs : List ℕ). left.done ++ bs) bytes
+          ∙ sym (append_assoc left.done (flat_map row_text here) (flat_map row_text behind))
+          ∙ (λ i. (left.done ++ flat_map row_text here) ++ flat_map row_text
+          (rows_from files (sym w.firsts i) (sym w.next i) (sym w.path i) rest));
       path = w.path ∙ left.path;
       next = omega (arith, w.next, left.next, length-append es rest);
       firsts = (λ i. firsts_from (w.firsts i) (w.next i) rest) ∙ sym (firsts_both at.firsts at.next es rest)
@@ -235,9 +262,21 @@ pub own_count : (names : Names) (owner : Owner) → InOrder place_cmp names → 
     → length names ≡ length (drop 1 names) + 1
 own_count names owner sorted there = omega (arith, ap length (own_entry names owner sorted there))
 
-pub dir_written : (files : Files) (names : Names) (owner : Owner) (at after : At) (own-out : List ℕ)
+dir_text : (files : Files) (names : Names) (owner : Owner) (at : At) → InOrder place_cmp names
+    → node_at names [] ≡ Some (Dir owner)
+    → row_text (record { path = at.text; kind = kinds.Dir owner })
+    ++ entries_text files (record at { next = at.next + 1 }) (drop 1 names) ≡ entries_text files at names
+dir_text files names owner at sorted there =
+    let rest = drop 1 names in
+    let count : at.next + 1 ≡ suc at.next = omega arith in
+    (λ i. row_text (record { path = sym (append-nil at.text) i; kind = kinds.Dir owner })
+    ++ flat_map row_text (rows_from files at.firsts (count i) at.text rest))
+    ∙ ap (λ (ns : Names). flat_map row_text (rows_from files at.firsts at.next at.text ns))
+    (sym (own_entry names owner sorted there))
+
+pub dir_written : (files : Files) (names : Names) (owner : Owner) (at after : At) (own-out : Option (List ℕ))
     → InOrder place_cmp names → node_at names [] ≡ Some (Dir owner)
-    → own-out ≡ at.out ++ row_text (record { path = at.text; kind = kinds.Dir owner })
+    → Appends at.out own-out (row_text (record { path = at.text; kind = kinds.Dir owner }))
     → IsWritten files (drop 1 names) (record at { next = at.next + 1; out = own-out }) after
     → IsWritten files names at after
 dir_written files names owner at after own-out sorted there own below =
@@ -245,19 +284,87 @@ dir_written files names owner at after own-out sorted there own below =
     let rest = drop 1 names in
     let count : at.next + 1 ≡ suc at.next = omega arith in
     let row = row_text (record { path = at.text; kind = kinds.Dir owner }) in
-    let bytes = flat_map row_text (rows_from files at.firsts (at.next + 1) at.text rest) in
-    let all : row ++ bytes ≡ flat_map row_text (rows_from files at.firsts at.next at.text names) =
-    (λ i. row_text (record { path = sym (append-nil at.text) i; kind = kinds.Dir owner })
-    ++ flat_map row_text (rows_from files at.firsts (count i) at.text rest))
-    ∙ ap (λ (ns : Names). flat_map row_text (rows_from files at.firsts at.next at.text ns)) (sym whole) in
+    let bytes = entries_text files (record at { next = at.next + 1 }) rest in
     record {
-      out = below.out ∙ ap (λ (bs : List ℕ). bs ++ bytes) own ∙ append_assoc at.out row bytes
-          ∙ ap (λ (bs : List ℕ). at.out ++ bs) all;
+      out = subst (Appends at.out after.out) (dir_text files names owner at sorted there)
+          (Appends-then at.out own-out after.out row bytes own below.out);
       path = below.path;
       next = omega (arith, below.next, own_count names owner sorted there);
       firsts = below.firsts ∙ ap (λ n. firsts_from at.firsts n rest) count
           ∙ ap (firsts_from at.firsts at.next) (sym whole);
     }
+
+-- the writing failed in its own entry, or below it
+pub dir_unwritten : (files : Files) (names : Names) (owner : Owner) (at : At) (out : Option (List ℕ))
+    → InOrder place_cmp names → node_at names [] ≡ Some (Dir owner)
+    → AppendsPart at.out out (row_text (record { path = at.text; kind = kinds.Dir owner }))
+    → AppendsPart at.out out (entries_text files at names)
+dir_unwritten files names owner at out sorted there part =
+    let row = row_text (record { path = at.text; kind = kinds.Dir owner }) in
+    let bytes = entries_text files (record at { next = at.next + 1 }) (drop 1 names) in
+    subst (AppendsPart at.out out) (dir_text files names owner at sorted there)
+    (AppendsPart-first at.out out row bytes part)
+
+pub below_unwritten : (files : Files) (names : Names) (owner : Owner) (at : At) (own-out out : Option (List ℕ))
+    → InOrder place_cmp names → node_at names [] ≡ Some (Dir owner)
+    → Appends at.out own-out (row_text (record { path = at.text; kind = kinds.Dir owner }))
+    → AppendsPart own-out out (entries_text files (record at { next = at.next + 1 }) (drop 1 names))
+    → AppendsPart at.out out (entries_text files at names)
+below_unwritten files names owner at own-out out sorted there own part =
+    let row = row_text (record { path = at.text; kind = kinds.Dir owner }) in
+    let bytes = entries_text files (record at { next = at.next + 1 }) (drop 1 names) in
+    subst (AppendsPart at.out out) (dir_text files names owner at sorted there)
+    (AppendsPart-then at.out own-out out row bytes own part)
+
+-- ---- an entry alone
+
+row_alone : (path : List ℕ) (kind : Kind) → row_text (record { path = path; kind = kind })
+    ≡ flat_map row_text (record { path = path ++ []; kind = kind } ∷ [])
+row_alone path kind =
+    ap (λ (p : List ℕ). row_text (record { path = p; kind = kind })) (sym (append-nil path))
+    ∙ sym (append-nil (row_text (record { path = path ++ []; kind = kind })))
+
+pub alone_written : (old new : Option (List ℕ)) (path : List ℕ) (kind : Kind)
+    → Appends old new (row_text (record { path = path; kind = kind }))
+    → Appends old new (flat_map row_text (record { path = path ++ []; kind = kind } ∷ []))
+alone_written old new path kind done = subst (Appends old new) (row_alone path kind) done
+
+pub alone_unwritten : (old new : Option (List ℕ)) (path : List ℕ) (kind : Kind)
+    → AppendsPart old new (row_text (record { path = path; kind = kind }))
+    → AppendsPart old new (flat_map row_text (record { path = path ++ []; kind = kind } ∷ []))
+alone_unwritten old new path kind part = subst (AppendsPart old new) (row_alone path kind) part
+
+-- ---- a failure among children
+
+-- before a child
+pub left_unwritten : (files : Files) (whole : Names) (start at : At) (rest : Names)
+    → IsLeft files whole start at rest → AppendsPart start.out at.out (entries_text files start whole)
+left_unwritten files whole start at rest left = record {
+  part = left.done;
+  rest = entries_text files at rest;
+  parts = left.bytes;
+  appended = left.out;
+}
+
+-- in a child, at the text that its name makes
+pub child_unwritten : (files : Files) (whole : Names) (start at inside : At) (out : Option (List ℕ)) (name : Name)
+    (es rest : Names) → IsLeft files whole start at (placed name es ++ rest)
+    → inside ≡ record at { text = at.text ++ 47 ∷ name } → AppendsPart at.out out (entries_text files inside es)
+    → AppendsPart start.out out (entries_text files start whole)
+child_unwritten files whole start at inside out name es rest left entered part =
+    let here = rows_from files at.firsts at.next at.text (placed name es) in
+    let behind =
+    rows_from files (firsts_from at.firsts at.next (placed name es)) (at.next + length (placed name es)) at.text rest in
+    let text : entries_text files inside es ≡ flat_map row_text here =
+    ap (λ (s : At). entries_text files s es) entered
+    ∙ ap (flat_map row_text) (sym (rows_placed files at.firsts at.next at.text name es)) in
+    let bytes : flat_map row_text here ++ flat_map row_text behind ≡ entries_text files at (placed name es ++ rest) =
+    sym (flat_map-append row_text here behind)
+    ∙ ap (flat_map row_text) (sym (rows_both files at.firsts at.next at.text (placed name es) rest)) in
+    subst (AppendsPart start.out out) (ap (λ (bs : List ℕ). left.done ++ bs) bytes ∙ sym left.bytes)
+    (AppendsPart-then start.out at.out out left.done (flat_map row_text here ++ flat_map row_text behind) left.out
+    (AppendsPart-first at.out out (flat_map row_text here) (flat_map row_text behind)
+    (subst (AppendsPart at.out out) text part)))
 
 -- a child has an entry of its own, and so fewer than its directory
 nonempty : (names : Names) → IsTrue (is_directory (node_at names [])) → 0 < length names

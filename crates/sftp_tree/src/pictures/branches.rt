@@ -1,18 +1,22 @@
 //! From directories to the entries of a tree file: a directory, and then its children with what is below them.
-ghost use Rattle.std.specs.Prelude.{◌≡◌, [], ◌++◌, ◌∷◌, ◌+◌, ◌<◌, ◌^◌, length, drop, OnOk};
+ghost use Rattle.std.specs.Prelude.{◌≡◌, [], ◌++◌, ◌∷◌, ◌+◌, ◌<◌, ◌^◌, length, drop, OnOk, OnErr};
 ghost use Rattle.std.specs.List.{flat_map};
+ghost use Rattle.std.specs.Io.KnownBytes.{Appends};
+ghost use Rattle.sftp_streams.specs.Streams.{AppendsPart};
 ghost use Rattle.sftp_treefile.specs.TreeFile.{row_text};
+ghost use Rattle.sftp_treefile.specs.Sent.{CountsSink};
 ghost use Rattle.sftp_tree.specs.Nesting.{branch};
 ghost use Rattle.sftp_tree.specs.Picture.{rows_after};
 ghost use Rattle.sftp_tree.specs.Tree.{IsKept};
 ghost use Rattle.sftp_tree.specs.Written.{rows_from, firsts_from, AreWritable};
 
-use super::writing::put_name;
+use super::writing::send_name;
 use crate::entries::directories::{Child, Dir};
 use crate::file_numbers::FileNo;
 use crate::trees::Tree;
 use sftp_path::{Name, NoMemory};
-use sftp_treefile::{put_directory, put_link};
+use sftp_streams::Sink;
+use sftp_treefile::{WriteError, send_directory, send_link};
 use std::collections::BTreeMap;
 
 /// How far the writing of entries has come.
@@ -25,6 +29,8 @@ struct Progress {
     next: u32,
     /// For each file that was met the number of the entry that is its first name.
     firsts: BTreeMap<FileNo, u32>,
+    /// Where an entry is made, but for the bytes of a file.
+    scratch: Vec<u8>,
 }
 
 impl Progress {
@@ -40,19 +46,21 @@ impl Progress {
     }
 }
 
-/// Appends the entries of a child, whose place has the text `at.path`, and of all below it.
+/// Writes the entries of a child, whose place has the text `at.path`, and of all below it.
 #[cycle(branches)]
-fn put_child(
-    out: &mut Vec<u8>,
+fn send_child<L: Sink>(
+    sink: &mut L,
     at: &mut Progress,
     tree: &Tree,
     child: &Child,
-) -> Result<(), NoMemory>
+) -> Result<(), WriteError>
     requires writable { AreWritable tree.now.files at.old.path.items (branch child.now) }
     requires few { at.old.next + length (branch child.now) < 2 ^ 32 }
-    ensures out { OnOk result (out.new.items ≡ out.old.items
-        ++ flat_map row_text
-        (rows_from tree.now.files at.old.firsts.entries at.old.next at.old.path.items (branch child.now))) }
+    ensures ok { OnOk result (Appends (L.written sink.old) (L.written sink.new) (flat_map row_text
+        (rows_from tree.now.files at.old.firsts.entries at.old.next at.old.path.items (branch child.now)))) }
+    ensures err { OnErr result (AppendsPart (L.written sink.old) (L.written sink.new) (flat_map row_text
+        (rows_from tree.now.files at.old.firsts.entries at.old.next at.old.path.items (branch child.now)))) }
+    ensures counts { CountsSink result (L.failures sink.old) (L.failures sink.new) }
     ensures path { OnOk result (at.new.path.items ≡ at.old.path.items) }
     ensures next { OnOk result (at.new.next ≡ at.old.next + length (branch child.now)) }
     ensures firsts { OnOk result
@@ -60,50 +68,74 @@ fn put_child(
 {
     match child {
         Child::Dir(dir) => {
-            put_directory(out, &at.path, &dir.owner())?;
+            send_directory(sink, &mut at.scratch, &at.path, &dir.owner())?;
             at.next += 1;
-            put_below(out, at, tree, dir)?;
+            send_below(sink, at, tree, dir)?;
         }
         Child::File(number) => {
-            put_name(out, &mut at.firsts, tree, &at.path, at.next, *number)?;
+            send_name(
+                sink,
+                &mut at.scratch,
+                &mut at.firsts,
+                tree,
+                &at.path,
+                at.next,
+                *number,
+            )?;
             at.next += 1;
         }
         Child::Link(target) => {
-            put_link(out, &at.path, target.as_slice())?;
+            send_link(sink, &mut at.scratch, &at.path, target.as_slice())?;
             at.next += 1;
         }
     }
     Ok(())
 }
 
-/// Appends the entries below a directory, whose place has the text `at.path`.
+/// Writes the entries below a directory, whose place has the text `at.path`.
 #[cycle(branches)]
-fn put_below(out: &mut Vec<u8>, at: &mut Progress, tree: &Tree, dir: &Dir) -> Result<(), NoMemory>
+fn send_below<L: Sink>(
+    sink: &mut L,
+    at: &mut Progress,
+    tree: &Tree,
+    dir: &Dir,
+) -> Result<(), WriteError>
     requires writable { AreWritable tree.now.files at.old.path.items (drop 1 dir.now) }
     requires few { at.old.next + length (drop 1 dir.now) < 2 ^ 32 }
-    ensures out { OnOk result (out.new.items ≡ out.old.items
-        ++ flat_map row_text
-        (rows_from tree.now.files at.old.firsts.entries at.old.next at.old.path.items (drop 1 dir.now))) }
+    ensures ok { OnOk result (Appends (L.written sink.old) (L.written sink.new) (flat_map row_text
+        (rows_from tree.now.files at.old.firsts.entries at.old.next at.old.path.items (drop 1 dir.now)))) }
+    ensures err { OnErr result (AppendsPart (L.written sink.old) (L.written sink.new) (flat_map row_text
+        (rows_from tree.now.files at.old.firsts.entries at.old.next at.old.path.items (drop 1 dir.now)))) }
+    ensures counts { CountsSink result (L.failures sink.old) (L.failures sink.new) }
     ensures path { OnOk result (at.new.path.items ≡ at.old.path.items) }
     ensures next { OnOk result (at.new.next ≡ at.old.next + length (drop 1 dir.now)) }
     ensures firsts { OnOk result
         (at.new.firsts.entries ≡ firsts_from at.old.firsts.entries at.old.next (drop 1 dir.now)) }
 {
     let end = at.path.len();
-    for (name, child) in dir.children() {
+    let children = dir.children();
+    for (name, child) in children {
         at.enter(name)?;
-        put_child(out, at, tree, child)?;
+        send_child(sink, at, tree, child)?;
         at.path.truncate(end);
     }
     Ok(())
 }
 
-/// Appends the entries below the root, which is this directory.
-pub(super) fn put_entries(out: &mut Vec<u8>, tree: &Tree, root: &Dir) -> Result<(), NoMemory>
+/// Writes the entries below the root, which is this directory.
+pub(super) fn send_entries<L: Sink>(
+    sink: &mut L,
+    scratch: Vec<u8>,
+    tree: &Tree,
+    root: &Dir,
+) -> Result<(), WriteError>
     requires root { root.now ≡ tree.now.names }
     ensures kept { IsKept tree.now }
-    ensures out { OnOk result (out.new.items
-        ≡ out.old.items ++ flat_map row_text (rows_after tree.now.files [] tree.now.names)) }
+    ensures ok { OnOk result (Appends (L.written sink.old) (L.written sink.new)
+        (flat_map row_text (rows_after tree.now.files [] tree.now.names))) }
+    ensures err { OnErr result (AppendsPart (L.written sink.old) (L.written sink.new)
+        (flat_map row_text (rows_after tree.now.files [] tree.now.names))) }
+    ensures counts { CountsSink result (L.failures sink.old) (L.failures sink.new) }
 {
     let alloc = tree.home().allocator();
     let path = Vec::new(alloc);
@@ -112,7 +144,8 @@ pub(super) fn put_entries(out: &mut Vec<u8>, tree: &Tree, root: &Dir) -> Result<
         path,
         next: 1,
         firsts,
+        scratch,
     };
-    put_below(out, &mut at, tree, root)?;
+    send_below(sink, &mut at, tree, root)?;
     Ok(())
 }

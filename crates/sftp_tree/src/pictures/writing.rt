@@ -1,26 +1,27 @@
 //! From a tree to its tree file.
-ghost use Rattle.std.specs.Prelude.{◌≡◌, [], ◌++◌, ◌<◌, ◌^◌, length, IfOk, IfSome, OnOk};
-ghost use Rattle.std.specs.List.{flat_map};
+ghost use Rattle.std.specs.Prelude.{◌≡◌, [], ◌<◌, ◌^◌, length, IfOk, IfSome, OnOk, OnErr};
+ghost use Rattle.std.specs.Io.KnownBytes.{Appends};
 ghost use Rattle.std.specs.Ordering.{nat_cmp};
-ghost use Rattle.sftp_path.specs.Place.{absolute};
-ghost use Rattle.sftp_path.specs.Table.{get};
+ghost use Rattle.sftp_path.specs.Table.{get, put};
+ghost use Rattle.sftp_streams.specs.Streams.{AppendsPart};
 ghost use Rattle.sftp_treefile.specs.TreeFile.{row_text};
 ghost use Rattle.sftp_treefile.specs.TreeFileParts.{head_bytes};
+ghost use Rattle.sftp_treefile.specs.Sent.{CountsSink};
 ghost use Rattle.sftp_tree.specs.declared.file_contents.Content.{Content as content};
-ghost use Rattle.sftp_tree.specs.Tree.{IsKept, node_at, content_at};
+ghost use Rattle.sftp_tree.specs.Tree.{node_at, content_at};
 ghost use Rattle.sftp_tree.specs.Picture as spec;
 ghost use Rattle.sftp_tree.specs.PictureParts as parts;
 
-use super::branches::put_entries;
+use super::branches::send_entries;
 use super::measuring::file_size;
 use crate::entries::Entries;
 use crate::file_numbers::FileNo;
 use crate::nodes::Node;
 use crate::trees::Tree;
 use sftp_path::{NoMemory, Place, absolute};
-use sftp_treefile::{Head, Owner, put_directory, put_file, put_further_name, put_head, put_link};
+use sftp_streams::{Sink, Tally};
+use sftp_treefile::{Head, Owner, WriteError, send_file, send_further_name, send_head};
 use sftp_wire::ByteString;
-use std::alloc::Global;
 use std::collections::BTreeMap;
 
 /// The owner of what has none.
@@ -37,9 +38,12 @@ fn root_owner(names: &Entries) -> Owner
     names.root_directory().owner()
 }
 
-/// Appends the head, which comes before the entries.
-fn put_front(out: &mut Vec<u8>, tree: &Tree) -> Result<(), NoMemory>
-    ensures { OnOk result (out.new.items ≡ out.old.items ++ head_bytes (parts.head_of tree.now)) }
+/// Writes the head, which comes before the entries.
+fn send_front<L: Sink>(sink: &mut L, scratch: &mut Vec<u8>, tree: &Tree) -> Result<(), WriteError>
+    ensures ok { OnOk result (Appends (L.written sink.old) (L.written sink.new) (head_bytes (parts.head_of tree.now))) }
+    ensures err { OnErr result
+        (AppendsPart (L.written sink.old) (L.written sink.new) (head_bytes (parts.head_of tree.now))) }
+    ensures counts { CountsSink result (L.failures sink.old) (L.failures sink.new) }
 {
     let alloc = tree.home().allocator();
     let home = absolute(alloc, tree.home().names())?;
@@ -51,40 +55,77 @@ fn put_front(out: &mut Vec<u8>, tree: &Tree) -> Result<(), NoMemory>
         count: (tree.names().len() - 1) as u32,
         root: root_owner(tree.names()),
     };
-    put_head(out, &head)?;
+    send_head(sink, scratch, &head)?;
     Ok(())
 }
 
-/// Appends the entry of a name of a file. The first one comes with the file, and is remembered with its number.
-#[tactic(auto, unfolding(sftp_path::specs::Table::get, sftp_path::specs::Table::put))]
-pub(super) fn put_name(
-    out: &mut Vec<u8>,
+/// Notes the first name of a file.
+#[tactic(auto, unfolding(sftp_path::specs::Table::put))]
+fn note_first(
+    firsts: &mut BTreeMap<FileNo, u32>,
+    number: FileNo,
+    entry: u32,
+) -> Result<(), NoMemory>
+    ensures { OnOk result (firsts.new.entries ≡ put nat_cmp firsts.old.entries number entry) }
+{
+    firsts.insert(number, entry)?;
+    Ok(())
+}
+
+/// Writes the entry of a name of a file. The first one comes with the file, and is noted with its number.
+#[tactic(auto, unfolding(sftp_path::specs::Table::get))]
+pub(super) fn send_name<L: Sink>(
+    sink: &mut L,
+    scratch: &mut Vec<u8>,
     firsts: &mut BTreeMap<FileNo, u32>,
     tree: &Tree,
     path: &[u8],
     entry: u32,
     number: FileNo,
-) -> Result<(), NoMemory>
+) -> Result<(), WriteError>
     requires path { length path.now < 2 ^ 32 }
     requires file { IfSome (content_at tree.now.files number) (λ (c : content). length c.bytes < 2 ^ 32) }
-    ensures out { OnOk result (out.new.items ≡ out.old.items
-        ++ row_text (record {
+    ensures ok { OnOk result (Appends (L.written sink.old) (L.written sink.new)
+        (row_text (record {
           path = path.now;
           kind = spec.naming (get nat_cmp firsts.old.entries number) (content_at tree.now.files number);
-        })) }
+        }))) }
+    ensures err { OnErr result (AppendsPart (L.written sink.old) (L.written sink.new)
+        (row_text (record {
+          path = path.now;
+          kind = spec.naming (get nat_cmp firsts.old.entries number) (content_at tree.now.files number);
+        }))) }
+    ensures counts { CountsSink result (L.failures sink.old) (L.failures sink.new) }
     ensures firsts { OnOk result
         (firsts.new.entries
         ≡ parts.with_first firsts.old.entries entry number (get nat_cmp firsts.old.entries number)) }
 {
     if let Some(first) = firsts.get(&number) {
-        put_further_name(out, path, *first)?;
-        return Ok(());
+        return send_further_name(sink, scratch, path, *first);
     }
+    note_first(firsts, number, entry)?;
     match tree.content(number) {
-        Some(content) => put_file(out, path, &content.owner, content.bytes.as_slice())?,
-        None => put_file(out, path, &NO_OWNER, b"")?,
+        Some(content) => send_file(
+            sink,
+            scratch,
+            path,
+            &content.owner,
+            content.bytes.as_slice(),
+        ),
+        None => send_file(sink, scratch, path, &NO_OWNER, b""),
     }
-    firsts.insert(number, entry)?;
+}
+
+/// Writes the tree file of a tree to a sink.
+pub(super) fn send_picture<L: Sink>(sink: &mut L, tree: &Tree) -> Result<(), WriteError>
+    ensures ok { OnOk result (Appends (L.written sink.old) (L.written sink.new) (spec.picture tree.now)) }
+    ensures err { OnErr result (AppendsPart (L.written sink.old) (L.written sink.new) (spec.picture tree.now)) }
+    ensures counts { CountsSink result (L.failures sink.old) (L.failures sink.new) }
+{
+    let root = tree.names().root_directory();
+    let mut scratch = Vec::new(tree.home().allocator());
+    send_front(sink, &mut scratch, tree)?;
+    send_entries(sink, scratch, tree, root)?;
     Ok(())
 }
 
@@ -92,9 +133,10 @@ pub(super) fn put_name(
 pub(super) fn picture_of(tree: &Tree) -> Result<Vec<u8>, NoMemory>
     ensures { IfOk result (λ v. v.items ≡ spec.picture tree.now) }
 {
-    let root = tree.names().root_directory();
-    let mut out = Vec::with_capacity(tree.home().allocator(), file_size(tree, root))?;
-    put_front(&mut out, tree)?;
-    put_entries(&mut out, tree, root)?;
-    Ok(out)
+    let size = file_size(tree, tree.names().root_directory());
+    let mut sink = Tally::new(Vec::with_capacity(tree.home().allocator(), size)?);
+    match send_picture(&mut sink, tree) {
+        Ok(()) => Ok(sink.into_inner()),
+        Err(_error) => Err(NoMemory),
+    }
 }

@@ -5,12 +5,12 @@ use Rattle.sftp_tool.proofs.VerdictLaws.{reported}
 use Rattle.sftp_tool.proofs.subcommands.judge_and_report.Goals as goal
 
 pub returns-clause-strictly : goal.returns-clause-strictly
-returns-clause-strictly g c = λ none.
-    reported Accounts IsFirstFault HasEnd c.args.tree.now (g.F.Read.remaining c.args.transcript) c.judge-judged.result
-    c.report-ending.result c.report-ending.ensures.of_audit (c.judge-judged.ensures.strictly none)
+returns-clause-strictly g c = λ tree is none.
+    reported Accounts IsFirstFault HasEnd tree (g.F.Read.remaining c.args.transcript) c.judge-judged.result
+    c.report-ending.result c.report-ending.ensures.of_audit (c.judge-judged.ensures.strictly tree is none)
 
 pub returns-clause-under : goal.returns-clause-under
-returns-clause-under g c = λ by is.
-    reported (AccountsUnder by) (IsFirstFaultUnder by) HasEnd c.args.tree.now
+returns-clause-under g c = λ tree is by asked.
+    reported (AccountsUnder by) (IsFirstFaultUnder by) HasEnd tree
     (g.F.Read.remaining c.args.transcript) c.judge-judged.result c.report-ending.result
-    c.report-ending.ensures.of_audit (c.judge-judged.ensures.under by is)
+    c.report-ending.ensures.of_audit (c.judge-judged.ensures.under tree is by asked)

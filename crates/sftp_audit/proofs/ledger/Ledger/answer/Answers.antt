@@ -20,7 +20,7 @@ invariant_of-self-2 c =
     (c.in-Some-get_mut.ensures.variant.0 refl) c.in-Some-get_mut.ensures.value in
     let stored = held-stored c.args.recorded old.exchanges.items c.position_of-position.result x c.self.invariant.apart w
     at in
-    rw (c.replace.ensures.after, stored)
+    rw stored
     (indexed-replied old.exchanges.items old.unanswered.entries c.swap_remove.new.self.entries old.first
     c.args.recorded c.self.invariant (λ id. c.in-Some.ensures.updates.0 id))
 
@@ -32,7 +32,7 @@ returns-clause-noted c =
     c.position_of-position.result c.self.invariant (sym c.in-Some.ensures.value) c.position_of-position.ensures in
     let at = slice_get_read old.exchanges.items old.exchanges.len c.position_of-position.result x old.exchanges.ok.0
     (c.in-Some-get_mut.ensures.variant.0 refl) c.in-Some-get_mut.ensures.value in
-    rw (c.replace.ensures.after, ← c.self.view_is)
+    rw (← c.self.view_is)
     (held-stored c.args.recorded old.exchanges.items c.position_of-position.result x c.self.invariant.apart w at)
 
 pub returns-clause-waited : goal.returns-clause-waited

@@ -1,0 +1,84 @@
+//! Who answers the requests of a session.
+ghost use Rattle.sftp_server.specs.Served.{IsUnused};
+
+use crate::recorded::Recorded;
+use sftp_files::{Failure, ServeOptions, System};
+use sftp_handles::{GivenTable, SlabTable};
+use sftp_server::{Plain, Schedule, SessionEnd, serve_as, serve_keeping_tree};
+use sftp_transcript::{Sink, Source, Writer};
+use sftp_tree::Tree;
+use sftp_vary::{Freedoms, Proposed, Style, Variation, Vary, Worded};
+
+/// The answerer of sessions some of whose replies are proposed: first those of a record, then varied ones. Each is
+/// given if it is allowed; the session's own replies, and the varied ones, get words for people.
+type Proposing = Proposed<Recorded, Worded<Proposed<Vary, Plain>>>;
+
+/// What the replies of a session are like.
+#[derive(Drop)]
+pub(crate) struct Answers {
+    style: Style,
+    recorded: Recorded,
+}
+
+impl Answers {
+    /// The replies that the options ask for. The start of the record is read, if there is one.
+    pub(crate) fn new<'a, R: System>(
+        rt: &R,
+        options: &ServeOptions<'a>,
+        style: Style,
+    ) -> Result<Answers, Failure<'a>> {
+        Ok(Answers {
+            style,
+            recorded: Recorded::new(rt, options.replay)?,
+        })
+    }
+}
+
+/// Serves a session with such replies.
+pub(crate) fn served<R: Source, W: Sink, L: Sink, S: Schedule>(
+    tree: Tree,
+    reader: &mut R,
+    writer: &mut W,
+    log: &mut Writer<L>,
+    schedule: &mut S,
+    answers: Answers,
+) -> SessionEnd
+    requires { IsUnused log.old }
+{
+    let style = answers.style;
+    let words = style.words;
+    if style.variation.is_some() || answers.recorded.has_more() {
+        return serve_as::<R, W, L, S, GivenTable, Proposing>(
+            tree,
+            reader,
+            writer,
+            log,
+            schedule,
+            &mut proposing(answers),
+        );
+    }
+    drop(answers);
+    if words.has_any() {
+        return serve_as::<R, W, L, S, SlabTable, Worded<Plain>>(
+            tree,
+            reader,
+            writer,
+            log,
+            schedule,
+            &mut Worded::new(Plain, words),
+        );
+    }
+    serve_keeping_tree(tree, reader, writer, log, schedule)
+}
+
+/// The answerer of a session some of whose replies are proposed.
+fn proposing(answers: Answers) -> Proposing {
+    // Without freedoms, new handles look as those of a plain session.
+    let variation = answers.style.variation.unwrap_or(Variation {
+        seed: 0,
+        freedoms: Freedoms::named(&[]),
+    });
+    let words = answers.style.words.beside(variation.freedoms);
+    let varied = Proposed::new(Vary::new(variation), Plain);
+    Proposed::new(answers.recorded, Worded::new(varied, words))
+}

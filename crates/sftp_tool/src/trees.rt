@@ -1,0 +1,38 @@
+//! Trees in files, from which sessions start.
+ghost use Rattle.std.specs.Prelude.{◌≡◌, IfErr};
+ghost use Rattle.sftp_files.specs.Status.{failure_status};
+
+use sftp_files::{Failure, System, Watched, open};
+use sftp_transcript::Tally;
+use sftp_tree::Tree;
+use sftp_treefile::TreeError;
+use std::io::Read;
+
+/// The tree of the file `name`, or the first fault of the file. No more of it is held than the tree and a buffer.
+///
+/// # Errors
+///
+/// If the file cannot be read, or has more bytes than the limit.
+pub(crate) fn read_tree<'a, R: System>(
+    rt: &R,
+    name: &'a str,
+    limit: Option<u64>,
+) -> Result<Result<Tree, TreeError>, Failure<'a>>
+    ensures { IfErr result (λ failure. failure_status failure ≡ 3) }
+{
+    let file = open(rt, name)?;
+    let most = limit.unwrap_or(u64::MAX);
+    let mut bytes = Watched::new(file.take(most.saturating_add(1)));
+    let tree = Tree::read_from(rt.alloc(), Tally::new(&mut bytes));
+    let flow = bytes.flow();
+    drop(bytes);
+    if flow.bytes > most {
+        drop(tree);
+        return Err(Failure::OverLimit(name));
+    }
+    match tree {
+        Err(TreeError::Io { .. }) => Err(Failure::CannotRead(name, flow.code)),
+        Err(fault) => Ok(Err(fault)),
+        Ok(tree) => Ok(Ok(tree)),
+    }
+}

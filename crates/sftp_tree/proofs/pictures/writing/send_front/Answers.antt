@@ -1,0 +1,39 @@
+-- The head's numbers and its home fit their fields.
+use Rattle.sftp_tree.proofs.Imports.{◌-◌, [], length, ap, subst, ◌∙◌, arith, absolute, head_bytes, Names, node_at, root_owner}
+use Rattle.std.specs.Io.KnownBytes.{Appends}
+use Rattle.sftp_streams.proofs.Putting.{on_err}
+use Rattle.sftp_treefile.proofs.Texts.Sending.{AppendsPart-none}
+use Rattle.sftp_tree.specs.PictureParts.{head_of}
+use Rattle.sftp_tree.proofs.TreeFiles.Written.{names_count, home_short}
+use Rattle.sftp_tree.proofs.pictures.writing.send_front.Goals as goal
+
+pub overflow_sub-head : goal.overflow_sub-head
+overflow_sub-head g c = omega (arith, c.len.ensures, ap length c.names-2.ensures.names, (names_count c.args.tree.now c.names-2.ensures.kept).0)
+
+pub overflow_cast-head : goal.overflow_cast-head
+overflow_cast-head g c = omega (arith, c.len.ensures, ap length c.names-2.ensures.names, (names_count c.args.tree.now c.names-2.ensures.kept).1)
+
+pub send_head-requires : goal.send_head-requires
+send_head-requires g c =
+    let home = c.new.ensures ∙ c.in_ok-home.ensures ∙ ap absolute (c.names.ensures.names ∙ c.home-2.ensures.home) in
+    omega (arith, ap length home, home_short c.args.tree.now c.names-2.ensures.kept)
+
+pub returns-in_err-home-clause-err : goal.returns-in_err-home-clause-err
+returns-in_err-home-clause-err g c =
+    on_err c.from_residual.result
+    (AppendsPart-none (g.L.Sink.written c.args.sink.now) (head_bytes (head_of c.args.tree.now)))
+
+pub returns-clause-ok : goal.returns-clause-ok
+returns-clause-ok g c =
+    let home = c.new.ensures ∙ c.in_ok-home.ensures ∙ ap absolute (c.names.ensures.names ∙ c.home-2.ensures.home) in
+    let count = ap (λ n. n - 1) (c.len.ensures ∙ ap length c.names-2.ensures.names) in
+    let root = c.root_owner.ensures ∙ ap (λ (names : Names). root_owner (node_at names [])) c.names-3.ensures.names in
+    subst (Appends (g.L.Sink.written c.args.sink.now) (g.L.Sink.written c.send_head.new.sink))
+    (λ i. head_bytes (record {
+      limits = c.tree_limits.ensures.limits i;
+      home = home i;
+      uid = c.uid.ensures i;
+      gid = c.gid.ensures i;
+      count = count i;
+      root = root i;
+    })) c.in_ok-send_head.ensures.ok

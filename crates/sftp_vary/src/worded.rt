@@ -1,0 +1,244 @@
+//! The answerer that gives the replies of another one words for people.
+ghost use Rattle.std.specs.Prelude.{◌≡◌, [], map, IfOk, IfSome};
+ghost use Rattle.sftp_packets.specs.declared.packets.Packet.TheVariants.{Reply as reply_packet};
+ghost use Rattle.sftp_packets.specs.declared.replies.Answer.TheVariants as replies;
+ghost use Rattle.sftp_packets.specs.Packets.{HasSpelling};
+ghost use Rattle.sftp_vary.specs.Bare.{bare, bare_attrs, bare_item};
+
+use crate::freedoms::{Freedom, Freedoms, Variation};
+use crate::long_names::long_name;
+use crate::spelled::spelled;
+use crate::words::{LANGUAGE, text_of};
+use sftp_handles::{HandleTable, Session};
+use sftp_server::Answerer;
+use sftp_tree::{Cause, Causes, EVERY_CAUSE, NoMemory};
+use sftp_wire::status::{EOF, OK};
+use sftp_wire::{Answer, Ask, Attrs, ByteString, NameItem, Names, Reply, Request};
+use std::alloc::Global;
+
+/// How the replies of a session use what is free in them.
+#[derive(Clone, Copy)]
+pub struct Style {
+    /// How they are varied, if they are.
+    pub variation: Option<Variation>,
+    /// Which words for people they have besides.
+    pub words: Words,
+}
+
+/// Which words for people replies have, in fields that are free.
+#[derive(Clone, Copy)]
+pub struct Words {
+    /// Whether each refusal has a text that says why, and which limit was met.
+    pub texts: bool,
+    /// Whether the long names in the replies to READDIR are lines as `ls -l` writes them.
+    pub long_names: bool,
+}
+
+impl Words {
+    /// Whether there are any.
+    pub fn has_any(self) -> bool {
+        self.texts || self.long_names
+    }
+
+    /// Those that are left beside freedoms, which have words of their own.
+    pub fn beside(self, freedoms: Freedoms) -> Words {
+        Words {
+            texts: self.texts && !freedoms.has(Freedom::Texts),
+            long_names: self.long_names && !freedoms.has(Freedom::Longnames),
+        }
+    }
+}
+
+/// Answers requests as another answerer does, with words for people in its replies. A reply stays as it is if memory
+/// runs out for its words.
+#[derive(Drop)]
+pub struct Worded<A: Drop> {
+    inner: A,
+    words: Words,
+}
+
+impl<A: Drop> Worded<A> {
+    /// The answerer that gives the replies of this one such words.
+    pub fn new(inner: A, words: Words) -> Worded<A> {
+        Worded { inner, words }
+    }
+}
+
+impl<T: HandleTable, A: Answerer<T> + Drop> Answerer<T> for Worded<A> {
+    fn answer(&mut self, session: &mut Session<T>, request: &Request) -> Result<Reply, NoMemory> {
+        match self.inner.answer(session, request) {
+            Ok(reply) => Ok(in_words(session, &request.ask, reply, self.words)),
+            Err(error) => Err(error),
+        }
+    }
+}
+
+/// The reply to a request that the session has done or refused, with words.
+fn in_words<T: HandleTable>(session: &Session<T>, ask: &Ask, reply: Reply, words: Words) -> Reply
+    ensures same_id { result.id ≡ reply.id }
+    ensures same { bare result.answer ≡ bare reply.answer }
+    ensures spelled { HasSpelling (reply_packet reply) → HasSpelling (reply_packet result) }
+{
+    match with_words(session, ask, &reply.answer, words) {
+        Ok(Some(answer)) => in_place(session.tree().allocator(), answer, reply),
+        Ok(None) => reply,
+        Err(_) => reply,
+    }
+}
+
+/// The reply with another answer, if that can be encoded.
+fn in_place(alloc: Global, answer: Answer, reply: Reply) -> Reply
+    requires { bare answer ≡ bare reply.answer }
+    ensures same_id { result.id ≡ reply.id }
+    ensures same { bare result.answer ≡ bare reply.answer }
+    ensures spelled { HasSpelling (reply_packet reply) → HasSpelling (reply_packet result) }
+{
+    let id = reply.id;
+    match spelled(alloc, Reply { id, answer }) {
+        Some(found) => {
+            drop(reply);
+            found
+        }
+        None => reply,
+    }
+}
+
+/// An answer with words, if it gets some.
+fn with_words<T: HandleTable>(
+    session: &Session<T>,
+    ask: &Ask,
+    answer: &Answer,
+    words: Words,
+) -> Result<Option<Answer>, NoMemory>
+    ensures { IfOk result (λ o. IfSome o (λ it. bare it ≡ bare answer.now)) }
+{
+    match answer {
+        Answer::Status { code, .. } => {
+            if words.texts {
+                refusal(session, ask, *code)
+            } else {
+                Ok(None)
+            }
+        }
+        Answer::Name(names) => {
+            if words.long_names {
+                listed(session, ask, names)
+            } else {
+                Ok(None)
+            }
+        }
+        _ => Ok(None),
+    }
+}
+
+/// The STATUS of a refusal with its text, unless the code refuses nothing.
+fn refusal<T: HandleTable>(
+    session: &Session<T>,
+    ask: &Ask,
+    code: u32,
+) -> Result<Option<Answer>, NoMemory>
+    ensures { IfOk result (λ o. IfSome o (λ it. bare it ≡ replies.Status code [] [])) }
+{
+    if code == OK || code == EOF {
+        return Ok(None);
+    }
+    // The request was refused, so the session is as it was, and has the causes that it had.
+    let causes = session.causes(ask)?;
+    match cause_of(causes, code) {
+        Some(cause) => with_text(session, ask, code, cause),
+        None => Ok(None),
+    }
+}
+
+/// The STATUS with the text of a cause.
+fn with_text<T: HandleTable>(
+    session: &Session<T>,
+    ask: &Ask,
+    code: u32,
+    cause: Cause,
+) -> Result<Option<Answer>, NoMemory>
+    ensures { IfOk result (λ o. IfSome o (λ it. bare it ≡ replies.Status code [] [])) }
+{
+    let alloc = session.tree().allocator();
+    let message = text_of(session, ask, cause, alloc)?;
+    match ByteString::from_slice(alloc, LANGUAGE) {
+        Ok(language) => Ok(Some(Answer::Status {
+            code,
+            message,
+            language,
+        })),
+        Err(_) => {
+            drop(message);
+            Err(NoMemory)
+        }
+    }
+}
+
+/// The first of the causes that allows this code.
+fn cause_of(causes: Causes, code: u32) -> Option<Cause> {
+    for cause in EVERY_CAUSE {
+        if causes.holds(cause) && cause.allows(code) {
+            return Some(cause);
+        }
+    }
+    None
+}
+
+/// The names of a reply to READDIR with long names. REALPATH and READLINK have the name itself there.
+fn listed<T: HandleTable>(
+    session: &Session<T>,
+    ask: &Ask,
+    names: &Names,
+) -> Result<Option<Answer>, NoMemory>
+    ensures { IfOk result (λ o. IfSome o (λ it. bare it ≡ replies.Name (map bare_item names.now))) }
+{
+    match ask {
+        Ask::Readdir { .. } => {
+            let items = with_long_names(session.tree().allocator(), names.as_slice())?;
+            Ok(Some(Answer::Name(Names::new(items))))
+        }
+        _ => Ok(None),
+    }
+}
+
+/// Items with long names.
+fn with_long_names(alloc: Global, items: &[NameItem]) -> Result<Vec<NameItem>, NoMemory>
+    ensures { IfOk result (λ found. map bare_item found.items ≡ map bare_item items.now) }
+{
+    let mut found = Vec::new(alloc);
+    for item in items {
+        found.push(with_long_name(alloc, item)?)?;
+    }
+    Ok(found)
+}
+
+/// An item with a long name.
+fn with_long_name(alloc: Global, item: &NameItem) -> Result<NameItem, NoMemory>
+    ensures { IfOk result (λ found. bare_item found ≡ bare_item item.now) }
+{
+    let longname = long_name(alloc, item.filename.as_slice(), &item.attrs)?;
+    match ByteString::from_slice(alloc, item.filename.as_slice()) {
+        Ok(filename) => Ok(NameItem {
+            filename,
+            longname,
+            attrs: plain_copy(&item.attrs),
+        }),
+        Err(_) => {
+            drop(longname);
+            Err(NoMemory)
+        }
+    }
+}
+
+/// Attributes without extended pairs.
+fn plain_copy(attrs: &Attrs) -> Attrs
+    ensures { bare_attrs result ≡ bare_attrs attrs.now }
+{
+    Attrs {
+        size: attrs.size,
+        owner: attrs.owner,
+        permissions: attrs.permissions,
+        times: attrs.times,
+        extended: None,
+    }
+}
