@@ -275,6 +275,7 @@ impl<R: Source> Reader<R> {
     /// # Errors
     ///
     /// Those of `next`.
+    #[inline(never)]
     pub fn next_record(&mut self) -> Result<Option<(Side, Packet, usize)>, TranscriptError>
         // An error that was returned is returned again.
         ensures again { (error : TranscriptError) → self.old.fault ≡ Some error

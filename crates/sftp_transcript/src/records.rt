@@ -34,6 +34,7 @@ pub(crate) fn take_opening(bytes: &[u8]) -> Result<&[u8], TranscriptError>
 
 /// The packet of the record in front, if it may come at this stage, and the bytes after it. `Start` if no byte is left
 /// or the packet may not come.
+#[inline(always)]
 pub(crate) fn take_next(
     alloc: Global,
     bytes: &[u8],

@@ -1,5 +1,5 @@
 //! Tree files, written to a sink piece by piece, and whole. A piece is made in a scratch first, whose bytes are
-//! replaced; the bytes of a file go to the sink from where they are. What the caller makes sure of is said in `writing`.
+//! replaced; the bytes of a file go to the sink from where they are. What the caller makes sure of is in `writing`.
 ghost use Rattle.std.specs.Prelude.{◌≡◌, ◌++◌, ◌<◌, ◌^◌, length, IfOk, OnOk, OnErr};
 ghost use Rattle.std.specs.Io.KnownBytes.{Appends};
 ghost use Rattle.sftp_streams.specs.Streams.{AppendsPart};

@@ -74,6 +74,7 @@ fn placed_front(
 ///
 /// `Unreadable` with the first fault from the left, at place 0: a length field out of range as soon as its four bytes
 /// have come, any other fault once the whole packet has. `NoMemory` if memory runs out. It returns no other error.
+#[inline(always)]
 pub fn front(alloc: Global, bytes: &[u8], side: Side) -> Result<Option<(Packet, usize)>, WireError>
     // It returns what reading from left to right gives: the packet, or the first fault.
     ensures exact { IsReading result (front_of side bytes.now) }
