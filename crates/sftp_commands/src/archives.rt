@@ -168,13 +168,24 @@ fn archive_failure<'a>(alloc: Global, error: &ImportError) -> Failure<'a> {
     }
 }
 
+/// How many bytes of a path a message has at most.
+const MOST_OF_PATH: usize = 1_000;
+
 /// The message for an entry that is refused. An entry that cannot be read has no path.
 fn refused(alloc: Global, entry: u32, path: &[u8], refusal: Refusal) -> Result<String, AllocError> {
     if path.is_empty() {
-        format!(in alloc; "archive: entry {entry}: {refusal}")
-    } else {
-        let path = Quoted(path);
-        format!(in alloc; "archive: entry {entry}, {path}: {refusal}")
+        return format!(in alloc; "archive: entry {entry}: {refusal}");
+    }
+    match path.split_at_checked(MOST_OF_PATH) {
+        Some((shown, rest)) if !rest.is_empty() => {
+            let shown = Quoted(shown);
+            let more = rest.len();
+            format!(in alloc; "archive: entry {entry}, {shown} and {more} bytes more: {refusal}")
+        }
+        _ => {
+            let path = Quoted(path);
+            format!(in alloc; "archive: entry {entry}, {path}: {refusal}")
+        }
     }
 }
 

@@ -92,7 +92,7 @@ fn is_followed<R: Files>(rt: &R, link: &str) -> bool {
 
 /// Whose permissions this process has. Where the system does not say it, it is root, for whom the fewest links are
 /// followed.
-fn user<R: Files>(rt: &R) -> u32 {
+pub(crate) fn user<R: Files>(rt: &R) -> u32 {
     match fs::metadata(rt, PROCESS) {
         Ok(found) => found.uid(),
         Err(_) => 0,

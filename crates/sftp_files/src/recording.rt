@@ -1,5 +1,5 @@
 //! Where the record of a session goes.
-use crate::links::{TOO_MANY_LINKS, UNTRUSTED, is_link, is_planted_at, path_of};
+use crate::links::{TOO_MANY_LINKS, UNTRUSTED, is_link, is_planted_at, path_of, user};
 use crate::messages::{Failure, MORE};
 use crate::options::ServeOptions;
 use crate::saving::{Keeping, is_file_of, is_own, new_file, sync_folder};
@@ -76,6 +76,9 @@ fn record_at<'a, R: System>(
     path: &str,
     options: &ServeOptions<'a>,
 ) -> Result<Recording, Failure<'a>> {
+    if is_trap(rt, path) {
+        return Err(Failure::Unfit(name, ANOTHERS));
+    }
     match open(rt, name, path, options.keeping) {
         Ok(opened) => {
             let Opened { file, is_new } = opened;
@@ -89,6 +92,14 @@ fn record_at<'a, R: System>(
             }
         }
         Err(error) => Err(Failure::writing(name, &error)),
+    }
+}
+
+/// Whether a FIFO of another user is at this path. To open it would take as long as that user likes.
+fn is_trap<R: Files>(rt: &R, path: &str) -> bool {
+    match fs::symlink_metadata(rt, path) {
+        Ok(found) => found.file_type().is_fifo() && found.uid() != user(rt),
+        Err(_) => false,
     }
 }
 

@@ -50,6 +50,8 @@ enum Why {
     Unanswerable,
     /// It has no more records.
     Over,
+    /// The process may have no more memory.
+    NoMemory,
     /// The record cannot be read.
     Unread(TranscriptError),
 }
@@ -72,6 +74,11 @@ impl Replay {
     /// How far the session has followed so far, and why it does not go on.
     pub(crate) fn parting(&self) -> Parting {
         self.parting
+    }
+
+    /// Leaves the script, as the process may have no more memory.
+    pub(crate) fn leave(&mut self) {
+        self.parting.why = Why::NoMemory;
     }
 
     /// Notes a further record, and why the session left if its step cannot be done.
@@ -264,6 +271,7 @@ impl fmt::Display for Parting {
                 "left at record {record}: no request waits for this reply"
             ),
             Why::Over => write!(f, "left after record {record}, which is the last"),
+            Why::NoMemory => write!(f, "left after record {record}: too little memory"),
             Why::Unread(error) => write!(f, "left at {error}"),
         }
     }

@@ -346,8 +346,8 @@ enum Order {
     Asked(InOrder),
     /// A pseudorandom one, as long as the process may have more memory.
     Shuffled(Shuffle, Meter),
-    /// That of a recorded session.
-    Replayed(Replay),
+    /// That of a recorded session, as long as the process may have more memory.
+    Replayed(Replay, Meter),
 }
 
 impl Order {
@@ -358,7 +358,10 @@ impl Order {
                 let meter = Meter::new(rt, options.memory)?;
                 Ok(Order::Shuffled(Shuffle(state), meter))
             }
-            (None, Some(name)) => Ok(Order::Replayed(Replay::new(rt, name)?)),
+            (None, Some(name)) => {
+                let meter = Meter::new(rt, options.memory)?;
+                Ok(Order::Replayed(Replay::new(rt, name)?, meter))
+            }
             (None, None) => Ok(Order::Asked(InOrder)),
         }
     }
@@ -366,7 +369,7 @@ impl Order {
     /// How far the session followed the recorded one, if there is one.
     fn parting(&self) -> Option<Parting> {
         match self {
-            Order::Replayed(replay) => Some(replay.parting()),
+            Order::Replayed(replay, _) => Some(replay.parting()),
             Order::Asked(_) => None,
             Order::Shuffled(..) => None,
         }
@@ -383,13 +386,20 @@ impl Schedule for Order {
                 Ok(_) => order.pick(count),
                 Err(_) => 0,
             },
-            Order::Replayed(replay) => replay.pick(count),
+            Order::Replayed(replay, _) => replay.pick(count),
         }
     }
 
     fn step(&mut self) -> Option<Step> {
         match self {
-            Order::Replayed(replay) => replay.step(),
+            // Without a script, the requests that wait are answered next, and then the session ends.
+            Order::Replayed(replay, meter) => match meter.room() {
+                Ok(_) => replay.step(),
+                Err(_) => {
+                    replay.leave();
+                    None
+                }
+            },
             Order::Asked(_) => None,
             Order::Shuffled(..) => None,
         }
@@ -397,7 +407,7 @@ impl Schedule for Order {
 
     fn expects(&mut self, request: &Request) -> bool {
         match self {
-            Order::Replayed(replay) => replay.expects(request),
+            Order::Replayed(replay, _) => replay.expects(request),
             Order::Asked(_) => true,
             Order::Shuffled(..) => true,
         }
