@@ -1,5 +1,5 @@
 //! A session under a profile: which replies of another server are accepted.
-ghost use Rattle.std.specs.Prelude.{◌≡◌, [], false, IsTrue, IfOk, OnOk, OnErr};
+ghost use Rattle.std.specs.Prelude.{◌≡◌, ◌&&◌, [], false, IsTrue, IfOk, OnOk, OnErr};
 ghost use Rattle.sftp_tree.specs.Tree.{trim};
 ghost use Rattle.sftp_profile.specs.State.{State, begun};
 ghost use Rattle.sftp_profile.specs.Interpretations.{asked};
@@ -7,6 +7,7 @@ ghost use Rattle.sftp_profile.specs.Replaced.{put, replaced};
 ghost use Rattle.sftp_profile.specs.Departures.{is_forgiven, passes_in, passes_codes, passes_dots};
 ghost use Rattle.sftp_profile.specs.Permitted.{Permitted, follows_in};
 ghost use Rattle.sftp_profile.specs.Room.{is_outgrown};
+ghost use Rattle.sftp_profile.specs.Settings.{passes_lsetstat};
 ghost use Rattle.sftp_profile.specs.StrictAnswers.{told};
 ghost use Rattle.sftp_profile.specs.Judged.{IsStrict, IsRetold, IsRead, IsTaken, IsSet, IsFollowed, IsTakenFor};
 ghost use Rattle.sftp_profile.specs.Judged.{IsForgiven, IsPermitted, IsStep};
@@ -18,6 +19,7 @@ use crate::profiles::Profile;
 use crate::refusals::{are_dots, done, is_handle, is_refusal};
 use crate::replaced::replaced;
 use crate::room::is_outgrown;
+use crate::settings::passes_lsetstat;
 use crate::strict_answers::{is_readdir, told};
 use sftp_handles::{GivenTable, Session};
 use sftp_tree::{NoMemory, Tree};
@@ -161,6 +163,22 @@ impl Judge {
             (λ other. other ≡ told self.now.profile self.now.session ask.now answer.now) }
     {
         told(&self.session, self.profile, ask, answer)
+    }
+
+    /// Whether the profile permits this answer to an lsetstat that changes nothing: a size is refused, nothing is set,
+    /// or a link is.
+    ///
+    /// # Errors
+    ///
+    /// `NoMemory` if memory runs out.
+    pub fn passes_lsetstat(&self, ask: &Ask, answer: &Answer) -> Result<bool, NoMemory>
+        ensures { IfOk result (λ ok. ok ≡ (self.now.profile.lsetstat
+            && passes_lsetstat self.now.profile self.now.session.tree ask.now answer.now)) }
+    {
+        if !self.profile.lsetstat {
+            return Ok(false);
+        }
+        passes_lsetstat(self.profile, self.session.tree(), ask, answer)
     }
 
     /// Whether the profile follows a request with this reply. It does not follow an extension that it does not know and

@@ -1,7 +1,9 @@
 //! `audit --explain`: why a session is refused, as lines of text.
 use crate::feeding::feed_rest;
 use crate::newcomers::{Newcomer, find_newcomer};
-use crate::readings::{content_of, content_of_removed, taken_for, undue, wrong_piece};
+use crate::readings::{
+    content_of, content_of_removed, status_of_set, taken_for, undue, wrong_piece,
+};
 use sftp_audit::{AuditError, Auditor, Refusal};
 use sftp_commands::LeftOut;
 use sftp_files::{Failure, open, write_flushed};
@@ -13,7 +15,7 @@ use sftp_show::{
     put_record,
 };
 use sftp_transcript::{Reader, Tally, TranscriptError, WINDOW};
-use sftp_tree::{Cause, Causes, Tree};
+use sftp_tree::{Cause, Causes, NoMemory, Tree};
 use sftp_wire::{Answer, Ask, Side};
 use std::alloc::Global;
 use std::fs::Files;
@@ -409,11 +411,19 @@ impl<R: Files + AllocGlobal, E: Write> Explanation<'_, '_, R, E> {
 
     /// What the profile permits besides, where the session itself refuses the request.
     fn put_further(&mut self, auditor: &Auditor<Judge>, ask: &Ask) -> bool {
-        match content_of_removed(auditor.judge(), ask) {
-            Ok(content) => {
-                self.put_also("open-dir", content)
-                    && self.put_also("extensions", content_of(self.profile(), ask))
-            }
+        self.put_if_known("open-dir", content_of_removed(auditor.judge(), ask))
+            && self.put_if_known("lsetstat", status_of_set(auditor.judge(), ask))
+            && self.put_also("extensions", content_of(self.profile(), ask))
+    }
+
+    /// What a departure permits besides, if it does and memory did not run out.
+    fn put_if_known(
+        &mut self,
+        departure: &str,
+        content: Result<Option<&'static str>, NoMemory>,
+    ) -> bool {
+        match content {
+            Ok(content) => self.put_also(departure, content),
             Err(_) => self.stop(Unexplained::OutOfMemory),
         }
     }

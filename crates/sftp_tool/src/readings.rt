@@ -1,6 +1,7 @@
 //! What a profile takes a request and its answer for, where the refusal of the answer is explained.
 use sftp_profile::{Judge, Profile};
 use sftp_tree::NoMemory;
+use sftp_wire::status::{FAILURE, OK};
 use sftp_wire::{Answer, Ask, Attrs, ByteString, NameItem, Names};
 use std::alloc::Global;
 
@@ -257,6 +258,40 @@ fn content_by(name: &[u8]) -> Option<&'static str> {
         return Some("NAME with one name");
     }
     None
+}
+
+/// The STATUS by which `lsetstat` permits a request that changes nothing to be answered, as text; `None` if it permits
+/// none.
+///
+/// # Errors
+///
+/// `NoMemory` if memory runs out.
+pub(crate) fn status_of_set(judge: &Judge, ask: &Ask) -> Result<Option<&'static str>, NoMemory> {
+    let is_done = is_set_by(judge, ask, OK)?;
+    let is_refused = is_set_by(judge, ask, FAILURE)?;
+    Ok(match (is_done, is_refused) {
+        (true, true) => Some("STATUS with code 0 (OK) or 4 (FAILURE)"),
+        (true, false) => Some("STATUS with code 0 (OK)"),
+        (false, true) => Some("STATUS with code 4 (FAILURE) or 5 (BAD_MESSAGE)"),
+        (false, false) => None,
+    })
+}
+
+/// Whether `lsetstat` permits a STATUS with this code for a request that changes nothing.
+///
+/// # Errors
+///
+/// `NoMemory` if memory runs out.
+fn is_set_by(judge: &Judge, ask: &Ask, code: u32) -> Result<bool, NoMemory> {
+    let alloc = judge.session().tree().allocator();
+    let answer = Answer::Status {
+        code,
+        message: ByteString::new(Vec::new(alloc)),
+        language: ByteString::new(Vec::new(alloc)),
+    };
+    let passes = judge.passes_lsetstat(ask, &answer);
+    drop(answer);
+    passes
 }
 
 /// What `open-dir` permits of a request through the handle of a directory that was removed, as text; `None` if the
