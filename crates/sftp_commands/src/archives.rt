@@ -19,9 +19,9 @@ use sftp_tar::{
 use sftp_treefile::{TreeError, TreeFile, read_rows_from, write_rows_to};
 use std::alloc::{AllocError, Global};
 use std::fs::{File, Files};
-use std::io;
 use std::io::{Read, Write};
 use std::marker::Model;
+use std::{fmt, io};
 
 /// Writes the tree file of the archive on standard input, which is read an entry at a time. The archive is judged
 /// before the file is written. Standard error names the devices and FIFOs that are passed over, or in whose place are
@@ -132,7 +132,7 @@ fn name_specials<E: Write>(choice: SpecialChoice, specials: &[Special], errors: 
     };
     for special in specials {
         let number = special.number;
-        let path = Quoted(special.path.as_slice());
+        let path = Shown(special.path.as_slice());
         let refusal = Refusal::Device;
         let _ = write_flushed(
             errors,
@@ -171,21 +171,33 @@ fn archive_failure<'a>(alloc: Global, error: &ImportError) -> Failure<'a> {
 /// How many bytes of a path a message has at most.
 const MOST_OF_PATH: usize = 1_000;
 
+/// A path of an archive as a message has it: its first bytes in quotes, and how many more there are.
+#[derive(Clone, Copy)]
+struct Shown<'a>(&'a [u8]);
+
+impl fmt::Display for Shown<'_> {
+    fn fmt<W: fmt::Write>(&self, f: &mut fmt::Formatter<W>) -> fmt::Result {
+        match self.0.split_at_checked(MOST_OF_PATH) {
+            Some((start, rest)) if !rest.is_empty() => {
+                let start = Quoted(start);
+                let more = rest.len();
+                write!(f, "{start} and {more} bytes more")
+            }
+            _ => {
+                let whole = Quoted(self.0);
+                write!(f, "{whole}")
+            }
+        }
+    }
+}
+
 /// The message for an entry that is refused. An entry that cannot be read has no path.
 fn refused(alloc: Global, entry: u32, path: &[u8], refusal: Refusal) -> Result<String, AllocError> {
     if path.is_empty() {
-        return format!(in alloc; "archive: entry {entry}: {refusal}");
-    }
-    match path.split_at_checked(MOST_OF_PATH) {
-        Some((shown, rest)) if !rest.is_empty() => {
-            let shown = Quoted(shown);
-            let more = rest.len();
-            format!(in alloc; "archive: entry {entry}, {shown} and {more} bytes more: {refusal}")
-        }
-        _ => {
-            let path = Quoted(path);
-            format!(in alloc; "archive: entry {entry}, {path}: {refusal}")
-        }
+        format!(in alloc; "archive: entry {entry}: {refusal}")
+    } else {
+        let path = Shown(path);
+        format!(in alloc; "archive: entry {entry}, {path}: {refusal}")
     }
 }
 

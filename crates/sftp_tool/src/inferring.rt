@@ -80,7 +80,7 @@ pub(crate) fn infer<'a, R: System, O: Write, E: Write>(
 ) -> Result<Ending, Failure<'a>>
     ensures { IsAuditStatus result }
 {
-    if is_lost(rt, options.out, Some(options.transcript)) {
+    if loses_transcript(rt, options) {
         return Err(Failure::of_misuse(rt.alloc(), TRANSCRIPT_LOST));
     }
     let umask = umask_of(rt.alloc(), options.umask)?;
@@ -90,6 +90,14 @@ pub(crate) fn infer<'a, R: System, O: Write, E: Write>(
     let ending = infer_from(rt, &options, session.as_slice(), output, errors);
     drop(session);
     ending
+}
+
+/// Whether a tree would be written into the file of the transcript.
+fn loses_transcript<R: System>(rt: &R, options: &InferOptions<'_>) -> bool {
+    let read = Some(options.transcript);
+    is_lost(rt, options.tree, read)
+        || is_lost(rt, options.best, read)
+        || is_lost(rt, options.out, read)
 }
 
 /// What a search takes for granted by these options, of a session of so many bytes.
