@@ -19,7 +19,7 @@ use sftp_tar::{
 use sftp_treefile::{TreeError, TreeFile, read_rows_from, write_rows_to};
 use std::alloc::{AllocError, Global};
 use std::fs::{File, Files};
-use std::io::{Read, Write};
+use std::io::{ErrorKind, Read, Write};
 use std::marker::Model;
 use std::{fmt, io};
 
@@ -211,7 +211,7 @@ pub fn export<'a, R: Files + AllocGlobal, O: Write>(
     ensures { IfOk result (λ ending. ending ≡ endings.Done) }
 {
     let mut bytes = Watched::new(open(rt, name)?);
-    let mut archive = Watched::new(output);
+    let mut archive = Output::new(output);
     let written = archived(
         rt.alloc(),
         Tally::new(&mut bytes),
@@ -224,9 +224,54 @@ pub fn export<'a, R: Files + AllocGlobal, O: Write>(
         Err(Unexported::Tree(TreeError::Io { .. })) => Err(Failure::CannotRead(name, code)),
         Err(Unexported::Tree(error)) => Err(Failure::from(error)),
         Err(Unexported::Archive(ExportError::NoMemory)) => Err(Failure::OutOfMemory),
-        Err(Unexported::Archive(ExportError::Failed)) => {
-            Err(Failure::CannotWrite(STANDARD_OUTPUT, archive.flow().code))
+        Err(Unexported::Archive(ExportError::Failed)) => Err(archive.failure()),
+    }
+}
+
+/// Standard output, and whether memory ran out when it last failed.
+#[derive(Drop)]
+struct Output<'o, O> {
+    inner: Watched<&'o mut O>,
+    lacks_memory: bool,
+}
+
+impl<'o, O: Write> Output<'o, O> {
+    fn new(inner: &'o mut O) -> Output<'o, O> {
+        Output {
+            inner: Watched::new(inner),
+            lacks_memory: false,
         }
+    }
+
+    /// Why it could not be written. When memory runs out, the stream is not to blame.
+    fn failure<'a>(&self) -> Failure<'a> {
+        if self.lacks_memory {
+            Failure::OutOfMemory
+        } else {
+            Failure::CannotWrite(STANDARD_OUTPUT, self.inner.flow().code)
+        }
+    }
+}
+
+/// Whether a call failed since memory ran out.
+fn lacks_memory<T>(done: &io::Result<T>) -> bool {
+    match done {
+        Ok(_) => false,
+        Err(error) => error.kind() == ErrorKind::OutOfMemory,
+    }
+}
+
+impl<O: Write> Write for Output<'_, O> {
+    fn write(&mut self, bytes: &[u8]) -> io::Result<usize> {
+        let done = self.inner.write(bytes);
+        self.lacks_memory = lacks_memory(&done);
+        done
+    }
+
+    fn flush(&mut self) -> io::Result<()> {
+        let done = self.inner.flush();
+        self.lacks_memory = lacks_memory(&done);
+        done
     }
 }
 
