@@ -1,2 +1,2 @@
 mod VerdictLaws
-pub mod Inferring
+pub mod InferenceLaws

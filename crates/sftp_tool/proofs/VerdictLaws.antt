@@ -49,6 +49,10 @@ is_new known left failures reads records same are bytes is =
     (subst (λ (o : Option (List ℕ)). IsNew bytes (fresh o failures reads)) (sym is)
     (fresh-is_new bytes failures reads)))
 
+-- the profile that was asked for is the one at hand
+pub the_profile : (at_hand asked : Profile) → Some at_hand ≡ Some asked → at_hand ≡ asked
+the_profile at_hand asked is = cc
+
 -- ---- an audit of it, from the tree of a tree file
 
 module _ {S : Type 0} (step : StepOf S) (begin : Tree → S) (close : S → Tree) (start : Tree) (tree : List ℕ)
