@@ -9,7 +9,7 @@ weights     how often each scene is drawn, and which seeds have which large scen
 scenes      small scenes that make sense; refusals: requests that some cause refuses; effects: what they do to the model
 transfers   large scenes with much data; crowds: those with many names or handles
 room        the steps of a plan within what the server says that it has room for
-servers     starts and ends the server; leftovers: ends what it leaves running; streams: packets to and from it
+servers     starts and ends the server, with packets to and from it; leftovers: ends what it leaves running
 sessions    plays a plan against a server, and records it
 below       a plan below a directory of its own; clearing: removes what sessions made there
 ownfiles    refuses to play where the server has other files than the tree's
