@@ -1,10 +1,11 @@
-"""What is checked of ./install with a built program: what it writes, that it says all that the help says, and that it
-takes everything away again."""
+"""What is checked with a built program: of ./install what it writes, that it says all that the help says, and that it
+takes everything away again; and the small ones of fuzz/attacks, which need no other user."""
 import os
 import pwd
 import re
 import shutil
 import subprocess
+import sys
 
 from texts import TOP
 
@@ -213,3 +214,14 @@ def wrong_installation(program, room):
     return [*wrong_texts(program, share), *wrong_syntax(share), *wrong_completion(share),
             *wrong_script_texts(prefix, room), *wrong_scripts(prefix, room), *wrong_recorder(prefix, room),
             *wrong_serve(prefix, room), *wrong_removal(program, room), *wrong_package(program, room)]
+
+
+def wrong_attacks(program):
+    """Runs the small attacks on this program, and returns those that succeeded."""
+    ran = subprocess.run([sys.executable, TOP / "fuzz/attacks", "--small"], env={**os.environ, "SFTPV3": str(program)},
+                         stdin=subprocess.DEVNULL, stdout=subprocess.PIPE, stderr=subprocess.STDOUT, timeout=600)
+    printed = ran.stdout.decode(errors="replace").splitlines()
+    wrong = [f"fuzz/attacks: {it}" for it in printed if ": FAILED" in it]
+    if ran.returncode and not wrong:
+        wrong = [f"fuzz/attacks: it ended with status {ran.returncode}: {' '.join(printed[-3:])}"]
+    return wrong

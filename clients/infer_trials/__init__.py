@@ -4,7 +4,6 @@ judging   what `audit` says with a tree, and `infer` without one
 starts    trees that a seed makes, with links and names of one file
 strict    sessions of `sftpv3 serve`, the strict model, from such trees
 mistakes  sessions with one wrong reply each, and the same where the client has looked at everything first
-real      sessions of real clients with OpenSSH's server
-kept      the sessions of other servers in examples/servers
+real      sessions of real clients with OpenSSH's server, and those of other servers in examples/servers
 bounds    sessions that cost a search much for their length, and what `infer` took for each
 """

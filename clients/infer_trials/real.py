@@ -1,4 +1,5 @@
-"""Sessions of real clients with OpenSSH's server, on the probe's own tree, as far as both are installed."""
+"""Sessions of real clients with OpenSSH's server, on the probe's own tree, as far as both are installed; and the kept
+sessions of other servers in examples/servers, by the verdicts of `--profile posix` with their tree and without."""
 import os
 import random
 import shutil
@@ -8,10 +9,12 @@ import sys
 import tempfile
 import time
 from contextlib import suppress
+from dataclasses import dataclass
 
 from infer_trials import judging
 from probing import program, starting
 from sftp3 import trees
+from trials import other_servers
 
 SFTP_SERVER = "/usr/lib/openssh/sftp-server"
 POSIX = ["--profile", "posix"]
@@ -157,3 +160,22 @@ def attempt(folder, client, text):
     if not is_right:
         return False, False, said
     return True, *judging.accepted_without(program.program(), room.transcript, POSIX)
+
+
+@dataclass
+class Judged:
+    """A session: its name, its verdict with the tree and without it, and what was said."""
+
+    name: str
+    with_tree: str
+    without: str
+    said: str
+
+
+def attempt_kept(folder, session):
+    options, transcript = session.options(), session.write(program.program(), folder)
+    inferred = os.path.join(folder, session.name.replace("/", "-"))
+    said = [judging.accepted_with(program.program(), other_servers.TREE, transcript, options),
+            judging.accepted_without(program.program(), transcript, options, inferred)]
+    words = ["accepted" if is_accepted else "refused" for is_accepted, _ in said]
+    return Judged(session.name, *words, said[1][1])

@@ -2,26 +2,25 @@
 
 starting    the tree that a probe starts from
 model       what the planner believes the server's tree to be
-spelling    many paths that lead to one place
 plans       the steps of a plan, or of a session that was recorded; the bytes in them
-planner     the plan of a session: draws scenes, and keeps the account of handles
+planner     the plan of a session: draws scenes, spells paths in many ways, and reads all back at the end
 features    what `--skip` may name in a plan
 weights     how often each scene is drawn, and which seeds have which large scenes
 scenes      small scenes that make sense; refusals: requests that some cause refuses; effects: what they do to the model
-transfers   large scenes with much data; crowds: those with many names or handles; endings: all is read back
+transfers   large scenes with much data; crowds: those with many names or handles
 room        the steps of a plan within what the server says that it has room for
-servers     starts and ends the server; leftovers: ends what it leaves running; streams: packets to and from it
+servers     starts and ends the server, with packets to and from it; leftovers: ends what it leaves running
 sessions    plays a plan against a server, and records it
 below       a plan below a directory of its own; clearing: removes what sessions made there
 ownfiles    refuses to play where the server has other files than the tree's
 verdicts    asks `sftpv3 audit`, and goes on after a difference
 groups      differences that are alike; causes: those that have one cause
-shrinking   the shortest session that still shows a difference; guessing: which requests and entries it may need
+shrinking   the shortest session that still shows a difference, by guesses at what it may need
 options     the command line, and the exit statuses
 limits      what ends a run early; workers: what plays sessions side by side
 unseen      sessions with a server whose files nobody can see, which look first
 runs        one run of the probe; tally: what was played, and how far the probe is
-reports     what is printed, kept and reported; printed: a difference as pages and reports show it
+reports     what is printed, kept and reported, also as JUnit; printed: a difference as pages and reports show it
 planted     servers with bugs, for clients/test-probe
 faults      servers with one fault each, for clients/test-probe-faults: faulty_writes, faulty_reads, faulty_names,
             faulty_replies and faulty_order have them, faulty what they are made of

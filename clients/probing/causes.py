@@ -11,7 +11,7 @@ A kind that was not shrunk goes behind another if in each of its sessions it cam
 import re
 
 import sftp3
-from probing import effects, guessing
+from probing import effects, shrinking
 from probing.model import Model
 
 # Requests that change something when they are done. OPEN changes something with some of its flags.
@@ -58,7 +58,7 @@ def last_step(group):
 def alone(group):
     """Whether the request shows the difference by itself, with no more than what opens its handle."""
     last = group.shortest and last_step(group)
-    return bool(last) and len(guessing.of_handles(group.shortest.steps, last)) == len(group.shortest.steps)
+    return bool(last) and len(shrinking.of_handles(group.shortest.steps, last)) == len(group.shortest.steps)
 
 
 def of_shrunk(group):
@@ -80,7 +80,7 @@ def changes(step):
 
 
 def changes_by_opening(steps, last):
-    return any(changes(step) for step in guessing.of_handles(steps, last)[:-1])
+    return any(changes(step) for step in shrinking.of_handles(steps, last)[:-1])
 
 
 def of_what(group):

@@ -7,9 +7,10 @@ small scene knows. At the end of both, all that they made is read back and liste
 import itertools
 import random
 
-from probing import effects, endings, features, weights
+import sftp3
+from probing import effects, features, weights
+from probing.crowds import listing
 from probing.model import DIRECTORY, FILE, LINK, Model
-from probing.spelling import spell
 from probing.plans import Handle, Step
 
 # Names of what is made, few, so that they meet.
@@ -163,5 +164,105 @@ def plan(seed, tree, count, skip=()):
         steps += itertools.islice(between, large.random.randint(0, 8))
     steps += between
     for planner in (large, small):
-        steps += planner.large([("read-back", endings.read_back)])
+        steps += planner.large([("read-back", read_back)])
     return steps
+
+
+def spell(random, model, place, plain=False):
+    """A path of this place: mostly its absolute text, and else one of many others. A plain one is that text."""
+    text = b"/" + b"/".join(place)
+    ways = [] if plain else [doubled, dotted, roundabout, through_link, ending]
+    if not plain and random.random() < 0.3:
+        text = random.choice(ways)(random, model, place, text)
+    if not plain and not model.home and text.startswith(b"/") and random.random() < 0.2:
+        text = text.lstrip(b"/") or b"."
+    return text
+
+
+def doubled(random, _model, _place, text):
+    """Slashes that stand twice."""
+    return text.replace(b"/", b"//", random.randint(1, 2))
+
+
+def dotted(random, _model, _place, text):
+    """A part that is a dot."""
+    parts = text.split(b"/")
+    parts.insert(random.randrange(1, len(parts)), b".")
+    return b"/".join(parts)
+
+
+def roundabout(random, model, place, text):
+    """Into a directory on the way and back, or up from the root."""
+    if random.random() < 0.3:
+        return b"/.." + text
+    cut = random.randint(0, max(len(place) - 1, 0))
+    inside = [other for other in model.of_kind(DIRECTORY) if len(other) == cut + 1 and other[:cut] == place[:cut]]
+    if not inside:
+        return text
+    return b"/" + b"/".join(place[:cut] + (random.choice(inside)[-1], b"..") + place[cut:])
+
+
+def through_link(random, model, place, text):
+    """Through a link to a directory on the way."""
+    found = []
+    for link in model.of_kind(LINK):
+        target = model.leads_to(link, DIRECTORY)
+        if target and len(target) < len(place) and place[:len(target)] == target:
+            found.append((link, target))
+    if not found:
+        return text
+    link, target = random.choice(found)
+    return b"/" + b"/".join(link + place[len(target):])
+
+
+def ending(random, model, place, text):
+    """A slash at the end, or a dot, of a directory."""
+    entry = model.at(place)
+    if entry is None or entry.kind != DIRECTORY or not place:
+        return text
+    return text + random.choice([b"/", b"/", b"/.", b"//"])
+
+
+# Of files without bytes, directories without names and links that a session made, so many are looked at: the listings
+# show the others.
+MOST_EMPTY = 20
+
+
+def read_back(p):
+    """CLOSE of what is open; then each file that was written, each directory that has other names, and each link."""
+    for number in list(p.opened):
+        yield p.ask("CLOSE", Handle(number))
+    for place in written(p.model):
+        yield from reading(p, b"/" + b"/".join(place), p.model.sizes[p.model.at(place).number])
+    for place, count in changed(p.model):
+        yield from listing(p, b"/" + b"/".join(place), count)
+    for place in sorted(p.model.of_kind(LINK))[:MOST_EMPTY]:
+        yield p.ask("READLINK", b"/" + b"/".join(place))
+
+
+def written(model):
+    """A place of each file that was written, but for most of those without bytes."""
+    by_number = {model.at(place).number: place for place in model.of_kind(FILE)}
+    found = [(place, model.sizes[number]) for number, place in by_number.items() if number in model.written]
+    return [place for place, _ in few_empty(found)]
+
+
+def changed(model):
+    """The directories that have other names than at the start, with how many, but for most of those without names."""
+    return few_empty(model.changed_directories().items())
+
+
+def few_empty(found):
+    """Those of these pairs whose number is not 0, and some of the others."""
+    full, empty = [one for one in found if one[1]], [one for one in found if not one[1]]
+    return full + empty[:MOST_EMPTY]
+
+
+def reading(p, path, size):
+    """READs of a whole file, and of what is behind its end."""
+    step = p.ask("OPEN", path, sftp3.READ, {})
+    yield step
+    for offset in list(range(0, size, p.most_read)) + [size]:
+        yield p.ask("READ", step.opened(), offset, p.most_read)
+    yield p.ask("FSTAT", step.opened())
+    yield p.ask("CLOSE", step.opened())

@@ -1,4 +1,5 @@
-"""What is printed, kept and reported."""
+"""What is printed, kept and reported. JUnit has a case for each seed that is accepted, and one for each kind of
+difference in each other seed."""
 import json
 import os
 import re
@@ -6,10 +7,11 @@ import shlex
 import subprocess
 import sys
 import time
+from xml.sax import saxutils
 
 import sftp3
 from paging import document, packets, runs
-from probing import files, junit, printed, program
+from probing import files, printed, program
 from sftp3 import trees
 
 
@@ -154,6 +156,41 @@ def write(name, given, tally, found):
     if name.endswith((".html", ".htm")):
         write_page(name, given, tally, found)
     elif name.endswith(".xml"):
-        junit.write(name, tally, given.command)
+        write_junit(name, tally, given.command)
     else:
         write_json_lines(name, tally, found)
+
+
+def junit_text(value):
+    return saxutils.escape(packets.clean(value))
+
+
+def junit_quoted(value):
+    return saxutils.quoteattr(packets.clean(value))
+
+
+def write_junit(name, tally, command):
+    """Writes the cases of what was played."""
+    cases, failures = [], 0
+    for played in tally.judged:
+        failures += len(played.groups)
+        cases += [junit_case(played, group) for group in played.groups] or \
+            [f'  <testcase classname="probe.seed-{played.seed}" name="accepted" time="{played.seconds:.3f}"/>']
+    suite = f'<testsuite name={junit_quoted("sftpv3-probe -- " + shlex.join(command))} tests="{len(cases)}" ' \
+        f'failures="{failures}" errors="0" skipped="0" time="{sum(played.seconds for played in tally.played):.3f}">'
+    files.write_text(name, "\n".join(['<?xml version="1.0" encoding="UTF-8"?>', suite, *cases, "</testsuite>", ""]))
+
+
+def junit_name(group):
+    """A name that each kind of difference has alone."""
+    return f"{group.number}. {group.title()}"
+
+
+def junit_case(played, group):
+    """A case: what was expected and found stands in its failure, with the session that shows it."""
+    lines = group.text() + (group.kept[1] if group.kept else [])
+    kind = junit_quoted(group.first.verdict.kind)
+    return (f'  <testcase classname="probe.seed-{played.seed}" name={junit_quoted(junit_name(group))} '
+            f'time="{played.seconds:.3f}">\n'
+            f'    <failure type={kind} message={junit_quoted(f"expected {group.expected}; found {group.found}")}>'
+            + junit_text("\n".join(lines)) + "</failure>\n  </testcase>")

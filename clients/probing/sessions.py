@@ -6,7 +6,7 @@ from dataclasses import dataclass, field
 from typing import List, Optional, Tuple
 
 import sftp3
-from probing import room, servers, streams
+from probing import room, servers
 from probing.servers import NotStarted, Server, Stopped  # noqa: F401 (callers have them from here)
 
 # Seconds to wait for a reply, and how many times as long for VERSION.
@@ -92,7 +92,7 @@ class Player:
         self.session = Session(in_flight)
         self.unanswered, self.handles = {}, {}
         self.asked = self.unwanted = 0
-        self.streams = streams.Streams(running)
+        self.streams = servers.Streams(running)
         # when a reply came that was waited for, or what is waited for was asked
         self.heard, self.patience = time.monotonic(), timeout * OPENING
 

@@ -1,9 +1,10 @@
 """The shortest session that still shows a difference: first the requests behind it go, and those that by a guess have
 nothing to do with it, then entries of the tree, then other requests. Each try is a session of its own; where replies
 race, several are played for one try. All groups share the time that there is; what is not shrunk is kept as it came."""
-from probing import groups, guessing, limits
-from sftp3 import trees
+import sftp3
+from probing import groups, limits
 from probing.sessions import NotStarted, Stopped
+from sftp3 import trees
 
 # Seconds for the shrinking of all groups, and the fewest of one.
 BUDGET, SHARE = 60, 1
@@ -105,7 +106,7 @@ class Shrinker:
 
     def guessed(self, shown):
         """What a guess at the steps shows, or None."""
-        for steps in guessing.of_steps(shown.steps, shown.difference.number):
+        for steps in of_steps(shown.steps, shown.difference.number):
             found = self.show(steps, shown.tree)
             if found:
                 return found
@@ -156,7 +157,7 @@ class Shrinker:
 
         def smaller(entries):
             return self.show(shown.steps, shown.tree.with_entries(whole(entries)))
-        shown = smaller(guessing.of_entries(shown.steps, shown.tree.entries)) or shown
+        shown = smaller(of_entries(shown.steps, shown.tree.entries)) or shown
         return reduce(shown, shown.tree.entries, smaller, lambda found: found.tree.entries)
 
 
@@ -197,3 +198,56 @@ def reduce(shown, parts, smaller, parts_of):
                 place += size
         size //= 2
     return shown
+
+
+def names_of(step):
+    """The names in the paths of a step, also in the target of a link."""
+    if step.name in ("WRITE", "EXTENDED"):
+        return set()
+    paths = [value for value in step.fields if isinstance(value, bytes)]
+    return {name for path in paths for name in path.split(b"/") if name not in (b"", b".", b"..")}
+
+
+def opener(step):
+    """The number of the step that gives the handle of this one, or None."""
+    return getattr(step.handle(), "step", None) if step.name in sftp3.REQUESTS else None
+
+
+def of_handles(steps, last):
+    """The step, and those that give its handle."""
+    kept, wanted = [last], {opener(last)}
+    for step in reversed(steps[:steps.index(last)]):
+        if step.number in wanted:
+            kept.insert(0, step)
+            wanted.add(opener(step))
+    return kept
+
+
+def of_names(steps, last):
+    """The step, and those before it that use its handles, or names of its paths."""
+    before = steps[:steps.index(last)]
+    opened = {step.number: step for step in before if step.name in ("OPEN", "OPENDIR")}
+    names, handles = names_of(last), {opener(last)} - {None}
+    for number in handles & set(opened):
+        names |= names_of(opened[number])
+    kept = [step for step in before if step.number in handles or opener(step) in handles or names & names_of(step)]
+    wanted = {opener(step) for step in kept} | {step.number for step in kept}
+    return [step for step in before if step.number in wanted or opener(step) in wanted] + [last]
+
+
+def of_steps(steps, number):
+    """Guesses at the steps that the difference of this step needs, the shortest first."""
+    last = next((step for step in steps if step.number == number), None)
+    if last is None:
+        return []
+    return sorted([of_handles(steps, last), of_names(steps, last)], key=len)
+
+
+def of_entries(steps, entries):
+    """The entries that the names in the steps lead to, also through links."""
+    names = set().union(*(names_of(step) for step in steps)) if steps else set()
+    for _ in range(4):
+        links = [entry for entry in entries if entry.kind == trees.LINK and set(entry.names()) <= names]
+        names |= {name for entry in links for name in entry.content.split(b"/")}
+    firsts = {entry.content for entry in entries if entry.kind == trees.FURTHER and set(entry.names()) <= names}
+    return [entry for entry in entries if set(entry.names()) <= names or entry.path in firsts]

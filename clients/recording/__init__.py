@@ -1,7 +1,6 @@
 """The parts of the recorder, clients/record, and of clients/recordd, each building on those before it:
 
-standard  the three standard descriptors
-hiding    keeps other processes of the user out
+standard  the three standard descriptors; keeps other processes of the user out
 packets   a stream of bytes as packets, one direction of a session
 plain     VERSION without extensions
 times     the file of times beside a transcript

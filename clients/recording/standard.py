@@ -1,4 +1,5 @@
-"""The three standard descriptors of a script."""
+"""The three standard descriptors of a script; and that other processes of the same user may neither trace it nor open
+its memory and files."""
 import os
 import sys
 
@@ -24,3 +25,24 @@ def open_nothing():
         os.set_inheritable(os.open(os.devnull, os.O_RDWR), True)
     except OSError:
         os._exit(3)
+
+
+# PR_SET_DUMPABLE of Linux.
+SET_DUMPABLE = 4
+
+
+def hide():
+    """Makes the process one that is not dumpable. Returns whether the system did."""
+    try:
+        # without the module ctypes, whose import takes longer than all else here
+        from _ctypes import call_function, dlopen, dlsym
+        prctl = dlsym(dlopen(None, 2), "prctl")
+    except ImportError:
+        try:
+            import ctypes
+            return ctypes.CDLL(None).prctl(SET_DUMPABLE, 0, 0, 0, 0) == 0
+        except (ImportError, OSError, AttributeError, MemoryError):
+            return False
+    except OSError:
+        return False
+    return call_function(prctl, (SET_DUMPABLE, 0, 0, 0, 0)) == 0

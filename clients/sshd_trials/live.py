@@ -1,4 +1,5 @@
-"""Audits that read along, by the lines of docs/USING.md: sessions of an honest server, and of one that lies."""
+"""Audits that read along, by the lines of docs/USING.md: sessions of an honest server, and of one that lies; and the
+limits of a process that docs/SECURITY.md gives: whether a session under sshd has them."""
 import re
 import shutil
 import subprocess
@@ -7,7 +8,7 @@ from pathlib import Path
 
 from record_trials.steps import TOP
 from sshd_trials import page
-from sshd_trials.clients import run
+from sshd_trials.clients import OPTIONS, run
 
 CONFIG = Path("/etc/ssh/sshd_config")
 LOG = Path("/var/lib/sftp-live/u/log")
@@ -58,3 +59,19 @@ def try_live(steps, where):
     ran = where.batch("get live back", "!sleep 2", "ls", "ls")
     steps.check("live: --stop cuts the session there", ran.returncode != 0 and
                 any("the session is cut" in it for it in said(4)), ran.stdout)
+
+
+LIMITS = "!grep -e 'address space' -e 'core file' /proc/$(pgrep -x sftpv3)/limits\n"
+
+
+def try_limits(steps, user):
+    """A session by the page's line, in which the limits of its process are looked at."""
+    line = page.lines_of("limits", page.SECURITY).strip()
+    run(["sftpv3", "blank", "--mode", "0644", "/srv/tree"])
+    CONFIG.write_text(re.sub(r"(?m)^Subsystem\s+sftp\s.*$", lambda _: line, CONFIG.read_text()))
+    run(["service", "ssh", "reload"])
+    time.sleep(0.5)
+    ran = run(["sftp", "-q", *OPTIONS, "-b", "-", f"{user}@127.0.0.1"], input=f"mkdir made\n{LIMITS}")
+    found = re.findall(r"Max (address space|core file size) +(\d+) +(\d+) ", ran.stdout)
+    steps.check("the page's line for limits: the session has them", ran.returncode == 0 and sorted(found) ==
+                [("address space", "4096000000", "4096000000"), ("core file size", "0", "0")], ran.stdout)

@@ -1,4 +1,8 @@
-"""The steps of a test script: each is counted and has a line, and the last line counts them."""
+"""The steps of a test script: each is counted and has a line, and the last line counts them. Trials may be in parts:
+each is a module with TRIALS, functions of the steps and of a room."""
+import importlib
+import subprocess
+import sys
 import threading
 
 
@@ -28,3 +32,29 @@ class Steps:
         """Prints the line that counts the steps. Returns the exit status."""
         print(f"{self.passed} passed, {self.failed} failed, {self.skipped} skipped", flush=True)
         return 1 if self.failed else 0
+
+
+# What ends a trial, and not the script.
+ENDS = (OSError, subprocess.SubprocessError, AssertionError, IndexError)
+
+
+def attempt(steps, trial, room):
+    """Tries this in a new room."""
+    with room() as made:
+        try:
+            trial(steps, made)
+        except ENDS as error:
+            steps.check(f"{trial.__name__}: it can be tried to its end", False, f"{type(error).__name__}: {error}")
+
+
+def run_parts(package, parts, room, usage):
+    """Tries the parts that the command line names, or else all. Returns the exit status."""
+    words = sys.argv[1:]
+    if set(words) - set(parts):
+        print(usage, file=sys.stderr)
+        return 2
+    steps = Steps()
+    for part in words or parts:
+        for trial in importlib.import_module(f"{package}.{part}").TRIALS:
+            attempt(steps, trial, room)
+    return steps.end()

@@ -3,7 +3,7 @@ import time
 from collections import deque
 
 import sftp3
-from probing import servers, streams
+from probing import servers
 from walking import bounds
 from walking.bounds import Misbehaves
 from walking.replies import Reply
@@ -44,7 +44,7 @@ class Session:
 
     def __init__(self, running, record, timeout, in_flight, most=bounds.REPLIES, stop=None):
         self.running, self.record, self.in_flight, self.stop = running, record, in_flight, stop
-        self.streams = streams.Streams(running)
+        self.streams = servers.Streams(running)
         self.waiting, self.unanswered = deque(), {}
         self.asked = self.unwanted = self.tasks = self.told = 0
         self.most = most

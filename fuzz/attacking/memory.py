@@ -5,7 +5,7 @@ import tarfile
 
 from attacking import sessions
 from attacking.ground import attack
-from attacking.measured import MEBI, run
+from attacking.sessions import MEBI, run
 
 LIMIT = 256 * MEBI
 

@@ -7,7 +7,7 @@ import time
 from contextlib import contextmanager, suppress
 
 from attacking.ground import SECONDS, attack
-from attacking.measured import MEBI
+from attacking.sessions import MEBI
 from attacking.recorders import KEEPER, beside
 from attacking.sessions import HELLO
 from programs import program
