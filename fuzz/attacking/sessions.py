@@ -6,6 +6,7 @@ from sftp3.trees import FILE, USUAL, Entry, Tree, put
 READ_WRITE_CREATE = READ | WRITE | CREAT
 HELLO = init()
 USUAL_FILE, HIGHEST_FILE = 16_777_216, 67_108_864
+FIRST_HANDLE = uint64(0) + uint32(0)
 
 
 def name(index):
@@ -51,3 +52,22 @@ def sparse_transcript(count, size=USUAL_FILE):
         reply = encode(handle) if request.name == "OPEN" else status(number, 0)
         records += [(CLIENT, encode(request)), (SERVER, reply)]
     return put_records(records)
+
+
+def late_requests(count):
+    """Returns the requests that open a file and write 262,000 bytes to its start so many times."""
+    writes = [Request(it, "WRITE", [FIRST_HANDLE, 0, b"x" * 262_000]) for it in range(1, count + 1)]
+    return [Request(0, "OPEN", [name(0), READ_WRITE_CREATE, {}]), *writes]
+
+
+def late(count):
+    """Returns the input of that session."""
+    return HELLO + b"".join(map(encode, late_requests(count)))
+
+
+def late_transcript(count):
+    """Returns its transcript, where every WRITE is asked before the first of them is answered."""
+    opening, *writes = [(CLIENT, encode(it)) for it in late_requests(count)]
+    opened = (SERVER, encode(Packet(0, "HANDLE", [FIRST_HANDLE])))
+    replies = [(SERVER, status(it, 0)) for it in range(1, count + 1)]
+    return put_records([(CLIENT, HELLO), (SERVER, version(3, [])), opening, opened, *writes, *replies])
