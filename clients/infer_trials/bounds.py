@@ -82,7 +82,7 @@ def links(count):
 
 
 def deep(count, statuses):
-    """A home of many bytes, and directories there that refusals seem to say are not there."""
+    """A home of many bytes, and directories there that refusals seem to say are not there, with a place below each."""
     home = b"".join(b"/" + bytes([97 + depth % 26]) * 60 for depth in range(60))
 
     def exchanges():
@@ -90,7 +90,7 @@ def deep(count, statuses):
         for name in names_of(count):
             yield ("STAT", name + b"/b"), status_of(2)
         yield from listing(b".", names_of(count), DIRECTORY)
-    return Costly(records(exchanges()), count, 0, statuses)
+    return Costly(records(exchanges()), 2 * count, 0, statuses)
 
 
 def ambiguous(count):

@@ -5,7 +5,7 @@ import subprocess
 
 import sftp3
 from serve_trials import steps as trials
-from serve_trials.programs import command, has, run
+from serve_trials.programs import has, run
 from serve_trials.steps import PROGRAM
 
 LINES = ['D "/" 0 0 0755', 'D "/d" 1000 1001 0700', 'F "/d/f" 1 2 0644 "hello"', 'F "/empty" 0 0 0000 ""',
@@ -25,6 +25,11 @@ def make(room, lines=None, name="t"):
     lines = LINES if lines is None else lines
     head = f'home "/" uid 0 gid 0 entries {len(lines) - 1}'
     subprocess.run([PROGRAM, "make", room.folder / name], input="\n".join([head, *lines]) + "\n", text=True, check=True)
+
+
+def command(room, *words):
+    """The command of a server that saves nothing, since lftp does not wait for its end."""
+    return " ".join(trials.command("--tree", f"{room.folder}/t", *words))
 
 
 def opened(room, *words, tree="t"):

@@ -124,8 +124,8 @@ class Field:
     def run(self, *words, as_user=False, **options):
         """Runs the program to its end, as the other user if so said."""
         ids = {"user": self.user.pw_uid, "group": self.user.pw_gid, "extra_groups": []} if as_user else {}
-        return subprocess.run([self.program if as_user else program(), *words], capture_output=True, timeout=SECONDS,
-                              cwd=self.folder, **{"input": b"", **ids, **options})
+        return subprocess.run([self.program if as_user else program(), *words], capture_output=True, cwd=self.folder,
+                              **{"input": b"", "timeout": SECONDS, **ids, **options})
 
 
 def wrong_status(done, status):

@@ -1,11 +1,13 @@
 """Attacks on memory: short sessions and files that unfold."""
 import io
 import os
+import re
 import tarfile
 
 from attacking import sessions
 from attacking.ground import attack
 from attacking.sessions import MEBI, run
+from sftp3.trees import FILE, Entry, Tree, put
 
 LIMIT = 256 * MEBI
 
@@ -28,12 +30,32 @@ def a_session_takes_all_memory(field):
         words = ["serve", "--tree", tree, "--memory", str(LIMIT), *words]
         most = LIMIT + sessions.USUAL_FILE + 16 * MEBI
         yield from wrong_end(run(field, words, asked), "", most)
-        yield from wrong_end(run(field, [*words, "--save", "end.tree"], asked), "", 2 * most)
+        yield from wrong_end(run(field, [*words, "--save", "end.tree"], asked), "", most)
         if field.run("show", "end.tree").stdout.count(b" F ") < 10:
             yield "what was done is not saved"
     status, errors, _ = run(field, ["serve", "--tree", tree, "--memory", str(4 << 30)], sessions.sparse(4))
     if status != 0 or errors:
         yield f"a session that needs little ends with status {status}: {errors!r}"
+
+
+@attack()
+def a_replayed_session_takes_all_memory(field):
+    """A session that awaits WRITEs of 75 MiB before the first of their replies ends at the limit, and is saved."""
+    tree, limit = field.blank(), 20 * MEBI
+    field.put("late", sessions.late_transcript(300))
+    words = ["serve", "--tree", tree, "--replay", "late", "--save", "end.tree", "--memory", str(limit)]
+    status, errors, used = run(field, words, sessions.late(300))
+    if status != 3 or not re.fullmatch(r"sftpv3: replay: left after record \d+: too little memory\n"
+                                       r"sftpv3: out of memory\n", errors):
+        yield f"status {status}: {errors!r}"
+    if used > limit + 8 * MEBI:
+        yield f"{used // MEBI} MiB"
+    if b' F "/0" ' not in field.run("show", "end.tree").stdout:
+        yield "what was done is not saved"
+    words[-1] = str(200 * MEBI)
+    status, errors, _ = run(field, words, sessions.late(300))
+    if status != 0 or errors:
+        yield f"with enough memory it ends with status {status}: {errors!r}"
 
 
 @attack()
@@ -73,7 +95,7 @@ def an_archive_ends_in_zeros(field):
 def files_that_are_too_long(field):
     """A file that would need more than the limit is not read to its end, and named."""
     blank = field.blank()
-    long = field.put("long", b"SFTREE01" + bytes(16 * MEBI))
+    long = field.put("long", put(Tree([Entry(b"/f", FILE, bytes(16 * MEBI), permissions=0o644)])))
     for words, named in ((["show", "--full", "long"], "long"), (["diff", "long", blank], "long"),
                          (["diff", blank, "long"], "long"), (["import", "made"], "standard input"),
                          (["audit", "--tree", "long", "--transcript", blank], "long")):
@@ -83,13 +105,13 @@ def files_that_are_too_long(field):
     os.remove(long)
 
 
-def archive_of(paths, content=b""):
-    """An archive of files of this content at these paths, which names no directory."""
+def archive_of(paths, content=b"", kind=tarfile.REGTYPE):
+    """An archive of files of this content at these paths, or of another kind, which names no directory."""
     made = io.BytesIO()
     with tarfile.open(fileobj=made, mode="w", format=tarfile.GNU_FORMAT) as archive:
         for path in paths:
             member = tarfile.TarInfo(path)
-            member.size = len(content)
+            member.type, member.size = kind, len(content)
             archive.addfile(member, io.BytesIO(content))
     return made.getvalue()
 

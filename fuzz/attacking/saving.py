@@ -14,6 +14,8 @@ from sftp3.trees import FILE, Entry, Tree, put
 HELLO = init()
 OPENED = put_records([(CLIENT, HELLO), (SERVER, version(3, []))])
 TRIES = 400
+# Seconds after which a session waits that has nothing to wait for.
+PATIENCE = 5
 
 
 def swap(folder, victim, name):
@@ -121,6 +123,40 @@ def a_file_of_another_user_takes_the_record(field):
     yield from wrong_status(field.run("serve", "--tree", start, "--record", own, input=HELLO, as_user=True), 0)
     if field.read("own")[:8] != b"SFTPTR01" or os.stat(own).st_mode & 0o7777 != 0o640:
         yield f"the user's own file: {field.read('own')[:8]!r}, mode {os.stat(own).st_mode & 0o7777:o}"
+
+
+@attack("user")
+def a_pipe_of_another_user_holds_up_a_session(field):
+    """A FIFO of another user at the record's name, which nobody reads, is refused before it is opened: by a user and by
+    root, whoever owns its folder, and behind a link. One's own is recorded into."""
+    start, pipes = field.blank(), {}
+    for number, (owner, mode) in enumerate(((0, 0o1777), (field.user.pw_uid, 0o755), (0, 0o755))):
+        folder = field.path(f"folder-{number}")
+        os.mkdir(folder)
+        os.chmod(folder, mode)
+        os.chown(folder, owner, owner)
+        for user in (0, field.user.pw_uid):
+            pipe = os.path.join(folder, f"of-{user}")
+            os.mkfifo(pipe)
+            os.chmod(pipe, 0o666)
+            os.chown(pipe, user, user)
+            os.symlink(pipe, field.path(f"link-{number}-{user}"))
+            pipes.setdefault(user, []).extend([pipe, field.path(f"link-{number}-{user}")])
+    for as_user, others in ((False, field.user.pw_uid), (True, 0)):
+        for name in pipes[others]:
+            words = ["serve", "--tree", start, "--record", name]
+            done = field.run(*words, input=HELLO, as_user=as_user, timeout=PATIENCE)
+            yield from (f"{name}: {it}" for it in wrong_status(done, 3))
+            if done.stdout or b"it belongs to another user" not in done.stderr:
+                yield f"{name}: {done.stdout[:20]!r} {done.stderr[-200:]!r}"
+    own = pipes[0][0]
+    reader = os.open(own, os.O_RDONLY | os.O_NONBLOCK)
+    try:
+        yield from wrong_status(field.run("serve", "--tree", start, "--record", own, input=HELLO), 0)
+        if os.read(reader, 8) != b"SFTPTR01":
+            yield "nothing is recorded in a FIFO of one's own"
+    finally:
+        os.close(reader)
 
 
 @attack("user", "tar")

@@ -11,6 +11,8 @@ from sftp3.trees import FILE, USUAL, Entry, Tree, put
 READ_WRITE_CREATE = READ | WRITE | CREAT
 HELLO = init()
 USUAL_FILE, HIGHEST_FILE = 16_777_216, 67_108_864
+FIRST_HANDLE = uint64(0) + uint32(0)
+MEBI = 1 << 20
 
 
 def name(index):
@@ -58,7 +60,24 @@ def sparse_transcript(count, size=USUAL_FILE):
     return put_records(records)
 
 
-MEBI = 1 << 20
+def late_requests(count):
+    """Returns the requests that open a file and write 262,000 bytes to its start so many times."""
+    writes = [Request(it, "WRITE", [FIRST_HANDLE, 0, b"x" * 262_000]) for it in range(1, count + 1)]
+    return [Request(0, "OPEN", [name(0), READ_WRITE_CREATE, {}]), *writes]
+
+
+def late(count):
+    """Returns the input of that session."""
+    return HELLO + b"".join(map(encode, late_requests(count)))
+
+
+def late_transcript(count):
+    """Returns its transcript, where every WRITE is asked before the first of them is answered."""
+    opening, *writes = [(CLIENT, encode(it)) for it in late_requests(count)]
+    opened = (SERVER, encode(Packet(0, "HANDLE", [FIRST_HANDLE])))
+    replies = [(SERVER, status(it, 0)) for it in range(1, count + 1)]
+    return put_records([(CLIENT, HELLO), (SERVER, version(3, [])), opening, opened, *writes, *replies])
+
 
 # A process begins with the memory of the one that started it, as Linux counts the greatest. So a small process starts
 # the program, and writes its status and its greatest memory to a pipe.

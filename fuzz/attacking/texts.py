@@ -4,9 +4,11 @@ import os
 import re
 import shutil
 import subprocess
+import tarfile
 
 import sftp3
-from attacking.ground import attack
+from attacking.ground import attack, wrong_status
+from attacking.memory import archive_of
 from attacking.saving import OPENED, TOP
 from sftp3 import CLIENT, SERVER, Request, encode, init, put_records, version
 from sftp3.trees import DIRECTORY, Entry, Tree, put
@@ -43,6 +45,19 @@ def a_name_passes_for_a_verdict(field):
             if line.startswith(b"accepted") or any(byte < 32 or byte > 126 for byte in line):
                 yield f"{' '.join(words[:2])!r}: {line!r}"
     os.remove(bad)
+
+
+@attack(is_small=True)
+def a_name_fills_the_screen(field):
+    """A message on an entry of an archive has the start of its name, whether it is refused or passed over."""
+    for name, most in (("x" * 60_000, 3_000), ("d/" * 30_000 + "x", 3_000), ("\x01" * 60_000, 5_000)):
+        for kind, words, wanted in ((tarfile.REGTYPE, [], 2), (tarfile.FIFOTYPE, [], 2),
+                                    (tarfile.FIFOTYPE, ["--special", "skip"], 0),
+                                    (tarfile.FIFOTYPE, ["--special", "file"], 2)):
+            done = field.run("import", *words, "made.tree", input=archive_of([name], kind=kind))
+            yield from (f"{name[:2]!r} {words}: {it}" for it in wrong_status(done, wanted))
+            if not 1_000 < len(done.stderr) < most or done.stderr.count(b"\n") != 1:
+                yield f"{name[:2]!r} {words}: {len(done.stderr)} bytes, {done.stderr[:40]!r}"
 
 
 @attack("make", is_small=True)
