@@ -6,13 +6,17 @@ import shlex
 from probing.program import TOP
 
 
-class ServerOfLftp:
-    """`serve` under clients/serve, which saves the tree when a signal comes. It holds a lock while it runs."""
+def under_serve(words):
+    """The command of `sftpv3 serve`, which these words start, under clients/serve, which saves when a signal comes."""
+    return shlex.join([f"{TOP}/clients/serve", "--program", words[0], *words[2:]])
 
-    def __init__(self, folder, words):
-        """The server that these words start, with its files in this folder."""
+
+class ServerOfLftp:
+    """The script by which lftp starts a server. It holds a lock while the server runs."""
+
+    def __init__(self, folder, command):
+        """A server that this command of the shell starts; the script is in this folder."""
         self.lock, self.script = os.path.join(folder, "lftp.lock"), os.path.join(folder, "lftp.server")
-        command = shlex.join([f"{TOP}/clients/serve", "--program", words[0], *words[2:]])
         with open(self.script, "w", encoding="ascii") as file:
             file.write(f"#!/bin/sh\nexec 9>{shlex.quote(self.lock)} && flock 9 && exec {command}\n")
         os.chmod(self.script, 0o755)
