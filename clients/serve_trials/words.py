@@ -7,6 +7,7 @@ import sftp3
 from serve_trials import steps as trials
 from serve_trials.programs import has, run
 from serve_trials.steps import PROGRAM
+from trials.lftp import ServerOfLftp
 
 LINES = ['D "/" 0 0 0755', 'D "/d" 1000 1001 0700', 'F "/d/f" 1 2 0644 "hello"', 'F "/empty" 0 0 0000 ""',
          'L "/link" "d/f"', 'D "/open" 12345678 4294967294 01777', 'F "/set" 0 0 06755 "s"',
@@ -146,14 +147,14 @@ def with_long_names(steps, room):
 def with_lftp(steps, room, expected):
     if not has(steps, "lftp"):
         return
-    caller = room.folder / "connect"
-    caller.write_text(f"#!/bin/sh\nexec {command(room)}\n")
-    caller.chmod(0o755)
-    start = f"set sftp:connect-program {caller}; set net:max-retries 1; open -u u,x sftp://server; "
+    server = ServerOfLftp(room.folder, command(room))
+    start = f"set sftp:connect-program {server.script}; set net:max-retries 1; open -u u,x sftp://server; "
     ran = run(["lftp", "-c", f"{start}ls /; bye"], cwd=room.folder)
     steps.check(f"lftp, ls: {len(expected['/'])} lines, as ls -ln has them", rows(ran.stdout) == expected["/"],
                 f"{rows(ran.stdout)}, not {expected['/']}")
+    server.wait()
     ran = run(["lftp", "-c", f"{start}mkdir /d; bye"], cwd=room.folder)
+    server.wait()
     steps.check("lftp, mkdir of what is there: it shows the text", os.strerror(errno.EEXIST) in ran.stdout, ran.stdout)
 
 

@@ -1,1 +1,2 @@
 pub mod BareReplies
+mod LineLaws

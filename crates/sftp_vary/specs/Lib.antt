@@ -1,2 +1,3 @@
 -- Words of public contracts.
 pub mod Bare
+pub mod Lines

@@ -8,6 +8,7 @@ mod dice;
 mod freedoms;
 mod handles;
 mod limits_met;
+mod lined;
 mod listings;
 mod long_names;
 mod proposed;

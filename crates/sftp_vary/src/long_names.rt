@@ -7,66 +7,92 @@ use std::alloc::Global;
 /// How wide the columns of the owner, the group and the size are at least.
 const WIDTH: usize = 8;
 
-/// The count of names and the date, which no reply knows.
-const ONE_NAME: &[u8] = b"   1 ";
+/// Where the count of names is, and where the column of the owner begins.
+const COUNT: usize = 13;
 
+const OWNER: usize = 15;
+
+/// Room for the columns before the date: those before the owner's, two numbers of ten digits, one of twenty, and spaces.
+const ROOM: usize = 64;
+
+/// The date, which no reply knows.
 const DATE: &[u8] = b" Jan  1  1970 ";
 
 /// The line for a name with these attributes: type and permissions, the count of names, uid, gid, size, date, name. The
 /// count is 1 and the date the first of 1970, since the attributes have neither.
 pub(crate) fn long_name(alloc: Global, name: &[u8], attrs: &Attrs) -> Result<ByteString, NoMemory> {
     let (uid, gid) = attrs.owner.unwrap_or((0, 0));
-    let mut line = Vec::with_capacity(alloc, 64)?;
-    line.extend_from_slice(&mode(attrs.permissions.unwrap_or(0)))?;
-    line.extend_from_slice(ONE_NAME)?;
-    put_left(&mut line, u64::from(uid))?;
-    put_left(&mut line, u64::from(gid))?;
-    put_right(&mut line, attrs.size.unwrap_or(0))?;
+    let mut columns = Columns::new(attrs.permissions.unwrap_or(0));
+    columns.put_left(u64::from(uid));
+    columns.put_left(u64::from(gid));
+    columns.put_right(attrs.size.unwrap_or(0));
+    let length = name.len().saturating_add(ROOM + DATE.len());
+    let mut line = Vec::with_capacity(alloc, length)?;
+    line.extend_from_slice(columns.written())?;
     line.extend_from_slice(DATE)?;
     line.extend_from_slice(name)?;
     Ok(ByteString::new(line))
 }
 
-/// A number at the left of its column, and a space.
-fn put_left(line: &mut Vec<u8>, number: u64) -> Result<(), NoMemory> {
-    let mut buffer = Buffer::new();
-    let digits = buffer.format(number).as_bytes();
-    line.extend_from_slice(digits)?;
-    put_spaces(line, WIDTH.saturating_sub(digits.len()))?;
-    line.push(b' ')?;
-    Ok(())
+/// The columns of a line before the date.
+#[derive(Drop)]
+struct Columns {
+    bytes: [u8; ROOM],
+    /// Where the next one begins.
+    end: usize,
 }
 
-/// A number at the right of its column.
-fn put_right(line: &mut Vec<u8>, number: u64) -> Result<(), NoMemory> {
-    let mut buffer = Buffer::new();
-    let digits = buffer.format(number).as_bytes();
-    put_spaces(line, WIDTH.saturating_sub(digits.len()))?;
-    line.extend_from_slice(digits)?;
-    Ok(())
-}
-
-fn put_spaces(line: &mut Vec<u8>, count: usize) -> Result<(), NoMemory> {
-    for _ in 0..count {
-        line.push(b' ')?;
+impl Columns {
+    /// The type and the permissions, in ten letters, and the count of names.
+    fn new(permissions: u32) -> Columns {
+        let mut bytes = [b' '; ROOM];
+        bytes[0] = kind(permissions);
+        bytes[1] = letter(permissions, 0o400, b'r');
+        bytes[2] = letter(permissions, 0o200, b'w');
+        bytes[3] = third_letter(permissions, 0o100, 0o4000, b's', b'S');
+        bytes[4] = letter(permissions, 0o040, b'r');
+        bytes[5] = letter(permissions, 0o020, b'w');
+        bytes[6] = third_letter(permissions, 0o010, 0o2000, b's', b'S');
+        bytes[7] = letter(permissions, 0o004, b'r');
+        bytes[8] = letter(permissions, 0o002, b'w');
+        bytes[9] = third_letter(permissions, 0o001, 0o1000, b't', b'T');
+        bytes[COUNT] = b'1';
+        Columns { bytes, end: OWNER }
     }
-    Ok(())
+
+    /// A number at the left of its column, and a space.
+    fn put_left(&mut self, number: u64) {
+        let mut buffer = Buffer::new();
+        let digits = buffer.format(number).as_bytes();
+        put(&mut self.bytes, self.end, digits);
+        let width = digits.len().max(WIDTH);
+        self.end = self.end.saturating_add(width).saturating_add(1);
+    }
+
+    /// A number at the right of its column.
+    fn put_right(&mut self, number: u64) {
+        let mut buffer = Buffer::new();
+        let digits = buffer.format(number).as_bytes();
+        let start = self.end.saturating_add(WIDTH.saturating_sub(digits.len()));
+        put(&mut self.bytes, start, digits);
+        self.end = start.saturating_add(digits.len());
+    }
+
+    /// The columns so far.
+    fn written(&self) -> &[u8] {
+        self.bytes.get(..self.end).unwrap_or(&[])
+    }
 }
 
-/// The type and the permissions, in ten letters.
-fn mode(permissions: u32) -> [u8; 10] {
-    [
-        kind(permissions),
-        letter(permissions, 0o400, b'r'),
-        letter(permissions, 0o200, b'w'),
-        third_letter(permissions, 0o100, 0o4000, b's', b'S'),
-        letter(permissions, 0o040, b'r'),
-        letter(permissions, 0o020, b'w'),
-        third_letter(permissions, 0o010, 0o2000, b's', b'S'),
-        letter(permissions, 0o004, b'r'),
-        letter(permissions, 0o002, b'w'),
-        third_letter(permissions, 0o001, 0o1000, b't', b'T'),
-    ]
+/// Puts digits into a line.
+fn put(bytes: &mut [u8], start: usize, digits: &[u8]) {
+    let mut at = start;
+    for digit in digits {
+        if let Some(place) = bytes.get_mut(at) {
+            *place = *digit;
+        }
+        at = at.saturating_add(1);
+    }
 }
 
 /// The letter of the type.

@@ -1,19 +1,19 @@
 //! The answerer that gives the replies of another one words for people.
-ghost use Rattle.std.specs.Prelude.{◌≡◌, [], map, IfOk, IfSome};
+ghost use Rattle.std.specs.Prelude.{◌≡◌, [], IfOk, IfSome};
 ghost use Rattle.sftp_packets.specs.declared.packets.Packet.TheVariants.{Reply as reply_packet};
 ghost use Rattle.sftp_packets.specs.declared.replies.Answer.TheVariants as replies;
 ghost use Rattle.sftp_packets.specs.Packets.{HasSpelling};
-ghost use Rattle.sftp_vary.specs.Bare.{bare, bare_attrs, bare_item};
+ghost use Rattle.sftp_vary.specs.Bare.{bare};
 
 use crate::freedoms::{Freedom, Freedoms, Variation};
-use crate::long_names::long_name;
+use crate::lined::in_lines;
 use crate::spelled::spelled;
 use crate::words::{LANGUAGE, text_of};
 use sftp_handles::{HandleTable, Session};
 use sftp_server::Answerer;
 use sftp_tree::{Cause, Causes, EVERY_CAUSE, NoMemory};
 use sftp_wire::status::{EOF, OK};
-use sftp_wire::{Answer, Ask, Attrs, ByteString, NameItem, Names, Reply, Request};
+use sftp_wire::{Answer, Ask, ByteString, Reply, Request};
 use std::alloc::Global;
 
 /// How the replies of a session use what is free in them.
@@ -79,10 +79,21 @@ fn in_words<T: HandleTable>(session: &Session<T>, ask: &Ask, reply: Reply, words
     ensures same { bare result.answer ≡ bare reply.answer }
     ensures spelled { HasSpelling (reply_packet reply) → HasSpelling (reply_packet result) }
 {
+    if words.long_names && gives_names(ask, &reply.answer) {
+        return in_lines(session.tree().allocator(), reply);
+    }
     match with_words(session, ask, &reply.answer, words) {
         Ok(Some(answer)) => in_place(session.tree().allocator(), answer, reply),
         Ok(None) => reply,
         Err(_) => reply,
+    }
+}
+
+/// Whether an answer gives the names of a directory. REALPATH and READLINK have the name itself as the long name.
+fn gives_names(ask: &Ask, answer: &Answer) -> bool {
+    match (ask, answer) {
+        (Ask::Readdir { .. }, Answer::Name(_)) => true,
+        _ => false,
     }
 }
 
@@ -116,13 +127,6 @@ fn with_words<T: HandleTable>(
         Answer::Status { code, .. } => {
             if words.texts {
                 refusal(session, ask, *code)
-            } else {
-                Ok(None)
-            }
-        }
-        Answer::Name(names) => {
-            if words.long_names {
-                listed(session, ask, names)
             } else {
                 Ok(None)
             }
@@ -182,63 +186,4 @@ fn cause_of(causes: Causes, code: u32) -> Option<Cause> {
         }
     }
     None
-}
-
-/// The names of a reply to READDIR with long names. REALPATH and READLINK have the name itself there.
-fn listed<T: HandleTable>(
-    session: &Session<T>,
-    ask: &Ask,
-    names: &Names,
-) -> Result<Option<Answer>, NoMemory>
-    ensures { IfOk result (λ o. IfSome o (λ it. bare it ≡ replies.Name (map bare_item names.now))) }
-{
-    match ask {
-        Ask::Readdir { .. } => {
-            let items = with_long_names(session.tree().allocator(), names.as_slice())?;
-            Ok(Some(Answer::Name(Names::new(items))))
-        }
-        _ => Ok(None),
-    }
-}
-
-/// Items with long names.
-fn with_long_names(alloc: Global, items: &[NameItem]) -> Result<Vec<NameItem>, NoMemory>
-    ensures { IfOk result (λ found. map bare_item found.items ≡ map bare_item items.now) }
-{
-    let mut found = Vec::new(alloc);
-    for item in items {
-        found.push(with_long_name(alloc, item)?)?;
-    }
-    Ok(found)
-}
-
-/// An item with a long name.
-fn with_long_name(alloc: Global, item: &NameItem) -> Result<NameItem, NoMemory>
-    ensures { IfOk result (λ found. bare_item found ≡ bare_item item.now) }
-{
-    let longname = long_name(alloc, item.filename.as_slice(), &item.attrs)?;
-    match ByteString::from_slice(alloc, item.filename.as_slice()) {
-        Ok(filename) => Ok(NameItem {
-            filename,
-            longname,
-            attrs: plain_copy(&item.attrs),
-        }),
-        Err(_) => {
-            drop(longname);
-            Err(NoMemory)
-        }
-    }
-}
-
-/// Attributes without extended pairs.
-fn plain_copy(attrs: &Attrs) -> Attrs
-    ensures { bare_attrs result ≡ bare_attrs attrs.now }
-{
-    Attrs {
-        size: attrs.size,
-        owner: attrs.owner,
-        permissions: attrs.permissions,
-        times: attrs.times,
-        extended: None,
-    }
 }
