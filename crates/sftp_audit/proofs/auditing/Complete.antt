@@ -1,7 +1,7 @@
 -- A session that may have been cut is complete where none of its requests is unanswered.
-use Rattle.sftp_audit.proofs.Imports.{◌≡◌, ℕ, Bool, true, false, List, [], ◌∷◌, length, refl, sym, ap, ◌∙◌, ◌⊎◌, inl, inr}
-use Rattle.sftp_audit.proofs.Imports.{cases_Bool, eq-eqb, StepOf, Event, IsTrue, InTurn, in_window, turn_after, closed}
-use Rattle.sftp_audit.proofs.Imports.{Explained, Sound, sound_by, Tree, AccountsBy, Exchange, recorded_exchanges}
+use Rattle.sftp_audit.proofs.Imports.{◌≡◌, ℕ, true, false, List, [], ◌∷◌, length, refl, sym, ap, ◌∙◌, ◌⊎◌, inl, inr}
+use Rattle.sftp_audit.proofs.Imports.{cases_Bool, eq-eqb, StepOf, Event}
+use Rattle.sftp_audit.proofs.Imports.{sound_by, Tree, AccountsBy, Exchange, recorded_exchanges}
 use Rattle.sftp_audit.proofs.Imports.{is_answered, is_open, unsettled}
 use Rattle.sftp_audit.specs.Cuts.{AccountsCutBy, is_unanswered, unanswered_count, unsettled_count}
 use Rattle.sftp_audit.proofs.auditing.Lists.{unanswered-past, unsettled-past, unsettled-none}
@@ -72,7 +72,7 @@ module _ {S : Type 0} (step : StepOf S) (begin : Tree → S) (close : S → Tree
     answered-of_complete a =
         let sound = sound_by step (begin start) events a.last a.explained in
         none_unanswered (recorded_exchanges events)
-        (λ id. none_if_closed events id sound.in_turn sound.within_window (a.explained.matching id))
+        (λ id. none_if_closed events id sound.in_turn (a.explained.matching id))
 
     pub complete-of_cut : AccountsCutBy step begin close tree transcript start events end
         → unanswered_count (recorded_exchanges events) ≡ 0 → AccountsBy step begin close tree transcript start events end
@@ -81,7 +81,7 @@ module _ {S : Type 0} (step : StepOf S) (begin : Tree → S) (close : S → Tree
       events_are = a.events_are;
       last = a.last;
       explained = record {
-        matching = λ id. closed_if_none events id a.sound.in_turn a.sound.within_window
+        matching = λ id. closed_if_none events id a.sound.in_turn
             (none_open (recorded_exchanges events) none id);
         within_window = a.sound.within_window;
         run = a.sound.run;

@@ -65,13 +65,13 @@ module _ {S : Type 0} (step : StepOf S) where
   waiting_of : (start : S) (events : List Event) (old : Audited S) (id : ℕ) → StandsFor step start events old
       → is_open id old.kept ≡ true → IsWaiting events id
   waiting_of start events old id stands is =
-      waits_if_open events id stands.sound.in_turn stands.sound.within_window
+      waits_if_open events id stands.sound.in_turn
       (waits_as start events old id true stands is)
 
   closed_of : (start : S) (events : List Event) (old : Audited S) (id : ℕ) → StandsFor step start events old
       → is_open id old.kept ≡ false → turn_after id closed events ≡ closed
   closed_of start events old id stands is =
-      closed_if_none events id stands.sound.in_turn stands.sound.within_window
+      closed_if_none events id stands.sound.in_turn
       (waits_as start events old id false stands is)
 
   -- ---- one request more
@@ -104,7 +104,7 @@ module _ {S : Type 0} (step : StepOf S) where
       record {
         sound = record {
           in_turn = in_turn-asked events request stands.sound.in_turn turn;
-          within_window = window-asked events request stands.sound.in_turn stands.sound.within_window turn few;
+          within_window = window-asked events request stands.sound.within_window few;
           run = run;
         };
         kept = are;
@@ -189,7 +189,7 @@ module _ {S : Type 0} (step : StepOf S) where
       record {
         sound = record {
           in_turn = in_turn-replied events reply stands.sound.in_turn turn;
-          within_window = window-replied events reply stands.sound.within_window stands.sound.in_turn turn;
+          within_window = window-replied events reply ∙ stands.sound.within_window;
           run = subst (λ (xs : List (Request × Reply)). Run step start xs new.state) pairs
               (run-append step start settled_pairs old.state more_pairs new.state a.run run);
         };
