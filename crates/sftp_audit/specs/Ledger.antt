@@ -1,7 +1,6 @@
 -- The index of the exchanges that are kept: where the requests that wait are, by their ids.
 use Rattle.std.specs.Prelude.{◌≡◌, ℕ, suc, ◌+◌, ◌%◌, ◌^◌, ◌≤◌, Bool, true, false, if◌then◌else◌, List, [], ◌∷◌, length}
-use Rattle.std.specs.Prelude.{slice_get, Option, Some, None, nat_eq}
-use Rattle.std.specs.Prelude.{⊤}
+use Rattle.std.specs.Prelude.{slice_get, Option, Some, None, nat_eq, ⊤}
 use Rattle.std.specs.Map.{lookup}
 use Rattle.std.specs.Option.{option_map, option_map_or}
 use Rattle.sftp_transcript.specs.Explained.{window}

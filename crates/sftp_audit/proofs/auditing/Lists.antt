@@ -1,12 +1,11 @@
 -- Lists of exchanges: what an event adds, which of them are settled, and what they are without the numbers.
-use Rattle.sftp_audit.proofs.Imports.{◌≡◌, ◌==◌, ◌&&◌, ◌||◌, not, ℕ, ◌+◌, ◌≤◌, min, true, false, List}
-use Rattle.sftp_audit.proofs.Imports.{[], ◌∷◌, ◌++◌, Option, Some, None, length, refl, sym, ap, ◌∙◌, map}
-use Rattle.sftp_audit.proofs.Imports.{arith, inl, inr, option_map, eqb-true, eqb-false, eq-eqb, ne_eqb, cases_Bool}
-use Rattle.sftp_audit.proofs.Imports.{map-append, map-id, append-nil, Request, Reply, Event, Asked, Replied}
-use Rattle.sftp_audit.proofs.Imports.{first_number, number_after_events, next_reply, exchanges_of, leading_pairs}
-use Rattle.sftp_audit.proofs.Imports.{RecordedReply, Exchange, next_recorded, exchanges_from, recorded_exchanges}
-use Rattle.sftp_audit.proofs.Imports.{is_answered, unsettled, AreAnswered, waits_for, is_open, reply_of, ledger_of}
-use Rattle.sftp_audit.proofs.Imports.{or_assoc}
+use Rattle.sftp_audit.proofs.Imports.{◌≡◌, ◌==◌, ◌&&◌, ◌||◌, not, ℕ, ◌+◌, ◌≤◌, min, true, false, List, [], ◌∷◌, ◌++◌}
+use Rattle.sftp_audit.proofs.Imports.{Option, Some, None, length, refl, sym, ap, ◌∙◌, map, arith, inl, inr, option_map}
+use Rattle.sftp_audit.proofs.Imports.{eqb-true, eqb-false, eq-eqb, ne_eqb, cases_Bool, map-append, map-id, append-nil}
+use Rattle.sftp_audit.proofs.Imports.{Request, Reply, Event, Asked, Replied, first_number, number_after_events}
+use Rattle.sftp_audit.proofs.Imports.{next_reply, exchanges_of, leading_pairs, RecordedReply, Exchange, next_recorded}
+use Rattle.sftp_audit.proofs.Imports.{exchanges_from, recorded_exchanges, is_answered, unsettled, AreAnswered}
+use Rattle.sftp_audit.proofs.Imports.{waits_for, is_open, reply_of, ledger_of, or_assoc}
 use Rattle.sftp_streams.specs.Streams.{one_more, largest_count}
 use Rattle.sftp_audit.specs.Exchanges.{answered_by, with_reply}
 use Rattle.sftp_audit.specs.Cuts.{is_unanswered, unanswered_count}

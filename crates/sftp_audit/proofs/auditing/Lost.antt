@@ -1,10 +1,9 @@
 -- What an auditor refuses is lost: whatever else comes, the tree explains no such session.
-use Rattle.sftp_audit.proofs.Imports.{◌≡◌, ◌≢◌, ◌==◌, ℕ, true, false, List, [], ◌∷◌, ◌++◌, Option, Some, None}
-use Rattle.sftp_audit.proofs.Imports.{arith, cases_Bool, refl, sym, ap, ◌∙◌, subst, eq-eqb, Request, Reply}
-use Rattle.sftp_audit.proofs.Imports.{StepOf, Event, Asked, Replied, closed, waiting, turn_after, next_reply}
-use Rattle.sftp_audit.proofs.Imports.{exchanges_of, leading_pairs, Run, Explained, Sound, sound_by, Refusal, Exchange}
-use Rattle.sftp_audit.proofs.Imports.{Refuses, LacksReply, IsFirstWrong, recorded_exchanges}
-use Rattle.sftp_audit.proofs.Imports.{is_answered, is_open, ledger_of}
+use Rattle.sftp_audit.proofs.Imports.{◌≡◌, ◌≢◌, ◌==◌, ℕ, true, false, List, [], ◌∷◌, ◌++◌, Option, Some, None, arith}
+use Rattle.sftp_audit.proofs.Imports.{cases_Bool, refl, sym, ap, ◌∙◌, subst, eq-eqb, Request, Reply, StepOf, Event}
+use Rattle.sftp_audit.proofs.Imports.{Asked, Replied, closed, waiting, turn_after, next_reply, exchanges_of}
+use Rattle.sftp_audit.proofs.Imports.{leading_pairs, Run, Explained, Sound, sound_by, Refusal, Exchange, Refuses}
+use Rattle.sftp_audit.proofs.Imports.{LacksReply, IsFirstWrong, recorded_exchanges, is_answered, is_open, ledger_of}
 use Rattle.sftp_audit.specs.declared.errors.Refusal.TheVariants as refusals
 use Rattle.sftp_audit.proofs.steps.StepLaws.{HasOneEnd, run-one_end}
 use Rattle.sftp_audit.proofs.auditing.Lists.{ledger_of-recorded, is_open-unsettled, leading_pairs-settled}

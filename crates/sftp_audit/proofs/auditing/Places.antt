@@ -1,11 +1,10 @@
 -- How the index of the requests that wait follows the exchanges that are kept.
-use Rattle.sftp_audit.proofs.Imports.{◌≡◌, ◌==◌, not, nat_eq, ℕ, suc, ◌+◌, ◌%◌, ◌^◌, ◌<◌, ◌≤◌, ◌⊎◌}
-use Rattle.sftp_audit.proofs.Imports.{Bool, true, false, cond, List, [], ◌∷◌, ◌++◌, Option, Some, None, is_some, length}
-use Rattle.sftp_audit.proofs.Imports.{set, drop, slice_get, refl, sym, ap, ◌∙◌, arith, inl, inr, option_map}
-use Rattle.sftp_audit.proofs.Imports.{eqb-true, cases_Bool, true≢false, length-append}
-use Rattle.sftp_audit.proofs.Imports.{length-map, none-some, same_Some, and_parts, Request, window, RecordedReply}
-use Rattle.sftp_audit.proofs.Imports.{Exchange, starts_answered, ordinal_at, IsIndexed, AreApart, place_of}
-use Rattle.sftp_audit.proofs.Imports.{is_answered, waits_for, is_open}
+use Rattle.sftp_audit.proofs.Imports.{◌≡◌, ◌==◌, not, nat_eq, ℕ, suc, ◌+◌, ◌%◌, ◌^◌, ◌<◌, ◌≤◌, ◌⊎◌, Bool, true, false}
+use Rattle.sftp_audit.proofs.Imports.{cond, List, [], ◌∷◌, ◌++◌, Option, Some, None, is_some, length, set, drop}
+use Rattle.sftp_audit.proofs.Imports.{slice_get, refl, sym, ap, ◌∙◌, arith, inl, inr, option_map, eqb-true, cases_Bool}
+use Rattle.sftp_audit.proofs.Imports.{true≢false, length-append, length-map, none-some, same_Some, and_parts, Request}
+use Rattle.sftp_audit.proofs.Imports.{window, RecordedReply, Exchange, starts_answered, ordinal_at, IsIndexed, AreApart}
+use Rattle.sftp_audit.proofs.Imports.{place_of, is_answered, waits_for, is_open}
 use Rattle.std.proofs.lemmas.Bool.{or_parts}
 use Rattle.std.specs.Map.{lookup}
 use Rattle.sftp_audit.specs.Exchanges.{answered_by, with_reply}

@@ -1,10 +1,9 @@
 -- Events that are in turn and in time, and what their exchanges say of them.
 use Rattle.sftp_audit.proofs.Imports.{if◌then◌else◌, ◌≡◌, ◌==◌, ◌≢◌, ℕ, suc, ◌+◌, ◌<◌, ◌≤◌, Bool, true, false, List, []}
-use Rattle.sftp_audit.proofs.Imports.{◌∷◌, ◌++◌, is_some, IsTrue, length, refl, sym, ap, subst, ◌∙◌}
-use Rattle.sftp_audit.proofs.Imports.{append_assoc, arith, eqb-true, eq-eqb, and_parts, ltb-true}
-use Rattle.sftp_audit.proofs.Imports.{cases_Bool, append-nil, Request, Reply, Event, Asked, Replied}
-use Rattle.sftp_audit.proofs.Imports.{Turn, closed, waiting, broken, turn_after, in_window, requests_before_reply}
-use Rattle.sftp_audit.proofs.Imports.{window, StepOf, Run, InTurn, IsWaiting}
+use Rattle.sftp_audit.proofs.Imports.{◌∷◌, ◌++◌, is_some, IsTrue, length, refl, sym, ap, subst, ◌∙◌, append_assoc}
+use Rattle.sftp_audit.proofs.Imports.{arith, eqb-true, eq-eqb, and_parts, ltb-true, cases_Bool, append-nil, Request}
+use Rattle.sftp_audit.proofs.Imports.{Reply, Event, Asked, Replied, Turn, closed, waiting, broken, turn_after}
+use Rattle.sftp_audit.proofs.Imports.{in_window, requests_before_reply, window, StepOf, Run, InTurn, IsWaiting}
 use Rattle.sftp_audit.proofs.Imports.{next_recorded, exchanges_from, recorded_exchanges, unsettled, is_open}
 use Rattle.std.proofs.lemmas.Bool.{and_from, lt-ltb}
 use Rattle.sftp_streams.specs.Streams.{one_more}
@@ -161,7 +160,8 @@ window-asked events request inside few = in_time _ events request inside few
 
 -- it is late where as many are
 late : (number : ℕ) (events : List Event) (request : Request) (more : List Event)
-    → window ≤ length (unsettled (exchanges_from number events)) → IsTrue (in_window (events ++ Asked request ∷ more)) → ⊥
+    → window ≤ length (unsettled (exchanges_from number events)) → IsTrue (in_window (events ++ Asked request ∷ more))
+    → ⊥
 unfolding in_window requests_before_reply exchanges_from unsettled
 late number [] request more many inside = absurd (omega (arith, many))
 late number (Replied reply ∷ events) request more many inside = late (one_more number) events request more many inside
