@@ -2,12 +2,12 @@
 -- that a proof has a line or two of imports in place of twenty. Declares nothing.
 pub use Rattle.std.proofs.Common.{◌≡◌, ◌==◌, ◌&&◌, ◌||◌, not, ℕ, suc, ◌+◌, ◌≤◌, min, Bool, true, false, cond, List, []}
 pub use Rattle.std.proofs.Common.{◌∷◌, ◌++◌, Option, Some, None, is_some, length, refl, sym, ap, ◌∙◌, ◌⊎◌, arith, inl}
-pub use Rattle.std.proofs.Common.{inr, eqb-true, eq-eqb, ◌≢◌, if◌then◌else◌, subst, nat_eq, zero, ◌%◌, ◌^◌, ◌<◌, set}
+pub use Rattle.std.proofs.Common.{inr, eqb-true, eq-eqb, ◌≢◌, if◌then◌else◌, subst, nat_eq, ◌%◌, ◌^◌, ◌<◌, set}
 pub use Rattle.std.proofs.Common.{drop, slice_get, IsTrue, append_assoc, Ok, Err, Result, OnOk, ◌-◌, codes, nat_lt}
-pub use Rattle.std.proofs.Common.{lit<, lit≤, ltb-true}
+pub use Rattle.std.proofs.Common.{lit<, lit≤, ltb-true, map}
 pub use Rattle.std.proofs.lemmas.Bool.{eqb-false, ne_eqb, cases_Bool, true≢false, and_parts}
-pub use Rattle.std.proofs.lemmas.List.{length-map, map-append, length-append, append-nil, length-drop}
-pub use Rattle.std.proofs.lemmas.Option.{none-some, same_Some, slice_get-map, slice_get_within, slice_get_read}
+pub use Rattle.std.proofs.lemmas.List.{length-map, map-append, map-id, length-append, append-nil, length-drop}
+pub use Rattle.std.proofs.lemmas.Option.{none-some, same_Some, slice_get_read}
 pub use Rattle.std.proofs.lemmas.Result.{err_from_is_err_and, IfErr-weaker, IfOk-weaker}
 pub use Rattle.std.specs.List.{AllByRecursion, list_all, flat_map, list_any}
 pub use Rattle.std.specs.Option.{option_map}
@@ -34,16 +34,17 @@ unfoldable pub use Rattle.sftp_tree.specs.Picture.{picture}
 pub use Rattle.sftp_tree.specs.Tree.{Tree, raised}
 pub use Rattle.sftp_wire.specs.Examples.{no_attributes}
 unfoldable pub use Rattle.sftp_wire.specs.Examples.{hex}
-pub use mathlib.Core.Bool.{or_assoc, and-false}
+pub use mathlib.Core.Bool.{or_assoc}
 pub use Rattle.sftp_audit.specs.Audit.{request_count, RefusedAt, RefusedAtEnd, FaultAt, IsFirstFaultBy, IsTreeError}
 pub use Rattle.sftp_audit.specs.Audit.{IsPlain, IsNew, IsNoJudgement, WasFed, StopsFeed, IsToldOf, is_request}
 pub use Rattle.sftp_audit.specs.Audit.{HasRefused, error_of_transcript, error_of_session, AccountsBy, JudgesTree}
 pub use Rattle.sftp_audit.specs.Audit.{IsToldBy, ToldAt, IsExcusedBy}
 pub use Rattle.sftp_audit.specs.Auditor.{Refuses, LacksReply, IsFirstWrong, FollowsOf, IsTold, Audited, StandsFor}
 pub use Rattle.sftp_audit.specs.Examples.{Unexplained}
-pub use Rattle.sftp_audit.specs.Exchanges.{recorded_exchanges, is_answered, AreAnswered, reply_of, ledger_of}
+pub use Rattle.sftp_audit.specs.Exchanges.{recorded_exchanges, is_answered, AreAnswered, waits_for, reply_of, ledger_of}
 unfoldable pub use Rattle.sftp_audit.specs.Exchanges.{next_recorded, exchanges_from, unsettled, is_open}
-pub use Rattle.sftp_audit.specs.Ledger.{starts_answered, IsOrdinal, WaitsAt, IsIndexed, RefusesRequest, RefusesReply}
+pub use Rattle.sftp_audit.specs.Ledger.{starts_answered, ordinal_at, IsIndexed, RefusesRequest, RefusesReply}
+unfoldable pub use Rattle.sftp_audit.specs.Ledger.{AreApart, place_of}
 pub use Rattle.sftp_audit.specs.declared.errors.AuditError.{AuditError}
 pub use Rattle.sftp_audit.specs.declared.errors.Refusal.{Refusal}
 pub use Rattle.sftp_audit.specs.declared.exchanges.Exchange.{Exchange}

@@ -49,16 +49,19 @@ unsettled (exchange ∷ exchanges) = if is_answered exchange then unsettled exch
 abbrev pub AreAnswered : List Exchange → Type 0
 AreAnswered exchanges = AllByRecursion (λ exchange. IsTrue (is_answered exchange)) exchanges
 
--- a request of this id has no reply
+-- the request is of this id, and has no reply
+abbrev pub waits_for : ℕ → Exchange → Bool
+waits_for id exchange = not (is_answered exchange) && exchange.request.id == id
+
+-- one of them is of this id, and has no reply
 unfoldable pub is_open : ℕ → List Exchange → Bool
 is_open id [] = false
-is_open id (exchange ∷ exchanges) =
-    (not (is_answered exchange) && exchange.request.id == id) || is_open id exchanges
+is_open id (exchange ∷ exchanges) = waits_for id exchange || is_open id exchanges
 
 -- the request of the reply's id that has none gets it
 abbrev pub answered_by : RecordedReply → Exchange → Exchange
 answered_by recorded exchange =
-    if not (is_answered exchange) && exchange.request.id == recorded.reply.id
+    if waits_for recorded.reply.id exchange
     then record { request = exchange.request; number = exchange.number; reply = Some recorded } else exchange
 
 abbrev pub with_reply : RecordedReply → List Exchange → List Exchange

@@ -1,41 +1,41 @@
 -- The index of the exchanges that are kept: where the requests that wait are, by their ids.
-use Rattle.std.specs.Prelude.{◌≡◌, ◌⊎◌, ℕ, ◌+◌, ◌^◌, ◌<◌, ◌≤◌, Bool, true, false, List, length, slice_get}
-use Rattle.std.specs.Prelude.{Some, None, nat_eq}
-use Rattle.std.specs.Prelude.{⊤}
+use Rattle.std.specs.Prelude.{◌≡◌, ℕ, suc, ◌+◌, ◌%◌, ◌^◌, ◌≤◌, Bool, true, false, if◌then◌else◌, List, [], ◌∷◌, length}
+use Rattle.std.specs.Prelude.{slice_get, Option, Some, None, nat_eq, ⊤}
 use Rattle.std.specs.Map.{lookup}
-use Rattle.std.specs.Option.{option_map_or}
+use Rattle.std.specs.Option.{option_map, option_map_or}
 use Rattle.sftp_transcript.specs.Explained.{window}
-use Rattle.sftp_transcript.specs.Ledger.{AreApart}
 use Rattle.sftp_audit.specs.declared.errors.Refusal.{Refusal}
 use Rattle.sftp_audit.specs.declared.errors.Refusal.TheVariants as refusals
 use Rattle.sftp_audit.specs.declared.exchanges.Exchange.{Exchange}
 use Rattle.sftp_audit.specs.declared.exchanges.RecordedReply.{RecordedReply}
-use Rattle.sftp_audit.specs.Exchanges.{is_answered, is_open, ledger_of}
+use Rattle.sftp_audit.specs.Exchanges.{is_answered, waits_for, is_open}
 use Rattle.sftp_packets.specs.declared.packets.Request.{Request}
 
 -- there is a first exchange, and it has its reply
 abbrev pub starts_answered : List Exchange → Bool
 starts_answered exchanges = option_map_or is_answered (slice_get exchanges 0) false
 
--- the ordinal of the exchange at a place, where the first one has an ordinal; ordinals count modulo 2^64
-abbrev pub IsOrdinal : ℕ → ℕ → ℕ → Type 0
-IsOrdinal first place ordinal =
-    (ordinal < 2 ^ 64) × ((ordinal ≡ first + place) ⊎ (ordinal + 2 ^ 64 ≡ first + place))
+-- no two requests of one id wait
+unfoldable pub AreApart : List Exchange → Type 0
+AreApart [] = Unit {0}
+AreApart (exchange ∷ exchanges) =
+    (is_answered exchange ≡ false → is_open exchange.request.id exchanges ≡ false) × AreApart exchanges
 
--- at this place is a request of this id that waits
-pub record WaitsAt (exchanges : List Exchange) (place id : ℕ) : Type 0 where
-  pub exchange : Exchange
-  pub at : slice_get exchanges place ≡ Some exchange
-  pub waits : is_answered exchange ≡ false
-  pub same_id : exchange.request.id ≡ id
+-- how many exchanges are before the first request of this id that waits
+unfoldable pub place_of : ℕ → List Exchange → Option ℕ
+place_of id [] = None
+place_of id (exchange ∷ exchanges) =
+    if waits_for id exchange then Some 0 else option_map (λ place. suc place) (place_of id exchanges)
+
+-- the ordinal of the exchange at a place, where the first one has an ordinal; ordinals count modulo 2^64
+abbrev pub ordinal_at : ℕ → ℕ → ℕ
+ordinal_at first place = (first + place) % 2 ^ 64
 
 -- the index has the ordinals of the requests that wait
 pub record IsIndexed (exchanges : List Exchange) (index : List (ℕ × ℕ)) (first : ℕ) : Type 0 where
   pub few : length exchanges ≤ window
-  pub apart : AreApart (ledger_of exchanges)
-  pub found : (id ordinal : ℕ) → lookup (nat_eq id) index ≡ Some ordinal
-      → (place : ℕ) × IsOrdinal first place ordinal × WaitsAt exchanges place id
-  pub absent : (id : ℕ) → lookup (nat_eq id) index ≡ None → is_open id exchanges ≡ false
+  pub apart : AreApart exchanges
+  pub found : (id : ℕ) → lookup (nat_eq id) index ≡ option_map (ordinal_at first) (place_of id exchanges)
 
 -- why a request is not taken, in the record of this number
 abbrev pub RefusesRequest : List Exchange → Request → ℕ → Refusal → Type 0

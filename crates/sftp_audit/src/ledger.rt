@@ -5,7 +5,7 @@ ghost use Rattle.std.specs.VecDeque.{deque_len, deque_capacity};
 ghost use Rattle.sftp_transcript.specs.Explained.{window};
 ghost use Rattle.sftp_audit.specs.Exchanges.{is_open, with_reply};
 ghost use Rattle.sftp_audit.specs.Cuts.{is_unanswered, unanswered_count};
-ghost use Rattle.sftp_audit.specs.Ledger.{starts_answered, IsOrdinal, IsIndexed, RefusesRequest, RefusesReply};
+ghost use Rattle.sftp_audit.specs.Ledger.{starts_answered, ordinal_at, IsIndexed, RefusesRequest, RefusesReply};
 
 use crate::errors::Refusal;
 use crate::exchanges::{Exchange, RecordedReply};
@@ -225,7 +225,7 @@ fn enter(
 
 /// The position of the exchange with this ordinal, given the ordinal of the first one.
 fn position_of(ordinal: u64, first: u64) -> usize
-    ensures { (position : ℕ) → position ≤ window → IsOrdinal first position ordinal → result ≡ position }
+    ensures { (position : ℕ) → position ≤ window → ordinal ≡ ordinal_at first position → result ≡ position }
 {
     ordinal.wrapping_sub(first) as usize
 }

@@ -1,11 +1,9 @@
 -- What an auditor refuses is lost: whatever else comes, the tree explains no such session.
-use Rattle.sftp_audit.proofs.Imports.{◌≡◌, ◌≢◌, ◌==◌, ℕ, Bool, true, false, List, [], ◌∷◌, ◌++◌, Option, Some, None}
-use Rattle.sftp_audit.proofs.Imports.{if◌then◌else◌, refl, sym, ap, ◌∙◌, subst, eq-eqb, Request, Reply}
-use Rattle.sftp_audit.proofs.Imports.{StepOf, Event, Asked, Replied, closed, waiting, turn_after, next_reply}
-use Rattle.sftp_audit.proofs.Imports.{exchanges_of, leading_pairs, Run, Explained, Sound, sound_by, Refusal, Exchange}
-use Rattle.sftp_audit.proofs.Imports.{Refuses, LacksReply, IsFirstWrong, recorded_exchanges}
-use Rattle.sftp_audit.proofs.Imports.{is_answered, is_open, ledger_of}
-use Rattle.sftp_transcript.specs.Ledger as ledgers
+use Rattle.sftp_audit.proofs.Imports.{◌≡◌, ◌≢◌, ◌==◌, ℕ, true, false, List, [], ◌∷◌, ◌++◌, Option, Some, None, arith}
+use Rattle.sftp_audit.proofs.Imports.{cases_Bool, refl, sym, ap, ◌∙◌, subst, eq-eqb, Request, Reply, StepOf, Event}
+use Rattle.sftp_audit.proofs.Imports.{Asked, Replied, closed, waiting, turn_after, next_reply, exchanges_of}
+use Rattle.sftp_audit.proofs.Imports.{leading_pairs, Run, Explained, Sound, sound_by, Refusal, Exchange, Refuses}
+use Rattle.sftp_audit.proofs.Imports.{LacksReply, IsFirstWrong, recorded_exchanges, is_answered, is_open, ledger_of}
 use Rattle.sftp_audit.specs.declared.errors.Refusal.TheVariants as refusals
 use Rattle.sftp_audit.proofs.steps.StepLaws.{HasOneEnd, run-one_end}
 use Rattle.sftp_audit.proofs.auditing.Lists.{ledger_of-recorded, is_open-unsettled, leading_pairs-settled}
@@ -13,69 +11,37 @@ use Rattle.sftp_audit.proofs.auditing.Lists.{first_unsettled}
 use Rattle.sftp_audit.proofs.auditing.Turns.{waits_if_open, window-full, run-split, one_more_event, second_request}
 use Rattle.sftp_audit.proofs.auditing.Turns.{reply_unasked}
 
--- ---- replies that are still to come
+-- ---- pairs stay where they are
 
-abbrev or_later : Option Reply → Option Reply → Option Reply
-or_later None later = later
-or_later (Some reply) later = Some reply
-
-next_reply-append : (id : ℕ) (xs ys : List Event)
-    → next_reply id (xs ++ ys) ≡ or_later (next_reply id xs) (next_reply id ys)
+next_reply-stays : (id : ℕ) (xs ys : List Event) (reply : Reply) → next_reply id xs ≡ Some reply
+    → next_reply id (xs ++ ys) ≡ Some reply
 unfolding next_reply
-next_reply-append id [] ys = refl
-next_reply-append id (Asked request ∷ xs) ys = next_reply-append id xs ys
-next_reply-append id (Replied reply ∷ xs) ys = by (next_reply-append id xs ys) (reply.id == id)
-  where
-    by : next_reply id (xs ++ ys) ≡ or_later (next_reply id xs) (next_reply id ys) → (b : Bool)
-        → (if b then Some reply else next_reply id (xs ++ ys))
-        ≡ or_later (if b then Some reply else next_reply id xs) (next_reply id ys)
-    by rest true = refl
-    by rest false = rest
-
-with_replies-first : (request : Request) (reply : Option Reply) (others : List ledgers.Exchange) (more : List Event)
-    → ledgers.with_replies ((request, reply) ∷ others) more
-    ≡ (request, or_later reply (next_reply request.id more)) ∷ ledgers.with_replies others more
-unfolding ledgers.with_replies
-with_replies-first request None others more = refl
-with_replies-first request (Some reply) others more = refl
-
--- the exchanges of events, and of more events after them
-exchanges_of-append : (xs ys : List Event)
-    → exchanges_of (xs ++ ys) ≡ ledgers.with_replies (exchanges_of xs) ys ++ exchanges_of ys
-unfolding exchanges_of ledgers.with_replies
-exchanges_of-append [] ys = refl
-exchanges_of-append (Asked request ∷ xs) ys =
-    let own : Option Reply = next_reply request.id xs in
-    let either : Option Reply = or_later own (next_reply request.id ys) in
-    ap (λ (o : Option Reply). (request, o) ∷ exchanges_of (xs ++ ys)) (next_reply-append request.id xs ys)
-    ∙ ap (λ (l : List ledgers.Exchange). (request, either) ∷ l) (exchanges_of-append xs ys)
-    ∙ ap (λ (l : List ledgers.Exchange). l ++ exchanges_of ys)
-    (sym (with_replies-first request own (exchanges_of xs) ys))
-exchanges_of-append (Replied reply ∷ xs) ys = exchanges_of-append xs ys
+next_reply-stays id [] ys reply is = absurd cc
+next_reply-stays id (Asked request ∷ xs) ys reply is = next_reply-stays id xs ys reply is
+next_reply-stays id (Replied given ∷ xs) ys reply is = grind (arith, cases_Bool, next_reply-stays id xs ys reply)
 
 -- a list begins with another one
 record BeginsWith (xs ys : List (Request × Reply)) : Type 0 where
   others : List (Request × Reply)
   are : ys ≡ xs ++ others
 
-leading_pairs-begin : (ledger : List ledgers.Exchange) (more : List Event) (rest : List ledgers.Exchange)
-    → BeginsWith (leading_pairs ledger) (leading_pairs (ledgers.with_replies ledger more ++ rest))
-unfolding leading_pairs ledgers.with_replies
-leading_pairs-begin [] more rest = record { others = leading_pairs rest; are = refl }
-leading_pairs-begin ((request, None) ∷ ledger) more rest = record {
-  others = leading_pairs ((request, next_reply request.id more) ∷ (ledgers.with_replies ledger more ++ rest));
-  are = refl;
-}
-leading_pairs-begin ((request, Some reply) ∷ ledger) more rest =
-    let found = leading_pairs-begin ledger more rest in
-    record { others = found.others; are = ap (λ (l : List (Request × Reply)). (request, reply) ∷ l) found.are }
-
 -- the leading pairs of events come first in those of more events
 leading_pairs-more : (xs ys : List Event)
     → BeginsWith (leading_pairs (exchanges_of xs)) (leading_pairs (exchanges_of (xs ++ ys)))
-leading_pairs-more xs ys =
-    let found = leading_pairs-begin (exchanges_of xs) ys (exchanges_of ys) in
-    record { others = found.others; are = ap leading_pairs (exchanges_of-append xs ys) ∙ found.are }
+unfolding leading_pairs exchanges_of
+leading_pairs-more [] ys = record { others = leading_pairs (exchanges_of ys); are = refl }
+leading_pairs-more (Replied reply ∷ xs) ys = leading_pairs-more xs ys
+leading_pairs-more (Asked request ∷ xs) ys =
+    by (next_reply request.id xs) refl (leading_pairs-more xs ys) (next_reply-stays request.id xs ys)
+  where
+    by : (own : Option Reply) → next_reply request.id xs ≡ own
+        → BeginsWith (leading_pairs (exchanges_of xs)) (leading_pairs (exchanges_of (xs ++ ys)))
+        → ((reply : Reply) → next_reply request.id xs ≡ Some reply → next_reply request.id (xs ++ ys) ≡ Some reply)
+        → BeginsWith (leading_pairs (exchanges_of (Asked request ∷ xs)))
+        (leading_pairs (exchanges_of (Asked request ∷ xs ++ ys)))
+    by None is rest stays = rw is (record { others = _; are = refl })
+    by (Some reply) is rest stays = rw (is, stays reply is)
+        (record { others = rest.others; are = ap (λ (l : List (Request × Reply)). (request, reply) ∷ l) rest.are })
 
 module _ {S : Type 0} (step : StepOf S) (one_end : HasOneEnd step) where
   -- a run over more events begins with one over the events
@@ -118,7 +84,7 @@ module _ {S : Type 0} (step : StepOf S) (one_end : HasOneEnd step) where
   wrong_reply start events number more last first run =
       let found = run_before start events more last run in
       run_stops start (recorded_exchanges events) number found.0 first
-      (subst (λ (l : List ledgers.Exchange). Run step start (leading_pairs l) found.0)
+      (subst (λ (l : List (Request × Option Reply)). Run step start (leading_pairs l) found.0)
       (sym (ledger_of-recorded events)) found.1)
 
   -- ---- what is refused is lost
@@ -131,7 +97,7 @@ module _ {S : Type 0} (step : StepOf S) (one_end : HasOneEnd step) where
   refuses_unsound start events (Asked request) (refusals.IdInUse number) end sound refuses memory more last whole =
       second_request events request more refuses.1 whole.in_turn
   refuses_unsound start events (Asked request) (refusals.Window number) end sound refuses memory more last whole =
-      window-full events request sound.in_turn sound.within_window refuses.1 refuses.2 more whole.within_window
+      window-full events request refuses.2 more whole.within_window
   refuses_unsound start events (Replied reply) (refusals.UnknownReply number) end sound refuses memory more last whole =
       reply_unasked events reply more refuses.1 whole.in_turn
   refuses_unsound start events (Replied reply) (refusals.NotAllowed number) end sound refuses memory more last whole =
@@ -167,7 +133,7 @@ module _ {S : Type 0} (step : StepOf S) (one_end : HasOneEnd step) where
       ∙ ap (is_open x.request.id) lacks.2
       ∙ first_is_open x lacks.1 (first_unsettled (recorded_exchanges events) x lacks.1 lacks.2) in
       let waits : turn_after x.request.id closed events ≡ waiting =
-      waits_if_open events x.request.id sound.in_turn sound.within_window opened in
+      waits_if_open events x.request.id sound.in_turn opened in
       let end_is : turn_after x.request.id closed events ≡ closed = explained.matching x.request.id in
       let same : waiting ≡ closed = sym waits ∙ end_is in
       absurd cc

@@ -1,11 +1,9 @@
 -- An event is refused for one reason at most: its turn and the window are one or the other, and of the replies that are
 -- not allowed one is the first.
-use Rattle.sftp_audit.proofs.Imports.{same_Some, ◌≡◌, ◌≢◌, ◌⊎◌, ℕ, true, List, [], ◌∷◌, ◌++◌, Option, Some, None}
-use Rattle.sftp_audit.proofs.Imports.{is_some, IsTrue, refl, sym, ap, subst, ◌∙◌, inl, inr, option_map, Request, Reply}
-use Rattle.sftp_audit.proofs.Imports.{StepOf, Event, Asked, Replied, number_after_events, Turn, closed}
-use Rattle.sftp_audit.proofs.Imports.{waiting, turn_after, leading_pairs, Run, IsWaiting, Refusal, RecordedReply}
-use Rattle.sftp_audit.proofs.Imports.{Exchange, IsFirstWrong, Refuses, recorded_exchanges}
-use Rattle.sftp_audit.proofs.Imports.{is_answered, AreAnswered, reply_of, ledger_of}
+use Rattle.sftp_audit.proofs.Imports.{same_Some, ◌≡◌, ◌≢◌, ℕ, true, List, [], ◌∷◌, ◌++◌, Option, Some, None, is_some}
+use Rattle.sftp_audit.proofs.Imports.{IsTrue, refl, sym, ap, subst, ◌∙◌, option_map, Request, StepOf, Event, Asked}
+use Rattle.sftp_audit.proofs.Imports.{Replied, leading_pairs, Run, Refusal, RecordedReply, Exchange, IsFirstWrong}
+use Rattle.sftp_audit.proofs.Imports.{Refuses, recorded_exchanges, is_answered, AreAnswered, reply_of, ledger_of, arith}
 use Rattle.sftp_audit.proofs.steps.StepLaws.{HasOneEnd}
 use Rattle.sftp_audit.proofs.auditing.Lists.{same_head, same_tail}
 use Rattle.sftp_audit.specs.declared.errors.Refusal.TheVariants as refusals
@@ -43,9 +41,7 @@ module _ {S : Type 0} (step : StepOf S) (one_end : HasOneEnd step) where
   -- a reply leads to one state
   same_mid : (start : S) (request : Request) (a b : RecordedReply) (to_a to_b : S) → a ≡ b
       → step start request a.reply to_a → step start request b.reply to_b → to_a ≡ to_b
-  same_mid start request a b to_a to_b same by_a by_b =
-      one_end start request a.reply to_a to_b by_a
-      (subst (λ (r : RecordedReply). step start request r.reply to_b) (sym same) by_b)
+  same_mid start request a b to_a to_b same by_a by_b = one_end start request a.reply to_a to_b by_a (rw same by_b)
 
   -- ---- the first reply that is not allowed
 
@@ -53,11 +49,8 @@ module _ {S : Type 0} (step : StepOf S) (one_end : HasOneEnd step) where
   not_wrong : (start mid : S) (x y : Exchange) (others : List Exchange) (end : S) → mid ≡ start → x ≡ y
       → IsWrong step mid x → FirstStep step start y others end → ⊥
   not_wrong start mid x y others end here same wrong first =
-      let wrong_y : IsWrong step start y = subst (λ (m : S). IsWrong step m y) here (subst (IsWrong step mid) same wrong) in
-      let reply : first.reply ≡ wrong_y.reply =
-      same_Some first.reply wrong_y.reply (sym first.reply_is ∙ wrong_y.reply_is) in
-      wrong_y.wrong first.mid
-      (subst (λ (r : RecordedReply). step start y.request r.reply first.mid) reply first.allowed)
+      let reply : first.reply ≡ wrong.reply = grind (arith, first.reply_is, wrong.reply_is, same) in
+      wrong.wrong first.mid (rw (here, same, ← reply) first.allowed)
 
   one_wrong : (start : S) (b c : List Exchange) (x y : Exchange) (behind_b behind_c : List Exchange)
       (mid_b mid_c : S) → b ++ x ∷ behind_b ≡ c ++ y ∷ behind_c → AreAnswered b → AreAnswered c
@@ -105,64 +98,12 @@ module _ {S : Type 0} (step : StepOf S) (one_end : HasOneEnd step) where
 
   -- ---- the reasons
 
-  abbrev WhyAsked : List Event → Request → Refusal → Type 0
-  WhyAsked events request refusal =
-      ((refusal ≡ refusals.IdInUse (number_after_events events)) × (turn_after request.id closed events ≡ waiting))
-      ⊎ ((refusal ≡ refusals.Window (number_after_events events)) × (turn_after request.id closed events ≡ closed))
-
-  why_asked : (start : S) (events : List Event) (request : Request) (refusal : Refusal)
-      → Refuses step start events (Asked request) refusal → refusal ≢ refusals.NoMemory
-      → WhyAsked events request refusal
-  why_asked start events request (refusals.IdInUse number) why other = inl (ap refusals.IdInUse why.0, why.1)
-  why_asked start events request (refusals.Window number) why other = inr (ap refusals.Window why.0, why.1)
-  why_asked start events request refusals.NoMemory why other = absurd (other refl)
-  why_asked start events request refusal why other = absurd why
-
-  -- whether a turn is closed or waiting decides
-  one_of_two : (turn : Turn) (a b in_use late : Refusal)
-      → ((a ≡ in_use) × (turn ≡ waiting)) ⊎ ((a ≡ late) × (turn ≡ closed))
-      → ((b ≡ in_use) × (turn ≡ waiting)) ⊎ ((b ≡ late) × (turn ≡ closed)) → a ≡ b
-  one_of_two turn a b in_use late (inl first) (inl second) = first.0 ∙ sym second.0
-  one_of_two turn a b in_use late (inl first) (inr second) =
-      absurd (let e : waiting ≡ closed = sym first.1 ∙ second.1 in cc)
-  one_of_two turn a b in_use late (inr first) (inl second) =
-      absurd (let e : waiting ≡ closed = sym second.1 ∙ first.1 in cc)
-  one_of_two turn a b in_use late (inr first) (inr second) = first.0 ∙ sym second.0
-
-  abbrev WhyReplied : S → List Event → Reply → Refusal → Type 0
-  WhyReplied start events reply refusal =
-      ((refusal ≡ refusals.UnknownReply (number_after_events events)) × (turn_after reply.id closed events ≡ closed))
-      ⊎ ((number : ℕ) × (refusal ≡ refusals.NotAllowed number) × IsWaiting events reply.id
-      × IsFirstWrong step start (recorded_exchanges (events ++ Replied reply ∷ [])) number)
-
-  why_replied : (start : S) (events : List Event) (reply : Reply) (refusal : Refusal)
-      → Refuses step start events (Replied reply) refusal → refusal ≢ refusals.NoMemory
-      → WhyReplied start events reply refusal
-  why_replied start events reply (refusals.UnknownReply number) why other = inl (ap refusals.UnknownReply why.0, why.1)
-  why_replied start events reply (refusals.NotAllowed number) why other = inr (number, refl, why.0, why.1)
-  why_replied start events reply refusals.NoMemory why other = absurd (other refl)
-  why_replied start events reply refusal why other = absurd why
-
-  one_of_replies : (start : S) (events : List Event) (reply : Reply) (a b : Refusal)
-      → WhyReplied start events reply a → WhyReplied start events reply b → a ≡ b
-  one_of_replies start events reply a b (inl first) (inl second) = first.0 ∙ sym second.0
-  one_of_replies start events reply a b (inl first) (inr second) =
-      absurd (let e : closed ≡ waiting = sym first.1 ∙ second.2 in cc)
-  one_of_replies start events reply a b (inr first) (inl second) =
-      absurd (let e : closed ≡ waiting = sym second.1 ∙ first.2 in cc)
-  one_of_replies start events reply a b (inr first) (inr second) =
-      let same : first.0 ≡ second.0 =
-      one_first_wrong start (recorded_exchanges (events ++ Replied reply ∷ [])) first.0 second.0 first.3 second.3 in
-      first.1 ∙ ap refusals.NotAllowed same ∙ sym second.1
-
   pub one_refusal : (start : S) (events : List Event) (event : Event) (a b : Refusal)
       → Refuses step start events event a → Refuses step start events event b → a ≢ refusals.NoMemory
       → b ≢ refusals.NoMemory
       → a ≡ b
-  one_refusal start events (Asked request) a b for_a for_b not_a not_b =
-      one_of_two (turn_after request.id closed events) a b (refusals.IdInUse (number_after_events events))
-      (refusals.Window (number_after_events events)) (why_asked start events request a for_a not_a)
-      (why_asked start events request b for_b not_b)
-  one_refusal start events (Replied reply) a b for_a for_b not_a not_b =
-      one_of_replies start events reply a b (why_replied start events reply a for_a not_a)
-      (why_replied start events reply b for_b not_b)
+  one_refusal start events (Asked request) a b for_a for_b not_a not_b = grind arith
+  one_refusal start events (Replied reply) (refusals.NotAllowed m) (refusals.NotAllowed n) for_a for_b not_a not_b =
+      ap refusals.NotAllowed
+      (one_first_wrong start (recorded_exchanges (events ++ Replied reply ∷ [])) m n for_a.1 for_b.1)
+  one_refusal start events (Replied reply) a b for_a for_b not_a not_b = grind arith

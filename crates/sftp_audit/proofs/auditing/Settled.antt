@@ -1,8 +1,8 @@
 -- How settling goes over the exchanges that are kept: each is done as soon as it and all before it have their replies.
 use Rattle.sftp_audit.proofs.Imports.{◌≡◌, Bool, true, List, [], ◌∷◌, ◌++◌, Option, Some, None, is_some, drop}
 use Rattle.sftp_audit.proofs.Imports.{slice_get, refl, sym, ap, ◌∙◌, append_assoc, append-nil, none-some, same_Some}
-use Rattle.sftp_audit.proofs.Imports.{StepOf, FollowsOf, Run, leading_pairs, RecordedReply, Exchange}
-use Rattle.sftp_audit.proofs.Imports.{IsFirstWrong, IsTold, is_answered, AreAnswered, unsettled, ledger_of}
+use Rattle.sftp_audit.proofs.Imports.{StepOf, FollowsOf, Run, leading_pairs, RecordedReply, Exchange, IsFirstWrong}
+use Rattle.sftp_audit.proofs.Imports.{IsTold, is_answered, AreAnswered, unsettled, ledger_of}
 use Rattle.sftp_audit.specs.declared.errors.Refusal.TheVariants as refusals
 use Rattle.sftp_audit.proofs.auditing.Lists.{answered-append, unsettled-answered, leading_pairs-settled}
 use Rattle.sftp_audit.proofs.auditing.Lists.{leading_pairs-unsettled}

@@ -1,12 +1,11 @@
 -- What an auditor keeps goes on with each event, and what it refuses has its reason.
-use Rattle.sftp_audit.proofs.Imports.{◌≡◌, ℕ, ◌<◌, ◌≤◌, Bool, true, false, List, [], ◌∷◌, ◌++◌, length, slice_get, Some}
+use Rattle.sftp_audit.proofs.Imports.{◌≡◌, ℕ, ◌<◌, Bool, true, false, List, [], ◌∷◌, ◌++◌, length, slice_get, Some}
 use Rattle.sftp_audit.proofs.Imports.{None, Ok, Err, Result, OnOk, refl, sym, ap, ◌∙◌, subst, append_assoc, append-nil}
-use Rattle.sftp_audit.proofs.Imports.{Request, Reply, StepOf, FollowsOf, Event, Asked, Replied, first_number}
-use Rattle.sftp_audit.proofs.Imports.{number_after_events, Run, Explained, exchanges_of, leading_pairs, window}
-use Rattle.sftp_audit.proofs.Imports.{turn_after, closed, broken, in_window, IsWaiting, Refusal, Exchange}
-use Rattle.sftp_audit.proofs.Imports.{RecordedReply, Audited, StandsFor, LacksReply, IsTold, IsFirstWrong}
-use Rattle.sftp_audit.proofs.Imports.{recorded_exchanges, exchanges_from, unsettled, AreAnswered, is_open, ledger_of}
-use Rattle.sftp_audit.proofs.Imports.{RefusesRequest, RefusesReply}
+use Rattle.sftp_audit.proofs.Imports.{arith, Request, Reply, StepOf, FollowsOf, Event, Asked, Replied, first_number}
+use Rattle.sftp_audit.proofs.Imports.{Run, Explained, exchanges_of, leading_pairs, window, turn_after, closed, broken}
+use Rattle.sftp_audit.proofs.Imports.{in_window, IsWaiting, Refusal, Exchange, Audited, StandsFor, LacksReply, IsTold}
+use Rattle.sftp_audit.proofs.Imports.{IsFirstWrong, recorded_exchanges, exchanges_from, unsettled, AreAnswered, is_open}
+use Rattle.sftp_audit.proofs.Imports.{ledger_of, RefusesRequest, RefusesReply}
 use Rattle.sftp_audit.specs.Auditor.{RefusesToSettle, IsWrongIn, HasNoted, HasReason, StopsIn, Reports}
 use Rattle.sftp_audit.specs.Exchanges.{with_reply}
 use Rattle.sftp_audit.specs.declared.errors.Refusal.TheVariants as refusals
@@ -59,19 +58,18 @@ module _ {S : Type 0} (step : StepOf S) where
 
   waits_as : (start : S) (events : List Event) (old : Audited S) (id : ℕ) (b : Bool) → StandsFor step start events old
       → is_open id old.kept ≡ b → is_open id (recorded_exchanges events) ≡ b
-  waits_as start events old id b stands is =
-      sym (is_open-unsettled id (recorded_exchanges events)) ∙ ap (is_open id) (sym stands.kept) ∙ is
+  waits_as start events old id b stands is = rw (← is_open-unsettled id (recorded_exchanges events), ← stands.kept) is
 
   waiting_of : (start : S) (events : List Event) (old : Audited S) (id : ℕ) → StandsFor step start events old
       → is_open id old.kept ≡ true → IsWaiting events id
   waiting_of start events old id stands is =
-      waits_if_open events id stands.sound.in_turn stands.sound.within_window
+      waits_if_open events id stands.sound.in_turn
       (waits_as start events old id true stands is)
 
   closed_of : (start : S) (events : List Event) (old : Audited S) (id : ℕ) → StandsFor step start events old
       → is_open id old.kept ≡ false → turn_after id closed events ≡ closed
   closed_of start events old id stands is =
-      closed_if_none events id stands.sound.in_turn stands.sound.within_window
+      closed_if_none events id stands.sound.in_turn
       (waits_as start events old id false stands is)
 
   -- ---- one request more
@@ -79,37 +77,26 @@ module _ {S : Type 0} (step : StepOf S) where
   asked_pairs : (events : List Event) (request : Request)
       → leading_pairs (exchanges_of (events ++ Asked request ∷ [])) ≡ leading_pairs (exchanges_of events)
   asked_pairs events request =
-      let after : List Event = events ++ Asked request ∷ [] in
-      let one : Exchange = record { request = request; number = number_after_events events; reply = None } in
-      ap leading_pairs (sym (ledger_of-recorded after))
-      ∙ ap (λ (xs : List Exchange). leading_pairs (ledger_of xs)) (recorded-asked events request)
-      ∙ leading_pairs-asked (recorded_exchanges events) one refl
-      ∙ ap leading_pairs (ledger_of-recorded events)
+      rw (
+        ← ledger_of-recorded (events ++ Asked request ∷ []),
+        ← ledger_of-recorded events,
+        recorded-asked events request,
+      )
+      (leading_pairs-asked (recorded_exchanges events) _ refl)
 
   noted-asked : (request : Request) (old new : Audited S) → is_open request.id old.kept ≡ false → length old.kept < window
       → new.kept ≡ old.kept ++ record { request = request; number = old.number; reply = None } ∷ []
       → new.state ≡ old.state → new.follows ≡ old.follows → HasNoted step old (Asked request) new
-  noted-asked request old new none room kept same stays start events stands =
-      let turn = closed_of start events old request.id stands none in
-      let few : length (unsettled (recorded_exchanges events)) < window =
-      subst (λ (xs : List Exchange). length xs < window) stands.kept room in
-      let run : Run step start (leading_pairs (exchanges_of (events ++ Asked request ∷ []))) new.state =
-      rw (asked_pairs events request, same) stands.sound.run in
-      let one : ℕ → Exchange = λ n. record { request = request; number = n; reply = None } in
-      let are : new.kept ≡ unsettled (recorded_exchanges (events ++ Asked request ∷ [])) =
-      kept ∙ ap (λ (xs : List Exchange). xs ++ one old.number ∷ []) stands.kept
-      ∙ ap (λ (n : ℕ). unsettled (recorded_exchanges events) ++ one n ∷ []) stands.number
-      ∙ sym (unsettled-asked (recorded_exchanges events) (one (number_after_events events)) refl)
-      ∙ ap unsettled (sym (recorded-asked events request)) in
-      record {
-        sound = record {
-          in_turn = in_turn-asked events request stands.sound.in_turn turn;
-          within_window = window-asked events request stands.sound.in_turn stands.sound.within_window turn few;
-          run = run;
-        };
-        kept = are;
-        followed = stays ∙ stands.followed;
-      }
+  noted-asked request old new none room kept same stays start events stands = record {
+    sound = record {
+      in_turn = in_turn-asked events request stands.sound.in_turn (closed_of start events old request.id stands none);
+      within_window = window-asked events request stands.sound.within_window (rw (← stands.kept) room);
+      run = rw (asked_pairs events request, same) stands.sound.run;
+    };
+    kept = rw (kept, stands.kept, stands.number, recorded-asked events request)
+        (sym (unsettled-asked (recorded_exchanges events) _ refl));
+    followed = stays ∙ stands.followed;
+  }
 
   pub result-asked : {T : Type 0} (result : Result T Refusal) (request : Request) (old new : Audited S)
       → OnOk result (is_open request.id old.kept ≡ false) → OnOk result (length old.kept < window)
@@ -121,27 +108,24 @@ module _ {S : Type 0} (step : StepOf S) where
   -- a request that is not taken is refused
   pub refused-asked : (request : Request) (old : Audited S) (refusal : Refusal)
       → RefusesRequest old.kept request old.number refusal → HasReason step old (Asked request) refusal
-  refused-asked request old (refusals.IdInUse number) r start events stands =
-      (r.0 ∙ stands.number, waiting_of start events old request.id stands r.1)
-  refused-asked request old (refusals.Window number) r start events stands = (
-    r.0 ∙ stands.number,
-    closed_of start events old request.id stands r.1,
-    subst (λ (xs : List Exchange). window ≤ length xs) stands.kept r.2,
-  )
-  refused-asked request old refusals.NoMemory r start events stands = r
-  refused-asked request old other r start events stands = absurd r
+  refused-asked request old refusal r start events stands =
+      grind (
+        arith,
+        stands.number,
+        stands.kept,
+        waiting_of start events old request.id stands,
+        closed_of start events old request.id stands,
+      )
 
   -- and no reply is wrong
   pub wrong-asked : (request : Request) (old : Audited S) (state : S) (refusal : Refusal)
       → RefusesRequest old.kept request old.number refusal → StopsIn step old (Asked request) state refusal
-  wrong-asked request old state (refusals.NotAllowed n) r start events stands = absurd r
-  wrong-asked request old state other r start events stands = tt
+  wrong-asked request old state refusal r start events stands = grind arith
 
   pub told-asked : (follows : FollowsOf S) (request : Request) (old : Audited S) (told : Bool)
       → told ≡ old.follows → (refusal : Refusal) → RefusesRequest old.kept request old.number refusal
       → Reports step follows old (Asked request) told refusal
-  told-asked follows request old told same (refusals.NotAllowed n) r start events stands = absurd r
-  told-asked follows request old told same other r start events stands = same
+  told-asked follows request old told same refusal r start events stands = grind arith
 
   -- ---- one reply more
 
@@ -149,26 +133,21 @@ module _ {S : Type 0} (step : StepOf S) where
       → Answered step start events reply old
   answered_of start events reply old stands =
       let parts = settled_parts (recorded_exchanges events) in
-      let given : ℕ → RecordedReply = λ n. record { reply = reply; number = n } in
       let all : recorded_exchanges events ≡ parts.0 ++ old.kept =
-      parts.2 ∙ ap (λ (xs : List Exchange). parts.0 ++ xs) (sym stands.kept) in
+      parts.2 ∙ ap (λ xs. parts.0 ++ xs) (sym stands.kept) in
       let pairs : leading_pairs (exchanges_of events) ≡ leading_pairs (ledger_of parts.0) =
-      ap leading_pairs (sym (ledger_of-recorded events))
-      ∙ ap (λ (xs : List Exchange). leading_pairs (ledger_of xs)) parts.2
-      ∙ leading_pairs-settled parts.0 (unsettled (recorded_exchanges events)) parts.1
-      ∙ ap (λ (xs : List (Request × Reply)). leading_pairs (ledger_of parts.0) ++ xs)
-      (leading_pairs-unsettled (recorded_exchanges events))
-      ∙ append-nil (leading_pairs (ledger_of parts.0)) in
+      ap leading_pairs (sym (ledger_of-recorded events) ∙ ap ledger_of all)
+      ∙ leading_pairs-settled parts.0 old.kept parts.1
+      ∙ rw (stands.kept, leading_pairs-unsettled (recorded_exchanges events)) (append-nil _) in
       record {
         before = parts.0;
         answered = parts.1;
-        run = subst (λ (xs : List (Request × Reply)). Run step start xs old.state) pairs stands.sound.run;
+        run = subst (λ xs. Run step start xs old.state) pairs stands.sound.run;
         recorded = recorded-replied events reply
-            ∙ ap (λ (n : ℕ). with_reply (given n) (recorded_exchanges events)) (sym stands.number)
-            ∙ ap (with_reply (given old.number)) all
-            ∙ with_reply-append (given old.number) parts.0 old.kept
-            ∙ ap (λ (xs : List Exchange). xs ++ with_reply (given old.number) old.kept)
-            (with_reply-answered (given old.number) parts.0 parts.1);
+            ∙ rw (← stands.number) (ap (with_reply (record { reply = reply; number = old.number })) all)
+            ∙ with_reply-append _ parts.0 old.kept
+            ∙ ap (λ xs. xs ++ with_reply (record { reply = reply; number = old.number }) old.kept)
+            (with_reply-answered _ parts.0 parts.1);
       }
 
   noted-replied : (reply : Reply) (old : Audited S) (kept : List Exchange) (new : Audited S) → HasReply reply old kept
@@ -178,22 +157,17 @@ module _ {S : Type 0} (step : StepOf S) where
       let turn = waiting_of start events old reply.id stands has.0 in
       let a = answered_of start events reply old stands in
       let all : recorded_exchanges (events ++ Replied reply ∷ []) ≡ a.before ++ kept =
-      a.recorded ∙ ap (λ (xs : List Exchange). a.before ++ xs) (sym has.1) in
-      let pairs : leading_pairs (ledger_of a.before) ++ leading_pairs (ledger_of kept)
-      ≡ leading_pairs (exchanges_of (events ++ Replied reply ∷ [])) =
-      sym (leading_pairs-settled a.before kept a.answered)
-      ∙ ap (λ (xs : List Exchange). leading_pairs (ledger_of xs)) (sym all)
-      ∙ ap leading_pairs (ledger_of-recorded (events ++ Replied reply ∷ [])) in
-      let settled_pairs : List (Request × Reply) = leading_pairs (ledger_of a.before) in
-      let more_pairs : List (Request × Reply) = leading_pairs (ledger_of kept) in
+      a.recorded ∙ ap (λ xs. a.before ++ xs) (sym has.1) in
+      let pairs = leading_pairs-settled a.before kept a.answered in
       record {
         sound = record {
           in_turn = in_turn-replied events reply stands.sound.in_turn turn;
-          within_window = window-replied events reply stands.sound.within_window stands.sound.in_turn turn;
-          run = subst (λ (xs : List (Request × Reply)). Run step start xs new.state) pairs
-              (run-append step start settled_pairs old.state more_pairs new.state a.run run);
+          within_window = window-replied events reply ∙ stands.sound.within_window;
+          run =
+              rw (← ledger_of-recorded (events ++ Replied reply ∷ []), all, pairs)
+              (run-append step start _ old.state _ new.state a.run run);
         };
-        kept = settled ∙ sym (unsettled-answered a.before kept a.answered) ∙ ap unsettled (sym all);
+        kept = rw (all, unsettled-answered a.before kept a.answered) settled;
         followed = stays ∙ stands.followed;
       }
 
@@ -209,22 +183,19 @@ module _ {S : Type 0} (step : StepOf S) where
   pub refused-replied : (reply : Reply) (old : Audited S) (refusal : Refusal)
       → RefusesReply old.kept (record { reply = reply; number = old.number }) refusal
       → HasReason step old (Replied reply) refusal
-  refused-replied reply old (refusals.UnknownReply number) r start events stands =
-      (r.0 ∙ stands.number, closed_of start events old reply.id stands r.1)
-  refused-replied reply old other r start events stands = absurd r
+  refused-replied reply old refusal r start events stands =
+      grind (arith, stands.number, closed_of start events old reply.id stands)
 
   pub wrong-replied : (reply : Reply) (old : Audited S) (state : S) (refusal : Refusal)
       → RefusesReply old.kept (record { reply = reply; number = old.number }) refusal
       → StopsIn step old (Replied reply) state refusal
-  wrong-replied reply old state (refusals.UnknownReply n) r start events stands = tt
-  wrong-replied reply old state other r start events stands = absurd r
+  wrong-replied reply old state refusal r start events stands = grind arith
 
   pub told-replied : (follows : FollowsOf S) (reply : Reply) (old : Audited S) (told : Bool)
       → told ≡ old.follows → (refusal : Refusal)
       → RefusesReply old.kept (record { reply = reply; number = old.number }) refusal
       → Reports step follows old (Replied reply) told refusal
-  told-replied follows reply old told same (refusals.UnknownReply n) r start events stands = same
-  told-replied follows reply old told same other r start events stands = absurd r
+  told-replied follows reply old told same refusal r start events stands = grind arith
 
   -- what settling finds wrong first is the first that is wrong of all
   first_wrong : (reply : Reply) (old : Audited S) (kept : List Exchange) → HasReply reply old kept → (number : ℕ)
@@ -257,10 +228,8 @@ module _ {S : Type 0} (step : StepOf S) where
   -- so what settling refuses is refused
   pub refused-settling : (reply : Reply) (old : Audited S) (kept : List Exchange) → HasReply reply old kept
       → (refusal : Refusal) → RefusesToSettle step old.state kept refusal → HasReason step old (Replied reply) refusal
-  refused-settling reply old kept has (refusals.NotAllowed number) r start events stands =
-      (waiting_of start events old reply.id stands has.0, first_wrong reply old kept has number r start events stands)
-  refused-settling reply old kept has refusals.NoMemory r start events stands = r
-  refused-settling reply old kept has other r start events stands = absurd r
+  refused-settling reply old kept has refusal r start events stands =
+      grind (arith, waiting_of start events old reply.id stands has.0, first_wrong reply old kept has)
 
   -- in the state in which it is, and with what is told of it
   pub wrong-settling : (reply : Reply) (old : Audited S) (kept : List Exchange) (state : S) → HasReply reply old kept

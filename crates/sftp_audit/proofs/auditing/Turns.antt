@@ -1,18 +1,16 @@
 -- Events that are in turn and in time, and what their exchanges say of them.
-use Rattle.sftp_audit.proofs.Imports.{if◌then◌else◌, ◌≡◌, ◌==◌, ◌&&◌, ◌||◌, ℕ, ◌<◌, ◌≤◌, Bool, true, false, List, []}
-use Rattle.sftp_audit.proofs.Imports.{◌∷◌, ◌++◌, Option, Some, None, is_some, IsTrue, length, refl, sym, ap, subst, ◌∙◌}
-use Rattle.sftp_audit.proofs.Imports.{◌⊎◌, append_assoc, arith, inl, inr, AllByRecursion, option_map, eqb-true, eq-eqb}
-use Rattle.sftp_audit.proofs.Imports.{cases_Bool, length-append, append-nil, Request, Reply, Event, Asked, Replied}
-use Rattle.sftp_audit.proofs.Imports.{Turn, closed, waiting, broken, turn_after, next_reply, exchanges_of, in_window}
-use Rattle.sftp_audit.proofs.Imports.{window, StepOf, Run, InTurn, IsWaiting, RecordedReply, Exchange}
-use Rattle.sftp_audit.proofs.Imports.{recorded_exchanges, unsettled, AreAnswered, is_open, reply_of, ledger_of}
+use Rattle.sftp_audit.proofs.Imports.{if◌then◌else◌, ◌≡◌, ◌==◌, ◌≢◌, ℕ, suc, ◌+◌, ◌<◌, ◌≤◌, Bool, true, false, List, []}
+use Rattle.sftp_audit.proofs.Imports.{◌∷◌, ◌++◌, is_some, IsTrue, length, refl, sym, ap, subst, ◌∙◌, append_assoc}
+use Rattle.sftp_audit.proofs.Imports.{arith, eqb-true, eq-eqb, and_parts, ltb-true, cases_Bool, append-nil, Request}
+use Rattle.sftp_audit.proofs.Imports.{Reply, Event, Asked, Replied, Turn, closed, waiting, broken, turn_after}
+use Rattle.sftp_audit.proofs.Imports.{in_window, requests_before_reply, window, StepOf, Run, InTurn, IsWaiting}
+use Rattle.sftp_audit.proofs.Imports.{next_recorded, exchanges_from, recorded_exchanges, unsettled, is_open}
+use Rattle.std.proofs.lemmas.Bool.{and_from, lt-ltb}
+use Rattle.sftp_streams.specs.Streams.{one_more}
 use Rattle.sftp_transcript.specs.Explained.{after_event}
-use Rattle.sftp_transcript.specs.Ledger as ledgers
-use Rattle.sftp_transcript.proofs.pairing.Standing.{stands_from_start, stands_asked, stands_replied, no_late_request}
-use Rattle.sftp_transcript.proofs.pairing.Standing.{keeps_window-answered, keeps_window-few, keeps_window-many}
-use Rattle.sftp_transcript.proofs.pairing.Standing.{cond_alike, turn_of-open, turn_of-closed}
-use Rattle.sftp_audit.proofs.auditing.Lists.{ledger_of-recorded, ledger_of-append, ledger_of-length, settled_parts}
-use Rattle.sftp_audit.proofs.auditing.Lists.{unsettled-twice, first_unsettled, none_bare, is_open-ledger}
+use Rattle.sftp_transcript.proofs.pairing.Standing.{cond_alike}
+use Rattle.sftp_audit.proofs.auditing.Lists.{recorded-asked, recorded-replied}
+use Rattle.sftp_audit.proofs.auditing.Lists.{unsettled-within, is_open-append, is_open-replied}
 
 -- ---- turns over two parts
 
@@ -47,16 +45,16 @@ pub one_more_event : (events : List Event) (event : Event) (more : List Event)
     → (events ++ event ∷ []) ++ more ≡ events ++ event ∷ more
 one_more_event events event more = append_assoc events (event ∷ []) more
 
--- what holds of events holds of them however they are split
-split_later : (P : List Event → Type 0) (events : List Event) (event : Event) (more : List Event)
-    → P (events ++ event ∷ more) → P ((events ++ event ∷ []) ++ more)
-split_later P events event more holds = subst P (sym (one_more_event events event more)) holds
+-- in turn however it is split
+split_later : (events : List Event) (event : Event) (more : List Event) → InTurn (events ++ event ∷ more)
+    → InTurn ((events ++ event ∷ []) ++ more)
+split_later events event more in_turn = subst InTurn (sym (one_more_event events event more)) in_turn
 
 -- no session goes on after an event that comes out of turn
 out_of_turn : (id : ℕ) (events : List Event) (event : Event) (more : List Event) (turn : Turn)
     → turn_after id closed events ≡ turn → after_event id event turn ≡ broken → InTurn (events ++ event ∷ more) → ⊥
 out_of_turn id events event more turn is breaks in_turn =
-    in_turn-front (events ++ event ∷ []) more (split_later InTurn events event more in_turn) id
+    in_turn-front (events ++ event ∷ []) more (split_later events event more in_turn) id
     (turn_after-event id events event ∙ ap (λ (t : Turn). after_event id event t) is ∙ breaks)
 
 -- a request of an id that waits
@@ -73,281 +71,129 @@ reply_unasked events reply more shut =
     out_of_turn reply.id events (Replied reply) more closed shut
     (ap (λ (b : Bool). if b then broken else closed) (eq-eqb reply.id reply.id refl))
 
--- ---- a request that waits, and its place
+-- ---- whose turn it is, by the exchanges
 
-record OpenParts (ledger : List ledgers.Exchange) (id : ℕ) : Type 0 where
-  front : List ledgers.Exchange
-  request : Request
-  back : List ledgers.Exchange
-  parts : ledger ≡ front ++ (request, None) ∷ back
-  same_id : request.id ≡ id
+abbrev turn_if : Bool → Turn
+turn_if opened = if opened then waiting else closed
 
-open_parts-more : (first : ledgers.Exchange) (ledger : List ledgers.Exchange) (id : ℕ) → OpenParts ledger id
-    → OpenParts (first ∷ ledger) id
-open_parts-more first ledger id found = record {
-  front = first ∷ found.front;
-  request = found.request;
-  back = found.back;
-  parts = ap (λ (l : List ledgers.Exchange). first ∷ l) found.parts;
-  same_id = found.same_id;
-}
+-- an event breaks the turn, or does to it what it does to the exchanges
+one_event : (id : ℕ) (events : List Event) (event : Event)
+    → after_event id event (turn_if (is_open id (recorded_exchanges events))) ≢ broken
+    → after_event id event (turn_if (is_open id (recorded_exchanges events)))
+    ≡ turn_if (is_open id (recorded_exchanges (events ++ event ∷ [])))
+unfolding is_open
+one_event id events (Asked request) unbroken = grind (arith, cases_Bool, recorded-asked, is_open-append)
+one_event id events (Replied reply) unbroken = grind (arith, cases_Bool, recorded-replied, is_open-replied)
 
-open_parts : (ledger : List ledgers.Exchange) (id : ℕ) → ledgers.is_open id ledger ≡ true → OpenParts ledger id
-unfolding ledgers.is_open
-open_parts [] id opened = absurd cc
-open_parts ((first, None) ∷ ledger) id opened = by (open_parts ledger id) (first.id == id) refl opened
-  where
-    by : (ledgers.is_open id ledger ≡ true → OpenParts ledger id) → (b : Bool) → (first.id == id) ≡ b
-        → ((first.id == id) || ledgers.is_open id ledger) ≡ true → OpenParts ((first, None) ∷ ledger) id
-    by others true same now = record {
-      front = [];
-      request = first;
-      back = ledger;
-      parts = refl;
-      same_id = eqb-true first.id id same;
-    }
-    by others false other now =
-        let later : (false || ledgers.is_open id ledger) ≡ true = rw other at now in
-        open_parts-more (first, None) ledger id (others later)
-open_parts ((first, Some reply) ∷ ledger) id opened =
-    open_parts-more (first, Some reply) ledger id (open_parts ledger id opened)
+abbrev IsTurn : ℕ → List Event → Type 0
+IsTurn id events = turn_after id closed events ≡ turn_if (is_open id (recorded_exchanges events))
 
--- ---- whose turn it is, by the ledger
+turn_behind : (id : ℕ) (seen more : List Event) → IsTurn id seen → InTurn (seen ++ more) → IsTurn id (seen ++ more)
+turn_behind id seen [] is in_turn = subst (IsTurn id) (sym (append-nil seen)) is
+turn_behind id seen (event ∷ more) is in_turn =
+    let later = split_later seen event more in_turn in
+    let now = turn_after-event id seen event ∙ ap (after_event id event) is in
+    let next : IsTurn id (seen ++ event ∷ []) =
+    now ∙ one_event id seen event (λ breaks. in_turn-front (seen ++ event ∷ []) more later id (now ∙ breaks)) in
+    subst (IsTurn id) (one_more_event seen event more) (turn_behind id (seen ++ event ∷ []) more next later)
 
-turn_by : (ledger : List ledgers.Exchange) (seen : List Event) (id : ℕ) → ledgers.StandsFor ledger seen
-    → turn_after id closed seen ≡ ledgers.turn_of ledger id
-unfolding turn_after
-turn_by ledger seen id stands = ap (turn_after id closed) (sym (append-nil seen)) ∙ stands.turns_are id []
+turn_is : (events : List Event) (id : ℕ) → InTurn events → IsTurn id events
+unfolding turn_after exchanges_from is_open
+turn_is events id in_turn = turn_behind id [] events refl in_turn
 
--- in turn, a request is asked where none of its id waits
-free_if_in_turn : (ledger : List ledgers.Exchange) (seen : List Event) (request : Request) (more : List Event)
-    → ledgers.StandsFor ledger seen → InTurn (seen ++ Asked request ∷ more) → ledgers.is_open request.id ledger ≡ false
-free_if_in_turn ledger seen request more stands in_turn = elim (cases_Bool (ledgers.is_open request.id ledger)) [
-  | inl opened ↦
-      let waits = turn_by ledger seen request.id stands ∙ turn_of-open ledger request.id opened in
-      absurd (second_request seen request more waits in_turn)
-  | inr none ↦ none
-]
+pub waits_if_open : (events : List Event) (id : ℕ) → InTurn events → is_open id (recorded_exchanges events) ≡ true
+    → IsWaiting events id
+waits_if_open events id in_turn opened = turn_is events id in_turn ∙ ap turn_if opened
 
--- and a reply comes where one waits
-open_if_in_turn : (ledger : List ledgers.Exchange) (seen : List Event) (reply : Reply) (more : List Event)
-    → ledgers.StandsFor ledger seen → InTurn (seen ++ Replied reply ∷ more) → ledgers.is_open reply.id ledger ≡ true
-open_if_in_turn ledger seen reply more stands in_turn = elim (cases_Bool (ledgers.is_open reply.id ledger)) [
-  | inl opened ↦ opened
-  | inr none ↦
-      let shut = turn_by ledger seen reply.id stands ∙ turn_of-closed ledger reply.id none in
-      absurd (reply_unasked seen reply more shut in_turn)
-]
+pub closed_if_none : (events : List Event) (id : ℕ) → InTurn events → is_open id (recorded_exchanges events) ≡ false
+    → turn_after id closed events ≡ closed
+closed_if_none events id in_turn none = turn_is events id in_turn ∙ ap turn_if none
 
--- in time, the request is one that the window takes
-kept_if_in_time : (ledger : List ledgers.Exchange) (seen : List Event) (request : Request) (more : List Event)
-    → ledgers.StandsFor ledger seen → IsTrue (in_window (seen ++ Asked request ∷ more))
-    → ledgers.keeps_window (ledger ++ (request, None) ∷ []) [] ≡ true
-kept_if_in_time ledger seen request more stands inside =
-    elim (cases_Bool (ledgers.keeps_window (ledger ++ (request, None) ∷ []) [])) [
-      | inl kept ↦ kept
-      | inr late ↦ absurd (no_late_request ledger seen request more stands late inside)
-    ]
-
--- ---- the ledger of events that are in turn and in time
-
--- the ledger goes on with a reply of an id that waits
-replied_on : (ledger : List ledgers.Exchange) (seen : List Event) (reply : Reply) → ledgers.StandsFor ledger seen
-    → ledgers.is_open reply.id ledger ≡ true
-    → (new : List ledgers.Exchange) × ledgers.StandsFor new (seen ++ Replied reply ∷ [])
-replied_on ledger seen reply stands opened =
-    let found = open_parts ledger reply.id opened in
-    let split : ledgers.StandsFor (found.front ++ (found.request, None) ∷ found.back) seen =
-    subst (λ (l : List ledgers.Exchange). ledgers.StandsFor l seen) found.parts stands in (
-      found.front ++ (found.request, Some reply) ∷ found.back,
-      stands_replied found.front found.request reply found.back seen split found.same_id,
-    )
-
-abbrev SomeStands : List Event → Type 0
-SomeStands events = (ledger : List ledgers.Exchange) × ledgers.StandsFor ledger events
-
-abbrev IsInside : List Event → Type 0
-IsInside events = IsTrue (in_window events)
-
--- however far the events were seen
-stands_behind : (ledger : List ledgers.Exchange) (seen more : List Event) → ledgers.StandsFor ledger seen
-    → InTurn (seen ++ more) → IsTrue (in_window (seen ++ more)) → SomeStands (seen ++ more)
-stands_behind ledger seen [] stands in_turn inside =
-    (ledger, subst (ledgers.StandsFor ledger) (sym (append-nil seen)) stands)
-stands_behind ledger seen (Asked request ∷ more) stands in_turn inside =
-    let free = free_if_in_turn ledger seen request more stands in_turn in
-    let kept = kept_if_in_time ledger seen request more stands inside in
-    let next = stands_asked ledger seen request stands free kept in
-    subst SomeStands (one_more_event seen (Asked request) more)
-    (stands_behind (ledger ++ (request, None) ∷ []) (seen ++ Asked request ∷ []) more next
-    (split_later InTurn seen (Asked request) more in_turn) (split_later IsInside seen (Asked request) more inside))
-stands_behind ledger seen (Replied reply ∷ more) stands in_turn inside =
-    let next = replied_on ledger seen reply stands (open_if_in_turn ledger seen reply more stands in_turn) in
-    subst SomeStands (one_more_event seen (Replied reply) more)
-    (stands_behind next.0 (seen ++ Replied reply ∷ []) more next.1
-    (split_later InTurn seen (Replied reply) more in_turn) (split_later IsInside seen (Replied reply) more inside))
-
-with_replies-none : (ledger : List ledgers.Exchange) → ledgers.with_replies ledger [] ≡ ledger
-unfolding ledgers.with_replies next_reply
-with_replies-none [] = refl
-with_replies-none ((request, None) ∷ ledger) =
-    ap (λ (l : List ledgers.Exchange). (request, None) ∷ l) (with_replies-none ledger)
-with_replies-none ((request, Some reply) ∷ ledger) =
-    ap (λ (l : List ledgers.Exchange). (request, Some reply) ∷ l) (with_replies-none ledger)
-
--- a ledger that stands for the events has their exchanges
-ledger_is : (ledger : List ledgers.Exchange) (events : List Event) → ledgers.StandsFor ledger events
-    → exchanges_of events ≡ ledger
-unfolding exchanges_of
-ledger_is ledger events stands =
-    ap exchanges_of (sym (append-nil events)) ∙ stands.exchanges_are []
-    ∙ append-nil (ledgers.with_replies ledger []) ∙ with_replies-none ledger
-
-pub ledger_stands : (events : List Event) → InTurn events → IsTrue (in_window events)
-    → ledgers.StandsFor (exchanges_of events) events
-ledger_stands events in_turn inside =
-    let found : SomeStands events = stands_behind [] [] events stands_from_start in_turn inside in
-    subst (λ (l : List ledgers.Exchange). ledgers.StandsFor l events) (sym (ledger_is found.0 events found.1)) found.1
-
--- ---- who waits, by the exchanges
-
-open_bare : (events : List Event) (id : ℕ) (b : Bool) → is_open id (recorded_exchanges events) ≡ b
-    → ledgers.is_open id (exchanges_of events) ≡ b
-open_bare events id b is =
-    sym (is_open-ledger id (recorded_exchanges events) ∙ ap (ledgers.is_open id) (ledger_of-recorded events)) ∙ is
-
-pub waits_if_open : (events : List Event) (id : ℕ) → InTurn events → IsTrue (in_window events)
-    → is_open id (recorded_exchanges events) ≡ true → IsWaiting events id
-waits_if_open events id in_turn inside opened =
-    turn_by (exchanges_of events) events id (ledger_stands events in_turn inside)
-    ∙ turn_of-open (exchanges_of events) id (open_bare events id true opened)
-
-pub closed_if_none : (events : List Event) (id : ℕ) → InTurn events → IsTrue (in_window events)
-    → is_open id (recorded_exchanges events) ≡ false → turn_after id closed events ≡ closed
-closed_if_none events id in_turn inside none =
-    turn_by (exchanges_of events) events id (ledger_stands events in_turn inside)
-    ∙ turn_of-closed (exchanges_of events) id (open_bare events id false none)
-
-pub open_if_waits : (events : List Event) (id : ℕ) → InTurn events → IsTrue (in_window events) → IsWaiting events id
-    → is_open id (recorded_exchanges events) ≡ true
-open_if_waits events id in_turn inside waits = elim (cases_Bool (is_open id (recorded_exchanges events))) [
-  | inl opened ↦ opened
-  | inr none ↦ let e : closed ≡ waiting = sym (closed_if_none events id in_turn inside none) ∙ waits in absurd cc
-]
-
-pub none_if_closed : (events : List Event) (id : ℕ) → InTurn events → IsTrue (in_window events)
-    → turn_after id closed events ≡ closed → is_open id (recorded_exchanges events) ≡ false
-none_if_closed events id in_turn inside shut = elim (cases_Bool (is_open id (recorded_exchanges events))) [
-  | inl opened ↦ let e : waiting ≡ closed = sym (waits_if_open events id in_turn inside opened) ∙ shut in absurd cc
-  | inr none ↦ none
-]
+pub none_if_closed : (events : List Event) (id : ℕ) → InTurn events → turn_after id closed events ≡ closed
+    → is_open id (recorded_exchanges events) ≡ false
+none_if_closed events id in_turn shut = grind (arith, cases_Bool, turn_is events id in_turn)
 
 -- ---- one event more, in turn
 
 pub in_turn-asked : (events : List Event) (request : Request) → InTurn events
     → turn_after request.id closed events ≡ closed → InTurn (events ++ Asked request ∷ [])
-in_turn-asked events request in_turn shut id breaks = by (cases_Bool (request.id == id))
-  where
-    by : ((request.id == id) ≡ true) ⊎ ((request.id == id) ≡ false) → ⊥
-    by (inl same) =
-        let turn : turn_after id closed events ≡ closed =
-        subst (λ (i : ℕ). turn_after i closed events ≡ closed) (eqb-true request.id id same) shut in
-        let e : waiting ≡ broken = rw (turn_after-event id events (Asked request), same, turn) at breaks in
-        cc
-    by (inr other) =
-        let e : turn_after id closed events ≡ broken =
-        rw (turn_after-event id events (Asked request), other) at breaks in
-        in_turn id e
+in_turn-asked events request in_turn shut id breaks =
+    grind (arith, cases_Bool, eqb-true, turn_after-event id events (Asked request), in_turn id)
 
 pub in_turn-replied : (events : List Event) (reply : Reply) → InTurn events → IsWaiting events reply.id
     → InTurn (events ++ Replied reply ∷ [])
-in_turn-replied events reply in_turn waits id breaks = by (cases_Bool (reply.id == id))
-  where
-    by : ((reply.id == id) ≡ true) ⊎ ((reply.id == id) ≡ false) → ⊥
-    by (inl same) =
-        let turn : turn_after id closed events ≡ waiting =
-        subst (λ (i : ℕ). turn_after i closed events ≡ waiting) (eqb-true reply.id id same) waits in
-        let e : closed ≡ broken = rw (turn_after-event id events (Replied reply), same, turn) at breaks in
-        cc
-    by (inr other) =
-        let e : turn_after id closed events ≡ broken =
-        rw (turn_after-event id events (Replied reply), other) at breaks in
-        in_turn id e
+in_turn-replied events reply in_turn waits id breaks =
+    grind (arith, cases_Bool, eqb-true, turn_after-event id events (Replied reply), in_turn id)
 
 -- ---- one event more, in time
 
--- what stands is in time
-inside_if_stands : (ledger : List ledgers.Exchange) (events : List Event) → ledgers.StandsFor ledger events
-    → IsTrue (in_window events)
-unfolding in_window
-inside_if_stands ledger events stands =
-    ap in_window (sym (append-nil events)) ∙ stands.window_is [] ∙ ap (λ (b : Bool). b && true) stands.in_time
+-- what is asked before the reply to a request: all that is asked, where the reply is not there yet
+before_reply : (id number : ℕ) (xs ys : List Event)
+    → requests_before_reply id (xs ++ ys) ≡ (if is_some (next_recorded id number xs) then requests_before_reply id xs
+    else length (exchanges_from number xs) + requests_before_reply id ys)
+unfolding next_recorded exchanges_from requests_before_reply
+before_reply id number [] ys = grind arith
+before_reply id number (Asked request ∷ xs) ys = grind (arith, cases_Bool, before_reply id (one_more number) xs ys)
+before_reply id number (Replied reply ∷ xs) ys = grind (arith, cases_Bool, before_reply id (one_more number) xs ys)
 
-answered_bare : (reply : Option RecordedReply) (request : Request) → is_some reply ≡ true
-    → ledgers.IsAnswered (request, option_map reply_of reply)
-answered_bare None request answered = absurd cc
-answered_bare (Some recorded) request answered = tt
+-- a request is in time where fewer than the window are unsettled
+in_time : (number : ℕ) (events : List Event) (request : Request) → IsTrue (in_window events)
+    → length (unsettled (exchanges_from number events)) < window → IsTrue (in_window (events ++ Asked request ∷ []))
+unfolding in_window requests_before_reply exchanges_from unsettled
+in_time number [] request inside few = refl
+in_time number (Replied reply ∷ events) request inside few = in_time (one_more number) events request inside few
+in_time number (Asked first ∷ events) request inside few =
+    grind (
+      arith,
+      cases_Bool,
+      and_parts,
+      and_from,
+      lt-ltb,
+      unsettled-within,
+      before_reply first.id (one_more number) events (Asked request ∷ []),
+      in_time (one_more number) events request,
+    )
 
-bare-answered : (before : List Exchange) → AreAnswered before → AllByRecursion ledgers.IsAnswered (ledger_of before)
-bare-answered [] answered = tt
-bare-answered (x ∷ before) answered =
-    (answered_bare x.reply x.request answered.0, bare-answered before answered.1)
+pub window-asked : (events : List Event) (request : Request) → IsTrue (in_window events)
+    → length (unsettled (recorded_exchanges events)) < window → IsTrue (in_window (events ++ Asked request ∷ []))
+window-asked events request inside few = in_time _ events request inside few
 
--- the window of one request more is that of the unsettled ones and it
-window_by_unsettled : (events : List Event) (request : Request)
-    → ledgers.keeps_window (exchanges_of events ++ (request, None) ∷ []) [] ≡ ledgers.keeps_window
-    (ledger_of (unsettled (recorded_exchanges events)) ++ (request, None) ∷ []) []
-window_by_unsettled events request =
-    let xs = recorded_exchanges events in
-    let parts = settled_parts xs in
-    let split : exchanges_of events ≡ ledger_of parts.0 ++ ledger_of (unsettled xs) =
-    sym (ledger_of-recorded events) ∙ ap ledger_of parts.2 ∙ ledger_of-append parts.0 (unsettled xs) in
-    let whole : exchanges_of events ++ (request, None) ∷ [] ≡ ledger_of parts.0
-    ++ (ledger_of (unsettled xs) ++ (request, None) ∷ []) =
-    ap (λ (l : List ledgers.Exchange). l ++ (request, None) ∷ []) split
-    ∙ append_assoc (ledger_of parts.0) (ledger_of (unsettled xs)) ((request, None) ∷ []) in
-    ap (λ (l : List ledgers.Exchange). ledgers.keeps_window l []) whole
-    ∙ keeps_window-answered (ledger_of parts.0) (ledger_of (unsettled xs) ++ (request, None) ∷ []) []
-    (bare-answered parts.0 parts.1)
+-- it is late where as many are
+late : (number : ℕ) (events : List Event) (request : Request) (more : List Event)
+    → window ≤ length (unsettled (exchanges_from number events)) → IsTrue (in_window (events ++ Asked request ∷ more))
+    → ⊥
+unfolding in_window requests_before_reply exchanges_from unsettled
+late number [] request more many inside = absurd (omega (arith, many))
+late number (Replied reply ∷ events) request more many inside = late (one_more number) events request more many inside
+late number (Asked first ∷ events) request more many inside =
+    grind (
+      arith,
+      cases_Bool,
+      and_parts,
+      ltb-true,
+      before_reply first.id (one_more number) events (Asked request ∷ more),
+      late (one_more number) events request more,
+    )
 
-pub window-asked : (events : List Event) (request : Request) → InTurn events → IsTrue (in_window events)
-    → turn_after request.id closed events ≡ closed → length (unsettled (recorded_exchanges events)) < window
-    → IsTrue (in_window (events ++ Asked request ∷ []))
-window-asked events request in_turn inside shut few =
-    let xs = unsettled (recorded_exchanges events) in
-    let late = ledger_of xs in
-    let short : length (late ++ (request, None) ∷ []) ≤ window =
-    omega (arith, length-append late ((request, None) ∷ []), ledger_of-length xs) in
-    let kept : ledgers.keeps_window (exchanges_of events ++ (request, None) ∷ []) [] ≡ true =
-    window_by_unsettled events request ∙ keeps_window-few (late ++ (request, None) ∷ []) short in
-    let none = open_bare events request.id false (none_if_closed events request.id in_turn inside shut) in
-    inside_if_stands (exchanges_of events ++ (request, None) ∷ []) (events ++ Asked request ∷ [])
-    (stands_asked (exchanges_of events) events request (ledger_stands events in_turn inside) none kept)
-
-late_if_many : (xs : List Exchange) (request : Request) → unsettled xs ≡ xs → window ≤ length xs
-    → ledgers.keeps_window (ledger_of xs ++ (request, None) ∷ []) [] ≡ false
-late_if_many [] request same many = absurd (omega arith)
-late_if_many (x ∷ xs) request same many =
-    let more = ledger_of xs ++ (request, None) ∷ [] in
-    let enough : window ≤ length more =
-    omega (arith, length-append (ledger_of xs) ((request, None) ∷ []), ledger_of-length xs) in
-    rw (none_bare x.reply (first_unsettled (x ∷ xs) x xs same)) (keeps_window-many x.request more enough)
-
-pub window-full : (events : List Event) (request : Request) → InTurn events → IsTrue (in_window events)
-    → turn_after request.id closed events ≡ closed → window ≤ length (unsettled (recorded_exchanges events))
+pub window-full : (events : List Event) (request : Request) → window ≤ length (unsettled (recorded_exchanges events))
     → (more : List Event) → IsTrue (in_window (events ++ Asked request ∷ more)) → ⊥
-window-full events request in_turn inside shut many more =
-    let xs = recorded_exchanges events in
-    let late : ledgers.keeps_window (exchanges_of events ++ (request, None) ∷ []) [] ≡ false =
-    window_by_unsettled events request ∙ late_if_many (unsettled xs) request (unsettled-twice xs) many in
-    no_late_request (exchanges_of events) events request more (ledger_stands events in_turn inside) late
+window-full events request many more inside = late _ events request more many inside
 
-pub window-replied : (events : List Event) (reply : Reply) → IsTrue (in_window events) → InTurn events
-    → IsWaiting events reply.id → IsTrue (in_window (events ++ Replied reply ∷ []))
-window-replied events reply inside in_turn waits =
-    let opened = open_bare events reply.id true (open_if_waits events reply.id in_turn inside waits) in
-    let next = replied_on (exchanges_of events) events reply (ledger_stands events in_turn inside) opened in
-    inside_if_stands next.0 (events ++ Replied reply ∷ []) next.1
+-- a reply is never late
+before_reply-replied : (id : ℕ) (events : List Event) (reply : Reply)
+    → requests_before_reply id (events ++ Replied reply ∷ []) ≡ requests_before_reply id events
+unfolding requests_before_reply
+before_reply-replied id [] reply = grind (arith, cases_Bool)
+before_reply-replied id (Asked request ∷ events) reply = ap suc (before_reply-replied id events reply)
+before_reply-replied id (Replied given ∷ events) reply = simp (before_reply-replied id events reply)
+
+pub window-replied : (events : List Event) (reply : Reply)
+    → in_window (events ++ Replied reply ∷ []) ≡ in_window events
+unfolding in_window
+window-replied [] reply = refl
+window-replied (Asked request ∷ events) reply =
+    simp (before_reply-replied request.id events reply, window-replied events reply)
+window-replied (Replied given ∷ events) reply = window-replied events reply
 
 -- ---- runs of two parts
 

@@ -1,4 +1,3 @@
-use Rattle.sftp_audit.proofs.Imports.{arith}
 use Rattle.sftp_audit.proofs.auditing.Places.{indexed-popped}
 use Rattle.sftp_audit.proofs.ledger.Ledger.forget_first.Goals as goal
 
@@ -7,4 +6,4 @@ invariant_of-self c =
     let old = c.self.inside in
     rw c.pop_front.ensures.rest
     (indexed-popped old.exchanges.items old.unanswered.entries old.first c.self.invariant
-    (rw c.self.view_is c.requires) (omega (arith, c.self.ranges)))
+    (rw c.self.view_is c.requires))
