@@ -29,7 +29,7 @@ client asks otherwise or ends its input, the session goes on in the order asked,
 'sftpv3: replay: left at record N: WHY'. The transcript is read twice, so it cannot be a pipe.
 
 With --memory, the session ends as if memory ran out when a reply is due and the process has more than BYTES. One
-request may take as much as a file or a listing has before that, and saving the tree takes its bytes once more.
+request may take as much as a file or a listing has before that. The tree is then saved, an entry at a time.
 
 With --vary, replies use what the draft leaves free, by choices that N fixes in the order in which requests are done:
   handles     names of new handles: 0 to 256 bytes of any values
@@ -284,5 +284,5 @@ failure; with --keep-going one for each finding, and one for the last line. The 
 
 With --memory, a tree file of more than BYTES is not read, and the audit ends with status 3 once the process has more
 than BYTES. That is looked at as the transcript is read; one request may take as much as a file or a listing has before
-that, and the tree at the end is encoded once more. With '--tree unknown' it says how many bytes the transcript and the
-files of the session may have together, as with 'infer'.";
+that. With '--tree unknown' it says how many bytes the transcript and the files of the session may have together, as
+with 'infer'.";
