@@ -18,6 +18,9 @@ const CLIENT: &[u8] = b"C";
 /// Why a session cannot be recorded in a file.
 const TAKEN: &str = "another session records into it";
 
+/// The error of the system where a file is another user's.
+const PERMISSION_DENIED: i32 = 13;
+
 /// Why a session is not recorded in a file.
 const ANOTHERS: &str = "it belongs to another user";
 
@@ -95,12 +98,17 @@ fn record_at<'a, R: System>(
     }
 }
 
-/// Whether a FIFO of another user is at this path. To open it would take as long as that user likes.
+/// Whether a FIFO of another user is at this path.
 fn is_trap<R: Files>(rt: &R, path: &str) -> bool {
     match fs::symlink_metadata(rt, path) {
-        Ok(found) => found.file_type().is_fifo() && found.uid() != user(rt),
+        Ok(found) => is_fifo_of_another(rt, &found),
         Err(_) => false,
     }
+}
+
+/// Whether a file is a FIFO of another user. To open it would take as long as that user likes.
+fn is_fifo_of_another<R: Files>(rt: &R, found: &Metadata) -> bool {
+    found.file_type().is_fifo() && found.uid() != user(rt)
 }
 
 /// Removes a file that was made in vain.
@@ -128,19 +136,27 @@ fn open<R: System>(rt: &R, name: &str, path: &str, keeping: Keeping) -> io::Resu
 /// Opens what is at this path. What the caller has open may have a name and no path, as a pipe has.
 fn open_old<R: System>(rt: &R, name: &str, path: &str) -> io::Result<Opened> {
     match fs::symlink_metadata(rt, path) {
+        Ok(found) if is_fifo_of_another(rt, &found) => {
+            Err(io::Error::from_raw_os_error(PERMISSION_DENIED))
+        }
         Ok(found) => {
-            let file = open_to_write(rt, path)?;
+            let file = open_found(rt, path, &found)?;
             opened_if(is_open(&file, &found), file)
         }
         Err(_) => {
-            let file = open_to_write(rt, name)?;
+            let file = OpenOptions::new().write(true).open(rt, name)?;
             opened_if(!is_regular(&file), file)
         }
     }
 }
 
-fn open_to_write<R: System>(rt: &R, path: &str) -> io::Result<File> {
-    OpenOptions::new().write(true).open(rt, path)
+/// Opens what was found at this path. Instead of a regular file there may be a FIFO by now: opened for reading, too, it
+/// does not wait.
+fn open_found<R: System>(rt: &R, path: &str, found: &Metadata) -> io::Result<File> {
+    OpenOptions::new()
+        .read(found.is_file())
+        .write(true)
+        .open(rt, path)
 }
 
 /// An open file, unless a link that appeared meanwhile led to it.
