@@ -1,12 +1,81 @@
-//! Trees that are written to files, without the bytes of a tree file in memory.
-ghost use Rattle.std.specs.Prelude.{IfErr};
+//! Tree files that are read for the tree alone, and trees that are written to files, each without the bytes of a tree
+//! file in memory.
+ghost use Rattle.std.specs.Prelude.{◌≡◌, IfOk, IfErr};
+ghost use Rattle.sftp_treefile.specs.TreeFile.{IsTreeFile};
 ghost use Rattle.sftp_files.specs.Failures.{IsUnwritten};
+ghost use Rattle.sftp_files.specs.Status.{failure_status};
 
-use sftp_files::{Content, Failure, FileSink, Keeping, System, write_content};
+use sftp_files::{
+    Content, Failure, FileSink, Keeping, Progress, System, Task, Tracked, Watched, open,
+    write_content,
+};
+use sftp_streams::Tally;
 use sftp_tree::Tree;
+use sftp_treefile::{TreeError, TreeFile, read_rows_from};
 use std::alloc::Global;
 use std::fs::File;
 use std::io;
+use std::io::{IsTerminal, Read, Write};
+
+/// A tree file that is to be read.
+#[derive(Clone, Copy)]
+pub(crate) struct Reading<'a> {
+    pub(crate) name: &'a str,
+    /// What it is read for.
+    pub(crate) task: Task,
+    /// The most bytes that it may have.
+    pub(crate) most: u64,
+    /// Whether standard error says how much of it is read, also where it is no terminal.
+    pub(crate) says_progress: bool,
+}
+
+/// What a tree file says, or its fault. No more of it is held than that and a buffer.
+///
+/// # Errors
+///
+/// If the file cannot be read, or has more bytes than it may.
+pub(crate) fn read_file<'a, R: System, E: Write + IsTerminal>(
+    rt: &R,
+    reading: Reading<'a>,
+    errors: &mut E,
+) -> Result<Result<TreeFile, TreeError>, Failure<'a>>
+    ensures fits { IfOk result (λ read. IfOk read IsTreeFile) }
+    ensures err { IfErr result (λ failure. failure_status failure ≡ 3) }
+{
+    let Reading { name, task, .. } = reading;
+    let file = open(rt, name)?;
+    let is_asked = reading.says_progress;
+    let mut progress = Progress::new(rt, errors, is_asked, task, Some(name));
+    let tracked = Tracked::new(file, &mut progress);
+    let read = read_open(rt.alloc(), reading, tracked);
+    progress.end();
+    read
+}
+
+/// What a tree file says that is open.
+fn read_open<'a, F: Read + Drop>(
+    alloc: Global,
+    reading: Reading<'a>,
+    file: F,
+) -> Result<Result<TreeFile, TreeError>, Failure<'a>>
+    ensures fits { IfOk result (λ read. IfOk read IsTreeFile) }
+    ensures err { IfErr result (λ failure. failure_status failure ≡ 3) }
+{
+    let Reading { name, most, .. } = reading;
+    let mut bytes = Watched::new(file.take(most.saturating_add(1)));
+    let read = read_rows_from(alloc, Tally::new(&mut bytes));
+    let flow = bytes.flow();
+    drop(bytes);
+    if flow.bytes > most {
+        drop(read);
+        return Err(Failure::OverLimit(name));
+    }
+    match read {
+        Ok(file) => Ok(Ok(file)),
+        Err(TreeError::Io { .. }) => Err(Failure::CannotRead(name, flow.code)),
+        Err(fault) => Ok(Err(fault)),
+    }
+}
 
 /// The tree file of a tree.
 #[derive(Drop)]

@@ -15,7 +15,10 @@ use crate::inferring::InferOptions;
 use crate::{help, importing, inferring, profiles};
 use clap::error::ErrorKind;
 use clap::{Arg, ArgAction, ArgMatches, Command, Error, value_parser};
-use sftp_files::{Failure, ImportOptions, Keeping, MORE, PRIVATE, ServeOptions, ShowOptions};
+use sftp_files::{
+    DiffOptions, ExportOptions, Failure, ImportOptions, Keeping, MORE, PRIVATE, ServeOptions,
+    ShowOptions,
+};
 use sftp_profile::Profile;
 use sftp_vary::{Freedoms, Style, Variation, Words};
 use std::alloc::{AllocError, Global};
@@ -48,19 +51,11 @@ pub enum Request<'a> {
         keeping: Keeping,
     },
     /// Show how two tree files differ.
-    Diff {
-        old: &'a str,
-        new: &'a str,
-        memory: Option<u64>,
-        /// Whether the lines are JSON objects.
-        is_json: bool,
-    },
+    Diff(DiffOptions<'a>),
     /// Make a tree file from an archive.
     Import(ImportOptions<'a>),
     /// Make an archive from a tree file.
-    Export {
-        file: &'a str,
-    },
+    Export(ExportOptions<'a>),
     /// Print this text: help or the version.
     Help(String),
 }
@@ -92,6 +87,8 @@ pub struct AuditOptions<'a> {
     pub profile: Option<Profile>,
     /// The permissions that are taken from whatever is made, as octal digits.
     pub umask: Option<&'a str>,
+    /// Whether standard error says how far the audit is, also where it is no terminal.
+    pub says_progress: bool,
 }
 
 /// Parses the command line of the program in this version. The first word is the program's name. To ask for help or the
@@ -176,7 +173,7 @@ fn matched_by<'a>(command: &mut Command<'a>, words: &'a [String]) -> Result<Requ
     }
 }
 
-// Slow to prove: six calls each of which may give no request.
+// Slow to prove: seven calls each of which may give no request.
 fn requested<'a>(matches: &ArgMatches<'a>) -> Option<Request<'a>>
     ensures { (rows : List Row) → subcommand_rows_of matches.now ≡ Some (codes "audit", rows)
         → MatchOption result (LacksFile rows) (IsAuditRequest rows) }
@@ -187,9 +184,10 @@ fn requested<'a>(matches: &ArgMatches<'a>) -> Option<Request<'a>>
         "audit" => audit_options(given).map(Request::Audit),
         "show" => show_options(given).map(Request::Show),
         "raise" => raise_request(given),
-        "diff" => diff_request(given),
+        "diff" => diff_options(given).map(Request::Diff),
         "infer" => inferring::options_of(given).map(Request::Infer),
         "import" => importing::options_of(given).map(Request::Import),
+        "export" => export_options(given).map(Request::Export),
         _ => file_request(name, given.get_str("file")?, keeping_of(given)),
     }
 }
@@ -198,7 +196,6 @@ fn requested<'a>(matches: &ArgMatches<'a>) -> Option<Request<'a>>
 fn file_request<'a>(name: &str, file: &'a str, keeping: Keeping) -> Option<Request<'a>> {
     Some(match name {
         "make" => Request::Make { file, keeping },
-        "export" => Request::Export { file },
         _ => Request::Blank { file, keeping },
     })
 }
@@ -221,16 +218,20 @@ fn show_options<'a>(given: &ArgMatches<'a>) -> Option<ShowOptions<'a>> {
     })
 }
 
-fn diff_request<'a>(given: &ArgMatches<'a>) -> Option<Request<'a>> {
-    let old = given.get_str("old")?;
-    let new = given.get_str("new")?;
-    let memory = given.get_one("memory");
-    let is_json = given.get_flag("json");
-    Some(Request::Diff {
-        old,
-        new,
-        memory,
-        is_json,
+fn diff_options<'a>(given: &ArgMatches<'a>) -> Option<DiffOptions<'a>> {
+    Some(DiffOptions {
+        old: given.get_str("old")?,
+        new: given.get_str("new")?,
+        memory: given.get_one("memory"),
+        is_json: given.get_flag("json"),
+        says_progress: given.get_flag("progress"),
+    })
+}
+
+fn export_options<'a>(given: &ArgMatches<'a>) -> Option<ExportOptions<'a>> {
+    Some(ExportOptions {
+        file: given.get_str("file")?,
+        says_progress: given.get_flag("progress"),
     })
 }
 
@@ -331,6 +332,7 @@ fn audit_options<'a>(given: &ArgMatches<'a>) -> Option<AuditOptions<'a>>
         most: given.get_one("most"),
         profile: profiles::profile_of(given),
         umask: value(given, "umask"),
+        says_progress: given.get_flag("progress"),
     })
 }
 

@@ -32,7 +32,7 @@ use sftp_files::{Ending, Failure, ServeOptions, report, write_flushed};
 use sftp_options::{Request, parse};
 use sftp_vary::Style;
 use std::fs::Files;
-use std::io::{Read, Write};
+use std::io::{IsTerminal, Read, Write};
 
 /// The version of the program.
 pub const VERSION: &str = "0.2.0";
@@ -48,7 +48,8 @@ pub const VERSION: &str = "0.2.0";
 ///
 /// With status 2 or 3 the reason is written to `errors`. If `errors` cannot be written, the status is the same.
 /// `output` is flushed, unless a session stops because a stream fails or memory runs out. Only `serve`, `make` and
-/// `import` read `input`.
+/// `import` read `input`. Where `errors` is a terminal, `audit`, `diff`, `import` and `export` say there how far they are
+/// while that takes more than two seconds.
 pub fn run<R, I, O, E>(
     rt: &R,
     words: &[String],
@@ -60,7 +61,7 @@ where
     R: System,
     I: Read,
     O: Write,
-    E: Write,
+    E: Write + IsTerminal,
     ensures { result ≤ 3 }
 {
     run_versioned(rt, VERSION, words, input, output, errors)
@@ -79,7 +80,7 @@ where
     R: System,
     I: Read,
     O: Write,
-    E: Write,
+    E: Write + IsTerminal,
     ensures { result ≤ 3 }
 {
     match perform(rt, version, words, input, output, errors) {
@@ -93,7 +94,7 @@ where
     }
 }
 
-fn perform<'a, R: System, I: Read, O: Write, E: Write>(
+fn perform<'a, R: System, I: Read, O: Write, E: Write + IsTerminal>(
     rt: &R,
     version: &'a str,
     words: &'a [String],
@@ -173,7 +174,7 @@ fn spot_of_request<R: Files + AllocGlobal>(
 }
 
 // Slow to prove: ten calls that may fail, each of which borrows streams.
-fn perform_request<'a, R: System, I: Read, O: Write, E: Write>(
+fn perform_request<'a, R: System, I: Read, O: Write, E: Write + IsTerminal>(
     rt: &R,
     request: &Request<'a>,
     input: &mut I,
@@ -192,14 +193,9 @@ fn perform_request<'a, R: System, I: Read, O: Write, E: Write>(
         } => sftp_commands::raise(rt, tree, file, *keeping),
         Request::Show(options) => sftp_commands::show(rt, options, output),
         Request::Make { file, keeping } => sftp_commands::make(rt, file, *keeping, input),
-        Request::Diff {
-            old,
-            new,
-            memory,
-            is_json,
-        } => sftp_commands::diff(rt, (old, new), *memory, *is_json, output),
+        Request::Diff(options) => sftp_commands::diff(rt, options, output, errors),
         Request::Import(options) => sftp_commands::import(rt, options, input, errors),
-        Request::Export { file } => sftp_commands::export(rt, file, output),
+        Request::Export(options) => sftp_commands::export(rt, options, output, errors),
         Request::Help(text) => subcommands::help(text.as_str(), output),
     }
 }
