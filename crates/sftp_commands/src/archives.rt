@@ -5,7 +5,7 @@ ghost use Rattle.sftp_treefile.specs.TreeFile.{IsTreeFile};
 ghost use Rattle.sftp_tar.specs.Archive.{archive};
 ghost use Rattle.sftp_files.specs.declared.messages.Ending.TheVariants as endings;
 
-use crate::trees::{Reading, read_file};
+use crate::trees::{Reading, rows_in_view};
 use sftp_files::{
     Content, Ending, ExportOptions, Failure, FileSink, ImportOptions, Keeping, Meter, Progress,
     STANDARD_INPUT, STANDARD_OUTPUT, System, Task, Tracked, Watched, write_content, write_flushed,
@@ -224,7 +224,7 @@ pub fn export<'a, R: System, O: Write, E: Write + IsTerminal>(
         most: u64::MAX,
         says_progress: options.says_progress,
     };
-    match read_file(rt, reading, errors)? {
+    match rows_in_view(rt, reading, errors)? {
         Ok(file) => {
             let written = write_archive(rt, options, &file, output, errors);
             drop(file);

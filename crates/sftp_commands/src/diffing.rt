@@ -3,7 +3,7 @@ ghost use Rattle.std.specs.Prelude.{◌≡◌, ◌≢◌};
 ghost use Rattle.sftp_files.specs.declared.messages.Ending.TheVariants as endings;
 
 use crate::sameness::is_same;
-use crate::trees::{Reading, read_file};
+use crate::trees::{Reading, rows_in_view};
 use sftp_diff::{put_differences, put_objects};
 use sftp_files::{DiffOptions, Ending, Failure, STANDARD_OUTPUT, System, Task};
 use sftp_treefile::{TreeError, TreeFile};
@@ -21,8 +21,8 @@ pub fn diff<'a, R: System, O: Write, E: Write + IsTerminal>(
     output: &mut O,
     errors: &mut E,
 ) -> Result<Ending, Failure<'a>> {
-    let old = read_file(rt, reading(options, options.old, Task::ReadOld), errors)?;
-    let new = read_file(rt, reading(options, options.new, Task::ReadNew), errors)?;
+    let old = rows_in_view(rt, reading(options, options.old, Task::ReadOld), errors)?;
+    let new = rows_in_view(rt, reading(options, options.new, Task::ReadNew), errors)?;
     diff_read(old, new, options, output)
 }
 

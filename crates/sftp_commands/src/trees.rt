@@ -34,7 +34,7 @@ pub(crate) struct Reading<'a> {
 /// # Errors
 ///
 /// If the file cannot be read, or has more bytes than it may.
-pub(crate) fn read_file<'a, R: System, E: Write + IsTerminal>(
+pub(crate) fn rows_in_view<'a, R: System, E: Write + IsTerminal>(
     rt: &R,
     reading: Reading<'a>,
     errors: &mut E,
@@ -42,26 +42,34 @@ pub(crate) fn read_file<'a, R: System, E: Write + IsTerminal>(
     ensures fits { IfOk result (λ read. IfOk read IsTreeFile) }
     ensures err { IfErr result (λ failure. failure_status failure ≡ 3) }
 {
-    let Reading { name, task, .. } = reading;
+    let Reading {
+        name,
+        task,
+        most,
+        says_progress,
+    } = reading;
     let file = open(rt, name)?;
-    let is_asked = reading.says_progress;
-    let mut progress = Progress::new(rt, errors, is_asked, task, Some(name));
+    let mut progress = Progress::new(rt, errors, says_progress, task, Some(name));
     let tracked = Tracked::new(file, &mut progress);
-    let read = read_open(rt.alloc(), reading, tracked);
+    let read = rows_of(rt.alloc(), name, most, tracked);
     progress.end();
     read
 }
 
-/// What a tree file says that is open.
-fn read_open<'a, F: Read + Drop>(
+/// What the tree file `name`, which is open and may have so many bytes, says, or its fault.
+///
+/// # Errors
+///
+/// As `rows_in_view`.
+pub(crate) fn rows_of<'a, F: Read + Drop>(
     alloc: Global,
-    reading: Reading<'a>,
+    name: &'a str,
+    most: u64,
     file: F,
 ) -> Result<Result<TreeFile, TreeError>, Failure<'a>>
     ensures fits { IfOk result (λ read. IfOk read IsTreeFile) }
     ensures err { IfErr result (λ failure. failure_status failure ≡ 3) }
 {
-    let Reading { name, most, .. } = reading;
     let mut bytes = Watched::new(file.take(most.saturating_add(1)));
     let read = read_rows_from(alloc, Tally::new(&mut bytes));
     let flow = bytes.flow();

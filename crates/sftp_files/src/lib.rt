@@ -23,7 +23,7 @@ pub use messages::{
 pub use names::Named;
 pub use options::{DiffOptions, ExportOptions, ImportOptions, ServeOptions, ShowOptions};
 pub use progress::{Progress, Task, Tracked};
-pub use reading::{open, read, read_at_most};
+pub use reading::{open, read, read_at_most, read_open};
 pub use recording::{Record, Recording};
 pub use saving::{Keeping, PRIVATE, require_fit, write, write_content, write_last};
 pub use system::System;

@@ -13,13 +13,13 @@ ghost use Rattle.sftp_tool.specs.Verdicts.{IsStrictVerdict, IsVerdictUnder, IsVe
 use crate::cut_sessions::judge_cut_and_report;
 use crate::explaining::explain;
 use crate::going_on::report_findings;
-use crate::trees::read_tree_in_view;
+use crate::trees::{read_bytes_in_view, read_tree_in_view};
 use crate::verdict_objects::{print_accepted, print_refused};
 use sftp_audit::{AuditError, Ended, Refusal, audit_tree_by};
 use sftp_commands::{LeftOut, write_tree};
 use sftp_files::{
     Bounded, Ending, Failure, Keeping, Meter, Progress, System, Task, Tracked, open, print,
-    read_at_most, write_last,
+    write_last,
 };
 use sftp_handles::{GivenTable, Session};
 use sftp_judges::Judges;
@@ -81,7 +81,8 @@ fn audit_keeping<'a, R: System, O: Write, E: Write + IsTerminal>(
 ) -> Result<Ending, Failure<'a>>
     ensures { IsAuditStatus result }
 {
-    let bytes = read_at_most(rt, files.tree, files.memory)?;
+    let is_asked = files.says_progress;
+    let bytes = read_bytes_in_view(rt, files.tree, files.memory, is_asked, errors)?;
     let start = Tree::read(rt.alloc(), bytes.as_slice());
     let ending = audit_from(rt, files, start, Some(bytes.as_slice()), output, errors);
     drop(bytes);
