@@ -48,8 +48,8 @@ pub const VERSION: &str = "0.2.0";
 ///
 /// With status 2 or 3 the reason is written to `errors`. If `errors` cannot be written, the status is the same.
 /// `output` is flushed, unless a session stops because a stream fails or memory runs out. Only `serve`, `make` and
-/// `import` read `input`. Where `errors` is a terminal, `audit`, `diff`, `import` and `export` say there how far they are
-/// while that takes more than two seconds.
+/// `import` read `input`. Where `errors` is a terminal, `audit`, `diff`, `import` and `export` say there how far they
+/// are, while that takes more than two seconds.
 pub fn run<R, I, O, E>(
     rt: &R,
     words: &[String],
