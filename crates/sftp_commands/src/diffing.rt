@@ -31,7 +31,7 @@ fn reading<'a>(options: &DiffOptions<'a>, name: &'a str, task: Task) -> Reading<
     Reading {
         name,
         task,
-        most: options.memory.map_or(u64::MAX, |bytes| bytes / SHARE),
+        most: options.memory.map(|bytes| bytes / SHARE).unwrap_or(u64::MAX),
         says_progress: options.says_progress,
     }
 }
