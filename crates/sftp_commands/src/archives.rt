@@ -5,11 +5,12 @@ ghost use Rattle.sftp_treefile.specs.TreeFile.{IsTreeFile};
 ghost use Rattle.sftp_tar.specs.Archive.{archive};
 ghost use Rattle.sftp_files.specs.declared.messages.Ending.TheVariants as endings;
 
-use crate::trees::{Reading, rows_in_view};
+use crate::trees::rows_in_view;
 use sftp_files::{
-    Content, Ending, ExportOptions, Failure, FileSink, ImportOptions, Keeping, Meter, Progress,
-    STANDARD_INPUT, STANDARD_OUTPUT, System, Task, Tracked, Watched, write_content, write_flushed,
+    Content, Ending, Failure, FileSink, ImportOptions, Keeping, Meter, STANDARD_INPUT,
+    STANDARD_OUTPUT, System, Watched, write_content, write_flushed,
 };
+use sftp_progress::{Console, Progress, Task, Tracked};
 use sftp_show::Quoted;
 use sftp_streams::{Sink, Tally};
 use sftp_tar::{
@@ -22,21 +23,23 @@ use std::fs::File;
 use std::io;
 use std::io::{IsTerminal, Read, Write};
 use std::marker::Model;
+use std::time::Clock;
 
 /// Writes the tree file of the archive on standard input, which is read an entry at a time. The archive is judged
 /// before the file is written. Standard error names the devices and FIFOs that are passed over, or in whose place are
 /// empty files.
-pub fn import<'a, R: System, I: Read, E: Write + IsTerminal>(
+pub fn import<'a, R: System + Clock, I: Read, E: Write + IsTerminal>(
     rt: &R,
     options: &ImportOptions<'a>,
     input: &mut I,
-    errors: &mut E,
+    console: &mut Console<'_, E>,
 ) -> Result<Ending, Failure<'a>>
     ensures { IfOk result (λ ending. ending ≡ endings.Done) }
 {
     let mut meter = Meter::new(rt, options.memory)?;
-    let Imported { file, specials } = taken_in_view(rt, options, &mut meter, input, errors)?;
-    name_specials(options.taking.special, specials.as_slice(), errors);
+    let Imported { file, specials } =
+        taken_in_view(rt, options.taking, &mut meter, input, console)?;
+    name_specials(options.taking.special, specials.as_slice(), console.errors);
     drop(specials);
     write_rows_last(rt, options.file, options.keeping, Made::new(file))
 }
@@ -93,19 +96,19 @@ fn write_rows_last<'a, R: System>(
 }
 
 /// What the archive in a stream gives, while standard error says how much of it is read.
-fn taken_in_view<'a, R: System, I: Read, E: Write + IsTerminal>(
+fn taken_in_view<'a, R: System + Clock, I: Read, E: Write + IsTerminal>(
     rt: &R,
-    options: &ImportOptions<'a>,
+    taking: Taking,
     meter: &mut Meter,
     input: &mut I,
-    errors: &mut E,
+    console: &mut Console<'_, E>,
 ) -> Result<Imported, Failure<'a>>
     ensures { IfOk result (λ imported. IsTreeFile imported.file) }
 {
-    let is_asked = options.says_progress;
-    let mut progress = Progress::new(rt, errors, is_asked, Task::ReadArchive, None);
+    let is_asked = console.says_progress;
+    let mut progress = Progress::new(rt, console.errors, is_asked, Task::ReadArchive, None);
     let mut archive = Tracked::new(input, &mut progress);
-    let imported = taken(rt.alloc(), options.taking, meter, &mut archive);
+    let imported = taken(rt.alloc(), taking, meter, &mut archive);
     drop(archive);
     progress.end();
     imported
@@ -208,25 +211,19 @@ fn refused(alloc: Global, entry: u32, path: &[u8], refusal: Refusal) -> Result<S
     }
 }
 
-/// Writes the archive of a tree file to standard output, a member at a time. No more of the file is held than the tree
-/// and a buffer. The file is judged before the archive is written.
-pub fn export<'a, R: System, O: Write, E: Write + IsTerminal>(
+/// Writes the archive of the tree file `name` to standard output, a member at a time. No more of the file is held than
+/// the tree and a buffer. The file is judged before the archive is written.
+pub fn export<'a, R: System + Clock, O: Write, E: Write + IsTerminal>(
     rt: &R,
-    options: &ExportOptions<'a>,
+    name: &'a str,
     output: &mut O,
-    errors: &mut E,
+    console: &mut Console<'_, E>,
 ) -> Result<Ending, Failure<'a>>
     ensures { IfOk result (λ ending. ending ≡ endings.Done) }
 {
-    let reading = Reading {
-        name: options.file,
-        task: Task::ReadTree,
-        most: u64::MAX,
-        says_progress: options.says_progress,
-    };
-    match rows_in_view(rt, reading, errors)? {
+    match rows_in_view(rt, name, u64::MAX, Task::ReadTree, console)? {
         Ok(file) => {
-            let written = write_archive(rt, options, &file, output, errors);
+            let written = write_archive(rt, &file, output, console);
             drop(file);
             written
         }
@@ -235,18 +232,17 @@ pub fn export<'a, R: System, O: Write, E: Write + IsTerminal>(
 }
 
 /// Writes the archive of a tree file to standard output, while standard error says how much of it is written.
-fn write_archive<'a, R: System, O: Write, E: Write + IsTerminal>(
+fn write_archive<'a, R: System + Clock, O: Write, E: Write + IsTerminal>(
     rt: &R,
-    options: &ExportOptions<'a>,
     file: &TreeFile,
     output: &mut O,
-    errors: &mut E,
+    console: &mut Console<'_, E>,
 ) -> Result<Ending, Failure<'a>>
     requires { IsTreeFile file.now }
     ensures { IfOk result (λ ending. ending ≡ endings.Done) }
 {
-    let is_asked = options.says_progress;
-    let mut progress = Progress::new(rt, errors, is_asked, Task::WriteArchive, None);
+    let is_asked = console.says_progress;
+    let mut progress = Progress::new(rt, console.errors, is_asked, Task::WriteArchive, None);
     let mut archive = Watched::new(Tracked::new(output, &mut progress));
     let written = archived(rt.alloc(), file, &mut Tally::new(&mut archive));
     let code = archive.flow().code;

@@ -3,49 +3,48 @@ ghost use Rattle.std.specs.Prelude.{◌≡◌, ◌≢◌};
 ghost use Rattle.sftp_files.specs.declared.messages.Ending.TheVariants as endings;
 
 use crate::sameness::is_same;
-use crate::trees::{Reading, rows_in_view};
+use crate::trees::rows_in_view;
 use sftp_diff::{put_differences, put_objects};
-use sftp_files::{DiffOptions, Ending, Failure, STANDARD_OUTPUT, System, Task};
+use sftp_files::{Ending, Failure, STANDARD_OUTPUT, System};
+use sftp_progress::{Console, Task};
 use sftp_treefile::{TreeError, TreeFile};
 use std::io;
 use std::io::{IsTerminal, Write};
+use std::time::Clock;
 
 /// How many times the bytes of either file the memory has at most that a comparison takes.
 const SHARE: u64 = 32;
 
 /// Shows how two tree files differ. Both are read and judged before any line is written. No more of them is held than
 /// the trees and a buffer.
-pub fn diff<'a, R: System, O: Write, E: Write + IsTerminal>(
+pub fn diff<'a, R: System + Clock, O: Write, E: Write + IsTerminal>(
     rt: &R,
-    options: &DiffOptions<'a>,
+    names: (&'a str, &'a str),
+    memory: Option<u64>,
+    is_json: bool,
     output: &mut O,
-    errors: &mut E,
+    console: &mut Console<'_, E>,
 ) -> Result<Ending, Failure<'a>> {
-    let old = rows_in_view(rt, reading(options, options.old, Task::ReadOld), errors)?;
-    let new = rows_in_view(rt, reading(options, options.new, Task::ReadNew), errors)?;
-    diff_read(old, new, options, output)
+    let (old, new) = names;
+    let most = memory.map(|bytes| bytes / SHARE).unwrap_or(u64::MAX);
+    let before = rows_in_view(rt, old, most, Task::ReadOld, console)?;
+    let after = rows_in_view(rt, new, most, Task::ReadNew, console)?;
+    diff_read((old, before), (new, after), is_json, output)
 }
 
-/// How one of the files is read.
-fn reading<'a>(options: &DiffOptions<'a>, name: &'a str, task: Task) -> Reading<'a> {
-    Reading {
-        name,
-        task,
-        most: options.memory.map(|bytes| bytes / SHARE).unwrap_or(u64::MAX),
-        says_progress: options.says_progress,
-    }
-}
+/// What a tree file says, or its fault, and its name before that.
+type Read<'a> = (&'a str, Result<TreeFile, TreeError>);
 
 /// Shows how two tree files differ that were read.
 fn diff_read<'a, O: Write>(
-    old: Result<TreeFile, TreeError>,
-    new: Result<TreeFile, TreeError>,
-    options: &DiffOptions<'a>,
+    old: Read<'a>,
+    new: Read<'a>,
+    is_json: bool,
     output: &mut O,
 ) -> Result<Ending, Failure<'a>> {
-    let old = sound(old, options.old)?;
-    let new = sound(new, options.new)?;
-    let shown = show(&old, &new, options.is_json, output);
+    let old = sound(old)?;
+    let new = sound(new)?;
+    let shown = show(&old, &new, is_json, output);
     let ending = compared(&old, &new);
     drop(old);
     drop(new);
@@ -55,8 +54,9 @@ fn diff_read<'a, O: Write>(
     }
 }
 
-/// What the tree file of this name says, or the failure of the run for its fault.
-fn sound<'a>(read: Result<TreeFile, TreeError>, name: &'a str) -> Result<TreeFile, Failure<'a>> {
+/// What a tree file says, or the failure of the run for its fault.
+fn sound<'a>(file: Read<'a>) -> Result<TreeFile, Failure<'a>> {
+    let (name, read) = file;
     match read {
         Ok(file) => Ok(file),
         Err(TreeError::NoMemory) => Err(Failure::OutOfMemory),

@@ -5,10 +5,8 @@ ghost use Rattle.sftp_treefile.specs.TreeFile.{IsTreeFile};
 ghost use Rattle.sftp_files.specs.Failures.{IsUnwritten};
 ghost use Rattle.sftp_files.specs.Status.{failure_status};
 
-use sftp_files::{
-    Content, Failure, FileSink, Keeping, Progress, System, Task, Tracked, Watched, open,
-    write_content,
-};
+use sftp_files::{Content, Failure, FileSink, Keeping, System, Watched, open, write_content};
+use sftp_progress::{Console, Progress, Task, Tracked};
 use sftp_streams::Tally;
 use sftp_tree::Tree;
 use sftp_treefile::{TreeError, TreeFile, read_rows_from};
@@ -16,40 +14,27 @@ use std::alloc::Global;
 use std::fs::File;
 use std::io;
 use std::io::{IsTerminal, Read, Write};
+use std::time::Clock;
 
-/// A tree file that is to be read.
-#[derive(Clone, Copy)]
-pub(crate) struct Reading<'a> {
-    pub(crate) name: &'a str,
-    /// What it is read for.
-    pub(crate) task: Task,
-    /// The most bytes that it may have.
-    pub(crate) most: u64,
-    /// Whether standard error says how much of it is read, also where it is no terminal.
-    pub(crate) says_progress: bool,
-}
-
-/// What a tree file says, or its fault. No more of it is held than that and a buffer.
+/// What the tree file `name`, which may have so many bytes, says, or its fault. No more of it is held than that and a
+/// buffer. Standard error says how much of it is read.
 ///
 /// # Errors
 ///
 /// If the file cannot be read, or has more bytes than it may.
-pub(crate) fn rows_in_view<'a, R: System, E: Write + IsTerminal>(
+pub(crate) fn rows_in_view<'a, R: System + Clock, E: Write + IsTerminal>(
     rt: &R,
-    reading: Reading<'a>,
-    errors: &mut E,
+    name: &'a str,
+    most: u64,
+    task: Task,
+    console: &mut Console<'_, E>,
 ) -> Result<Result<TreeFile, TreeError>, Failure<'a>>
     ensures fits { IfOk result (λ read. IfOk read IsTreeFile) }
     ensures err { IfErr result (λ failure. failure_status failure ≡ 3) }
 {
-    let Reading {
-        name,
-        task,
-        most,
-        says_progress,
-    } = reading;
     let file = open(rt, name)?;
-    let mut progress = Progress::new(rt, errors, says_progress, task, Some(name));
+    let is_asked = console.says_progress;
+    let mut progress = Progress::new(rt, console.errors, is_asked, task, Some(name));
     let tracked = Tracked::new(file, &mut progress);
     let read = rows_of(rt.alloc(), name, most, tracked);
     progress.end();

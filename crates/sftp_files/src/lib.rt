@@ -1,5 +1,5 @@
-//! What runs of the program share: the files that they read, replace and record in, limits on memory, how far they are,
-//! how they end, and the messages that say why.
+//! What runs of the program share: the files that they read, replace and record in, limits on memory, how they end, and
+//! the messages that say why.
 #![tactic(auto)]
 
 mod contents;
@@ -8,7 +8,6 @@ mod memory;
 mod messages;
 mod names;
 mod options;
-mod progress;
 mod reading;
 mod recording;
 mod saving;
@@ -21,9 +20,8 @@ pub use messages::{
     Ending, Failure, MORE, STANDARD_INPUT, STANDARD_OUTPUT, print, report, write_flushed,
 };
 pub use names::Named;
-pub use options::{DiffOptions, ExportOptions, ImportOptions, ServeOptions, ShowOptions};
-pub use progress::{Progress, Task, Tracked};
-pub use reading::{open, read, read_at_most, read_open};
+pub use options::{ImportOptions, ServeOptions, ShowOptions};
+pub use reading::{open, read, read_at_most};
 pub use recording::{Record, Recording};
 pub use saving::{Keeping, PRIVATE, require_fit, write, write_content, write_last};
 pub use system::System;

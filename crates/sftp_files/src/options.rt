@@ -65,30 +65,4 @@ pub struct ImportOptions<'a> {
     pub memory: Option<u64>,
     /// How the archive is taken.
     pub taking: Taking,
-    /// Whether standard error says how far the run is, also where it is no terminal.
-    pub says_progress: bool,
-}
-
-/// The options of `diff`.
-#[derive(Clone, Copy)]
-pub struct DiffOptions<'a> {
-    /// The name of the tree file of before.
-    pub old: &'a str,
-    /// The name of the tree file of after.
-    pub new: &'a str,
-    /// The most bytes of memory that the comparison may take.
-    pub memory: Option<u64>,
-    /// Whether the lines are JSON objects.
-    pub is_json: bool,
-    /// Whether standard error says how far the run is, also where it is no terminal.
-    pub says_progress: bool,
-}
-
-/// The options of `export`.
-#[derive(Clone, Copy)]
-pub struct ExportOptions<'a> {
-    /// The name of the tree file.
-    pub file: &'a str,
-    /// Whether standard error says how far the run is, also where it is no terminal.
-    pub says_progress: bool,
 }

@@ -4,7 +4,6 @@ ghost use Rattle.sftp_files.specs.Failures.{IsUnread};
 ghost use Rattle.sftp_files.specs.Status.{failure_status};
 
 use crate::messages::Failure;
-use std::alloc::Global;
 use std::fs;
 use std::fs::Files;
 use std::io::Read;
@@ -28,21 +27,20 @@ pub fn read_at_most<'a, R: Files + AllocGlobal>(
     ensures { IfErr result (λ failure. failure_status failure ≡ 3) }
 {
     match most {
-        Some(most) => read_open(rt.alloc(), name, most, open(rt, name)?),
+        Some(most) => read_some(rt, name, most),
         None => read(rt, name),
     }
 }
 
-/// The bytes of the file `name`, which is this one, if there are at most so many.
-pub fn read_open<'a, F: Read + Drop>(
-    alloc: Global,
+fn read_some<'a, R: Files + AllocGlobal>(
+    rt: &R,
     name: &'a str,
     most: u64,
-    file: F,
 ) -> Result<Vec<u8>, Failure<'a>>
     ensures { IfErr result (λ failure. failure_status failure ≡ 3) }
 {
-    let mut bytes = Vec::new(alloc);
+    let file = open(rt, name)?;
+    let mut bytes = Vec::new(rt.alloc());
     match file.take(most.saturating_add(1)).read_to_end(&mut bytes) {
         Ok(_) if bytes.len() as u64 <= most => Ok(bytes),
         Ok(_) => {

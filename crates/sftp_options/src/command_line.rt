@@ -15,10 +15,7 @@ use crate::inferring::InferOptions;
 use crate::{help, importing, inferring, profiles};
 use clap::error::ErrorKind;
 use clap::{Arg, ArgAction, ArgMatches, Command, Error, value_parser};
-use sftp_files::{
-    DiffOptions, ExportOptions, Failure, ImportOptions, Keeping, MORE, PRIVATE, ServeOptions,
-    ShowOptions,
-};
+use sftp_files::{Failure, ImportOptions, Keeping, MORE, PRIVATE, ServeOptions, ShowOptions};
 use sftp_profile::Profile;
 use sftp_vary::{Freedoms, Style, Variation, Words};
 use std::alloc::{AllocError, Global};
@@ -51,11 +48,24 @@ pub enum Request<'a> {
         keeping: Keeping,
     },
     /// Show how two tree files differ.
-    Diff(DiffOptions<'a>),
+    Diff {
+        old: &'a str,
+        new: &'a str,
+        memory: Option<u64>,
+        /// Whether the lines are JSON objects.
+        is_json: bool,
+        says_progress: bool,
+    },
     /// Make a tree file from an archive.
-    Import(ImportOptions<'a>),
+    Import {
+        options: ImportOptions<'a>,
+        says_progress: bool,
+    },
     /// Make an archive from a tree file.
-    Export(ExportOptions<'a>),
+    Export {
+        file: &'a str,
+        says_progress: bool,
+    },
     /// Print this text: help or the version.
     Help(String),
 }
@@ -184,10 +194,10 @@ fn requested<'a>(matches: &ArgMatches<'a>) -> Option<Request<'a>>
         "audit" => audit_options(given).map(Request::Audit),
         "show" => show_options(given).map(Request::Show),
         "raise" => raise_request(given),
-        "diff" => diff_options(given).map(Request::Diff),
+        "diff" => diff_request(given),
         "infer" => inferring::options_of(given).map(Request::Infer),
-        "import" => importing::options_of(given).map(Request::Import),
-        "export" => export_options(given).map(Request::Export),
+        "import" => import_request(given),
+        "export" => export_request(given),
         _ => file_request(name, given.get_str("file")?, keeping_of(given)),
     }
 }
@@ -218,20 +228,36 @@ fn show_options<'a>(given: &ArgMatches<'a>) -> Option<ShowOptions<'a>> {
     })
 }
 
-fn diff_options<'a>(given: &ArgMatches<'a>) -> Option<DiffOptions<'a>> {
-    Some(DiffOptions {
-        old: given.get_str("old")?,
-        new: given.get_str("new")?,
-        memory: given.get_one("memory"),
-        is_json: given.get_flag("json"),
-        says_progress: given.get_flag("progress"),
+fn diff_request<'a>(given: &ArgMatches<'a>) -> Option<Request<'a>> {
+    let old = given.get_str("old")?;
+    let new = given.get_str("new")?;
+    let memory = given.get_one("memory");
+    let is_json = given.get_flag("json");
+    let says_progress = given.get_flag("progress");
+    Some(Request::Diff {
+        old,
+        new,
+        memory,
+        is_json,
+        says_progress,
     })
 }
 
-fn export_options<'a>(given: &ArgMatches<'a>) -> Option<ExportOptions<'a>> {
-    Some(ExportOptions {
-        file: given.get_str("file")?,
-        says_progress: given.get_flag("progress"),
+fn import_request<'a>(given: &ArgMatches<'a>) -> Option<Request<'a>> {
+    let options = importing::options_of(given)?;
+    let says_progress = given.get_flag("progress");
+    Some(Request::Import {
+        options,
+        says_progress,
+    })
+}
+
+fn export_request<'a>(given: &ArgMatches<'a>) -> Option<Request<'a>> {
+    let file = given.get_str("file")?;
+    let says_progress = given.get_flag("progress");
+    Some(Request::Export {
+        file,
+        says_progress,
     })
 }
 

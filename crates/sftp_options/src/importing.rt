@@ -35,7 +35,6 @@ pub(crate) fn options_of<'a>(given: &ArgMatches<'a>) -> Option<ImportOptions<'a>
         keeping: keeping_of(given),
         memory: given.get_one("memory"),
         taking,
-        says_progress: given.get_flag("progress"),
     })
 }
 

@@ -8,7 +8,7 @@ impl<'a> Request<'a> {
             Request::Audit(files) => files.is_json,
             Request::Infer(options) => options.is_json,
             Request::Show(options) => options.is_json,
-            Request::Diff(options) => options.is_json,
+            Request::Diff { is_json, .. } => *is_json,
             _ => false,
         }
     }
@@ -19,7 +19,7 @@ impl<'a> Request<'a> {
             Request::Serve(options, _) => Some(options.tree),
             Request::Audit(files) => Some(files.tree),
             Request::Raise { tree, .. } => Some(*tree),
-            Request::Export(options) => Some(options.file),
+            Request::Export { file, .. } => Some(*file),
             _ => self.shown(),
         }
     }

@@ -13,16 +13,18 @@ ghost use Rattle.sftp_tool.specs.Verdicts.{IsStrictCutVerdict, IsCutVerdictUnder
 use crate::subcommands::{keep_end, report_error};
 use crate::verdict_objects::print_accepted;
 use sftp_audit::{AuditError, EndedCut, audit_cut_tree_by};
-use sftp_files::{Ending, Failure, Progress, System, Task, Tracked, print};
+use sftp_files::{Ending, Failure, System, print};
 use sftp_handles::{GivenTable, Session};
 use sftp_judges::Judges;
 use sftp_options::AuditOptions;
 use sftp_profile::{Judge, Profile};
+use sftp_progress::{Progress, Task, Tracked};
 use sftp_transcript::{Reader, Tally};
 use sftp_tree::Tree;
 use std::alloc::Global;
 use std::fmt;
 use std::io::{IsTerminal, Read, Write};
+use std::time::Clock;
 
 /// How many requests of an accepted session there are of each kind. Each request is of one kind.
 #[derive(Clone, Copy)]
@@ -60,7 +62,7 @@ impl Counts {
 }
 
 /// Audits the session of this transcript, which may have been cut, and says what came of it.
-pub(crate) fn judge_cut_and_report<'a, F: Read + Drop, R: System, O: Write, E: Write + IsTerminal>(
+pub(crate) fn judge_cut_and_report<'a, F: Read + Drop, R: System + Clock, O: Write, E: Write + IsTerminal>(
     rt: &R,
     files: &AuditOptions<'a>,
     start: Tree,
@@ -103,7 +105,7 @@ fn report_cut<'a, R: System, O: Write, E: Write>(
 }
 
 /// Audits the session of this transcript, which may have been cut, while standard error says how much of it is read.
-fn judge_cut_in_view<F: Read + Drop, R: System, E: Write + IsTerminal>(
+fn judge_cut_in_view<F: Read + Drop, R: System + Clock, E: Write + IsTerminal>(
     rt: &R,
     files: &AuditOptions<'_>,
     start: Tree,

@@ -30,9 +30,11 @@ use sftp_faults::Spot;
 pub use sftp_files::System;
 use sftp_files::{Ending, Failure, ServeOptions, report, write_flushed};
 use sftp_options::{Request, parse};
+use sftp_progress::Console;
 use sftp_vary::Style;
 use std::fs::Files;
 use std::io::{IsTerminal, Read, Write};
+use std::time::Clock;
 
 /// The version of the program.
 pub const VERSION: &str = "0.2.0";
@@ -58,7 +60,7 @@ pub fn run<R, I, O, E>(
     errors: &mut E,
 ) -> u8
 where
-    R: System,
+    R: System + Clock,
     I: Read,
     O: Write,
     E: Write + IsTerminal,
@@ -77,7 +79,7 @@ pub fn run_versioned<R, I, O, E>(
     errors: &mut E,
 ) -> u8
 where
-    R: System,
+    R: System + Clock,
     I: Read,
     O: Write,
     E: Write + IsTerminal,
@@ -94,7 +96,7 @@ where
     }
 }
 
-fn perform<'a, R: System, I: Read, O: Write, E: Write + IsTerminal>(
+fn perform<'a, R: System + Clock, I: Read, O: Write, E: Write + IsTerminal>(
     rt: &R,
     version: &'a str,
     words: &'a [String],
@@ -174,7 +176,7 @@ fn spot_of_request<R: Files + AllocGlobal>(
 }
 
 // Slow to prove: ten calls that may fail, each of which borrows streams.
-fn perform_request<'a, R: System, I: Read, O: Write, E: Write + IsTerminal>(
+fn perform_request<'a, R: System + Clock, I: Read, O: Write, E: Write + IsTerminal>(
     rt: &R,
     request: &Request<'a>,
     input: &mut I,
@@ -193,10 +195,33 @@ fn perform_request<'a, R: System, I: Read, O: Write, E: Write + IsTerminal>(
         } => sftp_commands::raise(rt, tree, file, *keeping),
         Request::Show(options) => sftp_commands::show(rt, options, output),
         Request::Make { file, keeping } => sftp_commands::make(rt, file, *keeping, input),
-        Request::Diff(options) => sftp_commands::diff(rt, options, output, errors),
-        Request::Import(options) => sftp_commands::import(rt, options, input, errors),
-        Request::Export(options) => sftp_commands::export(rt, options, output, errors),
+        Request::Diff {
+            old,
+            new,
+            memory,
+            is_json,
+            says_progress,
+        } => {
+            let mut console = console(errors, *says_progress);
+            sftp_commands::diff(rt, (old, new), *memory, *is_json, output, &mut console)
+        }
+        Request::Import {
+            options,
+            says_progress,
+        } => sftp_commands::import(rt, options, input, &mut console(errors, *says_progress)),
+        Request::Export {
+            file,
+            says_progress,
+        } => sftp_commands::export(rt, file, output, &mut console(errors, *says_progress)),
         Request::Help(text) => subcommands::help(text.as_str(), output),
+    }
+}
+
+/// Standard error, and whether the run says there how far it is also where that is no terminal.
+fn console<E>(errors: &mut E, says_progress: bool) -> Console<'_, E> {
+    Console {
+        errors,
+        says_progress,
     }
 }
 

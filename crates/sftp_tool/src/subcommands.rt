@@ -13,24 +13,25 @@ ghost use Rattle.sftp_tool.specs.Verdicts.{IsStrictVerdict, IsVerdictUnder, IsVe
 use crate::cut_sessions::judge_cut_and_report;
 use crate::explaining::explain;
 use crate::going_on::report_findings;
-use crate::trees::{read_bytes_in_view, read_tree_in_view};
+use crate::trees::read_tree_in_view;
 use crate::verdict_objects::{print_accepted, print_refused};
 use sftp_audit::{AuditError, Ended, Refusal, audit_tree_by};
 use sftp_commands::{LeftOut, write_tree};
 use sftp_files::{
-    Bounded, Ending, Failure, Keeping, Meter, Progress, System, Task, Tracked, open, print,
-    write_last,
+    Bounded, Ending, Failure, Keeping, Meter, System, open, print, read_at_most, write_last,
 };
 use sftp_handles::{GivenTable, Session};
 use sftp_judges::Judges;
 use sftp_options::{AuditOptions, umask_of, with_umask};
 use sftp_profile::{Judge, Profile};
+use sftp_progress::{Progress, Task, Tracked};
 use sftp_transcript::{Reader, Tally};
 use sftp_tree::Tree;
 use sftp_treefile::TreeError;
 use std::alloc::Global;
 use std::fs::Files;
 use std::io::{IsTerminal, Read, Write};
+use std::time::Clock;
 
 /// Why `--most` cannot stand alone.
 const LACKS_KEEP_GOING: &str =
@@ -38,7 +39,7 @@ const LACKS_KEEP_GOING: &str =
 
 /// Audits a session. The tree file is read and the transcript is opened before either is judged. The transcript is read
 /// as a stream.
-pub(crate) fn audit<'a, R: System, O: Write, E: Write + IsTerminal>(
+pub(crate) fn audit<'a, R: System + Clock, O: Write, E: Write + IsTerminal>(
     rt: &R,
     files: &AuditOptions<'a>,
     output: &mut O,
@@ -56,7 +57,7 @@ pub(crate) fn audit<'a, R: System, O: Write, E: Write + IsTerminal>(
 }
 
 /// Audits a session by a profile with its umask.
-fn audit_by<'a, R: System, O: Write, E: Write + IsTerminal>(
+fn audit_by<'a, R: System + Clock, O: Write, E: Write + IsTerminal>(
     rt: &R,
     files: &AuditOptions<'a>,
     output: &mut O,
@@ -73,7 +74,7 @@ fn audit_by<'a, R: System, O: Write, E: Write + IsTerminal>(
 
 /// Audits such a session, and keeps the bytes of its tree file: what explains a refusal, and what goes on behind it,
 /// starts from the tree again, and its file may be a pipe.
-fn audit_keeping<'a, R: System, O: Write, E: Write + IsTerminal>(
+fn audit_keeping<'a, R: System + Clock, O: Write, E: Write + IsTerminal>(
     rt: &R,
     files: &AuditOptions<'a>,
     output: &mut O,
@@ -81,8 +82,7 @@ fn audit_keeping<'a, R: System, O: Write, E: Write + IsTerminal>(
 ) -> Result<Ending, Failure<'a>>
     ensures { IsAuditStatus result }
 {
-    let is_asked = files.says_progress;
-    let bytes = read_bytes_in_view(rt, files.tree, files.memory, is_asked, errors)?;
+    let bytes = read_at_most(rt, files.tree, files.memory)?;
     let start = Tree::read(rt.alloc(), bytes.as_slice());
     let ending = audit_from(rt, files, start, Some(bytes.as_slice()), output, errors);
     drop(bytes);
@@ -91,7 +91,7 @@ fn audit_keeping<'a, R: System, O: Write, E: Write + IsTerminal>(
 
 /// Audits a session that starts from this tree, unless its file has a fault. From here on `kept` has the bytes of the
 /// tree file if an explanation is asked for, or what else is wrong.
-fn audit_from<'a, R: System, O: Write, E: Write + IsTerminal>(
+fn audit_from<'a, R: System + Clock, O: Write, E: Write + IsTerminal>(
     rt: &R,
     files: &AuditOptions<'a>,
     start: Result<Tree, TreeError>,
@@ -118,7 +118,7 @@ fn audit_from<'a, R: System, O: Write, E: Write + IsTerminal>(
 
 /// Audits the session of this transcript, within the limit on memory if there is one. Without an option of a profile
 /// the session is judged strictly, and without `--cut` it has to be complete.
-fn audit_transcript<'a, F: Read + Drop, R: System, O: Write, E: Write + IsTerminal>(
+fn audit_transcript<'a, F: Read + Drop, R: System + Clock, O: Write, E: Write + IsTerminal>(
     rt: &R,
     files: &AuditOptions<'a>,
     start: Tree,
@@ -139,7 +139,7 @@ fn audit_transcript<'a, F: Read + Drop, R: System, O: Write, E: Write + IsTermin
 }
 
 /// Audits the session of this transcript within the limit on memory.
-fn audit_within<'a, F: Read + Drop, R: System, O: Write, E: Write + IsTerminal>(
+fn audit_within<'a, F: Read + Drop, R: System + Clock, O: Write, E: Write + IsTerminal>(
     rt: &R,
     files: &AuditOptions<'a>,
     start: Tree,
@@ -163,7 +163,7 @@ fn audit_within<'a, F: Read + Drop, R: System, O: Write, E: Write + IsTerminal>(
 
 /// Audits the session of this transcript, as one that may have been cut if the options say so, and says what came of
 /// it.
-fn judge_as_asked<'a, F: Read + Drop, R: System, O: Write, E: Write + IsTerminal>(
+fn judge_as_asked<'a, F: Read + Drop, R: System + Clock, O: Write, E: Write + IsTerminal>(
     rt: &R,
     files: &AuditOptions<'a>,
     start: Tree,
@@ -185,7 +185,7 @@ fn judge_as_asked<'a, F: Read + Drop, R: System, O: Write, E: Write + IsTerminal
 }
 
 /// Audits the session of this transcript, which has to be complete, and says what came of it.
-fn judge_and_report<'a, F: Read + Drop, R: System, O: Write, E: Write + IsTerminal>(
+fn judge_and_report<'a, F: Read + Drop, R: System + Clock, O: Write, E: Write + IsTerminal>(
     rt: &R,
     files: &AuditOptions<'a>,
     start: Tree,
@@ -330,7 +330,7 @@ fn refuse_as_object<'a, R: Files + AllocGlobal, O: Write>(
 }
 
 /// Audits the session of this transcript, while standard error says how much of it is read.
-fn judge_in_view<F: Read + Drop, R: System, E: Write + IsTerminal>(
+fn judge_in_view<F: Read + Drop, R: System + Clock, E: Write + IsTerminal>(
     rt: &R,
     files: &AuditOptions<'_>,
     start: Tree,

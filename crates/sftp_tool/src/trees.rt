@@ -2,12 +2,14 @@
 ghost use Rattle.std.specs.Prelude.{◌≡◌, IfErr};
 ghost use Rattle.sftp_files.specs.Status.{failure_status};
 
-use sftp_files::{Failure, Progress, System, Task, Tracked, Watched, open, read_open};
+use sftp_files::{Failure, System, Watched, open};
+use sftp_progress::{Progress, Task, Tracked};
 use sftp_transcript::Tally;
 use sftp_tree::Tree;
 use sftp_treefile::TreeError;
 use std::alloc::Global;
 use std::io::{IsTerminal, Read, Write};
+use std::time::Clock;
 
 /// The tree of the file `name`, or the first fault of the file. No more of it is held than the tree and a buffer.
 ///
@@ -30,7 +32,7 @@ pub(crate) fn read_tree<'a, R: System>(
 /// # Errors
 ///
 /// As `read_tree`.
-pub(crate) fn read_tree_in_view<'a, R: System, E: Write + IsTerminal>(
+pub(crate) fn read_tree_in_view<'a, R: System + Clock, E: Write + IsTerminal>(
     rt: &R,
     name: &'a str,
     limit: Option<u64>,
@@ -45,28 +47,6 @@ pub(crate) fn read_tree_in_view<'a, R: System, E: Write + IsTerminal>(
     let tree = tree_of(rt.alloc(), name, limit, tracked);
     progress.end();
     tree
-}
-
-/// The bytes of the tree file `name`, while standard error says how many are read.
-///
-/// # Errors
-///
-/// As `read_tree`.
-pub(crate) fn read_bytes_in_view<'a, R: System, E: Write + IsTerminal>(
-    rt: &R,
-    name: &'a str,
-    limit: Option<u64>,
-    is_asked: bool,
-    errors: &mut E,
-) -> Result<Vec<u8>, Failure<'a>>
-    ensures { IfErr result (λ failure. failure_status failure ≡ 3) }
-{
-    let file = open(rt, name)?;
-    let mut progress = Progress::new(rt, errors, is_asked, Task::ReadTree, Some(name));
-    let tracked = Tracked::new(file, &mut progress);
-    let bytes = read_open(rt.alloc(), name, limit.unwrap_or(u64::MAX), tracked);
-    progress.end();
-    bytes
 }
 
 /// The tree of the file `name`, which is this one.
