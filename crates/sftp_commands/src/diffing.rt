@@ -33,12 +33,12 @@ pub fn diff<'a, R: System + Clock, O: Write, E: Write + IsTerminal>(
 }
 
 /// What a tree file says, or its fault, and its name before that.
-type Read<'a> = (&'a str, Result<TreeFile, TreeError>);
+type FileRead<'a> = (&'a str, Result<TreeFile, TreeError>);
 
 /// Shows how two tree files differ that were read.
 fn diff_read<'a, O: Write>(
-    old: Read<'a>,
-    new: Read<'a>,
+    old: FileRead<'a>,
+    new: FileRead<'a>,
     is_json: bool,
     output: &mut O,
 ) -> Result<Ending, Failure<'a>> {
@@ -55,7 +55,7 @@ fn diff_read<'a, O: Write>(
 }
 
 /// What a tree file says, or the failure of the run for its fault.
-fn sound<'a>(file: Read<'a>) -> Result<TreeFile, Failure<'a>> {
+fn sound<'a>(file: FileRead<'a>) -> Result<TreeFile, Failure<'a>> {
     let (name, read) = file;
     match read {
         Ok(file) => Ok(file),
