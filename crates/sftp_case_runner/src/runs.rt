@@ -2,7 +2,7 @@
 use std::alloc::Global;
 use std::fs::Files;
 use std::io;
-use std::io::{ErrorKind, Read, Write};
+use std::io::{ErrorKind, IsTerminal, Read, Write};
 
 /// What a run returned and wrote to its streams.
 #[derive(Drop)]
@@ -102,6 +102,12 @@ impl Write for Stream {
             Fails::AtFlush => Err(io::Error::from(ErrorKind::BrokenPipe)),
             _ => Ok(()),
         }
+    }
+}
+
+impl IsTerminal for Stream {
+    fn is_terminal(&self) -> bool {
+        false
     }
 }
 

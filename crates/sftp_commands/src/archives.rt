@@ -1,42 +1,45 @@
 //! The subcommands `import` and `export`: an archive as a tree file, and a tree file as an archive.
-ghost use Rattle.std.specs.Prelude.{◌≡◌, ℕ, List, Some, IfOk, OnOk};
+ghost use Rattle.std.specs.Prelude.{◌≡◌, IfOk, OnOk};
 ghost use Rattle.std.specs.Io.KnownBytes.{Appends};
-ghost use Rattle.sftp_treefile.specs.declared.files.TreeFile.{TreeFile as file};
-ghost use Rattle.sftp_treefile.specs.TreeFile.{IsSpelled, IsTreeFile};
+ghost use Rattle.sftp_treefile.specs.TreeFile.{IsTreeFile};
 ghost use Rattle.sftp_tar.specs.Archive.{archive};
 ghost use Rattle.sftp_files.specs.declared.messages.Ending.TheVariants as endings;
 
+use crate::trees::rows_in_view;
 use sftp_files::{
     Content, Ending, Failure, FileSink, ImportOptions, Keeping, Meter, STANDARD_INPUT,
-    STANDARD_OUTPUT, System, Watched, open, write_content, write_flushed,
+    STANDARD_OUTPUT, System, Watched, write_content, write_flushed,
 };
+use sftp_progress::{Console, Progress, Task, Tracked};
 use sftp_show::Quoted;
-use sftp_streams::{Sink, Source, Tally};
+use sftp_streams::{Sink, Tally};
 use sftp_tar::{
     ExportError, ImportError, Imported, Refusal, Special, SpecialChoice, Taking, export_to,
     import_from,
 };
-use sftp_treefile::{TreeError, TreeFile, read_rows_from, write_rows_to};
+use sftp_treefile::{TreeFile, write_rows_to};
 use std::alloc::{AllocError, Global};
-use std::fs::{File, Files};
-use std::io::{ErrorKind, Read, Write};
+use std::fs::File;
+use std::io::{ErrorKind, IsTerminal, Read, Write};
 use std::marker::Model;
+use std::time::Clock;
 use std::{fmt, io};
 
 /// Writes the tree file of the archive on standard input, which is read an entry at a time. The archive is judged
 /// before the file is written. Standard error names the devices and FIFOs that are passed over, or in whose place are
 /// empty files.
-pub fn import<'a, R: System, I: Read, E: Write>(
+pub fn import<'a, R: System + Clock, I: Read, E: Write + IsTerminal>(
     rt: &R,
     options: &ImportOptions<'a>,
     input: &mut I,
-    errors: &mut E,
+    console: &mut Console<'_, E>,
 ) -> Result<Ending, Failure<'a>>
     ensures { IfOk result (λ ending. ending ≡ endings.Done) }
 {
     let mut meter = Meter::new(rt, options.memory)?;
-    let Imported { file, specials } = taken(rt.alloc(), options.taking, &mut meter, input)?;
-    name_specials(options.taking.special, specials.as_slice(), errors);
+    let Imported { file, specials } =
+        taken_in_view(rt, options.taking, &mut meter, input, console)?;
+    name_specials(options.taking.special, specials.as_slice(), console.errors);
     drop(specials);
     write_rows_last(rt, options.file, options.keeping, Made::new(file))
 }
@@ -90,6 +93,25 @@ fn write_rows_last<'a, R: System>(
         Ok(()) => Ok(Ending::Done),
         Err(failure) => Err(failure),
     }
+}
+
+/// What the archive in a stream gives, while standard error says how much of it is read.
+fn taken_in_view<'a, R: System + Clock, I: Read, E: Write + IsTerminal>(
+    rt: &R,
+    taking: Taking,
+    meter: &mut Meter,
+    input: &mut I,
+    console: &mut Console<'_, E>,
+) -> Result<Imported, Failure<'a>>
+    ensures { IfOk result (λ imported. IsTreeFile imported.file) }
+{
+    let is_asked = console.says_progress;
+    let mut progress = Progress::new(rt, console.errors, is_asked, Task::ReadArchive, None);
+    let mut archive = Tracked::new(input, &mut progress);
+    let imported = taken(rt.alloc(), taking, meter, &mut archive);
+    drop(archive);
+    progress.end();
+    imported
 }
 
 /// What the archive in a stream gives.
@@ -203,40 +225,57 @@ fn refused(alloc: Global, entry: u32, path: &[u8], refusal: Refusal) -> Result<S
 
 /// Writes the archive of the tree file `name` to standard output, a member at a time. No more of the file is held than
 /// the tree and a buffer. The file is judged before the archive is written.
-pub fn export<'a, R: Files + AllocGlobal, O: Write>(
+pub fn export<'a, R: System + Clock, O: Write, E: Write + IsTerminal>(
     rt: &R,
     name: &'a str,
     output: &mut O,
+    console: &mut Console<'_, E>,
 ) -> Result<Ending, Failure<'a>>
     ensures { IfOk result (λ ending. ending ≡ endings.Done) }
 {
-    let mut bytes = Watched::new(open(rt, name)?);
-    let mut archive = Output::new(output);
-    let written = archived(
-        rt.alloc(),
-        Tally::new(&mut bytes),
-        &mut Tally::new(&mut archive),
-    );
-    let code = bytes.flow().code;
-    drop(bytes);
+    match rows_in_view(rt, name, u64::MAX, Task::ReadTree, console)? {
+        Ok(file) => {
+            let written = write_archive(rt, &file, output, console);
+            drop(file);
+            written
+        }
+        Err(fault) => Err(Failure::from(fault)),
+    }
+}
+
+/// Writes the archive of a tree file to standard output, while standard error says how much of it is written.
+fn write_archive<'a, R: System + Clock, O: Write, E: Write + IsTerminal>(
+    rt: &R,
+    file: &TreeFile,
+    output: &mut O,
+    console: &mut Console<'_, E>,
+) -> Result<Ending, Failure<'a>>
+    requires { IsTreeFile file.now }
+    ensures { IfOk result (λ ending. ending ≡ endings.Done) }
+{
+    let is_asked = console.says_progress;
+    let mut progress = Progress::new(rt, console.errors, is_asked, Task::WriteArchive, None);
+    let mut archive = Output::new(Tracked::new(output, &mut progress));
+    let written = archived(rt.alloc(), file, &mut Tally::new(&mut archive));
+    let failure = archive.failure();
+    drop(archive);
+    progress.end();
     match written {
         Ok(()) => Ok(Ending::Done),
-        Err(Unexported::Tree(TreeError::Io { .. })) => Err(Failure::CannotRead(name, code)),
-        Err(Unexported::Tree(error)) => Err(Failure::from(error)),
-        Err(Unexported::Archive(ExportError::NoMemory)) => Err(Failure::OutOfMemory),
-        Err(Unexported::Archive(ExportError::Failed)) => Err(archive.failure()),
+        Err(ExportError::NoMemory) => Err(Failure::OutOfMemory),
+        Err(ExportError::Failed) => Err(failure),
     }
 }
 
 /// Standard output, and whether memory ran out when it last failed.
 #[derive(Drop)]
-struct Output<'o, O> {
-    inner: Watched<&'o mut O>,
+struct Output<W> {
+    inner: Watched<W>,
     lacks_memory: bool,
 }
 
-impl<'o, O: Write> Output<'o, O> {
-    fn new(inner: &'o mut O) -> Output<'o, O> {
+impl<W: Write> Output<W> {
+    fn new(inner: W) -> Output<W> {
         Output {
             inner: Watched::new(inner),
             lacks_memory: false,
@@ -261,7 +300,7 @@ fn lacks_memory<T>(done: &io::Result<T>) -> bool {
     }
 }
 
-impl<O: Write> Write for Output<'_, O> {
+impl<W: Write> Write for Output<W> {
     fn write(&mut self, bytes: &[u8]) -> io::Result<usize> {
         let done = self.inner.write(bytes);
         self.lacks_memory = lacks_memory(&done);
@@ -275,33 +314,14 @@ impl<O: Write> Write for Output<'_, O> {
     }
 }
 
-/// Why a tree file was not written as an archive.
-#[derive(Clone, Copy)]
-enum Unexported {
-    /// Its tree could not be read.
-    Tree(TreeError),
-    /// The archive could not be written.
-    Archive(ExportError),
-}
-
-/// Writes the archive of the tree file in a source to a sink, and flushes the sink.
-fn archived<R: Source, L: Sink>(alloc: Global, source: R, sink: &mut L) -> Result<(), Unexported>
-where
-    R: Drop,
-    ensures { OnOk result ((f : file) (bytes : List ℕ) → R.left source ≡ Some bytes → IsSpelled f bytes
-        → Appends (L.written sink.old) (L.written sink.new) (archive f)) }
+/// Writes the archive of a tree file to a sink, and flushes the sink.
+fn archived<L: Sink>(alloc: Global, file: &TreeFile, sink: &mut L) -> Result<(), ExportError>
+    requires { IsTreeFile file.now }
+    ensures { OnOk result (Appends (L.written sink.old) (L.written sink.new) (archive file.now)) }
 {
-    let file = match read_rows_from(alloc, source) {
-        Ok(file) => file,
-        Err(error) => return Err(Unexported::Tree(error)),
-    };
-    let written = export_to(alloc, &file, sink);
-    drop(file);
-    if let Err(error) = written {
-        return Err(Unexported::Archive(error));
-    }
+    export_to(alloc, file, sink)?;
     match sink.flush() {
         Ok(()) => Ok(()),
-        Err(_failed) => Err(Unexported::Archive(ExportError::Failed)),
+        Err(_failed) => Err(ExportError::Failed),
     }
 }

@@ -2,95 +2,74 @@
 ghost use Rattle.std.specs.Prelude.{◌≡◌, ◌≢◌};
 ghost use Rattle.sftp_files.specs.declared.messages.Ending.TheVariants as endings;
 
+use crate::sameness::is_same;
+use crate::trees::rows_in_view;
 use sftp_diff::{put_differences, put_objects};
-use sftp_files::{Ending, Failure, STANDARD_OUTPUT, read_at_most};
-use sftp_treefile::{TreeError, TreeFile, read_rows};
-use std::alloc::Global;
-use std::fs::Files;
+use sftp_files::{Ending, Failure, STANDARD_OUTPUT, System};
+use sftp_progress::{Console, Task};
+use sftp_treefile::{TreeError, TreeFile};
 use std::io;
-use std::io::Write;
+use std::io::{IsTerminal, Write};
+use std::time::Clock;
 
 /// How many times the bytes of either file the memory has at most that a comparison takes.
 const SHARE: u64 = 32;
 
-/// Shows how two tree files differ. Both are read and judged before any line is written.
-pub fn diff<'a, R: Files + AllocGlobal, O: Write>(
+/// Shows how two tree files differ. Both are read and judged before any line is written. No more of them is held than
+/// the trees and a buffer.
+pub fn diff<'a, R: System + Clock, O: Write, E: Write + IsTerminal>(
     rt: &R,
     names: (&'a str, &'a str),
     memory: Option<u64>,
     is_json: bool,
     output: &mut O,
+    console: &mut Console<'_, E>,
 ) -> Result<Ending, Failure<'a>> {
     let (old, new) = names;
-    let most = memory.map(|bytes| bytes / SHARE);
-    let bytes = read_at_most(rt, old, most)?;
-    let ending = diff_from(rt, (old, bytes.as_slice()), new, most, is_json, output);
-    drop(bytes);
-    ending
+    let most = memory.map(|bytes| bytes / SHARE).unwrap_or(u64::MAX);
+    let before = rows_in_view(rt, old, most, Task::ReadOld, console)?;
+    let after = rows_in_view(rt, new, most, Task::ReadNew, console)?;
+    diff_read((old, before), (new, after), is_json, output)
 }
 
-/// Shows how the tree file `new` differs from the one with this name and these bytes.
-fn diff_from<'a, R: Files + AllocGlobal, O: Write>(
-    rt: &R,
-    old: (&'a str, &[u8]),
-    new: &'a str,
-    most: Option<u64>,
+/// What a tree file says, or its fault, and its name before that.
+type FileRead<'a> = (&'a str, Result<TreeFile, TreeError>);
+
+/// Shows how two tree files differ that were read.
+fn diff_read<'a, O: Write>(
+    old: FileRead<'a>,
+    new: FileRead<'a>,
     is_json: bool,
     output: &mut O,
 ) -> Result<Ending, Failure<'a>> {
-    let bytes = read_at_most(rt, new, most)?;
-    let new = (new, bytes.as_slice());
-    let ending = diff_bytes(rt.alloc(), old, new, is_json, output);
-    drop(bytes);
-    ending
-}
-
-/// Shows how two tree files with these names and bytes differ.
-fn diff_bytes<'a, O: Write>(
-    alloc: Global,
-    old: (&'a str, &[u8]),
-    new: (&'a str, &[u8]),
-    is_json: bool,
-    output: &mut O,
-) -> Result<Ending, Failure<'a>> {
-    let file = tree_of(alloc, old.0, old.1)?;
-    let shown = show_new(alloc, &file, new, is_json, output);
-    drop(file);
+    let old = sound(old)?;
+    let new = sound(new)?;
+    let shown = show(&old, &new, is_json, output);
+    let ending = compared(&old, &new);
+    drop(old);
+    drop(new);
     match shown {
-        Ok(()) => Ok(compared(old.1, new.1)),
+        Ok(()) => Ok(ending),
         Err(failure) => Err(failure),
     }
 }
 
-/// Prints how the tree file with this name and these bytes differs from an old one.
-fn show_new<'a, O: Write>(
-    alloc: Global,
-    old: &TreeFile,
-    new: (&'a str, &[u8]),
-    is_json: bool,
-    output: &mut O,
-) -> Result<(), Failure<'a>> {
-    let file = tree_of(alloc, new.0, new.1)?;
-    let shown = show(old, &file, is_json, output);
-    drop(file);
-    shown
-}
-
-/// What the tree file with this name and these bytes says.
-fn tree_of<'a>(alloc: Global, name: &'a str, bytes: &[u8]) -> Result<TreeFile, Failure<'a>> {
-    match read_rows(alloc, bytes) {
+/// What a tree file says, or the failure of the run for its fault.
+fn sound<'a>(file: FileRead<'a>) -> Result<TreeFile, Failure<'a>> {
+    let (name, read) = file;
+    match read {
         Ok(file) => Ok(file),
         Err(TreeError::NoMemory) => Err(Failure::OutOfMemory),
         Err(error) => Err(Failure::TreeOf(name, error)),
     }
 }
 
-/// Whether two tree files say the same. A tree has one tree file, so they do if they have the same bytes.
-fn compared(old: &[u8], new: &[u8]) -> Ending
+/// Whether two tree files say the same.
+fn compared(old: &TreeFile, new: &TreeFile) -> Ending
     ensures same { result ≡ endings.Done → old.now ≡ new.now }
     ensures different { result ≢ endings.Done → old.now ≢ new.now }
 {
-    if old == new {
+    if is_same(old, new) {
         Ending::Done
     } else {
         Ending::Different

@@ -10,6 +10,7 @@ mod faulty;
 mod leaving_out;
 mod objects;
 mod raising;
+mod sameness;
 mod selecting;
 mod showing;
 mod spotting;

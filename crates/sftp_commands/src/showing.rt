@@ -2,16 +2,17 @@
 ghost use Rattle.std.specs.Prelude.{◌≡◌, IfOk};
 ghost use Rattle.sftp_files.specs.declared.messages.Ending.TheVariants as endings;
 
+use crate::trees::rows_of;
 use sftp_files::{Ending, Failure, STANDARD_OUTPUT, open};
 use sftp_show::{ShowError, show_transcript, show_tree};
 use sftp_transcript::{OPENING, Reader, Tally};
-use sftp_treefile::{TreeError, TreeFile, read_rows};
+use sftp_treefile::{TreeError, TreeFile};
 use std::alloc::Global;
 use std::fs::Files;
 use std::io;
 use std::io::{Read, Write};
 
-/// Shows a file. Its first bytes say which kind it is; a transcript is then read as a stream.
+/// Shows a file. Its first bytes say which kind it is, and then it is read as a stream.
 pub(crate) fn show<'a, R: Files + AllocGlobal, O: Write>(
     rt: &R,
     name: &'a str,
@@ -63,7 +64,7 @@ fn show_file<'a, F: Read, O: Write>(
     shown
 }
 
-/// Shows a file whose bytes go into an empty buffer: the opening of a transcript, and the whole of any other file.
+/// Shows a file whose first bytes go into an empty buffer.
 fn show_by_opening<'a, F: Read, O: Write>(
     alloc: Global,
     name: &'a str,
@@ -73,34 +74,21 @@ fn show_by_opening<'a, F: Read, O: Write>(
 ) -> Result<(), Failure<'a>> {
     match is_transcript_read(name, file, bytes) {
         Ok(true) => show_records(alloc, name, bytes.as_slice().chain(file), output),
-        Ok(false) => show_rows(alloc, bytes.as_slice(), output),
+        Ok(false) => show_rows(alloc, name, bytes.as_slice().chain(file), output),
         Err(failure) => Err(failure),
     }
 }
 
-/// Appends the opening of the file `name` to an empty buffer if it is a transcript, and else the whole file. Returns
-/// whether it is one.
+/// Appends as many bytes of the file `name` to an empty buffer as the opening of a transcript has. Returns whether they
+/// are that.
 pub(crate) fn is_transcript_read<'a, F: Read>(
     name: &'a str,
     file: &mut F,
     bytes: &mut Vec<u8>,
 ) -> Result<bool, Failure<'a>> {
-    append(name, &mut file.by_ref().take(OPENING.len() as u64), bytes)?;
-    if bytes.as_slice() == OPENING.as_slice() {
-        return Ok(true);
-    }
-    append(name, file, bytes)?;
-    Ok(false)
-}
-
-/// Appends the rest of the file `name` to the bytes.
-fn append<'a, F: Read>(
-    name: &'a str,
-    file: &mut F,
-    bytes: &mut Vec<u8>,
-) -> Result<(), Failure<'a>> {
-    match file.read_to_end(bytes) {
-        Ok(_) => Ok(()),
+    let mut opening = file.by_ref().take(OPENING.len() as u64);
+    match opening.read_to_end(bytes) {
+        Ok(_) => Ok(bytes.as_slice() == OPENING.as_slice()),
         Err(error) => Err(Failure::reading(name, &error)),
     }
 }
@@ -130,13 +118,26 @@ fn shown_or_failure<'a>(shown: Result<(), ShowError>, name: &'a str) -> Result<(
     }
 }
 
-fn show_rows<'a, O: Write>(alloc: Global, bytes: &[u8], output: &mut O) -> Result<(), Failure<'a>> {
-    match read_rows(alloc, bytes) {
-        Ok(file) => {
-            let shown = show_tree(&file, output);
-            drop(file);
-            shown.map_err(|error| Failure::writing(STANDARD_OUTPUT, &error))
-        }
+fn show_rows<'a, F: Read + Drop, O: Write>(
+    alloc: Global,
+    name: &'a str,
+    file: F,
+    output: &mut O,
+) -> Result<(), Failure<'a>> {
+    let file = shown_tree(alloc, name, file)?;
+    let shown = show_tree(&file, output);
+    drop(file);
+    shown.map_err(|error| Failure::writing(STANDARD_OUTPUT, &error))
+}
+
+/// What the file `name`, which is no transcript, says as a tree file.
+pub(crate) fn shown_tree<'a, F: Read + Drop>(
+    alloc: Global,
+    name: &'a str,
+    file: F,
+) -> Result<TreeFile, Failure<'a>> {
+    match rows_of(alloc, name, u64::MAX, file)? {
+        Ok(file) => Ok(file),
         Err(TreeError::Magic { .. }) => Err(Failure::UnknownFile),
         Err(error) => Err(Failure::from(error)),
     }

@@ -4,10 +4,10 @@ ghost use Rattle.sftp_files.specs.declared.messages.Ending.TheVariants as ending
 
 use crate::cuts::limit_of;
 use crate::selecting::{Wanted, read_wanted};
-use crate::showing::{is_transcript_read, outcome};
+use crate::showing::{is_transcript_read, outcome, shown_tree};
 use sftp_files::{Ending, Failure, Named, STANDARD_OUTPUT, ShowOptions, open};
 use sftp_transcript::{Reader, Tally};
-use sftp_treefile::{TreeError, TreeFile, read_rows};
+use sftp_treefile::TreeFile;
 use sftp_views::{Clock, Form, View, ViewError, put_tree, show_records};
 use std::alloc::Global;
 use std::fs::Files;
@@ -42,8 +42,7 @@ pub(crate) fn misuse(options: &ShowOptions<'_>) -> Option<&'static str> {
     None
 }
 
-/// Shows what the options ask for. The first bytes of the file say which kind it is; a transcript is then read as a
-/// stream.
+/// Shows what the options ask for. The first bytes of the file say which kind it is, and then it is read as a stream.
 pub(crate) fn view<'a, R: Files + AllocGlobal, O: Write>(
     rt: &R,
     options: &ShowOptions<'a>,
@@ -87,7 +86,7 @@ fn form_of(options: &ShowOptions<'_>, limit: usize) -> Form {
     }
 }
 
-/// Shows a file whose bytes go into an empty buffer: the opening of a transcript, and the whole of any other file.
+/// Shows a file whose first bytes go into an empty buffer.
 fn view_by_opening<'a, F: Read, R: Files + AllocGlobal, O: Write>(
     rt: &R,
     options: &ShowOptions<'a>,
@@ -98,7 +97,10 @@ fn view_by_opening<'a, F: Read, R: Files + AllocGlobal, O: Write>(
 ) -> Result<(), Failure<'a>> {
     match is_transcript_read(options.file, file, bytes) {
         Ok(true) => view_timed(rt, options, view, bytes.as_slice().chain(file), output),
-        Ok(false) => view_rows(rt.alloc(), options, view.form, bytes.as_slice(), output),
+        Ok(false) => {
+            let file = bytes.as_slice().chain(file);
+            view_rows(rt.alloc(), options, view.form, file, output)
+        }
         Err(failure) => Err(failure),
     }
 }
@@ -173,22 +175,17 @@ fn failure_of<'a>(alloc: Global, options: &ShowOptions<'a>, error: ViewError) ->
 }
 
 /// Shows a file that is no transcript, as JSON.
-fn view_rows<'a, O: Write>(
+fn view_rows<'a, F: Read + Drop, O: Write>(
     alloc: Global,
     options: &ShowOptions<'a>,
     form: Form,
-    bytes: &[u8],
+    file: F,
     output: &mut O,
 ) -> Result<(), Failure<'a>> {
-    match read_rows(alloc, bytes) {
-        Ok(file) => {
-            let shown = put_rows(alloc, options, form, &file, output);
-            drop(file);
-            shown
-        }
-        Err(TreeError::Magic { .. }) => Err(Failure::UnknownFile),
-        Err(error) => Err(Failure::from(error)),
-    }
+    let file = shown_tree(alloc, options.file, file)?;
+    let shown = put_rows(alloc, options, form, &file, output);
+    drop(file);
+    shown
 }
 
 fn put_rows<'a, O: Write>(

@@ -45,6 +45,13 @@ const NO_SYNC: Argument = (
     "Do not wait until what is written is on the disk",
 );
 
+/// The option by which a run says how far it is where nobody looks on.
+const PROGRESS: Argument = (
+    "progress",
+    Form::Flag,
+    "Print on standard error how far it is, also where that is no terminal",
+);
+
 const MEMORY: Argument = (
     "memory",
     Form::Number("BYTES"),
@@ -151,6 +158,7 @@ pub(crate) const AUDIT: &[Argument] = &[
     profiles::UMASK,
     profiles::NEW_OWNER,
     profiles::SYMLINK,
+    PROGRESS,
     MEMORY,
     MODE,
     NO_SYNC,
@@ -283,6 +291,7 @@ pub(crate) const DIFF: &[Argument] = &[
         Form::Flag,
         "Print a JSON object for each line, and for a failure",
     ),
+    PROGRESS,
     MEMORY,
     ("old", Form::Place("A"), "The tree file of before"),
     ("new", Form::Place("B"), "The tree file of after"),
@@ -293,13 +302,14 @@ pub(crate) const MAKE: &[Argument] = &[MODE, NO_SYNC, ("file", FILE, "The file t
 pub(crate) const IMPORT: &[Argument] = &[
     importing::LIMITS,
     importing::SPECIAL,
+    PROGRESS,
     MEMORY,
     MODE,
     NO_SYNC,
     ("file", FILE, "The tree file to write"),
 ];
 
-pub(crate) const EXPORT: &[Argument] = &[("file", FILE, "The tree file")];
+pub(crate) const EXPORT: &[Argument] = &[PROGRESS, ("file", FILE, "The tree file")];
 
 pub(crate) const BLANK: &[Argument] = &[MODE, NO_SYNC, ("file", FILE, "The file to write")];
 

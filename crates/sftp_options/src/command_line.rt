@@ -54,12 +54,17 @@ pub enum Request<'a> {
         memory: Option<u64>,
         /// Whether the lines are JSON objects.
         is_json: bool,
+        says_progress: bool,
     },
     /// Make a tree file from an archive.
-    Import(ImportOptions<'a>),
+    Import {
+        options: ImportOptions<'a>,
+        says_progress: bool,
+    },
     /// Make an archive from a tree file.
     Export {
         file: &'a str,
+        says_progress: bool,
     },
     /// Print this text: help or the version.
     Help(String),
@@ -92,6 +97,8 @@ pub struct AuditOptions<'a> {
     pub profile: Option<Profile>,
     /// The permissions that are taken from whatever is made, as octal digits.
     pub umask: Option<&'a str>,
+    /// Whether standard error says how far the audit is, also where it is no terminal.
+    pub says_progress: bool,
 }
 
 /// Parses the command line of the program in this version. The first word is the program's name. To ask for help or the
@@ -176,7 +183,7 @@ fn matched_by<'a>(command: &mut Command<'a>, words: &'a [String]) -> Result<Requ
     }
 }
 
-// Slow to prove: six calls each of which may give no request.
+// Slow to prove: seven calls each of which may give no request.
 fn requested<'a>(matches: &ArgMatches<'a>) -> Option<Request<'a>>
     ensures { (rows : List Row) → subcommand_rows_of matches.now ≡ Some (codes "audit", rows)
         → MatchOption result (LacksFile rows) (IsAuditRequest rows) }
@@ -189,7 +196,8 @@ fn requested<'a>(matches: &ArgMatches<'a>) -> Option<Request<'a>>
         "raise" => raise_request(given),
         "diff" => diff_request(given),
         "infer" => inferring::options_of(given).map(Request::Infer),
-        "import" => importing::options_of(given).map(Request::Import),
+        "import" => import_request(given),
+        "export" => export_request(given),
         _ => file_request(name, given.get_str("file")?, keeping_of(given)),
     }
 }
@@ -198,7 +206,6 @@ fn requested<'a>(matches: &ArgMatches<'a>) -> Option<Request<'a>>
 fn file_request<'a>(name: &str, file: &'a str, keeping: Keeping) -> Option<Request<'a>> {
     Some(match name {
         "make" => Request::Make { file, keeping },
-        "export" => Request::Export { file },
         _ => Request::Blank { file, keeping },
     })
 }
@@ -226,11 +233,31 @@ fn diff_request<'a>(given: &ArgMatches<'a>) -> Option<Request<'a>> {
     let new = given.get_str("new")?;
     let memory = given.get_one("memory");
     let is_json = given.get_flag("json");
+    let says_progress = given.get_flag("progress");
     Some(Request::Diff {
         old,
         new,
         memory,
         is_json,
+        says_progress,
+    })
+}
+
+fn import_request<'a>(given: &ArgMatches<'a>) -> Option<Request<'a>> {
+    let options = importing::options_of(given)?;
+    let says_progress = given.get_flag("progress");
+    Some(Request::Import {
+        options,
+        says_progress,
+    })
+}
+
+fn export_request<'a>(given: &ArgMatches<'a>) -> Option<Request<'a>> {
+    let file = given.get_str("file")?;
+    let says_progress = given.get_flag("progress");
+    Some(Request::Export {
+        file,
+        says_progress,
     })
 }
 
@@ -331,6 +358,7 @@ fn audit_options<'a>(given: &ArgMatches<'a>) -> Option<AuditOptions<'a>>
         most: given.get_one("most"),
         profile: profiles::profile_of(given),
         umask: value(given, "umask"),
+        says_progress: given.get_flag("progress"),
     })
 }
 

@@ -19,7 +19,7 @@ impl<'a> Request<'a> {
             Request::Serve(options, _) => Some(options.tree),
             Request::Audit(files) => Some(files.tree),
             Request::Raise { tree, .. } => Some(*tree),
-            Request::Export { file } => Some(*file),
+            Request::Export { file, .. } => Some(*file),
             _ => self.shown(),
         }
     }

@@ -18,11 +18,13 @@ use sftp_handles::{GivenTable, Session};
 use sftp_judges::Judges;
 use sftp_options::AuditOptions;
 use sftp_profile::{Judge, Profile};
+use sftp_progress::{Progress, Task, Tracked};
 use sftp_transcript::{Reader, Tally};
 use sftp_tree::Tree;
 use std::alloc::Global;
 use std::fmt;
-use std::io::{Read, Write};
+use std::io::{IsTerminal, Read, Write};
+use std::time::Clock;
 
 /// How many requests of an accepted session there are of each kind. Each request is of one kind.
 #[derive(Clone, Copy)]
@@ -60,7 +62,7 @@ impl Counts {
 }
 
 /// Audits the session of this transcript, which may have been cut, and says what came of it.
-pub(crate) fn judge_cut_and_report<'a, F: Read + Drop, R: System, O: Write, E: Write>(
+pub(crate) fn judge_cut_and_report<'a, F: Read + Drop, R: System + Clock, O: Write, E: Write + IsTerminal>(
     rt: &R,
     files: &AuditOptions<'a>,
     start: Tree,
@@ -77,7 +79,7 @@ pub(crate) fn judge_cut_and_report<'a, F: Read + Drop, R: System, O: Write, E: W
     ensures status { IsAuditStatus result }
 {
     let mut follows = true;
-    let judged = judge_cut(rt.alloc(), files.profile, start, transcript, &mut follows);
+    let judged = judge_cut_in_view(rt, files, start, transcript, &mut follows, errors);
     let ending = report_cut(rt, files, kept, &judged, follows, output, errors);
     drop(judged);
     ending
@@ -100,6 +102,29 @@ fn report_cut<'a, R: System, O: Write, E: Write>(
         Ok(ended) => accept_cut(rt, ended, files, output),
         Err(error) => report_error(rt, files, kept, *error, follows, output, errors),
     }
+}
+
+/// Audits the session of this transcript, which may have been cut, while standard error says how much of it is read.
+fn judge_cut_in_view<F: Read + Drop, R: System + Clock, E: Write + IsTerminal>(
+    rt: &R,
+    files: &AuditOptions<'_>,
+    start: Tree,
+    transcript: F,
+    follows: &mut bool,
+    errors: &mut E,
+) -> Result<EndedCut, AuditError>
+    ensures strictly { (tree : List ℕ) → IsStart start tree → files.now.profile ≡ None →
+        IsStrictCutAudit tree (F.remaining transcript) result }
+    ensures under { (tree : List ℕ) → IsStart start tree → (by : profile) → files.now.profile ≡ Some by →
+        IsCutAuditUnder by tree (F.remaining transcript) result }
+{
+    let is_asked = files.says_progress;
+    let file = Some(files.transcript);
+    let mut progress = Progress::new(rt, errors, is_asked, Task::ReadTranscript, file);
+    let tracked = Tracked::new(transcript, &mut progress);
+    let judged = judge_cut(rt.alloc(), files.profile, start, tracked, follows);
+    progress.end();
+    judged
 }
 
 /// Audits a session, which may have been cut, of a transcript that is read as a stream: strictly, or under a profile.

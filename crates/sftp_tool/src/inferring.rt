@@ -13,7 +13,8 @@ use sftp_infer::{Excess, Search, Settings, TreeText};
 use sftp_options::{AuditOptions, InferOptions, umask_of, with_umask};
 use sftp_profile::Profile;
 use std::alloc::Global;
-use std::io::Write;
+use std::io::{IsTerminal, Write};
+use std::time::Clock;
 
 /// The name that stands for a tree that nobody knows.
 pub(crate) const UNKNOWN: &str = "unknown";
@@ -51,7 +52,7 @@ fn options_of_audit<'a>(files: &AuditOptions<'a>) -> InferOptions<'a> {
 }
 
 /// Audits a session: with the tree of a file, or with one that is inferred.
-pub(crate) fn audit<'a, R: System, O: Write, E: Write>(
+pub(crate) fn audit<'a, R: System + Clock, O: Write, E: Write + IsTerminal>(
     rt: &R,
     files: &AuditOptions<'a>,
     output: &mut O,

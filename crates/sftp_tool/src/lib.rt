@@ -30,9 +30,11 @@ use sftp_faults::Spot;
 pub use sftp_files::System;
 use sftp_files::{Ending, Failure, ServeOptions, report, write_flushed};
 use sftp_options::{Request, parse};
+use sftp_progress::Console;
 use sftp_vary::Style;
 use std::fs::Files;
-use std::io::{Read, Write};
+use std::io::{IsTerminal, Read, Write};
+use std::time::Clock;
 
 /// The version of the program.
 pub const VERSION: &str = "0.2.0";
@@ -48,7 +50,8 @@ pub const VERSION: &str = "0.2.0";
 ///
 /// With status 2 or 3 the reason is written to `errors`. If `errors` cannot be written, the status is the same.
 /// `output` is flushed, unless a session stops because a stream fails or memory runs out. Only `serve`, `make` and
-/// `import` read `input`.
+/// `import` read `input`. Where `errors` is a terminal, `audit`, `diff`, `import` and `export` say there how far they
+/// are, while that takes more than two seconds.
 pub fn run<R, I, O, E>(
     rt: &R,
     words: &[String],
@@ -57,10 +60,10 @@ pub fn run<R, I, O, E>(
     errors: &mut E,
 ) -> u8
 where
-    R: System,
+    R: System + Clock,
     I: Read,
     O: Write,
-    E: Write,
+    E: Write + IsTerminal,
     ensures { result ≤ 3 }
 {
     run_versioned(rt, VERSION, words, input, output, errors)
@@ -76,10 +79,10 @@ pub fn run_versioned<R, I, O, E>(
     errors: &mut E,
 ) -> u8
 where
-    R: System,
+    R: System + Clock,
     I: Read,
     O: Write,
-    E: Write,
+    E: Write + IsTerminal,
     ensures { result ≤ 3 }
 {
     match perform(rt, version, words, input, output, errors) {
@@ -93,7 +96,7 @@ where
     }
 }
 
-fn perform<'a, R: System, I: Read, O: Write, E: Write>(
+fn perform<'a, R: System + Clock, I: Read, O: Write, E: Write + IsTerminal>(
     rt: &R,
     version: &'a str,
     words: &'a [String],
@@ -173,7 +176,7 @@ fn spot_of_request<R: Files + AllocGlobal>(
 }
 
 // Slow to prove: ten calls that may fail, each of which borrows streams.
-fn perform_request<'a, R: System, I: Read, O: Write, E: Write>(
+fn perform_request<'a, R: System + Clock, I: Read, O: Write, E: Write + IsTerminal>(
     rt: &R,
     request: &Request<'a>,
     input: &mut I,
@@ -197,10 +200,28 @@ fn perform_request<'a, R: System, I: Read, O: Write, E: Write>(
             new,
             memory,
             is_json,
-        } => sftp_commands::diff(rt, (old, new), *memory, *is_json, output),
-        Request::Import(options) => sftp_commands::import(rt, options, input, errors),
-        Request::Export { file } => sftp_commands::export(rt, file, output),
+            says_progress,
+        } => {
+            let mut console = console(errors, *says_progress);
+            sftp_commands::diff(rt, (old, new), *memory, *is_json, output, &mut console)
+        }
+        Request::Import {
+            options,
+            says_progress,
+        } => sftp_commands::import(rt, options, input, &mut console(errors, *says_progress)),
+        Request::Export {
+            file,
+            says_progress,
+        } => sftp_commands::export(rt, file, output, &mut console(errors, *says_progress)),
         Request::Help(text) => subcommands::help(text.as_str(), output),
+    }
+}
+
+/// Standard error, and whether the run says there how far it is also where that is no terminal.
+fn console<E>(errors: &mut E, says_progress: bool) -> Console<'_, E> {
+    Console {
+        errors,
+        says_progress,
     }
 }
 

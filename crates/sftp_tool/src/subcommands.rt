@@ -13,7 +13,7 @@ ghost use Rattle.sftp_tool.specs.Verdicts.{IsStrictVerdict, IsVerdictUnder, IsVe
 use crate::cut_sessions::judge_cut_and_report;
 use crate::explaining::explain;
 use crate::going_on::report_findings;
-use crate::trees::read_tree;
+use crate::trees::read_tree_in_view;
 use crate::verdict_objects::{print_accepted, print_refused};
 use sftp_audit::{AuditError, Ended, Refusal, audit_tree_by};
 use sftp_commands::{LeftOut, write_tree};
@@ -24,12 +24,14 @@ use sftp_handles::{GivenTable, Session};
 use sftp_judges::Judges;
 use sftp_options::{AuditOptions, umask_of, with_umask};
 use sftp_profile::{Judge, Profile};
+use sftp_progress::{Progress, Task, Tracked};
 use sftp_transcript::{Reader, Tally};
 use sftp_tree::Tree;
 use sftp_treefile::TreeError;
 use std::alloc::Global;
 use std::fs::Files;
-use std::io::{Read, Write};
+use std::io::{IsTerminal, Read, Write};
+use std::time::Clock;
 
 /// Why `--most` cannot stand alone.
 const LACKS_KEEP_GOING: &str =
@@ -37,7 +39,7 @@ const LACKS_KEEP_GOING: &str =
 
 /// Audits a session. The tree file is read and the transcript is opened before either is judged. The transcript is read
 /// as a stream.
-pub(crate) fn audit<'a, R: System, O: Write, E: Write>(
+pub(crate) fn audit<'a, R: System + Clock, O: Write, E: Write + IsTerminal>(
     rt: &R,
     files: &AuditOptions<'a>,
     output: &mut O,
@@ -55,7 +57,7 @@ pub(crate) fn audit<'a, R: System, O: Write, E: Write>(
 }
 
 /// Audits a session by a profile with its umask.
-fn audit_by<'a, R: System, O: Write, E: Write>(
+fn audit_by<'a, R: System + Clock, O: Write, E: Write + IsTerminal>(
     rt: &R,
     files: &AuditOptions<'a>,
     output: &mut O,
@@ -66,13 +68,13 @@ fn audit_by<'a, R: System, O: Write, E: Write>(
     if files.explains || files.keeps_going {
         return audit_keeping(rt, files, output, errors);
     }
-    let start = read_tree(rt, files.tree, files.memory)?;
+    let start = read_tree_in_view(rt, files.tree, files.memory, files.says_progress, errors)?;
     audit_from(rt, files, start, None, output, errors)
 }
 
 /// Audits such a session, and keeps the bytes of its tree file: what explains a refusal, and what goes on behind it,
 /// starts from the tree again, and its file may be a pipe.
-fn audit_keeping<'a, R: System, O: Write, E: Write>(
+fn audit_keeping<'a, R: System + Clock, O: Write, E: Write + IsTerminal>(
     rt: &R,
     files: &AuditOptions<'a>,
     output: &mut O,
@@ -89,7 +91,7 @@ fn audit_keeping<'a, R: System, O: Write, E: Write>(
 
 /// Audits a session that starts from this tree, unless its file has a fault. From here on `kept` has the bytes of the
 /// tree file if an explanation is asked for, or what else is wrong.
-fn audit_from<'a, R: System, O: Write, E: Write>(
+fn audit_from<'a, R: System + Clock, O: Write, E: Write + IsTerminal>(
     rt: &R,
     files: &AuditOptions<'a>,
     start: Result<Tree, TreeError>,
@@ -116,7 +118,7 @@ fn audit_from<'a, R: System, O: Write, E: Write>(
 
 /// Audits the session of this transcript, within the limit on memory if there is one. Without an option of a profile
 /// the session is judged strictly, and without `--cut` it has to be complete.
-fn audit_transcript<'a, F: Read + Drop, R: System, O: Write, E: Write>(
+fn audit_transcript<'a, F: Read + Drop, R: System + Clock, O: Write, E: Write + IsTerminal>(
     rt: &R,
     files: &AuditOptions<'a>,
     start: Tree,
@@ -137,7 +139,7 @@ fn audit_transcript<'a, F: Read + Drop, R: System, O: Write, E: Write>(
 }
 
 /// Audits the session of this transcript within the limit on memory.
-fn audit_within<'a, F: Read + Drop, R: System, O: Write, E: Write>(
+fn audit_within<'a, F: Read + Drop, R: System + Clock, O: Write, E: Write + IsTerminal>(
     rt: &R,
     files: &AuditOptions<'a>,
     start: Tree,
@@ -161,7 +163,7 @@ fn audit_within<'a, F: Read + Drop, R: System, O: Write, E: Write>(
 
 /// Audits the session of this transcript, as one that may have been cut if the options say so, and says what came of
 /// it.
-fn judge_as_asked<'a, F: Read + Drop, R: System, O: Write, E: Write>(
+fn judge_as_asked<'a, F: Read + Drop, R: System + Clock, O: Write, E: Write + IsTerminal>(
     rt: &R,
     files: &AuditOptions<'a>,
     start: Tree,
@@ -183,7 +185,7 @@ fn judge_as_asked<'a, F: Read + Drop, R: System, O: Write, E: Write>(
 }
 
 /// Audits the session of this transcript, which has to be complete, and says what came of it.
-fn judge_and_report<'a, F: Read + Drop, R: System, O: Write, E: Write>(
+fn judge_and_report<'a, F: Read + Drop, R: System + Clock, O: Write, E: Write + IsTerminal>(
     rt: &R,
     files: &AuditOptions<'a>,
     start: Tree,
@@ -200,7 +202,7 @@ fn judge_and_report<'a, F: Read + Drop, R: System, O: Write, E: Write>(
     ensures status { IsAuditStatus result }
 {
     let mut follows = true;
-    let judged = judge(rt.alloc(), files.profile, start, transcript, &mut follows);
+    let judged = judge_in_view(rt, files, start, transcript, &mut follows, errors);
     let ending = report(rt, files, kept, &judged, follows, output, errors);
     drop(judged);
     ending
@@ -325,6 +327,29 @@ fn refuse_as_object<'a, R: Files + AllocGlobal, O: Write>(
     );
     drop(lines);
     ending
+}
+
+/// Audits the session of this transcript, while standard error says how much of it is read.
+fn judge_in_view<F: Read + Drop, R: System + Clock, E: Write + IsTerminal>(
+    rt: &R,
+    files: &AuditOptions<'_>,
+    start: Tree,
+    transcript: F,
+    follows: &mut bool,
+    errors: &mut E,
+) -> Result<Ended, AuditError>
+    ensures strictly { (tree : List ℕ) → IsStart start tree → files.now.profile ≡ None →
+        IsStrictAudit tree (F.remaining transcript) result }
+    ensures under { (tree : List ℕ) → IsStart start tree → (by : profile) → files.now.profile ≡ Some by →
+        IsAuditUnder by tree (F.remaining transcript) result }
+{
+    let is_asked = files.says_progress;
+    let file = Some(files.transcript);
+    let mut progress = Progress::new(rt, errors, is_asked, Task::ReadTranscript, file);
+    let tracked = Tracked::new(transcript, &mut progress);
+    let judged = judge(rt.alloc(), files.profile, start, tracked, follows);
+    progress.end();
+    judged
 }
 
 /// Audits the session of a transcript that is read as a stream: strictly, or under a profile. `follows` is set to

@@ -3,10 +3,13 @@ ghost use Rattle.std.specs.Prelude.{◌≡◌, IfErr};
 ghost use Rattle.sftp_files.specs.Status.{failure_status};
 
 use sftp_files::{Failure, System, Watched, open};
+use sftp_progress::{Progress, Task, Tracked};
 use sftp_transcript::Tally;
 use sftp_tree::Tree;
 use sftp_treefile::TreeError;
-use std::io::Read;
+use std::alloc::Global;
+use std::io::{IsTerminal, Read, Write};
+use std::time::Clock;
 
 /// The tree of the file `name`, or the first fault of the file. No more of it is held than the tree and a buffer.
 ///
@@ -21,9 +24,43 @@ pub(crate) fn read_tree<'a, R: System>(
     ensures { IfErr result (λ failure. failure_status failure ≡ 3) }
 {
     let file = open(rt, name)?;
+    tree_of(rt.alloc(), name, limit, file)
+}
+
+/// The same, while standard error says how much of the file is read; where it is no terminal, if that is asked for.
+///
+/// # Errors
+///
+/// As `read_tree`.
+pub(crate) fn read_tree_in_view<'a, R: System + Clock, E: Write + IsTerminal>(
+    rt: &R,
+    name: &'a str,
+    limit: Option<u64>,
+    is_asked: bool,
+    errors: &mut E,
+) -> Result<Result<Tree, TreeError>, Failure<'a>>
+    ensures { IfErr result (λ failure. failure_status failure ≡ 3) }
+{
+    let file = open(rt, name)?;
+    let mut progress = Progress::new(rt, errors, is_asked, Task::ReadTree, Some(name));
+    let tracked = Tracked::new(file, &mut progress);
+    let tree = tree_of(rt.alloc(), name, limit, tracked);
+    progress.end();
+    tree
+}
+
+/// The tree of the file `name`, which is this one.
+fn tree_of<'a, F: Read + Drop>(
+    alloc: Global,
+    name: &'a str,
+    limit: Option<u64>,
+    file: F,
+) -> Result<Result<Tree, TreeError>, Failure<'a>>
+    ensures { IfErr result (λ failure. failure_status failure ≡ 3) }
+{
     let most = limit.unwrap_or(u64::MAX);
     let mut bytes = Watched::new(file.take(most.saturating_add(1)));
-    let tree = Tree::read_from(rt.alloc(), Tally::new(&mut bytes));
+    let tree = Tree::read_from(alloc, Tally::new(&mut bytes));
     let flow = bytes.flow();
     drop(bytes);
     if flow.bytes > most {

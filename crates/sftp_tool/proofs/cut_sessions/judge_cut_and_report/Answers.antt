@@ -8,11 +8,11 @@ use Rattle.sftp_tool.proofs.cut_sessions.judge_cut_and_report.Goals as goal
 pub returns-clause-strictly : goal.returns-clause-strictly
 returns-clause-strictly g c = λ tree is none.
     reported AccountsCut IsFirstFault HasCutEnd tree (g.F.Read.remaining c.args.transcript)
-    c.judge_cut-judged.result c.report_cut-ending.result c.report_cut-ending.ensures.of_audit
-    (c.judge_cut-judged.ensures.strictly tree is none)
+    c.judge_cut_in_view-judged.result c.report_cut-ending.result c.report_cut-ending.ensures.of_audit
+    (c.judge_cut_in_view-judged.ensures.strictly tree is none)
 
 pub returns-clause-under : goal.returns-clause-under
 returns-clause-under g c = λ tree is by asked.
     reported (AccountsCutUnder by) (IsFirstFaultUnder by) HasCutEnd tree
-    (g.F.Read.remaining c.args.transcript) c.judge_cut-judged.result c.report_cut-ending.result
-    c.report_cut-ending.ensures.of_audit (c.judge_cut-judged.ensures.under tree is by asked)
+    (g.F.Read.remaining c.args.transcript) c.judge_cut_in_view-judged.result c.report_cut-ending.result
+    c.report_cut-ending.ensures.of_audit (c.judge_cut_in_view-judged.ensures.under tree is by asked)

@@ -6,11 +6,11 @@ use Rattle.sftp_tool.proofs.subcommands.judge_and_report.Goals as goal
 
 pub returns-clause-strictly : goal.returns-clause-strictly
 returns-clause-strictly g c = λ tree is none.
-    reported Accounts IsFirstFault HasEnd tree (g.F.Read.remaining c.args.transcript) c.judge-judged.result
-    c.report-ending.result c.report-ending.ensures.of_audit (c.judge-judged.ensures.strictly tree is none)
+    reported Accounts IsFirstFault HasEnd tree (g.F.Read.remaining c.args.transcript) c.judge_in_view-judged.result
+    c.report-ending.result c.report-ending.ensures.of_audit (c.judge_in_view-judged.ensures.strictly tree is none)
 
 pub returns-clause-under : goal.returns-clause-under
 returns-clause-under g c = λ tree is by asked.
     reported (AccountsUnder by) (IsFirstFaultUnder by) HasEnd tree
-    (g.F.Read.remaining c.args.transcript) c.judge-judged.result c.report-ending.result
-    c.report-ending.ensures.of_audit (c.judge-judged.ensures.under tree is by asked)
+    (g.F.Read.remaining c.args.transcript) c.judge_in_view-judged.result c.report-ending.result
+    c.report-ending.ensures.of_audit (c.judge_in_view-judged.ensures.under tree is by asked)
