@@ -83,10 +83,7 @@ fn put_total<W: fmt::Write>(
     }
 }
 
-fn put_records<W: fmt::Write>(
-    records: Option<Records>,
-    f: &mut fmt::Formatter<W>,
-) -> fmt::Result {
+fn put_records<W: fmt::Write>(records: Option<Records>, f: &mut fmt::Formatter<W>) -> fmt::Result {
     match records {
         Some(records) => {
             let count = records.count;
