@@ -37,8 +37,13 @@ pub fn import<'a, R: System + Clock, I: Read, E: Write + IsTerminal>(
     ensures { IfOk result (λ ending. ending ≡ endings.Done) }
 {
     let mut meter = Meter::new(rt, options.memory)?;
-    let Imported { file, specials } =
-        taken_in_view(rt, options.taking, &mut meter, input, console)?;
+    let Imported { file, specials } = taken_in_view(
+        rt,
+        options.taking,
+        &mut meter,
+        input,
+        console,
+    )?;
     name_specials(options.taking.special, specials.as_slice(), console.errors);
     drop(specials);
     write_rows_last(rt, options.file, options.keeping, Made::new(file))

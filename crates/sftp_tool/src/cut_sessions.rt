@@ -62,7 +62,13 @@ impl Counts {
 }
 
 /// Audits the session of this transcript, which may have been cut, and says what came of it.
-pub(crate) fn judge_cut_and_report<'a, F: Read + Drop, R: System + Clock, O: Write, E: Write + IsTerminal>(
+pub(crate) fn judge_cut_and_report<
+    'a,
+    F: Read + Drop,
+    R: System + Clock,
+    O: Write,
+    E: Write + IsTerminal,
+>(
     rt: &R,
     files: &AuditOptions<'a>,
     start: Tree,
