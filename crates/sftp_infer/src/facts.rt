@@ -50,15 +50,15 @@ pub struct Fact {
 }
 
 impl Fact {
-    /// How much memory it takes, about, in units of 64 bytes.
-    pub(crate) fn units(&self) -> u64 {
+    /// How many bytes of memory it takes, about.
+    pub(crate) fn bytes(&self) -> u64 {
         let text = match &self.says {
             Says::Link(target) => target.len(),
             Says::SameFile(place) => place.len(),
             _ => 0,
         };
         let texts = self.place.len().saturating_add(text) as u64;
-        texts.saturating_add(FACT_BYTES) / 64
+        texts.saturating_add(FACT_BYTES)
     }
 
     pub(crate) fn try_clone(&self, alloc: Global) -> Result<Fact, NoMemory> {

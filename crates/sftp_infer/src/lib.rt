@@ -19,6 +19,7 @@ mod homes;
 mod listings;
 mod look;
 mod moves;
+mod names;
 mod nodes;
 mod opens;
 mod pass;

@@ -4,7 +4,8 @@ use crate::attributes::{PERMISSIONS, sort_of};
 use crate::clashes::What;
 use crate::errors::Stop;
 use crate::handles::Opened;
-use crate::nodes::{Held, Slot, Sort};
+use crate::names::Named;
+use crate::nodes::{Held, Node, Slot, Sort};
 use crate::world::World;
 use sftp_path::{is_dot, is_dot_dot, is_name};
 use sftp_wire::{NameItem, Names};
@@ -131,20 +132,34 @@ impl<'a> World<'a> {
         Ok(())
     }
 
-    /// A name that was in the directory all the time, and that a listing left out.
+    /// The first name that was in the directory all the time, and that a listing left out.
     fn left_out(&mut self, listing: Opened) -> Result<Option<(Slot, Vec<u8>)>, Stop> {
         let Some(directory) = self.nodes.get(listing.entry) else {
             return Ok(None);
         };
         self.work = self.work.saturating_add(directory.names.len() as u64);
-        for (name, slot) in directory.names.iter() {
-            if is_left_out(slot, listing) {
-                let name = Vec::from_slice(self.alloc, name.as_slice())?;
-                return Ok(Some((*slot, name)));
+        match first_left_out(directory, listing) {
+            Some(named) => {
+                let name = Vec::from_slice(self.alloc, named.name.as_slice())?;
+                Ok(Some((named.slot, name)))
             }
+            None => Ok(None),
         }
-        Ok(None)
     }
+}
+
+fn first_left_out(directory: &Node, listing: Opened) -> Option<&Named> {
+    let mut first: Option<&Named> = None;
+    for named in directory.names.each() {
+        let is_before = match first {
+            Some(other) => named.name.as_slice() < other.name.as_slice(),
+            None => true,
+        };
+        if is_left_out(&named.slot, listing) && is_before {
+            first = Some(named);
+        }
+    }
+    first
 }
 
 /// Whether a name was in a directory when a listing was opened and ever since, and the listing did not give it.

@@ -1,8 +1,8 @@
 //! What replies told of an entry.
 
 use crate::files::File;
+use crate::names::DirectoryNames;
 use std::alloc::Global;
-use std::collections::BTreeMap;
 
 /// What an entry is.
 #[derive(Clone, Copy, Debug, PartialEq, Eq)]
@@ -105,7 +105,7 @@ pub(crate) struct Node {
     pub(crate) old_name: Vec<u8>,
     pub(crate) rights: Rights,
     /// Of a directory: its names.
-    pub(crate) names: BTreeMap<Vec<u8>, Slot>,
+    pub(crate) names: DirectoryNames,
     /// Of a directory: the record that told that no other names were there.
     pub(crate) complete: Option<u64>,
     /// Of a link: its target, if it is known, and its length.
@@ -132,7 +132,7 @@ impl Node {
             old_parent: 0,
             old_name: Vec::new(alloc),
             rights: Rights::unknown(),
-            names: BTreeMap::new(alloc),
+            names: DirectoryNames::new(alloc),
             complete: None,
             target: None,
             length: None,

@@ -8,8 +8,10 @@ use sftp_path::NoMemory;
 /// How often a session is gone through at most with what was told of the start before.
 const ROUNDS: u32 = 12;
 
-/// What the facts of any session may take.
+/// How many bytes of memory the facts of any session may take, and those of each place.
 const FREE_BYTES: u64 = 1 << 20;
+
+const PLACE_BYTES: u64 = 128;
 
 /// What a pass comes to.
 #[derive(Clone, Copy, Debug, PartialEq, Eq)]
@@ -83,12 +85,12 @@ impl<'a> World<'a> {
         }
     }
 
-    /// Whether what is known takes more memory than it may: half as many bytes as the session has, and some for each
-    /// place.
+    /// Whether what is known takes more memory than it may: three quarters of the bytes of the session, and some for
+    /// each place.
     fn is_over(&self) -> bool {
-        let facts = self.taken.saturating_mul(64);
-        let places = (self.nodes.len() as u64).saturating_mul(512);
-        let most = (self.session.len() as u64 / 2).saturating_add(places);
-        facts > most.saturating_add(FREE_BYTES)
+        let places = (self.nodes.len() as u64).saturating_mul(PLACE_BYTES);
+        let session = self.session.len() as u64;
+        let most = session.saturating_sub(session / 4).saturating_add(places);
+        self.taken > most.saturating_add(FREE_BYTES)
     }
 }

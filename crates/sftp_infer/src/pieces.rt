@@ -35,10 +35,36 @@ impl Piece {
     }
 }
 
+/// A piece as it is kept: shorter than a packet.
+#[derive(Clone, Copy, Debug)]
+pub(crate) struct Kept {
+    len: u32,
+    told: u32,
+    from: usize,
+}
+
+impl Kept {
+    fn of(piece: Piece) -> Kept {
+        Kept {
+            len: u32::try_from(piece.len).unwrap_or(u32::MAX),
+            told: u32::try_from(piece.told).unwrap_or(u32::MAX),
+            from: piece.from,
+        }
+    }
+
+    pub(crate) fn piece(self) -> Piece {
+        Piece {
+            len: u64::from(self.len),
+            from: self.from,
+            told: u64::from(self.told),
+        }
+    }
+}
+
 /// Pieces of one file, no two of which overlap, by their offsets.
 #[derive(Drop)]
 pub(crate) struct Pieces {
-    by_offset: BTreeMap<u64, Piece>,
+    by_offset: BTreeMap<u64, Kept>,
 }
 
 /// What is known from an offset on.
@@ -63,14 +89,14 @@ impl Pieces {
     }
 
     /// The pieces by their offsets.
-    pub(crate) fn iter(&self) -> btree_map::Iter<'_, u64, Piece> {
+    pub(crate) fn iter(&self) -> btree_map::Iter<'_, u64, Kept> {
         self.by_offset.iter()
     }
 
     /// The last piece that begins at this offset or before it.
     fn before(&self, offset: u64) -> Option<(u64, Piece)> {
         match self.by_offset.range(..=offset).next_back() {
-            Some((offset, piece)) => Some((*offset, *piece)),
+            Some((offset, kept)) => Some((*offset, kept.piece())),
             None => None,
         }
     }
@@ -78,7 +104,7 @@ impl Pieces {
     /// The first piece that begins at this offset or behind it.
     fn from(&self, offset: u64) -> Option<(u64, Piece)> {
         match self.by_offset.range(offset..).next() {
-            Some((offset, piece)) => Some((*offset, *piece)),
+            Some((offset, kept)) => Some((*offset, kept.piece())),
             None => None,
         }
     }
@@ -103,7 +129,7 @@ impl Pieces {
             return Ok(());
         }
         self.clear(offset, offset.saturating_add(piece.len))?;
-        self.by_offset.insert(offset, piece)?;
+        self.by_offset.insert(offset, Kept::of(piece))?;
         Ok(())
     }
 
@@ -133,7 +159,8 @@ impl Pieces {
         if kept == 0 {
             self.by_offset.remove(&offset);
         } else {
-            self.by_offset.insert(offset, piece.first(kept))?;
+            let front = Kept::of(piece.first(kept));
+            self.by_offset.insert(offset, front)?;
         }
         self.keep_behind(offset, piece, end)
     }
@@ -142,7 +169,7 @@ impl Pieces {
     fn keep_behind(&mut self, offset: u64, piece: Piece, end: u64) -> Result<(), NoMemory> {
         let rest = piece.without(end.saturating_sub(offset));
         if rest.len > 0 {
-            self.by_offset.insert(end, rest)?;
+            self.by_offset.insert(end, Kept::of(rest))?;
         }
         Ok(())
     }

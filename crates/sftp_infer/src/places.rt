@@ -13,7 +13,7 @@ impl<'a> World<'a> {
             Ok(place) => {
                 let told = self.replied;
                 let fact = Fact { place, says, told };
-                self.taken = self.taken.saturating_add(fact.units());
+                self.taken = self.taken.saturating_add(fact.bytes());
                 self.learned.push(fact)?;
                 Ok(())
             }
@@ -28,7 +28,7 @@ impl<'a> World<'a> {
     pub(crate) fn invent(&mut self, place: Vec<u8>, says: Says) -> Result<(), NoMemory> {
         let told = self.replied;
         let fact = Fact { place, says, told };
-        self.taken = self.taken.saturating_add(fact.units());
+        self.taken = self.taken.saturating_add(fact.bytes());
         self.invented.push(fact)?;
         Ok(())
     }

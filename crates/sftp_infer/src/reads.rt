@@ -108,8 +108,9 @@ impl<'a> World<'a> {
     fn read_bytes(&mut self, at: usize, offset: u64, piece: Piece) -> Result<(), Stop> {
         let mut offset = offset;
         let mut piece = piece;
-        for _ in 0..u64::MAX {
+        for segment in 0..u64::MAX {
             if piece.len == 0 {
+                self.count_steps(segment);
                 return Ok(());
             }
             let taken = self.read_segment(at, offset, piece)?;
@@ -244,7 +245,7 @@ impl<'a> World<'a> {
         let fresh = Piece { len, ..piece };
         self.tell_least(at, end)?;
         let told = self.teller;
-        self.taken = self.taken.saturating_add(1);
+        self.take_pieces(1);
         if let Some(entry) = self.entry_mut(at) {
             entry.file.shown.put(offset, fresh)?;
             if entry.file.least < end {

@@ -41,7 +41,7 @@ impl Rights {
 }
 
 impl Slot {
-    fn rewind(&mut self) {
+    pub(crate) fn rewind(&mut self) {
         self.now = None;
         self.changed = 0;
         self.listed = 0;
@@ -63,17 +63,15 @@ impl Node {
     fn rewind_inside(&mut self, alloc: Global) {
         self.rights.rewind();
         self.file.rewind(alloc);
-        for slot in self.names.values_mut() {
-            slot.rewind();
-        }
+        self.names.rewind();
     }
 }
 
-/// How much memory facts take, about, in units of 64 bytes.
-fn units_of(facts: &[Fact]) -> u64 {
+/// How many bytes of memory facts take, about.
+fn bytes_of(facts: &[Fact]) -> u64 {
     let mut sum: u64 = 0;
     for fact in facts {
-        sum = sum.saturating_add(fact.units());
+        sum = sum.saturating_add(fact.bytes());
     }
     sum
 }
@@ -85,10 +83,8 @@ impl<'a> World<'a> {
         self.asked = 0;
         self.replied = 0;
         self.teller = 0;
-        self.taken = units_of(self.learned.as_slice());
-        self.taken = self
-            .taken
-            .saturating_add(units_of(self.invented.as_slice()));
+        let invented = bytes_of(self.invented.as_slice());
+        self.taken = bytes_of(self.learned.as_slice()).saturating_add(invented);
         self.owner = None;
         self.owner_by = 0;
         self.skipped = false;
@@ -107,8 +103,9 @@ impl<'a> World<'a> {
         };
         if entry.is_old {
             let shown = entry.file.shown.len() as u64;
-            self.taken = self.taken.saturating_add(shown);
-            return entry.rewind(alloc);
+            entry.rewind(alloc)?;
+            self.take_pieces(shown);
+            return Ok(());
         }
         entry.file.rewind(alloc);
         self.spare.push(at)?;

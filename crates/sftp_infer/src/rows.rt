@@ -11,6 +11,7 @@ use sftp_treefile::{
     put_link, usual_limits,
 };
 use sftp_wire::ByteString;
+use std::collections::BTreeMap;
 
 /// The most entries of a tree.
 const ENTRIES: usize = 1_048_576;
@@ -194,16 +195,21 @@ impl<'a> World<'a> {
         let Some(directory) = self.entry(at) else {
             return Ok(());
         };
-        for (name, slot) in directory.names.iter().rev() {
-            if let Some(Held::Entry(child)) = slot.start {
-                waiting.push(Listed {
-                    at: child,
-                    name: name.as_slice(),
-                    above,
-                })?;
+        let names = self.sorted(directory)?;
+        let pushed = push_sorted(&names, above, waiting);
+        drop(names);
+        pushed
+    }
+
+    /// What a directory had at the start, by names.
+    fn sorted<'w>(&self, directory: &'w Node) -> Result<BTreeMap<&'w [u8], usize>, NoMemory> {
+        let mut names = BTreeMap::new(self.alloc);
+        for named in directory.names.each() {
+            if let Some(Held::Entry(child)) = named.slot.start {
+                names.insert(named.name.as_slice(), child)?;
             }
         }
-        Ok(())
+        Ok(names)
     }
 
     fn text_of_rows(&self, rows: &[Listed<'_>]) -> Result<TreeText<'a>, NoMemory> {
@@ -375,6 +381,19 @@ impl<'a> World<'a> {
     }
 }
 
+/// Pushes entries, the last name first.
+fn push_sorted<'w>(
+    names: &BTreeMap<&'w [u8], usize>,
+    above: usize,
+    waiting: &mut Vec<Listed<'w>>,
+) -> Result<(), NoMemory> {
+    for (name, child) in names.iter().rev() {
+        let (name, at) = (*name, *child);
+        waiting.push(Listed { at, name, above })?;
+    }
+    Ok(())
+}
+
 /// What entries are written with.
 #[derive(Drop)]
 struct Pen {
@@ -400,7 +419,8 @@ impl Pen {
 /// Appends the bytes of a file at the start.
 fn put_shown(file: &File, text: &mut TreeText<'_>) -> Result<(), NoMemory> {
     let mut done: u64 = 0;
-    for (offset, piece) in file.shown.iter() {
+    for (offset, kept) in file.shown.iter() {
+        let piece = kept.piece();
         let begin = (*offset).min(file.least);
         text.push_zeros(begin.saturating_sub(done))?;
         let len = piece.len.min(file.least.saturating_sub(begin));

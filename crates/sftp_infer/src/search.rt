@@ -22,10 +22,10 @@ const PROPOSALS: usize = 8;
 /// The most refusals for which another reason is tried after a contradiction.
 const GUESSES: usize = 8;
 
-/// How much memory a choice takes beside its facts, in units of 64 bytes.
-const CHOICE_UNITS: u64 = 2;
+/// How many bytes of memory a choice takes beside its facts.
+const CHOICE_BYTES: u64 = 128;
 
-/// How much memory all choices may take beside half as many bytes as the session has.
+/// How many bytes of memory all choices may take beside a quarter of those that the session has.
 const FREE_BYTES: u64 = 1 << 22;
 
 /// A reason to take for a refusal.
@@ -50,11 +50,11 @@ pub(crate) struct Choice {
 }
 
 impl Choice {
-    /// How much memory it takes, about, in units of 64 bytes.
-    fn units(&self) -> u64 {
-        let mut sum = CHOICE_UNITS;
+    /// How many bytes of memory it takes, about.
+    fn bytes(&self) -> u64 {
+        let mut sum = CHOICE_BYTES;
         for fact in self.facts.iter() {
-            sum = sum.saturating_add(fact.units());
+            sum = sum.saturating_add(fact.bytes());
         }
         sum
     }
@@ -85,6 +85,8 @@ pub struct Search<'a> {
     pub(crate) choices: Vec<Choice>,
     pub(crate) passes: u32,
     pub(crate) work: u64,
+    /// Whether something was left untried, since it would have taken more than the search may.
+    pub(crate) is_spent: bool,
     /// The contradiction that came last in the session of those that were met.
     pub(crate) clash: Option<Clash>,
     /// The tree of the pass that came furthest.
@@ -124,6 +126,7 @@ impl<'a> Search<'a> {
             choices,
             passes: 0,
             work: 0,
+            is_spent: false,
             clash: None,
             best: None,
             furthest: 0,
@@ -144,6 +147,11 @@ impl<'a> Search<'a> {
         self.passes
     }
 
+    /// Whether something was left untried, since it would have taken more passes, steps or memory than the search may.
+    pub fn is_spent(&self) -> bool {
+        self.is_spent
+    }
+
     /// The contradiction that came last in the session of those that were met.
     pub fn clash(&self) -> Option<&Clash> {
         self.clash.as_ref()
@@ -161,27 +169,28 @@ impl<'a> Search<'a> {
     /// `NoMemory` if memory runs out.
     pub fn next(&mut self) -> Result<Step<'a>, NoMemory> {
         for _ in 0..self.settings.passes {
-            if self.passes >= self.settings.passes || self.work_left() == 0 || self.is_full() {
+            let Some(choice) = self.cheapest() else {
                 return Ok(Step::Nothing);
+            };
+            if self.passes >= self.settings.passes || self.work_left() == 0 || self.is_full() {
+                break;
             }
-            match self.cheapest() {
-                Some(choice) => match self.try_choice(choice)? {
-                    Step::Nothing => {}
-                    step => return Ok(step),
-                },
-                None => return Ok(Step::Nothing),
+            match self.try_choice(choice)? {
+                Step::Nothing => {}
+                step => return Ok(step),
             }
         }
+        self.is_spent = true;
         Ok(Step::Nothing)
     }
 
-    /// Whether the choices take more memory than they may: half as many bytes as the session has, and some.
+    /// Whether the choices take more memory than they may: a quarter of the bytes of the session, and some.
     fn is_full(&self) -> bool {
-        let mut units: u64 = 0;
+        let mut bytes: u64 = 0;
         for choice in self.choices.iter() {
-            units = units.saturating_add(choice.units());
+            bytes = bytes.saturating_add(choice.bytes());
         }
-        units.saturating_mul(64) > (self.session.len() as u64 / 2).saturating_add(FREE_BYTES)
+        bytes > (self.session.len() as u64 / 4).saturating_add(FREE_BYTES)
     }
 
     fn work_left(&self) -> u64 {
@@ -255,6 +264,7 @@ impl<'a> Search<'a> {
                 world.takes.push(take)?;
             }
             for fact in choice.facts.iter() {
+                world.work = world.work.saturating_add(1);
                 world.begin_with(fact)?;
             }
         }
@@ -292,6 +302,7 @@ impl<'a> Search<'a> {
         world: &mut World<'a>,
     ) -> Result<Step<'a>, NoMemory> {
         if passed == Passed::Over {
+            self.is_spent = true;
             return Ok(Step::Nothing);
         }
         let base = self.learn(choice, world)?;

@@ -157,7 +157,7 @@ impl<'a> World<'a> {
                 file.furthest = end;
                 file.written_by = told;
             }
-            self.taken = self.taken.saturating_add(more as u64);
+            self.take_pieces(more as u64);
         }
         Ok(())
     }

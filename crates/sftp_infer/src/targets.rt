@@ -218,8 +218,8 @@ impl<'a> World<'a> {
         let Some(directory) = self.entry(at) else {
             return Some(false);
         };
-        for slot in directory.names.values().take(LOOKED_AT) {
-            if let Some(Held::Entry(_)) = slot.now.or(slot.start) {
+        for named in directory.names.each().take(LOOKED_AT) {
+            if let Some(Held::Entry(_)) = named.slot.now.or(named.slot.start) {
                 return Some(true);
             }
         }

@@ -1,7 +1,7 @@
 //! What links may lead to that hide behind what a session saw.
 
 use crate::facts::{Fact, Says};
-use crate::nodes::{Node, Sort};
+use crate::nodes::Sort;
 use crate::world::World;
 use sftp_path::{DEPTH_LIMIT, NoMemory};
 
@@ -183,17 +183,33 @@ impl<'a> World<'a> {
         let Some(length) = length else {
             return Ok(());
         };
-        for count in 0..BESIDE {
-            let name = match self.entry(parent) {
-                Some(directory) => name_of_length(self.alloc, directory, length, count)?,
-                None => None,
+        let mut last = Vec::new(self.alloc);
+        for _ in 0..BESIDE {
+            let Some(name) = self.next_of_length(parent, length, last.as_slice()) else {
+                return Ok(());
             };
-            match name {
-                Some(name) => self.propose_of(at, Says::Link(name))?,
-                None => return Ok(()),
-            }
+            last = Vec::from_slice(self.alloc, name)?;
+            let target = Vec::from_slice(self.alloc, name)?;
+            self.propose_of(at, Says::Link(target))?;
         }
         Ok(())
+    }
+
+    /// The first name of this length in a directory that comes after another one.
+    fn next_of_length(&self, parent: usize, length: u64, last: &[u8]) -> Option<&[u8]> {
+        let directory = self.entry(parent)?;
+        let mut next: Option<&[u8]> = None;
+        for named in directory.names.each() {
+            let name = named.name.as_slice();
+            let is_before = match next {
+                Some(found) => name < found,
+                None => true,
+            };
+            if name.len() as u64 == length && name > last && is_before {
+                next = Some(name);
+            }
+        }
+        next
     }
 }
 
@@ -208,21 +224,3 @@ fn beside<'t>(text: &'t [u8], above: &[u8]) -> Option<&'t [u8]> {
     text.get(above.len().saturating_add(1)..)
 }
 
-/// A name of this length in a directory: the first one, the second one, and so on.
-fn name_of_length(
-    alloc: std::alloc::Global,
-    directory: &Node,
-    length: u64,
-    count: usize,
-) -> Result<Option<Vec<u8>>, NoMemory> {
-    let mut left = count;
-    for name in directory.names.keys() {
-        if name.len() as u64 == length {
-            if left == 0 {
-                return Ok(Some(Vec::from_slice(alloc, name.as_slice())?));
-            }
-            left = left.saturating_sub(1);
-        }
-    }
-    Ok(None)
-}

@@ -14,6 +14,9 @@ use std::collections::BTreeMap;
 /// How many components of a walk are as much work as a request.
 const FREE_STEPS: u64 = 64;
 
+/// How many bytes of memory a piece of a file takes, about.
+const PIECE_BYTES: u64 = 48;
+
 /// What is known in the middle of a pass.
 #[derive(Drop)]
 pub(crate) struct World<'a> {
@@ -59,7 +62,7 @@ pub(crate) struct World<'a> {
     pub(crate) replied: u64,
     /// The one of them that says what the exchange tells: the reply if it has more than a code or a handle.
     pub(crate) teller: u64,
-    /// The steps of the pass, and how much memory its facts take, in units of 64 bytes.
+    /// The steps of the pass, and how many bytes of memory its facts take, about.
     pub(crate) work: u64,
     pub(crate) taken: u64,
 }
@@ -113,6 +116,12 @@ impl<'a> World<'a> {
         self.work = self.work.saturating_add(steps / FREE_STEPS);
     }
 
+    /// Adds so many pieces of files to the memory of the pass.
+    pub(crate) fn take_pieces(&mut self, count: u64) {
+        let bytes = count.saturating_mul(PIECE_BYTES);
+        self.taken = self.taken.saturating_add(bytes);
+    }
+
     pub(crate) fn entry(&self, at: usize) -> Option<&Node> {
         self.nodes.get(at)
     }
@@ -152,7 +161,7 @@ impl<'a> World<'a> {
     pub(crate) fn slot(&self, parent: usize, name: &[u8]) -> Slot {
         match self.nodes.get(parent) {
             Some(entry) => match entry.names.get(name) {
-                Some(slot) => *slot,
+                Some(slot) => slot,
                 None => Slot::unknown(),
             },
             None => Slot::unknown(),
@@ -167,14 +176,10 @@ impl<'a> World<'a> {
         slot: Slot,
     ) -> Result<(), NoMemory> {
         let alloc = self.alloc;
-        if let Some(entry) = self.nodes.get_mut(parent) {
-            if let Some(known) = entry.names.get_mut(name) {
-                *known = slot;
-                return Ok(());
-            }
-            entry.names.insert(Vec::from_slice(alloc, name)?, slot)?;
+        match self.nodes.get_mut(parent) {
+            Some(entry) => entry.names.put(alloc, name, slot),
+            None => Ok(()),
         }
-        Ok(())
     }
 
     /// Makes an entry at a name, and returns its number.

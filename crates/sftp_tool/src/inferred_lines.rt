@@ -97,6 +97,14 @@ pub(crate) fn put_excess<E: Write>(excess: Excess, errors: &mut E) {
     };
 }
 
+/// Says that the search did not try all that it had in mind.
+pub(crate) fn put_spent<E: Write>(errors: &mut E) {
+    let _ = write_flushed(
+        errors,
+        "the search ended early: more would take more passes, steps or memory than it may\n",
+    );
+}
+
 /// The word for a kind.
 fn word(sort: Sort) -> &'static str {
     match sort {

@@ -4,7 +4,9 @@ ghost use Rattle.sftp_files.specs.Failures.{IsUnwritten};
 ghost use Rattle.sftp_tool.specs.Outcomes.{IsAuditStatus};
 
 use crate::inferences::{Found, Inferred, Judging, find};
-use crate::inferred_lines::{put_assumed, put_clash, put_excess, put_exchange, put_refusal};
+use crate::inferred_lines::{
+    put_assumed, put_clash, put_excess, put_exchange, put_refusal, put_spent,
+};
 use crate::subcommands;
 use crate::twice::is_lost;
 use crate::verdict_objects::{print_inferred, print_untold};
@@ -325,6 +327,9 @@ fn refuse<'a, R: System, O: Write, E: Write>(
         Some(clash) => (clash.told, clash.found),
         None => (0, 0),
     };
+    if search.is_spent() {
+        put_spent(errors);
+    }
     if options.is_json {
         return print_untold(found, told, output);
     }
