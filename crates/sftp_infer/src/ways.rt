@@ -223,4 +223,3 @@ fn beside<'t>(text: &'t [u8], above: &[u8]) -> Option<&'t [u8]> {
     }
     text.get(above.len().saturating_add(1)..)
 }
-
