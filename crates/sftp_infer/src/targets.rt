@@ -218,12 +218,12 @@ impl<'a> World<'a> {
         let Some(directory) = self.entry(at) else {
             return Some(false);
         };
-        for named in directory.names.each().take(LOOKED_AT) {
+        for named in directory.names.each().iter().take(LOOKED_AT) {
             if let Some(Held::Entry(_)) = named.slot.now.or(named.slot.start) {
                 return Some(true);
             }
         }
-        if directory.complete.is_some() && directory.names.len() <= LOOKED_AT {
+        if directory.complete.is_some() && directory.names.each().len() <= LOOKED_AT {
             Some(false)
         } else {
             None

@@ -15,7 +15,7 @@ use std::collections::BTreeMap;
 const FREE_STEPS: u64 = 64;
 
 /// How many bytes of memory a piece of a file takes, about.
-const PIECE_BYTES: u64 = 48;
+const PIECE_BYTES: u64 = 40;
 
 /// What is known in the middle of a pass.
 #[derive(Drop)]
