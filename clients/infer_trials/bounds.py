@@ -81,6 +81,14 @@ def links(count):
     return Costly(records(exchanges()), count, 0, (FOUND,))
 
 
+def lonely(count):
+    """Directories with one file each."""
+    def exchanges():
+        for name in names_of(count):
+            yield ("STAT", b"/" + name + b"/file"), ("ATTRS", FILE)
+    return Costly(records(exchanges()), 2 * count, 0, (FOUND,))
+
+
 def deep(count, statuses):
     """A home of many bytes, and directories there that refusals seem to say are not there, with a place below each."""
     home = b"".join(b"/" + bytes([97 + depth % 26]) * 60 for depth in range(60))
@@ -112,7 +120,7 @@ def scattered(count, is_written):
                 yield ("WRITE", b"h", 2 * number, b"x"), status_of(0)
             else:
                 yield ("READ", b"h", 2 * number, 1), ("DATA", b"x")
-    return Costly(records(exchanges()), 1, 4 * count, (FOUND, NOT_FOUND))
+    return Costly(records(exchanges()), 1, 0, (FOUND,))
 
 
 def sized(count, size, status, words=()):
@@ -150,6 +158,8 @@ def whole(count, is_written):
 
 SESSIONS = {
     "a directory of 20,000 names": lambda: many_names(20_000),
+    "a directory of 100,000 names": lambda: many_names(100_000),
+    "50,000 directories of one file each": lambda: lonely(50_000),
     "2,000 links of a directory, which lead nowhere": lambda: links(2_000),
     "200 directories at a home of 3,660 bytes": lambda: deep(200, (FOUND, NOT_FOUND)),
     "20,000 directories at a home of 3,660 bytes": lambda: deep(20_000, (TOO_LARGE, NOT_FOUND)),
@@ -162,8 +172,8 @@ SESSIONS = {
     "100 files of 16 MiB of which the size is told": lambda: sized(100, 16 << 20, TOO_LARGE),
     "8 files that the session gives 16 MiB": lambda: grown(8, 16 << 20, FOUND),
     "100 files that the session gives 16 MiB": lambda: grown(100, 16 << 20, TOO_LARGE),
-    "64 MiB that are read": lambda: whole(16, False),
-    "64 MiB that are written": lambda: whole(16, True),
+    "200 MiB that are read": lambda: whole(50, False),
+    "200 MiB that are written": lambda: whole(50, True),
 }
 
 
