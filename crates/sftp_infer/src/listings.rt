@@ -137,7 +137,9 @@ impl<'a> World<'a> {
         let Some(directory) = self.nodes.get(listing.entry) else {
             return Ok(None);
         };
-        self.work = self.work.saturating_add(directory.names.each().len() as u64);
+        self.work = self
+            .work
+            .saturating_add(directory.names.each().len() as u64);
         match first_left_out(directory, listing) {
             Some(named) => {
                 let name = Vec::from_slice(self.alloc, named.name.as_slice())?;
