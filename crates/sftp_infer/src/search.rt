@@ -301,7 +301,7 @@ impl<'a> Search<'a> {
         passed: Passed,
         world: &mut World<'a>,
     ) -> Result<Step<'a>, NoMemory> {
-        if passed == Passed::Over {
+        if passed == Passed::Over || passed == Passed::Dirty {
             self.is_spent = true;
             return Ok(Step::Nothing);
         }
