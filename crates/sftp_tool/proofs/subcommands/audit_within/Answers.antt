@@ -9,10 +9,11 @@ use Rattle.sftp_tool.proofs.subcommands.audit_within.Goals.{in_default-2, in_def
 pub returns-clause-verdict : goal.returns-clause-verdict
 returns-clause-verdict g c = λ tree is.
     let Holds = λ (known : Option (List ℕ)) (result : Result Ending Failure).
-        IfOk result (IsVerdictAsked c.args.files.now.profile c.args.files.now.cuts tree known) in
+    IfOk result (IsVerdictAsked c.args.files.now.profile c.args.files.now.cuts tree known) in
     let known = g.F.Read.remaining c.args.transcript in
     elim c.match-judge_as_asked.branch [
-        in_default-2 w ↦ subst (Holds known) (sym w.result-is) tt
-        | in_default w ↦ subst (Holds known) (sym w.result-is)
-            (subst (λ (it : Option (List ℕ)). Holds it c.judge_as_asked.result)
-            (ap g.F.Read.remaining c.new-bounded.ensures) (c.judge_as_asked.ensures.verdict tree is)) ]
+      | in_default-2 w ↦ subst (Holds known) (sym w.result-is) tt
+      | in_default w ↦ subst (Holds known) (sym w.result-is)
+          (subst (λ (it : Option (List ℕ)). Holds it c.judge_as_asked.result)
+          (ap g.F.Read.remaining c.new-bounded.ensures) (c.judge_as_asked.ensures.verdict tree is))
+    ]
