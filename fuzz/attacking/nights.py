@@ -181,8 +181,8 @@ def gone_wrong(field, nights, name, said):
 
 @attack("user")
 def a_shared_file_of_the_victim_is_moved_to_the_records(field):
-    """What others wrote into a file of the victim is no record, be it linked or moved to the records, nor are bytes that
-    none wrote so, nor one that others hold locked. None of them keeps the victim's sessions from being judged."""
+    """What others wrote into a file of the victim is no record, be it linked or moved to the records, nor is one that
+    has other bytes, or that others hold locked. None of them keeps the victim's sessions from being judged."""
     nights, name = Nights(field, VICTIM), record_name(VICTIM)
     forged = session(("MKDIR", os.fsencode(f"{nights.home}/unrecorded"), {"permissions": 0o755}))
     planted = os.path.join(nights.spool, name)
