@@ -14,7 +14,7 @@ from contextlib import suppress
 from paging import packets
 from recording import naming
 
-RECORD = re.compile(r".*\.transcript(\.[0-9a-f]+)?")
+RECORD = re.compile(r".*\.transcript(\.[0-9a-f]+)?", re.DOTALL)
 # The names that recorders give: none of them reads like a part of a line.
 PLAIN = re.compile(r"[A-Za-z0-9_.:@+%=-]+")
 DATE = re.compile(r"[0-9]{8}T[0-9]{6}Z")

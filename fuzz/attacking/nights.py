@@ -195,9 +195,9 @@ def a_shared_file_of_the_victim_is_moved_to_the_records(field):
         yield from (f"turn {turn}: {it}" for it in gone_wrong(field, nights, name, said))
         os.close(held)
     for number in range(25):
-        nights.put(f"{number}\t.transcript", forged, VICTIM.pw_uid, mode=0o640)
+        nights.put(f"{number}\n.transcript", forged, VICTIM.pw_uid, mode=0o640)
     found = nights.run()
-    yield from wrong(found, 1, f'\\x09.transcript" {NOT_TAKEN}', "5 more are not taken for records")
+    yield from wrong(found, 1, f'\\x0a.transcript" {NOT_TAKEN}', "5 more are not taken for records")
     if found[1].count(NOT_TAKEN) != 20:
         yield f"{found[1].count(NOT_TAKEN)} are named"
 
