@@ -8,7 +8,7 @@ from contextlib import suppress
 
 from nights import told
 from nights.keeping import Copy
-from nights.records import Failed, Spool
+from nights.records import Failed, NotTaken, Spool
 from paging import packets
 from probing import program
 
@@ -146,13 +146,15 @@ class Night:
     def audit_these(self, records):
         """Audits these records. Returns whether one of them is of a session that still runs."""
         for place, record in enumerate(records):
-            record.open()
             try:
+                record.open()
                 if record.is_running():
                     self.say(f"{record.shown()}: still running; it and what comes behind it are audited when it has "
                              "ended")
                     return True
                 self.judge(record, said_beside(record, records[max(0, place - NEAR):place + NEAR]))
+            except NotTaken as why:
+                self.say(f"{record.shown()} is not taken for a record: {why}", 1)
             finally:
                 record.close()
         return False
@@ -175,7 +177,7 @@ class Night:
     def look(self):
         """The tree of the folders as they are now, and what is said of them; None if a session ran meanwhile."""
         now = f"{self.tree}.now"
-        words = [sys.executable, "-I", TREE, "--out", now, "--most", str(self.given.memory // SHARE),
+        words = [sys.executable, "-IS", TREE, "--out", now, "--most", str(self.given.memory // SHARE),
                  "--limits", "raised", "--user", self.given.user]
         for name in ("home", "group"):
             words += [f"--{name}", getattr(self.given, name)] if getattr(self.given, name) else []
@@ -254,6 +256,8 @@ class Night:
     def run(self):
         if not self.reach_verdict():
             self.tell_not_compared()
+        for line in self.spool.strange.lines():
+            self.say(line, 1)
         if self.spool.refused:
-            self.say(self.spool.refused, 1)
+            self.say(*self.spool.refused)
         return self.status

@@ -14,12 +14,16 @@ from contextlib import suppress
 from paging import packets
 from recording import naming
 
-RECORD = re.compile(r".*\.transcript(\.[0-9a-f]+)?")
+RECORD = re.compile(r".*\.transcript(\.[0-9a-f]+)?", re.DOTALL)
+# The names that recorders give: none of them reads like a part of a line.
+PLAIN = re.compile(r"[A-Za-z0-9_.:@+%=-]+")
 DATE = re.compile(r"[0-9]{8}T[0-9]{6}Z")
 # sftpv3-recordd writes the date first; what comes behind it is the address that a client named.
 DATE_OF_DAEMON = re.compile(r"([0-9]{8}T[0-9]{6}Z)-")
 # The most records that are held at a time: their users can make as many as they like.
 MOST = 10_000
+# How many files that are not taken for records are named.
+NAMED = 20
 # A record this young, in seconds, may be one whose recorder has only just made it.
 YOUNG = 1
 FOLDER = os.O_RDONLY | os.O_DIRECTORY | os.O_CLOEXEC
@@ -27,6 +31,10 @@ FOLDER = os.O_RDONLY | os.O_DIRECTORY | os.O_CLOEXEC
 
 class Failed(Exception):
     """Why nothing is judged."""
+
+
+class NotTaken(Exception):
+    """Why a file is not taken for a record."""
 
 
 def seconds_of(date):
@@ -41,30 +49,48 @@ def identity_of(state):
     return state.st_dev, state.st_ino
 
 
+def shown(name):
+    """A name as a part of a line: in quotes and escaped, unless it is one as recorders give."""
+    return name if PLAIN.fullmatch(name) else packets.quoted(os.fsencode(name))
+
+
+def check_form(state):
+    """Raises NotTaken if no recorder made this file as it is. A file that others can write, and so move into the spool,
+    is the user's, too."""
+    if not stat.S_ISREG(state.st_mode):
+        raise NotTaken("it is no regular file")
+    if state.st_mode & 0o077:
+        raise NotTaken(f"its group or others may use it, mode {stat.S_IMODE(state.st_mode):04o}")
+    if state.st_nlink != 1:
+        raise NotTaken(f"it has {state.st_nlink} names")
+
+
 class Record:
     """A transcript in a folder that is open: its name, which file it is, when it began, and when the last was written
     to it."""
 
     def __init__(self, folder, name, state, date):
-        self.folder, self.name, self.identity = folder, name, identity_of(state)
+        self.folder, self.name, self.identity, self.owner = folder, name, identity_of(state), state.st_uid
         self.end = min(state.st_mtime_ns / 1e9, time.time())
         start = seconds_of(date) if date else None
         self.start = self.end if start is None else min(start, self.end)
         self.file = None
 
     def shown(self):
-        """Its name as a part of a line: the user may have chosen it."""
-        return packets.line(self.name)
+        return shown(self.name)
 
     def open(self):
-        """Opens it, if it still is the file that was found: its user may put another one there."""
+        """Opens it, if it still is the file that was found: its user may put another one there. Raises NotTaken if it
+        is no longer as a recorder makes it."""
         try:
             self.file = os.open(self.name, os.O_RDONLY | os.O_NOFOLLOW | os.O_NONBLOCK | os.O_CLOEXEC,
                                 dir_fd=self.folder)
         except OSError as error:
             raise Failed(f"{self.shown()}: {error.strerror}") from None
-        if identity_of(os.fstat(self.file)) != self.identity:
+        found = os.fstat(self.file)
+        if (identity_of(found), found.st_uid) != (self.identity, self.owner):
             raise Failed(f"{self.shown()}: it was replaced meanwhile")
+        check_form(found)
 
     def is_young(self):
         return 0 <= time.time() - os.fstat(self.file).st_mtime < YOUNG
@@ -98,14 +124,13 @@ class Record:
         return other is not self and self.start + 1 <= other.end and other.start + 1 <= self.end
 
 
-def found_in(folder, is_ours):
-    """The records in a folder that is open: pairs of a name and its state, of regular files that are ours."""
+def found_in(folder):
+    """What has the name of a record in a folder that is open: pairs of the name and its state."""
     with os.scandir(folder) as entries:
         for entry in entries:
             with suppress(FileNotFoundError):
-                state = entry.stat(follow_symlinks=False)
-                if RECORD.fullmatch(entry.name) and stat.S_ISREG(state.st_mode) and is_ours(state):
-                    yield entry.name, state
+                if RECORD.fullmatch(entry.name):
+                    yield entry.name, entry.stat(follow_symlinks=False)
 
 
 def is_writable(state):
@@ -113,47 +138,90 @@ def is_writable(state):
     return bool(state.st_mode & (stat.S_IWGRP | stat.S_IWOTH))
 
 
+class Strange:
+    """What of the user's is in the spool and not taken for a record: lines on the first, and how many there are."""
+
+    def __init__(self):
+        self.first, self.count = [], 0
+
+    def add(self, name, why):
+        self.count += 1
+        if self.count <= NAMED:
+            self.first.append(f"{shown(name)} is not taken for a record: {why}")
+
+    def lines(self):
+        more = self.count - len(self.first)
+        return self.first + ([f"{more} more are not taken for records"] if more else [])
+
+
 class Spool:
     """Where the records of a user are: files of this user in the folder that all share, and those in the folder that
-    sftpv3-recordd has for the user's name. `refused` says why the latter is not taken, or is None."""
+    sftpv3-recordd has for the user's name. `refused` says why the latter is not taken, with the status that comes of
+    it, or is None; `strange` has what was passed over at the last look."""
 
     def __init__(self, path, number):
         self.path, self.user, self.number = path, naming.as_part(naming.user_name(number)), number
-        self.shared, self.own, self.refused = os.open(path, FOLDER), None, None
+        self.shared, self.own, self.refused, self.strange = os.open(path, FOLDER), None, None, Strange()
 
     def look(self):
         """Opens the folder of the user's name, if it is that of the daemon: nobody but the spool's owner made it."""
         self.refused = None
         if self.own is not None:
             return
-        place = packets.line(os.path.join(self.path, self.user))
         try:
             own = os.open(self.user, FOLDER | os.O_NOFOLLOW, dir_fd=self.shared)
         except FileNotFoundError:
             return
         except OSError as error:
-            self.refused = f"{place} is not taken for records: {error.strerror}"
+            self.refuse(error.strerror)
             return
         spool, found = os.fstat(self.shared), os.fstat(own)
         if is_writable(spool):
-            self.refused = f"{place} is not taken for records: others can write to {packets.line(self.path)}"
+            self.refuse(f"others can write to {packets.line(self.path)}")
         elif found.st_uid not in (0, spool.st_uid) or is_writable(found):
-            self.refused = f"{place} is not taken for records: others own it or can write to it"
+            self.refuse("others own it or can write to it")
         else:
             self.own = own
             return
         os.close(own)
 
+    def refuse(self, why):
+        """Takes no records from the user's folder. The status is 1, unless a stranger made what has its name, who can
+        neither put records there nor take the daemon's folder away."""
+        place = packets.line(os.path.join(self.path, self.user))
+        self.refused = f"{place} is not taken for records: {why}", 0 if self.is_of_stranger() else 1
+
+    def is_of_stranger(self):
+        """Whether what has the user's name is of none whom the spool is, in a spool where all may make names, and none
+        may take those of others away."""
+        spool = os.fstat(self.shared)
+        with suppress(FileNotFoundError):
+            owner = os.stat(self.user, dir_fd=self.shared, follow_symlinks=False).st_uid
+            return is_writable(spool) and spool.st_mode & stat.S_ISVTX and owner not in (0, spool.st_uid)
+        return False
+
     def found(self):
-        """All records, in no order."""
-        for name, state in found_in(self.shared, lambda it: it.st_uid == self.number):
-            date = DATE.search(name)
-            yield Record(self.shared, name, state, date and date[0])
-        for name, state in found_in(self.own, lambda _: True) if self.own is not None else ():
+        """All records, in no order. What others own in the shared folder is theirs, whatever its name: it hides no
+        record, since a recorder then takes another name."""
+        for name, state in found_in(self.shared):
+            if state.st_uid == self.number:
+                date = DATE.search(name)
+                yield from self.taken(Record(self.shared, name, state, date and date[0]), state)
+        for name, state in found_in(self.own) if self.own is not None else ():
             date = DATE_OF_DAEMON.match(name)
-            yield Record(self.own, name, state, date and date[1])
+            yield from self.taken(Record(self.own, name, state, date and date[1]), state)
+
+    def taken(self, record, state):
+        """The record, if it is as a recorder makes it."""
+        try:
+            check_form(state)
+        except NotTaken as why:
+            self.strange.add(record.name, why)
+        else:
+            yield record
 
     def records(self):
         """The first records in the order of their starts."""
         self.look()
+        self.strange = Strange()
         return heapq.nsmallest(MOST, self.found(), key=lambda it: (it.start, it.end, it.name))

@@ -23,10 +23,15 @@ def followed(name: str) -> str:
     raise OSError(errno.ELOOP, os.strerror(errno.ELOOP), name)
 
 
-def refuse_followed(link: str, name: str | None = None) -> None:
+def refuse_followed(link: str, name: str) -> None:
     """Raises OSError if another user may have put this link where it is. It is on the way that this name leads."""
     if not is_trusted(os.lstat(link).st_uid, os.stat(os.path.dirname(link) or "."), os.geteuid()):
-        raise OSError(errno.EPERM, "a symbolic link of another user is on the way", name or link)
+        raise refusal(name)
+
+
+def refusal(name: str) -> OSError:
+    """Why a name is not followed."""
+    return OSError(errno.EPERM, "a symbolic link of another user is on the way", name)
 
 
 def refuse_link_of_another(name: str) -> None:

@@ -23,12 +23,14 @@ class Trouble(Exception):
 
 class Entry(NamedTuple):
     """An entry: its place as clients see it, what `lstat` says, and where it is: a name in a directory, which is open
-    until the next entry is asked for, or a whole path in none. What is below a mount is not looked for."""
+    until the next entry is asked for; of a link on the way to a folder, its target. What is below a mount is not looked
+    for."""
     place: Place
     state: os.stat_result
     directory: Optional[int]
     name: bytes
     is_mount: bool = False
+    target: bytes = b""
 
 
 def shown(place: Place) -> str:

@@ -1,15 +1,11 @@
 """The entries of a tree file: what the folders have, and the directories and links that lead to them from the root."""
 import heapq
 import os
-import stat
 from contextlib import ExitStack
-from typing import Dict, Iterator, List
+from typing import Dict, Iterator, List, Tuple
 
-from recording.links import followed, refuse_followed
-from snapshot.looking import DIRECTORY, Entry, Look, Place, Trouble, mount_points, names
-
-# docs/TREE.md: the most links on one walk.
-MOST_LINKS = 40
+from snapshot.looking import Entry, Look, Place, mount_points, names
+from snapshot.ways import Way
 
 
 class View:
@@ -19,60 +15,22 @@ class View:
     def __init__(self, folders: List[str], is_root: bool, stack: ExitStack, with_mounts: bool = True,
                  most: int = 1 << 34):
         self.is_root, self.most = is_root, most
-        above = names(os.fsencode(os.path.realpath(followed(folders[0])))) if is_root else ()
-        self.mounts = frozenset() if with_mounts else frozenset(
-            it[len(above):] for it in mount_points() if it[:len(above)] == above)
-        self.root = self.open(above, stack)
         self.above: Dict[Place, Entry] = {}
-        self.tops: List[Place] = []
-        for folder in folders if not is_root else []:
-            self.lead_to(names(os.fsencode(os.path.abspath(folder))))
-        self.tops = [place for place in sorted(set(self.tops)) if not self.is_below_another(place)]
-        self.folders = {place: self.open(place, stack) for place in self.tops}
+        opened = dict(self.open(folder, stack) for folder in folders)
+        top, self.root = next(iter(opened.items())) if is_root else self.open("/", stack)
+        self.mounts = frozenset() if with_mounts else frozenset(
+            it[len(top):] for it in mount_points() if it[:len(top)] == top)
+        self.folders = {place: opened[place] for place in sorted(opened) if not is_root and not
+                        any(place[:length] in opened for length in range(len(place)))}
 
-    @staticmethod
-    def open(place: Place, stack: ExitStack) -> int:
-        """Opens a directory, and no link on the way to it, which somebody may have put there meanwhile."""
-        held = os.open("/", DIRECTORY)
-        for name in place:
-            above, held = held, -1
-            try:
-                held = os.open(name, DIRECTORY, dir_fd=above)
-            finally:
-                os.close(above)
+    def open(self, folder: str, stack: ExitStack) -> Tuple[Place, int]:
+        """Opens a folder, and takes in the directories and links from the root to it. Returns its place."""
+        path = os.path.join(os.getcwd(), folder) if self.is_root else os.path.abspath(folder)
+        with Way() as way:
+            self.above.update((entry.place, entry) for entry in way.lead(names(os.fsencode(path))))
+            held = way.open()
         stack.callback(os.close, held)
-        return held
-
-    def is_below_another(self, place: Place) -> bool:
-        return any(place[:length] in self.tops for length in range(len(place)))
-
-    def lead_to(self, place: Place) -> None:
-        """Takes in the directories and links from the root to a folder; the folder is what the last one leads to. A
-        link of another user than this one and root, which leads wherever that one likes, is refused."""
-        links, at, left = 0, (), list(place)
-        while left:
-            name = left.pop(0)
-            if name == b"..":
-                at = at[:-1]
-                continue
-            at += (name,)
-            entry = self.entry_at(at)
-            self.above[at] = entry
-            if stat.S_ISLNK(entry.state.st_mode):
-                links += 1
-                if links > MOST_LINKS:
-                    raise Trouble(f"{os.fsdecode(b'/'.join((b'',) + place))}: more than {MOST_LINKS} links")
-                link = b"/" + b"/".join(at)
-                refuse_followed(os.fsdecode(link))
-                target = os.readlink(link)
-                at = () if target.startswith(b"/") else at[:-1]
-                left = [part for part in names(target) if part != b"."] + left
-        self.tops.append(at)
-
-    @staticmethod
-    def entry_at(place: Place) -> Entry:
-        path = b"/" + b"/".join(place)
-        return Entry(place, os.lstat(path), None, path)
+        return way.place, held
 
     def root_state(self) -> os.stat_result:
         return os.fstat(self.root)
@@ -84,7 +42,7 @@ class View:
             yield from look.below(self.root, ())
             return
         parts = [iter(sorted(self.above.values(), key=lambda entry: entry.place))]
-        parts += [look.below(self.folders[place], place) for place in self.tops]
+        parts += [look.below(held, place) for place, held in self.folders.items()]
         last = None
         for entry in heapq.merge(*parts, key=lambda entry: entry.place):
             if entry.place != last:

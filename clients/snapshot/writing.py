@@ -176,8 +176,7 @@ class Writer:
 
 def target_of(entry: Entry) -> bytes:
     """The target of a link. docs/TREE.md: a good path has no name of more than 255 bytes."""
-    target = os.readlink(entry.name, dir_fd=entry.directory)
-    target = os.fsencode(target)
+    target = entry.target or os.readlink(entry.name, dir_fd=entry.directory)
     if not target or any(len(name) > LONGEST_NAME for name in target.split(b"/")):
         raise Trouble(f"{shown(entry.place)}: the link's target is empty or has a name of more than {LONGEST_NAME} "
                       "bytes")

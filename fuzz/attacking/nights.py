@@ -2,6 +2,7 @@
 import fcntl
 import os
 import pwd
+import re
 import subprocess
 import time
 from contextlib import contextmanager, suppress
@@ -9,7 +10,9 @@ from contextlib import contextmanager, suppress
 from attacking.ground import SECONDS, attack
 from attacking.sessions import MEBI
 from attacking.recorders import KEEPER, beside
+from attacking.saving import TOP
 from attacking.sessions import HELLO
+from nights import records
 from programs import program
 from sftp3 import CLIENT, CREAT, SERVER, WRITE, Packet, Request, encode, put_records, status, version
 
@@ -146,6 +149,144 @@ def a_verdict_on_another_user_is_forged(field):
     yield from wrong(nights.run(), 1, own, without=["accepted 1 requests"])
 
 
+NOT_TAKEN = "is not taken for a record: "
+
+
+def shared_file(field, owner, data, mode):
+    """A file of another user in a folder of a group, where all can write."""
+    folder = field.path("group")
+    os.makedirs(folder, exist_ok=True)
+    os.chmod(folder, 0o777)
+    path = field.put("group/theirs", data, mode)
+    os.chown(path, owner.pw_uid, owner.pw_gid)
+    os.utime(path, (1, 1))
+    return path
+
+
+def gone_wrong(field, nights, name, said):
+    """What goes wrong beside a planted file: it is named, and the victim's own session is judged as ever."""
+    d = f"{nights.home}/d"
+    nights.put(record_name(VICTIM, "20261127T111500Z"), session(mkdir(d), rmdir(d)), VICTIM.pw_uid)
+    nights.change()
+    found = nights.run()
+    yield from wrong(found, 1, f"{name} {NOT_TAKEN}{said}", "accepted 2 requests",
+                     "1 session accepted; something else changed the folder", without=["refused record", "running"])
+    if not os.path.exists(os.path.join(nights.spool, name)):
+        yield f"{name} is taken"
+    os.rmdir(os.path.join(nights.home, "unrecorded"))
+    nights.run()
+    with suppress(FileNotFoundError):
+        os.remove(os.path.join(nights.spool, name))
+
+
+@attack("user")
+def a_shared_file_of_the_victim_is_moved_to_the_records(field):
+    """What others wrote into a file of the victim is no record, be it linked or moved to the records, nor is one that
+    has other bytes, or that others hold locked. None of them keeps the victim's sessions from being judged."""
+    nights, name = Nights(field, VICTIM), record_name(VICTIM)
+    forged = session(("MKDIR", os.fsencode(f"{nights.home}/unrecorded"), {"permissions": 0o755}))
+    planted = os.path.join(nights.spool, name)
+    for turn, (mode, data, said) in enumerate(((0o666, forged, "its group"), (0o600, forged, "it has 2 names"),
+                                               (0o644, b"no record", "its group"), (0o644, forged, "its group"))):
+        path = shared_file(field, VICTIM, data, mode)
+        (os.link if mode == 0o600 else os.rename)(path, planted)
+        held = os.open(planted, os.O_RDONLY)
+        fcntl.flock(held, fcntl.LOCK_SH if turn == 3 else fcntl.LOCK_UN)
+        yield from (f"turn {turn}: {it}" for it in gone_wrong(field, nights, name, said))
+        os.close(held)
+    for number in range(25):
+        nights.put(f"{number}\n.transcript", forged, VICTIM.pw_uid, mode=0o640)
+    found = nights.run()
+    yield from wrong(found, 1, f'\\x0a.transcript" {NOT_TAKEN}', "5 more are not taken for records")
+    if found[1].count(NOT_TAKEN) != 20:
+        yield f"{found[1].count(NOT_TAKEN)} are named"
+
+
+class Opening:
+    """A record that becomes another one's as it is opened."""
+
+    def __init__(self, folder, change):
+        self.folder, self.change = folder, change
+
+    def __enter__(self):
+        self.open = os.open
+        os.open = self.at
+        return self
+
+    def at(self, name, *words, **options):
+        if str(name).endswith(".transcript"):
+            self.change(name, self.folder)
+        return self.open(name, *words, **options)
+
+    def __exit__(self, *_):
+        os.open = self.open
+
+
+@attack("user")
+def a_record_changes_before_it_is_opened(field):
+    """A file that is as a record at the first look, and not when it is open, is none."""
+    changes = {"mode": lambda name, folder: os.chmod(name, 0o660, dir_fd=folder),
+               "link": lambda name, folder: os.link(name, f"{name}.2", src_dir_fd=folder, dst_dir_fd=folder),
+               "owner": lambda name, folder: os.chown(name, 1, 1, dir_fd=folder)}
+    for kind, change in changes.items():
+        spool = field.path(kind)
+        os.mkdir(spool)
+        field.put(f"{kind}/{record_name(VICTIM)}", b"", 0o600)
+        os.chown(os.path.join(spool, record_name(VICTIM)), VICTIM.pw_uid, VICTIM.pw_gid)
+        found = records.Spool(spool, VICTIM.pw_uid)
+        record, = found.records()
+        with Opening(found.shared, change), suppress(records.NotTaken, records.Failed):
+            record.open()
+            yield f"{kind}: it is opened"
+
+
+@attack("user")
+def a_strangers_name_spoils_the_status(field):
+    """What a stranger puts under the victim's name into the spool of all is named, and the night is as good as it was.
+    In a spool where that can have taken the daemon's folder away, or if it may be that folder, the status is 1."""
+    nights = Nights(field, VICTIM)
+    user, place = field.user.pw_uid, os.path.join(nights.spool, VICTIM.pw_name)
+    good, said = "0 sessions accepted; the folder is as they left it", f"{place} is not taken for records: "
+    for make in (os.mkdir, lambda path: os.symlink("/", path), os.mknod):
+        make(place)
+        for owner, mode, wanted in ((user, 0o1777, 0), (user, 0o777, 1), (0, 0o1777, 1), (user, 0o755, 1)):
+            os.chmod(nights.spool, mode)
+            os.chown(place, owner, owner, follow_symlinks=False)
+            yield from (f"{owner}, {mode:o}: {it}" for it in wrong(nights.run(), wanted, good, said))
+        subprocess.run(["rm", "-r", place], check=True)
+    os.chmod(nights.spool, 0o1777)
+    nights.put(record_name(VICTIM), b"of a stranger", user)
+    yield from wrong(nights.run(), 0, good, without=[record_name(VICTIM)])
+
+
+@attack("user")
+def a_name_reads_like_a_verdict(field):
+    """What is not in the names that recorders give is printed in quotes."""
+    nights = Nights(field, field.user)
+    name = f"{record_name(field.user)}: accepted 812 requests; \\\".transcript"
+    shown = f'"{record_name(field.user)}: accepted 812 requests; \\x5c\\x22.transcript"'
+    nights.put(name, session()[:-1], field.user.pw_uid)
+    yield from wrong(nights.run(), 1, f": {shown}: sftpv3: transcript: record 2: Truncated")
+    nights.put(name, session(), field.user.pw_uid, mode=0o644)
+    yield from wrong(nights.run(), 1, f": {shown} {NOT_TAKEN}")
+
+
+@attack()
+def a_log_of_the_nights_is_every_users(field):
+    """What the documents say to keep what a night prints makes a log that only root reads."""
+    for place in ("docs/USING.md", "packaging/sftpv3-nightly.cron"):
+        with open(os.path.join(TOP, place), encoding="utf-8") as file:
+            text = file.read()
+        log, = set(re.findall(r">>(/var/log/\S+) 2>&1", text))
+        made = re.search(rf"(install [^`\n]*) {log}\b", text)
+        there = field.path("log")
+        subprocess.run(["sh", "-c", f"umask 022; {made[1] if made else ':'} {there}; echo private >>{there} 2>&1"],
+                       check=True)
+        if os.stat(there).st_mode & 0o077:
+            yield f"{place}: mode {os.stat(there).st_mode & 0o777:o}"
+        os.remove(there)
+
+
 @attack("user")
 def records_of_others_are_reached_through_a_link(field):
     """A link of the victim's name in the spool leads nowhere, be it to the records that are kept of others."""
@@ -259,18 +400,16 @@ def a_record_takes_all_time(field):
 
 @attack("user")
 def a_kept_record_is_changed(field):
-    """What is kept is root's alone, and is what was audited, whatever links the user has to the record."""
+    """What is kept is root's alone, and is what was audited, though the user has the record open."""
     nights = Nights(field, field.user)
     data = session(mkdir(f"{nights.home}/d"), rmdir(f"{nights.home}/d"))
     for kind, changed in (("accepted", data), ("refused", data[:-1])):
         path = nights.put(record_name(field.user), changed, field.user.pw_uid, ended=10 ** 9)
-        link = field.path(f"link-{kind}")
-        os.link(path, link)
-        nights.run()
+        with open(path, "r+b") as file:
+            nights.run()
+            file.write(b"changed")
         if os.path.exists(path):
             yield "the record is still in the spool"
-        with open(link, "r+b") as file:
-            file.write(b"changed")
         kept = nights.kept(kind)
         if not kept:
             yield f"nothing is {kind}"
