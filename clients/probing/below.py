@@ -60,8 +60,8 @@ class Below:
 
     def target(self, target, link):
         """The target of a link of the plan, as an absolute path below the directory."""
-        above = b"" if target.startswith(b"/") else link.rpartition(b"/")[0] + b"/"
-        return self.path + straight(above + target)
+        start = b"" if target.startswith(b"/") else link.rpartition(b"/")[0] + b"/"
+        return self.path + straight(start + target)
 
     def moved(self, step):
         """A step of the plan below the directory."""
