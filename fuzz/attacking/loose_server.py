@@ -4,7 +4,8 @@ goes without attributes.
     loose_server.py LOG KIND PROGRAM TREE
 
 With KIND `deaf` it does so to SETSTAT, too; with `later` as well, but not before the second directory of a run. The
-file LOG gets a line for each request of a path: its name, the path, and the permissions that it asks for.
+file LOG gets a line for each request that makes or changes something at a path: its name, the path in hexadecimal, and
+the permissions that it asks for.
 """
 import os
 import subprocess
@@ -27,9 +28,9 @@ def loosened(packet, log, kind):
     if asked.name not in ("MKDIR", "SETSTAT", "OPEN", "SYMLINK"):
         return packet
     is_kept = kind == "later" and is_first(log)
-    with open(log, "ab") as file:
-        file.write(b"%s %s %o\n" % (asked.name.encode(), asked.fields[0], asked.fields[-1].get("permissions", 0)
-                                    if asked.name != "SYMLINK" else 0))
+    wanted = 0 if asked.name == "SYMLINK" else asked.fields[-1].get("permissions", 0)
+    with open(log, "a", encoding="ascii") as file:
+        file.write(f"{asked.name} {asked.fields[0].hex()} {wanted:o}\n")
     if asked.name == "MKDIR" and not is_kept or asked.name == "SETSTAT" and kind != "loose":
         return sftp3.encode(sftp3.Request(asked.number, asked.name, [asked.fields[0], {}]))
     return packet

@@ -1,6 +1,5 @@
 """Attacks by a server on whoever walks through it, or plays sessions below a place that it tells."""
 import os
-import re
 import resource
 import subprocess
 import sys
@@ -56,8 +55,8 @@ def a_server_fills_the_disk_by_requests(field):
 
 def asked(field):
     """What a loose server was asked: the name, the path and the permissions of each request."""
-    return [(name, path, int(mode, 8)) for name, path, mode in
-            (re.fullmatch(rb"(\w+) (.*) (\d+)", line).groups() for line in field.read("log").splitlines())]
+    lines = [line.split(" ") for line in field.read("log").decode().splitlines()]
+    return [(name, bytes.fromhex(path), int(mode, 8)) for name, path, mode in lines]
 
 
 def probed(field, kind, *words):
@@ -72,9 +71,9 @@ def a_server_makes_a_directory_that_others_enter(field):
     """Where MKDIR gives more than was asked for, the directory is set to be its user's before anything is made in it;
     where that does nothing, the run ends."""
     done, found = probed(field, "loose")
-    plans = [place for place, (name, path, _) in enumerate(found) if name == b"MKDIR" and path.endswith(b"/plan")]
+    plans = [place for place, (name, path, _) in enumerate(found) if name == "MKDIR" and path.endswith(b"/plan")]
     for place in plans:
-        if (b"SETSTAT", found[place][1][:-len(b"/plan")], 0o700) not in found[:place]:
+        if ("SETSTAT", found[place][1][:-len(b"/plan")], 0o700) not in found[:place]:
             yield f"the place of a plan is made before the directory is its user's: {found[:place + 1]}"
     if not plans or done.returncode not in (0, 1):
         yield f"no plan is played: status {done.returncode}, {done.stderr[-300:]!r}"
@@ -82,6 +81,6 @@ def a_server_makes_a_directory_that_others_enter(field):
         done, found = probed(field, kind, "--seeds", "1-3")
         if done.returncode != 3 or b"none that only the server's user can enter" not in done.stderr:
             yield f"{kind}: status {done.returncode}, {done.stderr[-300:]!r}"
-        inside = [it for it in found if it[1].count(b"/") > 1 or it[0] not in (b"MKDIR", b"SETSTAT")]
+        inside = [it for it in found if it[1].count(b"/") > 1 or it[0] not in ("MKDIR", "SETSTAT")]
         if inside or not found:
             yield f"{kind}: it is asked for more: {inside[:3]}"
