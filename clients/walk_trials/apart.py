@@ -99,12 +99,13 @@ def try_signals(steps, folder):
     steps.check("behind a signal, what can be removed at once is", said is None and asked.asked[-1] == b"/d", said)
     words = [PROBE, "--timeout", "600", "--look-first", "/", "--seeds", "1", "--requests", "2", "--skip", "crowds",
              "--keep", "kept", "--"]
-    for what, server in (("clears", "hangs_at_removal"), ("looks where sessions can be", "marks_and_hangs_at_start")):
+    for what, server, wanted in (("clears", "hangs_at_removal", "the run was ended while it was removed"),
+                                 ("looks where sessions can be", "marks_and_hangs_at_start", "")):
         for number in (signal.SIGINT, signal.SIGTERM):
             start = time.monotonic()
             status, text, left, running = signalled(folder, [*words, *HOSTILE, server], number, {})
             steps.check(f"{number.name} ends a probe soon that {what}", status in (3, 4) and not left and not running
-                        and "Traceback" not in text, f"{status} in {time.monotonic() - start:.0f} s: {text[-600:]} "
+                        and wanted in text and "Traceback" not in text, f"{status} in {time.monotonic() - start:.0f} s: {text[-600:]} "
                         f"{left} {running}")
 
 

@@ -345,12 +345,13 @@ class removes(Right):
 
 
 class hangs_at_removal(Right):
-    """Each directory is there, and the removal of one that was listed does not end. Then the file of $MARK is there."""
+    """Each directory is there for its user alone, and the removal of one that was listed does not end. Then the file of
+    $MARK is there."""
 
     listed = False
 
     def permissions(self, path):
-        return DIRECTORY
+        return DIRECTORY & ~0o077
 
     def mkdir(self, path, given):
         return status(sftp3.OK)
