@@ -40,9 +40,9 @@ def straight(path):
 
 
 class Below:
-    """A directory of the server that was made for a session, by its absolute path, with `path`, that of the plan, in it;
-    and the steps that the session begins with: it looks at the way, makes the place of the plan, and makes the entries
-    of the tree that the plan starts from."""
+    """A directory of the server that was made for a session, by its absolute path, with `path`, that of the plan, in
+    it; and the steps that the session begins with: it looks at the way, makes the place of the plan, and makes the
+    entries of the tree that the plan starts from."""
 
     def __init__(self, own, tree):
         self.own, self.path = own, own + b"/plan"

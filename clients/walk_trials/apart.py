@@ -105,8 +105,8 @@ def try_signals(steps, folder):
             start = time.monotonic()
             status, text, left, running = signalled(folder, [*words, *HOSTILE, server], number, {})
             steps.check(f"{number.name} ends a probe soon that {what}", status in (3, 4) and not left and not running
-                        and wanted in text and "Traceback" not in text, f"{status} in {time.monotonic() - start:.0f} s: {text[-600:]} "
-                        f"{left} {running}")
+                        and wanted in text and "Traceback" not in text,
+                        f"{status} in {time.monotonic() - start:.0f} s: {text[-600:]} {left} {running}")
 
 
 def picture(folder):
