@@ -10,12 +10,10 @@ import copy
 import sftp3
 from probing.plans import Step
 from sftp3 import trees
+from walking.looking import above
 
 # The numbers of the requests that come before a plan: no plan has as many requests.
 FIRST = 1 << 24
-
-# The attributes of a directory that only its owner can enter.
-PRIVATE = {"permissions": 0o700}
 
 # The bytes of one WRITE.
 BLOCK = 32768
@@ -42,9 +40,9 @@ def straight(path):
 
 
 class Below:
-    """A directory of the server that a session makes, by its absolute path, with `path`, that of the plan, in it; and
-    the steps that a session begins with: it looks where they are to be, makes them, and makes the entries of the tree
-    that the plan starts from."""
+    """A directory of the server that was made for a session, by its absolute path, with `path`, that of the plan, in
+    it; and the steps that the session begins with: it looks at the way, makes the place of the plan, and makes the
+    entries of the tree that the plan starts from."""
 
     def __init__(self, own, tree):
         self.own, self.path = own, own + b"/plan"
@@ -62,8 +60,8 @@ class Below:
 
     def target(self, target, link):
         """The target of a link of the plan, as an absolute path below the directory."""
-        above = b"" if target.startswith(b"/") else link.rpartition(b"/")[0] + b"/"
-        return self.path + straight(above + target)
+        start = b"" if target.startswith(b"/") else link.rpartition(b"/")[0] + b"/"
+        return self.path + straight(start + target)
 
     def moved(self, step):
         """A step of the plan below the directory."""
@@ -81,14 +79,8 @@ class Below:
 
     def look(self):
         """What is asked first: where relative paths start, what is on the way, and what is made."""
-        parts = [part for part in self.own.split(b"/") if part]
-        above = [b"/" + b"/".join(parts[:count]) for count in range(len(parts))]
-        return [self.ask("REALPATH", b"."), *(self.ask("LSTAT", place) for place in above),
-                *self.made(self.own, PRIVATE), *self.made(self.path, {})]
-
-    def made(self, path, given):
-        """Makes a directory, and looks at the place before and after that."""
-        return [self.ask("LSTAT", path), self.ask("MKDIR", path, given), self.ask("LSTAT", path)]
+        return [self.ask("REALPATH", b"."), *(self.ask("LSTAT", place) for place in (*above(self.path), self.path)),
+                self.ask("MKDIR", self.path, {}), self.ask("LSTAT", self.path)]
 
     def build(self):
         """Makes the entries of the tree."""

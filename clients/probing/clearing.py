@@ -55,10 +55,10 @@ def hold(server, steps, timeout, stop=None):
 
 
 class Clearing:
-    """Removes what is at a place, with all that is in it. `left` has the places that could not be removed."""
+    """Removes what is at a place, with all that is in it. `left` is the first place that could not be removed."""
 
     def __init__(self, path):
-        self.path, self.left = path, []
+        self.path, self.left = path, None
         self.entries, self.deadline = 0, time.monotonic() + SECONDS
 
     def run(self, server, timeout, stop=None):
@@ -69,7 +69,7 @@ class Clearing:
             return f"{bounds.shown(self.path)} is left: the run was ended while it was removed"
         except (bounds.Misbehaves, servers.NotStarted) as error:
             return f"{bounds.shown(self.path)} is left: {error}"
-        return f"{bounds.shown(self.left[0])} is left" if self.left else None
+        return f"{bounds.shown(self.left)} is left" if self.left else None
 
     def steps(self):
         (found,) = yield [ask("LSTAT", self.path)]
@@ -85,7 +85,8 @@ class Clearing:
             yield from self.empty(path)
         others = [path for path, found in entries if path not in directories]
         replies = yield [ask("RMDIR", path) for path in directories] + [ask("REMOVE", path) for path in others]
-        self.left += [path for path, reply in zip(directories + others, replies) if reply.code != 0]
+        left = (path for path, reply in zip(directories + others, replies) if reply.code != 0)
+        self.left = self.left or next(left, None)
 
     def empty(self, path):
         """Removes what is in a directory."""

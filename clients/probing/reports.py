@@ -52,7 +52,13 @@ def keep(judge, folder, number, group, kept):
         [verdict.text] + [f"{label}: {words}" for label, words in verdict.lines.items()]) + "\n")
     session = printed.judged(kept.difference, "")
     lines = printed.session(session, texts["session.transcript"].splitlines()) + printed.byte(verdict.lines, session)
-    return place, lines
+    return place, lines + warned(kept.difference.session.errors)
+
+
+def warned(errors):
+    """A line if what is kept of the server's standard error, as it came, may do something to a terminal."""
+    text = errors.decode(errors="surrogateescape")
+    return [] if packets.clean(text) == text else ["standard-error.txt has control characters: read it by `less`"]
 
 
 def seeds_of(group):

@@ -10,6 +10,7 @@ from probing import (causes, features, groups, limits, options, ownfiles, planne
                      sessions, shrinking, starting, tally, unseen, verdicts, workers)
 from probing.sessions import NotStarted
 from sftp3 import trees
+from walking import bounds
 
 # How often a plan is played at most, each time without one more of its requests; and how often, if the server ends
 # behind as many requests each time, whatever they are.
@@ -99,6 +100,8 @@ class Plan:
 
 def why_failed(error):
     """Why no more is played."""
+    if isinstance(error, bounds.Misbehaves):
+        return "the server misbehaved"
     usual = isinstance(error, (NotStarted, verdicts.Trouble, OSError))
     return "the server or the program could not be started" if usual else "the probe itself failed"
 

@@ -1,5 +1,5 @@
-"""Tests a server whose files nobody can reset or see: each session plays below a directory of its own, which it makes,
-and is judged by the tree that was seen while it was made. Behind the session the directory is removed."""
+"""Tests a server whose files nobody can reset or see: each session plays below a directory of its own, which is made
+before it, and is judged by the tree that it sees at its start. Behind the session the directory is removed."""
 import os
 import sys
 from contextlib import suppress
@@ -7,8 +7,12 @@ from contextlib import suppress
 import sftp3
 from probing import below, clearing, program, sessions, verdicts, workers
 from walking import bounds, inferring
-from walking.looking import ask
+from walking.looking import ask, real
 from walking.replies import DIRECTORY, kind_of
+
+
+# The attributes of a directory that only its owner can enter.
+PRIVATE = {"permissions": 0o700}
 
 
 class Place:
@@ -23,23 +27,41 @@ class Place:
             clearing.hold(server, self.steps(path), timeout, stop)
 
     def steps(self, path):
-        (real,) = yield [ask("REALPATH", path)]
-        if not real.names or not real.names[0].startswith(b"/"):
-            raise bounds.Misbehaves(f"REALPATH of {bounds.shown(path)} gave {real.why()}")
-        place = below.straight(real.names[0])
+        (reply,) = yield [ask("REALPATH", path)]
+        place = below.straight(real(path, reply))
         (found,) = yield [ask("LSTAT", place)]
         if found.attributes is None or kind_of(found.attributes) != DIRECTORY:
             raise bounds.Misbehaves(f"{bounds.shown(place)} is no directory: {found.why()}")
         self.path = b"" if place == b"/" else place
         made = self.new()
-        (reply,) = yield [ask("MKDIR", made, below.PRIVATE)]
-        if reply.code != 0:
-            raise bounds.Misbehaves(f"{bounds.shown(made)} cannot be made: {reply.why()}")
+        why = yield from private(made)
         yield [ask("RMDIR", made)]
+        if why:
+            raise bounds.Misbehaves(why)
 
     def new(self):
         """The path of a directory that is not there yet."""
         return self.path + b"/sftpv3-probe-" + os.urandom(8).hex().encode()
+
+
+def private(path):
+    """Makes a directory that only the server's user can enter, and gives why it is none."""
+    (made,) = yield [ask("MKDIR", path, PRIVATE)]
+    if made.code != 0:
+        return f"{bounds.shown(path)} cannot be made: {made.why()}"
+    (found,) = yield [ask("LSTAT", path)]
+    if is_open(found):
+        # some servers have no regard for the permissions of MKDIR
+        yield [ask("SETSTAT", path, PRIVATE)]
+        (found,) = yield [ask("LSTAT", path)]
+    return f"{bounds.shown(path)} is none that only the server's user can enter: nothing is made in it" \
+        if is_open(found) else None
+
+
+def is_open(found):
+    """Whether what LSTAT gave is no directory, or one that others can enter, list or write, or does not say so."""
+    given = found.attributes or {}
+    return kind_of(given) != DIRECTORY or bool(given["permissions"] & 0o077)
 
 
 class Worker(workers.Worker):
@@ -52,6 +74,7 @@ class Worker(workers.Worker):
     def play(self, tree, steps, in_flight, seed, stop, timeout=None):
         base = below.Below(self.place.new(), tree)
         try:
+            self.make(base.own, stop)
             session = sessions.play(self.server, "", base.steps(steps), in_flight, timeout or self.timeout, stop)
         finally:
             left = clearing.Clearing(base.own).run(self.server, self.timeout, stop)
@@ -59,6 +82,19 @@ class Worker(workers.Worker):
                 program.say(f"probe: {line}", sys.stderr)
         self.infer(session, {step.number for step in base.looking}, stop)
         return session, verdicts.judge(self.auditor, self.kept_tree, session, seed, stop)
+
+    def make(self, path, stop):
+        """Makes the directory of a session, in a session of its own, so that nothing of the plan is sent before."""
+        found = []
+
+        def steps():
+            found.append((yield from private(path)))
+        try:
+            clearing.hold(self.server, steps(), self.timeout, stop)
+        except bounds.Misbehaves as error:
+            raise sessions.NotStarted(str(error)) from None
+        if found[0]:
+            raise bounds.Misbehaves(found[0])
 
     def infer(self, session, numbers, stop):
         """Has the tree made that the requests with these numbers saw, and keeps it with the session."""

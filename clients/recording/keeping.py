@@ -6,7 +6,8 @@ records, and the daemon replies with the number of bytes written so far, eight b
 together. It closes the connection if it does not record (any further). A batch that does not come whole is not written.
 
 One user cannot hold up the others: a connection has one turn in each round, in which so much is read, so many batches
-are written and one reply is sent, and each user has so many connections.
+are written and one reply is sent, and each user has so many connections. Users without an account have none, since one
+person may have thousands of them.
 """
 import errno
 import os
@@ -17,7 +18,7 @@ import struct
 import time
 
 from recording import naming
-from recording.shares import Refused, Shares
+from recording.shares import Accounts, Refused, Shares
 
 OPENING = b"SFTPSP01"
 # The longest batch: what a buffer of recording/packets.py holds, and a byte for each of its packets.
@@ -33,6 +34,8 @@ BACKLOG, TAKEN = 1024, 128
 # How long no connection is taken when there are no descriptors left.
 PAUSE = 0.5
 PEER = struct.Struct("3i")
+# What is said of such users, whichever they are: there can be thousands.
+NO_ACCOUNT = "this user has no account (--any-uid)"
 
 
 class Unfit(Exception):
@@ -150,7 +153,7 @@ class Daemon:
 
     def __init__(self, options, notices, signals):
         self.options, self.notices, self.signals = options, notices, signals
-        self.shares = Shares(self.fit_spool(options.spool), options)
+        self.shares, self.accounts = Shares(self.fit_spool(options.spool), options), Accounts()
         self.made = None
         self.listener = self.open_listener(options.socket)
         self.listener.setblocking(False)
@@ -205,18 +208,25 @@ class Daemon:
     def add(self, link):
         link.setblocking(False)
         made = Connection(link, self)
-        others = self.counts.get(made.user, 0)
-        if len(self.connections) >= CONNECTIONS or others >= self.options.sessions:
+        why = self.why_refused(made.user)
+        if why:
             made.close()
-            whose = "this user has" if others >= self.options.sessions else "there are"
-            self.say_of(made, f"{whose} too many sessions")
+            self.say_of(made, why)
             return
-        self.counts[made.user] = others + 1
+        self.counts[made.user] = self.counts.get(made.user, 0) + 1
         self.connections[link.fileno()] = made
+
+    def why_refused(self, user):
+        """Why a user gets no connection more, or None."""
+        if self.counts.get(user, 0) >= self.options.sessions:
+            return "this user has too many sessions"
+        if len(self.connections) >= CONNECTIONS:
+            return "there are too many sessions"
+        return None if self.options.any_uid or self.accounts.has(user) else NO_ACCOUNT
 
     def say_of(self, connection, text):
         """Says something of a user's connection, the same text once in a second."""
-        key, now = (connection.user, text), time.monotonic()
+        key, now = (connection.user if text != NO_ACCOUNT else None, text), time.monotonic()
         if now - self.said.get(key, -1.0) >= 1:
             self.said = {it: at for it, at in self.said.items() if now - at < 1}
             self.said[key] = now

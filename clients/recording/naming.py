@@ -32,6 +32,15 @@ def user_name(number):
         return str(number)
 
 
+def has_account(number):
+    """Whether a user is in the system's list of accounts. Those of user namespaces are in none as a rule: one person
+    can have thousands (`/etc/subuid`)."""
+    try:
+        return bool(pwd.getpwuid(number))
+    except (KeyError, OSError):
+        return False
+
+
 def as_part(text):
     """A text as a part of a file's name: without slashes and without what a shell or a terminal acts on, in their place
     the bytes in hexadecimal, as `=5c`. Of two texts each has a part of its own."""

@@ -96,6 +96,8 @@ def daemon_parser():
                         help="how much of the file system stays free, 256M by default")
     parser.add_argument("--sessions", metavar="N", type=count, default=64,
                         help="how many sessions of a user are recorded at a time, 64 by default")
+    parser.add_argument("--any-uid", action="store_true",
+                        help="record users without an account, too, such as those in containers of users")
     parser.add_argument("--log", metavar="FILE", help="append what is said to FILE, too")
     parser.add_argument("--syslog", action="store_true", help="say it to syslog, too")
     parser.add_argument("spool", metavar="FOLDER",

@@ -6,12 +6,31 @@ from recording import naming
 
 # How many files a file system has to have left for a new record.
 FILES_LEFT = 64
-# How long the count of a user who has all of their share stands, before the folder is looked at again.
-STANDS = 10
+# How long the count of a user who has all of their share stands, before the folder is looked at again; and whether a
+# user has an account, and of how many users that is held.
+STANDS, USERS = 10, 4096
 
 
 class Refused(Exception):
     """A session that is not recorded (any further)."""
+
+
+class Accounts:
+    """Which users have an account. To look it up can take long, so it stands for a while."""
+
+    def __init__(self):
+        self.known = {}
+
+    def has(self, user):
+        """Whether a user has one, as of some seconds ago at most."""
+        now = time.monotonic()
+        found, looked = self.known.get(user, (False, -STANDS))
+        if now - looked >= STANDS:
+            if len(self.known) >= USERS:
+                self.known.clear()
+            found = naming.has_account(user)
+            self.known[user] = found, now
+        return found
 
 
 class Share:

@@ -57,8 +57,7 @@ def try_paths(steps):
             wrong += [step.name] if is_look and step.name not in ("REALPATH", "LSTAT", "MKDIR") else []
             wrong += [step.name] if step.name == "EXTENDED" else []
     made = [step.fields for step in base.looking if step.name == "MKDIR"]
-    steps.check("only the server's user can enter the directory", made == [[OWN, {"permissions": 0o700}], [BASE, {}]],
-                made)
+    steps.check("the session makes none but the place of the plan, in the directory", made == [[BASE, {}]], made)
     steps.check("29 plans: all paths are below the directory, but those that look at the way to it", not wrong, wrong)
 
 
@@ -100,13 +99,14 @@ def try_signals(steps, folder):
     steps.check("behind a signal, what can be removed at once is", said is None and asked.asked[-1] == b"/d", said)
     words = [PROBE, "--timeout", "600", "--look-first", "/", "--seeds", "1", "--requests", "2", "--skip", "crowds",
              "--keep", "kept", "--"]
-    for what, server in (("clears", "hangs_at_removal"), ("looks where sessions can be", "marks_and_hangs_at_start")):
+    for what, server, wanted in (("clears", "hangs_at_removal", "the run was ended while it was removed"),
+                                 ("looks where sessions can be", "marks_and_hangs_at_start", "")):
         for number in (signal.SIGINT, signal.SIGTERM):
             start = time.monotonic()
             status, text, left, running = signalled(folder, [*words, *HOSTILE, server], number, {})
             steps.check(f"{number.name} ends a probe soon that {what}", status in (3, 4) and not left and not running
-                        and "Traceback" not in text, f"{status} in {time.monotonic() - start:.0f} s: {text[-600:]} "
-                        f"{left} {running}")
+                        and wanted in text and "Traceback" not in text,
+                        f"{status} in {time.monotonic() - start:.0f} s: {text[-600:]} {left} {running}")
 
 
 def picture(folder):

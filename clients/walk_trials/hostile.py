@@ -259,6 +259,55 @@ class no_realpath(Right):
         return status(sftp3.OP_UNSUPPORTED)
 
 
+class long_realpath(Right):
+    def realpath(self, path):
+        return names((b"/" + b"n" * 200 + b"/a" * 20_000, {}))
+
+
+class longest_realpath(Right):
+    """As long as one packet has it."""
+
+    def realpath(self, path):
+        return names((b"/a" * 500_000, {}))
+
+
+class winding_realpath(Right):
+    """Half of it takes the other half back."""
+
+    def realpath(self, path):
+        return names((b"/a" * 100_000 + b"/.." * 100_000, {}))
+
+
+class deep_realpath(Right):
+    def realpath(self, path):
+        return names((b"/a" * 65, {}))
+
+
+class long_requests(Right):
+    """A listing so deep that to look at each of its names takes a request of 16,000 bytes, and a few of the server."""
+
+    def permissions(self, path):
+        return DIRECTORY if path == b"/" or path.endswith(b"d") else FIFO
+
+    def opendir(self, path):
+        deep = path.count(b"/") == 62
+        self.left[path[-200:]] = [b"%d" % number for number in range(60_000)] if deep else [b"d" * 255]
+        return sftp3.HANDLE, sftp3.string(path[-200:])
+
+    def readdir(self, handle):
+        found, self.left[handle] = self.left[handle][:1000], self.left[handle][1000:]
+        return names(*((name, {}) for name in found)) if found else status(sftp3.EOF)
+
+
+# The servers above whose REALPATH gives a path that no tree file has, and what is said of it.
+PATHS = {
+    "long_realpath": b"has 40,201 bytes, more than the 4,096 of any path",
+    "longest_realpath": b"has 1,000,000 bytes, more than the 4,096 of any path",
+    "winding_realpath": b"has 500,000 bytes, more than the 4,096 of any path",
+    "deep_realpath": b"has 65 names, more than the 64 of any tree file",
+}
+
+
 class denied(Right):
     def opendir(self, path):
         return super().opendir(path) if path == b"/" else status(sftp3.PERMISSION_DENIED)
@@ -296,12 +345,13 @@ class removes(Right):
 
 
 class hangs_at_removal(Right):
-    """Each directory is there, and the removal of one that was listed does not end. Then the file of $MARK is there."""
+    """Each directory is there for its user alone, and the removal of one that was listed does not end. Then the file of
+    $MARK is there."""
 
     listed = False
 
     def permissions(self, path):
-        return DIRECTORY
+        return DIRECTORY & ~0o077
 
     def mkdir(self, path, given):
         return status(sftp3.OK)

@@ -49,7 +49,7 @@ ENDED = [
     ("endless_listing", "there are more than 1,048,576 entries, as many as a tree file has"),
     ("repeating_listing", 'the listing of "/" goes on without names that are new'),
     ("long_handle", "a handle of the server has 200,000 bytes"),
-    ("long_lines", "the replies of the server have more than 538,870,912 bytes"),
+    ("long_lines", "the requests and replies of the session have more than 538,870,912 bytes"),
     ("idle_listing", 'the listing of "/" goes on without names that are new'),
     ("short_reads", 'READ of "/f" gives few bytes at a time'),
     ("relative_realpath", r'REALPATH of "." gave "\x1b[1mhome", which is no absolute path'),

@@ -1,14 +1,15 @@
 """What ends a walk, and what no tree file has: docs/TREE.md has the limits."""
 from paging import packets
 
-# The most entries below the root, bytes of a file, bytes of a name, and names from the root to an entry, of any tree.
-ENTRIES, LARGEST, NAME, DEPTH = 1_048_576, 67_108_864, 255, 64
+# The most entries below the root, bytes of a file, bytes of a name, and names from the root to an entry, of any tree;
+# and the most bytes of a path in a request.
+ENTRIES, LARGEST, NAME, DEPTH, PATH = 1_048_576, 67_108_864, 255, 64, 4096
 
 # The most bytes that all names together may have, since they are held until they are looked at.
 NAMES = 1 << 28
 
-# The most bytes of all replies together, without those of files; and of a handle, by the draft.
-REPLIES, HANDLE = 1 << 29, 256
+# The most bytes of all requests and replies together, without those of files; and of a handle, by the draft.
+PASSED, HANDLE = 1 << 29, 256
 
 # How many replies to READDIR without a new name, and how many READs of fewer than LITTLE bytes that are not the end of
 # a file, there may be in a directory or a file.

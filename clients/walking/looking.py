@@ -18,6 +18,27 @@ def parts_of(path):
     return [part for part in path.split(b"/") if part not in (b"", b".")]
 
 
+def real(asked, reply):
+    """The place that REALPATH tells, which is within what a tree file has."""
+    if not reply.names:
+        raise Misbehaves(f"REALPATH of {shown(asked)} gave {reply.why()}")
+    place = reply.names[0]
+    why = why_no_place(place)
+    if why:
+        raise Misbehaves(f"REALPATH of {shown(asked)} gave {shown(place)}, which {why}")
+    return b"/" + b"/".join(parts_of(place))
+
+
+def why_no_place(path):
+    """Why an absolute path is none of a place in a tree file, or None."""
+    if not path.startswith(b"/") or b"\0" in path:
+        return "is no absolute path"
+    if len(path) > bounds.PATH:
+        return f"has {len(path):,} bytes, more than the {bounds.PATH:,} of any path"
+    count = len(parts_of(path))
+    return f"has {count:,} names, more than the {bounds.DEPTH} of any tree file" if count > bounds.DEPTH else None
+
+
 def above(path):
     """The paths of the directories above a place, from the root on, without the place."""
     parts = parts_of(path)
@@ -55,19 +76,10 @@ class Walk:
         """Asks where the places are, and where relative paths start."""
         asked = list(dict.fromkeys([b".", *places]))
         replies = yield [ask("REALPATH", path) for path in asked]
-        found = {path: self.real(path, reply) for path, reply in zip(asked, replies)}
+        found = {path: real(path, reply) for path, reply in zip(asked, replies)}
         for place in reversed(list(dict.fromkeys(places))):
             absolute = place if place.startswith(b"/") else within(found[b"."], place)
             self.later([self.way(absolute), self.way(found[place]), self.entry(found[place])])
-
-    def real(self, path, reply):
-        """The place that REALPATH tells."""
-        if not reply.names:
-            raise Misbehaves(f"REALPATH of {shown(path)} gave {reply.why()}")
-        place = reply.names[0]
-        if not place.startswith(b"/") or b"\0" in place:
-            raise Misbehaves(f"REALPATH of {shown(path)} gave {shown(place)}, which is no absolute path")
-        return b"/" + b"/".join(parts_of(place))
 
     def way(self, path):
         """Looks at what is on the way to a place: directories and links."""

@@ -25,13 +25,20 @@ def count(text):
     return int(text)
 
 
+def place(text):
+    path = os.fsencode(text)
+    if len(path) > bounds.PATH:
+        raise argparse.ArgumentTypeError(f"a path of {len(path):,} bytes, more than {bounds.PATH:,}")
+    return path
+
+
 def parser(about):
     found = Parser(
         prog=program.called("walk"), usage=f"{program.called('walk')} [OPTIONS] -- COMMAND [ARGUMENT ...]",
         formatter_class=argparse.RawDescriptionHelpFormatter, description=about)
     add = found.add_argument
     add("--to", metavar="TREE", help="the tree file to write (standard output)")
-    add("--below", metavar="PLACE", action="append", type=os.fsencode,
+    add("--below", metavar="PLACE", action="append", type=place,
         help="a place to look at, with all that is below it; may be given several times (where relative paths start)")
     add("--no-contents", action="store_true", help="read no files: they have bytes of 0 in the tree")
     add("--max-bytes", metavar="N", type=count, default=bounds.READ,

@@ -39,14 +39,14 @@ class Task:
 
 class Session:
     """A session with a server that runs. `record` gets its packets, as recording.sinks.FileSink does; `timeout` is how
-    many seconds it waits for a reply; `most` is how many bytes all replies may have together, since a record keeps
-    them. Once `stop` is set, it raises servers.Stopped."""
+    many seconds it waits for a reply; `most` is how many bytes all that passes may have together, since a record
+    keeps it. Once `stop` is set, it raises servers.Stopped."""
 
-    def __init__(self, running, record, timeout, in_flight, most=bounds.REPLIES, stop=None):
+    def __init__(self, running, record, timeout, in_flight, most=bounds.PASSED, stop=None):
         self.running, self.record, self.in_flight, self.stop = running, record, in_flight, stop
         self.streams = servers.Streams(running)
         self.waiting, self.unanswered = deque(), {}
-        self.asked = self.unwanted = self.tasks = self.told = 0
+        self.asked = self.unwanted = self.tasks = self.passed = 0
         self.most = most
         self.ended = False
         self.timeout, self.patience, self.heard = timeout, timeout * OPENING, time.monotonic()
@@ -54,8 +54,15 @@ class Session:
 
     def give(self, packet):
         """A packet is recorded before it is sent."""
+        self.count([packet])
         self.record.put_packets(b"C", [packet])
         self.streams.give(packet)
+
+    def count(self, packets):
+        """Counts what passes, before it is recorded: a server has each request as long as the paths that it told."""
+        self.passed += sum(map(len, packets))
+        if self.passed > self.most:
+            raise Misbehaves(f"the requests and replies of the session have more than {self.most:,} bytes")
 
     def exchange(self):
         left = self.heard + self.patience - time.monotonic()
@@ -73,9 +80,7 @@ class Session:
         while packet is not None:
             found.append(packet)
             packet = self.streams.next_packet()
-        self.told += sum(map(len, found))
-        if self.told > self.most:
-            raise Misbehaves(f"the replies of the server have more than {self.most:,} bytes")
+        self.count(found)
         if found:
             self.record.put_packets(b"S", found)
         elif self.streams.wrong:

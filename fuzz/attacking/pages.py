@@ -63,6 +63,16 @@ def a_kept_folder_of_another_user(field):
 
 
 @attack(is_small=True)
+def a_kept_standard_error_acts_on_a_terminal(field):
+    """Where the standard error that is kept, as it came, may act on a terminal, the probe says so."""
+    done = run(field, "probe", *ONCE, "--", *hostile_server(field), user=None)
+    kept = [os.path.join(place, it) for place, _, names in os.walk(field.path("probe-kept")) for it in names]
+    raw = [it for it in kept if it.endswith("standard-error.txt") and b"\x1b[2J" in field.read(it)]
+    if not raw or done.stdout.count(b"standard-error.txt has control characters: read it by `less`") != len(raw):
+        yield f"{len(raw)} have it: {done.stdout[-500:]!r}"
+
+
+@attack(is_small=True)
 def a_servers_words_reach_the_terminal(field):
     """What a server writes to standard error or as a name does nothing to a terminal, and is no line of the probe."""
     words = b"\x1b]0;title\x07\x1b[2Jprobe: accepted: 50 sessions\r\xc2\x9b31m"

@@ -36,7 +36,14 @@ def record(field, *words, asked=ASKED, user=VICTIM):
 
 @contextmanager
 def daemon(field, *words):
-    """A daemon of a user of its own. Gives its socket, and its spool."""
+    """A daemon of a user of its own. Gives its socket, and its spool. Those who are attacked have no account."""
+    with started(field, "--any-uid", *words) as found:
+        yield found
+
+
+@contextmanager
+def started(field, *words):
+    """The same for users with accounts."""
     run, spool = field.path("run"), field.path("spool")
     for it in (run, spool):
         os.mkdir(it)
@@ -150,3 +157,37 @@ def one_user_takes_the_daemons_files(field):
             os.remove(os.path.join(folder, it))
         time.sleep(10.5)
         yield from wrong_status(record(field, "--required", "--spool", name), 0)
+
+
+def connections_by(name, users):
+    """As many connections as one user may have, by each of these users of no account. Gives the processes."""
+    for user in users:
+        child = os.fork()
+        if child == 0:
+            try:
+                os.setgroups([])
+                os.setgid(user)
+                os.setuid(user)
+                links = [hostile.connected(name) for _ in range(64)]
+                for link in links:
+                    link.sendall(hostile.HELLO)
+                time.sleep(SECONDS)
+            finally:
+                os._exit(1)
+        yield child
+
+
+@attack("user")
+def one_user_has_many_uids(field):
+    """The uids of a user's namespaces do not take the connections of others: those without an account get none."""
+    field.blank()
+    with started(field) as (name, _):
+        children = list(connections_by(name, range(70_000, 70_016)))
+        try:
+            time.sleep(2)
+            yield from wrong_status(record(field, "--required", "--spool", name, user=field.user.pw_uid), 0)
+        finally:
+            for child in children:
+                os.kill(child, signal.SIGKILL)
+                os.waitpid(child, 0)
+        yield from wrong_status(record(field, "--required", "--spool", name), 3)
