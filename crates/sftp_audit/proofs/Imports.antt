@@ -16,10 +16,10 @@ unfoldable pub use Rattle.sftp_handles.specs.Allowed.{step}
 pub use Rattle.sftp_handles.specs.State.{closed_tree, started}
 pub use Rattle.sftp_packets.specs.declared.packets.Reply.{Reply}
 pub use Rattle.sftp_packets.specs.declared.packets.Request.{Request}
-pub use Rattle.sftp_transcript.proofs.pairing.Soundness.{sound_by, settled_by, explained_by}
-pub use Rattle.sftp_transcript.proofs.transcripts.Beginnings.{begins_each, faulty_records_none}
-pub use Rattle.sftp_transcript.proofs.transcripts.OneRecord.{records_are_one_lem}
-pub use Rattle.sftp_transcript.specs.Begun.{first_number, number_after_events}
+pub use Rattle.sftp_transcript.proofs.pairing.{sound_by, settled_by, explained_by}
+pub use Rattle.sftp_transcript.proofs.transcripts.{begins_each, faulty_records_none}
+pub use Rattle.sftp_transcript.proofs.transcripts.{records_are_one_lem}
+pub use Rattle.sftp_transcript.specs.Sound.{first_number, number_after_events}
 pub use Rattle.sftp_transcript.specs.Explained.{closed, waiting, Run, Explained, window, Turn, broken, StepOf}
 unfoldable pub use Rattle.sftp_transcript.specs.Explained.{next_reply, exchanges_of, leading_pairs, turn_after}
 unfoldable pub use Rattle.sftp_transcript.specs.Explained.{in_window, requests_before_reply}
@@ -42,7 +42,7 @@ pub use Rattle.sftp_audit.specs.Audit.{IsToldBy, ToldAt, IsExcusedBy}
 pub use Rattle.sftp_audit.specs.Auditor.{Refuses, LacksReply, IsFirstWrong, FollowsOf, IsTold, Audited, StandsFor}
 pub use Rattle.sftp_audit.specs.Examples.{Unexplained}
 pub use Rattle.sftp_audit.specs.Exchanges.{recorded_exchanges, is_answered, AreAnswered, waits_for, reply_of, ledger_of}
-unfoldable pub use Rattle.sftp_audit.specs.Exchanges.{next_recorded, exchanges_from, unsettled, is_open}
+unfoldable pub use Rattle.sftp_audit.specs.Exchanges.{next_recorded, exchanges_from, unsettled, is_awaited}
 pub use Rattle.sftp_audit.specs.Ledger.{starts_answered, ordinal_at, IsIndexed, RefusesRequest, RefusesReply}
 unfoldable pub use Rattle.sftp_audit.specs.Ledger.{AreApart, place_of}
 pub use Rattle.sftp_audit.specs.declared.errors.AuditError.{AuditError}

@@ -19,7 +19,7 @@ use Rattle.sftp_transcript.specs.Transcript.{BeginsRecord, IsRecord}
 use Rattle.sftp_transcript.specs.Explained.{StepOf, Explained, exchanges_of}
 use Rattle.sftp_transcript.specs.Sound.{Sound}
 use Rattle.sftp_streams.specs.Streams.{one_more}
-use Rattle.sftp_transcript.specs.Begun.{FaultAfter, HasGiven}
+use Rattle.sftp_transcript.specs.Sound.{FaultAfter, HasGiven}
 use Rattle.sftp_transcript.specs.Recorded.{Reading}
 use Rattle.sftp_transcript.specs.declared.stage.Stage.TheVariants as stages
 use Rattle.sftp_audit.specs.Exchanges.{recorded_exchanges}

@@ -5,7 +5,7 @@ use Rattle.sftp_packets.specs.declared.packets.Request.{Request}
 use Rattle.sftp_packets.specs.declared.packets.Reply.{Reply}
 use Rattle.sftp_transcript.specs.declared.events.Event.{Event}
 use Rattle.sftp_transcript.specs.declared.events.Event.TheVariants.{Asked, Replied}
-use Rattle.sftp_transcript.specs.Begun.{number_after_events}
+use Rattle.sftp_transcript.specs.Sound.{number_after_events}
 use Rattle.sftp_transcript.specs.Explained.{StepOf, Run, leading_pairs, window, turn_after, closed}
 use Rattle.sftp_transcript.specs.Sound.{Sound, IsWaiting}
 use Rattle.sftp_audit.specs.declared.errors.Refusal.{Refusal}

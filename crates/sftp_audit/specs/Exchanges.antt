@@ -7,8 +7,8 @@ use Rattle.std.specs.Option.{option_map}
 use Rattle.sftp_packets.specs.declared.packets.Reply.{Reply}
 use Rattle.sftp_transcript.specs.declared.events.Event.{Event}
 use Rattle.sftp_transcript.specs.declared.events.Event.TheVariants.{Asked, Replied}
-use Rattle.sftp_transcript.specs.Begun.{first_number}
-use Rattle.sftp_transcript.specs.Ledger as ledgers
+use Rattle.sftp_transcript.specs.Sound.{first_number}
+use Rattle.sftp_transcript.specs.Explained as ledgers
 use Rattle.sftp_streams.specs.Streams.{one_more}
 use Rattle.sftp_audit.specs.declared.exchanges.RecordedReply.{RecordedReply}
 use Rattle.sftp_audit.specs.declared.exchanges.Exchange.{Exchange}
@@ -54,9 +54,9 @@ abbrev pub waits_for : ℕ → Exchange → Bool
 waits_for id exchange = not (is_answered exchange) && exchange.request.id == id
 
 -- one of them is of this id, and has no reply
-unfoldable pub is_open : ℕ → List Exchange → Bool
-is_open id [] = false
-is_open id (exchange ∷ exchanges) = waits_for id exchange || is_open id exchanges
+unfoldable pub is_awaited : ℕ → List Exchange → Bool
+is_awaited id [] = false
+is_awaited id (exchange ∷ exchanges) = waits_for id exchange || is_awaited id exchanges
 
 -- the request of the reply's id that has none gets it
 abbrev pub answered_by : RecordedReply → Exchange → Exchange

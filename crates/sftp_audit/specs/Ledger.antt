@@ -8,7 +8,7 @@ use Rattle.sftp_audit.specs.declared.errors.Refusal.{Refusal}
 use Rattle.sftp_audit.specs.declared.errors.Refusal.TheVariants as refusals
 use Rattle.sftp_audit.specs.declared.exchanges.Exchange.{Exchange}
 use Rattle.sftp_audit.specs.declared.exchanges.RecordedReply.{RecordedReply}
-use Rattle.sftp_audit.specs.Exchanges.{is_answered, waits_for, is_open}
+use Rattle.sftp_audit.specs.Exchanges.{is_answered, waits_for, is_awaited}
 use Rattle.sftp_packets.specs.declared.packets.Request.{Request}
 
 -- there is a first exchange, and it has its reply
@@ -19,7 +19,7 @@ starts_answered exchanges = option_map_or is_answered (slice_get exchanges 0) fa
 unfoldable pub AreApart : List Exchange → Type 0
 AreApart [] = Unit {0}
 AreApart (exchange ∷ exchanges) =
-    (is_answered exchange ≡ false → is_open exchange.request.id exchanges ≡ false) × AreApart exchanges
+    (is_answered exchange ≡ false → is_awaited exchange.request.id exchanges ≡ false) × AreApart exchanges
 
 -- how many exchanges are before the first request of this id that waits
 unfoldable pub place_of : ℕ → List Exchange → Option ℕ
@@ -40,14 +40,14 @@ pub record IsIndexed (exchanges : List Exchange) (index : List (ℕ × ℕ)) (fi
 -- why a request is not taken, in the record of this number
 abbrev pub RefusesRequest : List Exchange → Request → ℕ → Refusal → Type 0
 RefusesRequest exchanges request number (refusals.IdInUse place) =
-    (place ≡ number) × (is_open request.id exchanges ≡ true)
+    (place ≡ number) × (is_awaited request.id exchanges ≡ true)
 RefusesRequest exchanges request number (refusals.Window place) =
-    (place ≡ number) × (is_open request.id exchanges ≡ false) × (window ≤ length exchanges)
+    (place ≡ number) × (is_awaited request.id exchanges ≡ false) × (window ≤ length exchanges)
 RefusesRequest exchanges request number refusals.NoMemory = ⊤
 RefusesRequest exchanges request number other = ⊥
 
 -- why a reply is not taken
 abbrev pub RefusesReply : List Exchange → RecordedReply → Refusal → Type 0
 RefusesReply exchanges recorded (refusals.UnknownReply place) =
-    (place ≡ recorded.number) × (is_open recorded.reply.id exchanges ≡ false)
+    (place ≡ recorded.number) × (is_awaited recorded.reply.id exchanges ≡ false)
 RefusesReply exchanges recorded other = ⊥

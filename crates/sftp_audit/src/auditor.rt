@@ -3,7 +3,7 @@ ghost use Rattle.std.specs.Prelude.{◌≡◌, ◌≤◌, List, [], length, true
 ghost use Rattle.sftp_handles.specs.State.{State, started, closed_tree};
 ghost use Rattle.sftp_handles.specs.Allowed.{Allowed};
 ghost use Rattle.sftp_transcript.specs.declared.events.Event.{Event};
-ghost use Rattle.sftp_transcript.specs.Begun.{first_number};
+ghost use Rattle.sftp_transcript.specs.Sound.{first_number};
 ghost use Rattle.sftp_transcript.specs.Explained.{Explained, window};
 ghost use Rattle.sftp_audit.specs.declared.errors.Refusal.{Refusal};
 ghost use Rattle.sftp_audit.specs.Cuts.{unanswered_count};

@@ -3,7 +3,7 @@ ghost use Rattle.std.specs.Prelude.{◌≡◌, ◌<◌, ◌≤◌, ◌++◌, ℕ
 ghost use Rattle.std.specs.Prelude.{OnOk, OnErr, IfErr, option_copied};
 ghost use Rattle.std.specs.VecDeque.{deque_len, deque_capacity};
 ghost use Rattle.sftp_transcript.specs.Explained.{window};
-ghost use Rattle.sftp_audit.specs.Exchanges.{is_open, with_reply};
+ghost use Rattle.sftp_audit.specs.Exchanges.{is_awaited, with_reply};
 ghost use Rattle.sftp_audit.specs.Cuts.{is_unanswered, unanswered_count};
 ghost use Rattle.sftp_audit.specs.Ledger.{starts_answered, ordinal_at, IsIndexed, RefusesRequest, RefusesReply};
 
@@ -75,7 +75,7 @@ impl Ledger {
     pub(crate) fn ask(&mut self, request: Request, number: u64) -> Result<(), Refusal>
         ensures noted { OnOk result
             (self.new ≡ self.old ++ record { request = request; number = number; reply = None } ∷ []) }
-        ensures apart { OnOk result (is_open request.id self.old ≡ false) }
+        ensures apart { OnOk result (is_awaited request.id self.old ≡ false) }
         ensures in_time { OnOk result (length self.old < window) }
         ensures refused { IfErr result (RefusesRequest self.old request number) }
         ensures cleared { OnErr result (self.new ≡ []) }
@@ -112,7 +112,7 @@ impl Ledger {
     #[inline(always)]
     pub(crate) fn answer(&mut self, recorded: RecordedReply) -> Result<(), Refusal>
         ensures noted { OnOk result (self.new ≡ with_reply recorded self.old) }
-        ensures waited { OnOk result (is_open recorded.reply.id self.old ≡ true) }
+        ensures waited { OnOk result (is_awaited recorded.reply.id self.old ≡ true) }
         ensures refused { IfErr result (RefusesReply self.old recorded) }
         ensures few { length self.new ≤ window }
     {
@@ -203,7 +203,7 @@ fn enter(
     ensures entered { OnOk result (IsIndexed
         (exchanges.old.items ++ record { request = request.now; number = number; reply = None } ∷ [])
         unanswered.new.entries first) }
-    ensures apart { OnOk result (is_open request.now.id exchanges.old.items ≡ false) }
+    ensures apart { OnOk result (is_awaited request.now.id exchanges.old.items ≡ false) }
     ensures in_time { OnOk result (length exchanges.old.items < window) }
     ensures refused { IfErr result (RefusesRequest exchanges.old.items request.now number) }
 {

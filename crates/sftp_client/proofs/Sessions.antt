@@ -1,24 +1,175 @@
 -- What every session keeps, and that what was sent is what was paired and what is open.
-use Rattle.std.proofs.Common.{◌≡◌, ℕ, ◌+◌, ◌^◌, ◌<◌, true, List, [], ◌∷◌, ◌++◌, map, length, nat_lt}
-use Rattle.std.proofs.Common.{nat_eq}
-use Rattle.std.proofs.Common.{Option, Some, None, IsPermutation, refl, sym, ap, subst, ◌∙◌, arith, inl, inr}
-use Rattle.std.proofs.Common.{append_assoc}
-use Rattle.std.specs.List.{IsDistinct}
-use Rattle.std.specs.Map.{remove_entry}
-use Rattle.std.proofs.lemmas.Bool.{cases_Bool}
-use Rattle.std.proofs.lemmas.List.{length-append, map_push, append-nil}
+use Rattle.std.proofs.Common.{◌≡◌, ◌⊎◌, ℕ, zero, suc, ◌+◌, ◌-◌, ◌*◌, ◌^◌, ◌<◌, ◌≤◌, ◌%◌, ◌||◌, true, false, List, []}
+use Rattle.std.proofs.Common.{◌∷◌, length, nat_eq, IsSome, refl, sym, ap, subst, ◌∙◌, arith, inl, inr, cond, ◌++◌}
+use Rattle.std.proofs.Common.{Some, None, is_some, IsPermutation, map, nat_lt, Option, append_assoc}
+use Rattle.std.specs.List.{AllByRecursion, IsDistinct, list_any}
+use Rattle.std.proofs.Math.Nat.{mod-eq_of_lt}
+use Rattle.std.proofs.lemmas.Bool.{cases_Bool, cases_lt, eqb-true}
+use Rattle.std.proofs.lemmas.Cmp.{nat_eq_equiv}
+use Rattle.std.proofs.lemmas.Map.Steps.{length-le_from_keys}
+use Rattle.std.proofs.lemmas.Nat.{mod-mul-add, mod_below}
+use Rattle.sftp_client.specs.Client.{OpenRequests, open_at, id_after, Client, new_client, session_with, open_limit}
+use Rattle.sftp_client.specs.Client.{IsFirstFree, send_error_of, IsKept, IsStarted, IsSent, IsPaired}
+use Rattle.std.specs.Map.{remove_entry, keys_of}
+use Rattle.std.proofs.lemmas.List.{map_push, length-append, append-nil}
 use Rattle.std.proofs.lemmas.List.Sorted.{IsPermutation-refl, IsPermutation-cons, IsPermutation-trans}
-use Rattle.std.proofs.lemmas.List.Sorted.{IsPermutation-map, IsPermutation-append_left}
-use Rattle.std.proofs.lemmas.Nat.{mod_below}
+use Rattle.std.proofs.lemmas.List.Sorted.{IsPermutation-middle, IsPermutation-map, IsPermutation-append_left}
+use Rattle.std.proofs.lemmas.Map.Keys.{IsDistinct-push}
+use Rattle.std.proofs.lemmas.Map.Made.{is_some-lookup}
+use Rattle.std.proofs.lemmas.Option.{none-some, same_Some}
 use Rattle.sftp_packets.specs.declared.requests.Ask.{Ask}
 use Rattle.sftp_packets.specs.declared.packets.Packet.{Packet}
 use Rattle.sftp_packets.specs.declared.packets.Request.{Request}
 use Rattle.sftp_packets.specs.declared.packets.Reply.{Reply}
 use Rattle.sftp_client.specs.Announced.{Announced, may_be_sent}
-use Rattle.sftp_client.specs.Client.{Client, new_client, session_with, OpenRequests, open_limit, id_after, IsFirstFree}
-use Rattle.sftp_client.specs.Client.{send_error_of, IsKept, IsStarted, IsSent, IsPaired}
 use Rattle.sftp_client.specs.Runs.{Call, Started, Sent, Paired, Refused, Takes, Runs, sent, paired, unanswered}
-use Rattle.sftp_client.proofs.OpenRequests.{still_apart_with, still_apart_without, fewer_without, taken_and_others}
+
+-- ==== Ids that are skipped differ and are open, so there are no more of them than open requests.
+
+-- the number of an id is the sum, or 2^32 less
+either_way : (id places : ℕ) → id < 2 ^ 32 → places < 2 ^ 32
+    → (id_after id places ≡ id + places) ⊎ (id_after id places + 2 ^ 32 ≡ id + places)
+either_way id places small few = elim (cases_lt (id + places) (2 ^ 32)) [
+  | inl below ↦ inl (mod-eq_of_lt below)
+  | inr above ↦
+      let rest : id + places - 2 ^ 32 < 2 ^ 32 = omega arith in
+      let whole : id + places ≡ 1 * 2 ^ 32 + (id + places - 2 ^ 32) = omega arith in
+      let behind : id_after id places ≡ id + places - 2 ^ 32 =
+      ap (λ n. n % 2 ^ 32) whole ∙ mod-mul-add 1 (2 ^ 32) (id + places - 2 ^ 32) rest in
+      inr (omega (arith, behind))
+]
+
+-- ids at different places differ
+apart : (id near far : ℕ) → id < 2 ^ 32 → near < far → far < 2 ^ 32
+    → nat_eq (id_after id far) (id_after id near) ≡ false
+apart id near far small before few = elim (cases_Bool (nat_eq (id_after id far) (id_after id near))) [
+  | inl hit ↦
+      let same = eqb-true (id_after id far) (id_after id near) hit in
+      elim (either_way id near small (omega arith)) [
+        | inl a ↦ elim (either_way id far small few) [
+          | inl b ↦ absurd (omega (arith, same, a, b))
+          | inr b ↦ absurd (omega (arith, same, a, b))
+        ]
+        | inr a ↦ elim (either_way id far small few) [
+          | inl b ↦ absurd (omega (arith, same, a, b))
+          | inr b ↦ absurd (omega (arith, same, a, b))
+        ]
+      ]
+  | inr miss ↦ miss
+]
+
+-- the ids at so many places, the last one first
+abbrev ids : ℕ → ℕ → List ℕ
+ids id zero = []
+ids id (suc places) = id_after id places ∷ ids id places
+
+length-ids : (id places : ℕ) → length (ids id places) ≡ places
+length-ids id zero = refl
+length-ids id (suc places) = omega (arith, length-ids id places)
+
+not_among : (id far places : ℕ) → id < 2 ^ 32 → far < 2 ^ 32 → places ≤ far
+    → AllByRecursion (λ other. nat_eq (id_after id far) other ≡ false) (ids id places)
+not_among id far zero small few within = tt
+not_among id far (suc places) small few within =
+    (apart id places far small (omega arith) few, not_among id far places small few (omega arith))
+
+ids_differ : (id places : ℕ) → id < 2 ^ 32 → places ≤ 2 ^ 32 → IsDistinct nat_eq (ids id places)
+unfolding IsDistinct
+ids_differ id zero small few = tt
+ids_differ id (suc places) small few =
+    (not_among id places places small (omega arith) (omega arith), ids_differ id places small (omega arith))
+
+among_open : (requests : OpenRequests) (id places : ℕ)
+    → ((place : ℕ) → place < places → IsSome (open_at requests (id_after id place)))
+    → (other : ℕ) → list_any (nat_eq other) (ids id places) ≡ true → IsSome (open_at requests other)
+among_open requests id zero taken other there = absurd (cc there)
+among_open requests id (suc places) taken other there =
+    elim (cases_Bool (nat_eq other (id_after id places))) [
+      | inl hit ↦
+          subst (λ n. IsSome (open_at requests n)) (sym (eqb-true other (id_after id places) hit))
+          (taken places (omega arith))
+      | inr miss ↦
+          among_open requests id places (λ place within. taken place (omega arith)) other
+          (ap (λ b. b || list_any (nat_eq other) (ids id places)) (sym miss) ∙ there)
+    ]
+
+-- no more ids are skipped than requests are open
+pub skipped_are_few : (requests : OpenRequests) (id places : ℕ) → id < 2 ^ 32 → places ≤ 2 ^ 32
+    → ((place : ℕ) → place < places → IsSome (open_at requests (id_after id place))) → places ≤ length requests
+skipped_are_few requests id places small few taken =
+    subst (λ n. n ≤ length requests) (length-ids id places)
+    (length-le_from_keys nat_eq_equiv (ids id places) requests (ids_differ id places small few)
+    (among_open requests id places taken))
+
+-- where one more id is open, there are more open requests than ids before it
+pub one_more_is_open : (requests : OpenRequests) (id places : ℕ) → id < 2 ^ 32 → places < 2 ^ 32
+    → ((place : ℕ) → place < places → IsSome (open_at requests (id_after id place)))
+    → IsSome (open_at requests (id_after id places)) → places < length requests
+one_more_is_open requests id places small few before there =
+    let taken : (place : ℕ) → place < suc places → IsSome (open_at requests (id_after id place)) =
+    λ place within. elim (cases_lt place places) [
+      | inl below ↦ before place below
+      | inr not_below ↦
+          let last : places ≡ place = omega arith in
+          subst (λ n. IsSome (open_at requests (id_after id n))) last there
+    ] in
+    omega (arith, skipped_are_few requests id (suc places) small (omega arith) taken)
+
+-- ==== The open requests after one is added or taken out.
+
+-- ---- one more
+
+pub still_apart_with : (requests : OpenRequests) (id : ℕ) (ask : Ask) → IsDistinct nat_eq (keys_of requests)
+    → open_at requests id ≡ None → IsDistinct nat_eq (keys_of (requests ++ (id, ask) ∷ []))
+still_apart_with requests id ask apart free =
+    subst (IsDistinct nat_eq) (sym (map_push (λ e. e.0) requests (id, ask)))
+    (IsDistinct-push nat_eq_equiv (keys_of requests) id apart
+    (sym (is_some-lookup (nat_eq id) requests) ∙ ap is_some free))
+
+-- ---- one less
+
+pub fewer_without : (requests : OpenRequests) (id : ℕ) → length (remove_entry (nat_eq id) requests) ≤ length requests
+fewer_without [] id = omega arith
+fewer_without (e ∷ es) id = elim (cases_Bool (nat_eq id e.0)) [
+  | inl hit ↦ rw hit (omega arith)
+  | inr miss ↦ rw miss (omega (arith, fewer_without es id))
+]
+
+all_without : (P : ℕ → Type 0) (requests : OpenRequests) (id : ℕ) → AllByRecursion P (keys_of requests)
+    → AllByRecursion P (keys_of (remove_entry (nat_eq id) requests))
+all_without P [] id all = tt
+all_without P (e ∷ es) id all = elim (cases_Bool (nat_eq id e.0)) [
+  | inl hit ↦ rw hit all.1
+  | inr miss ↦ rw miss (all.0, all_without P es id all.1)
+]
+
+pub still_apart_without : (requests : OpenRequests) (id : ℕ) → IsDistinct nat_eq (keys_of requests)
+    → IsDistinct nat_eq (keys_of (remove_entry (nat_eq id) requests))
+unfolding IsDistinct
+still_apart_without [] id apart = tt
+still_apart_without (e ∷ es) id apart = elim (cases_Bool (nat_eq id e.0)) [
+  | inl hit ↦ rw hit apart.1
+  | inr miss ↦
+      rw miss (all_without (λ other. nat_eq e.0 other ≡ false) es id apart.0, still_apart_without es id apart.1)
+]
+
+-- the open requests are the one that is taken out and the others
+pub taken_and_others : (requests : OpenRequests) (id : ℕ) (ask : Ask) → open_at requests id ≡ Some ask
+    → IsPermutation requests ((id, ask) ∷ remove_entry (nat_eq id) requests)
+taken_and_others [] id ask there = absurd (none-some ask there)
+taken_and_others (e ∷ es) id ask there = elim (cases_Bool (nat_eq id e.0)) [
+  | inl hit ↦
+      let same : e.1 ≡ ask = same_Some e.1 ask (ap (λ b. cond b (Some e.1) (open_at es id)) (sym hit) ∙ there) in
+      let is : e ≡ (id, ask) = λ i. (sym (eqb-true id e.0 hit) i, same i) in
+      rw hit (subst (λ (x : ℕ × Ask). IsPermutation (e ∷ es) (x ∷ es)) is (IsPermutation-refl (e ∷ es)))
+  | inr miss ↦
+      let others = remove_entry (nat_eq id) es in
+      let found : open_at es id ≡ Some ask =
+      ap (λ b. cond b (Some e.1) (open_at es id)) (sym miss) ∙ there in
+      rw miss (IsPermutation-trans (e ∷ es) (e ∷ (id, ask) ∷ others) ((id, ask) ∷ e ∷ others)
+      (IsPermutation-cons e es ((id, ask) ∷ others) (taken_and_others es id ask found))
+      (IsPermutation-middle (e ∷ []) (id, ask) others))
+]
 
 -- ---- what every session keeps
 

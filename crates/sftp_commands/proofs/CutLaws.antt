@@ -7,7 +7,7 @@ use Rattle.std.proofs.lemmas.List.{append-nil, length-append, length-take-le, ta
 use Rattle.std.proofs.lemmas.Grind.{flat_map-append}
 use Rattle.std.proofs.Math.Seq.{take-append_seam, drop-append_seam}
 use Rattle.std.proofs.Math.ListN.{drop_of_length-le}
-use Rattle.sftp_text.specs.Quoted.{byte_text, hex_byte, hex_digit, is_plain, hex_text}
+use Rattle.sftp_text.specs.Digits.{byte_text, hex_byte, hex_digit, is_plain, hex_text}
 use Rattle.sftp_commands.specs.Cuts.{escapes_in}
 
 -- ---- how many bytes a text stands for

@@ -1,7 +1,7 @@
 //! What `show --full` prints of long data: its first bytes, and how many more there are.
 ghost use Rattle.std.specs.Prelude.{◌≡◌, ◌∷◌, ◌++◌, ◌≤◌, ◌<◌, ℕ, List, length, take, drop, IfSome, MatchOption};
 ghost use Rattle.std.specs.List.{flat_map};
-ghost use Rattle.sftp_text.specs.Quoted.{byte_text, hex_text};
+ghost use Rattle.sftp_text.specs.Digits.{byte_text, hex_text};
 ghost use Rattle.sftp_commands.specs.Cuts.{escapes_in};
 
 use bstr::ByteSlice;

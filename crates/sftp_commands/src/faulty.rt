@@ -37,7 +37,7 @@ impl Role {
 
 /// What a file is, by its first bytes.
 #[derive(Clone, Copy)]
-pub(crate) enum Kind {
+pub(crate) enum Format {
     Empty,
     Transcript,
     Tree,
@@ -48,32 +48,32 @@ pub(crate) enum Kind {
     Bzip2,
 }
 
-impl Kind {
+impl Format {
     /// The word for it in a JSON object.
     pub(crate) fn word(self) -> &'static str {
         match self {
-            Kind::Empty => "empty",
-            Kind::Transcript => "transcript",
-            Kind::Tree => "tree",
-            Kind::Archive => "archive",
-            Kind::Gzip => "gzip",
-            Kind::Xz => "xz",
-            Kind::Zstd => "zstd",
-            Kind::Bzip2 => "bzip2",
+            Format::Empty => "empty",
+            Format::Transcript => "transcript",
+            Format::Tree => "tree",
+            Format::Archive => "archive",
+            Format::Gzip => "gzip",
+            Format::Xz => "xz",
+            Format::Zstd => "zstd",
+            Format::Bzip2 => "bzip2",
         }
     }
 
     /// What a message says that the file is.
     fn text(self) -> &'static str {
         match self {
-            Kind::Empty => "empty",
-            Kind::Transcript => "a transcript",
-            Kind::Tree => "a tree file",
-            Kind::Archive => "an archive",
-            Kind::Gzip => "compressed by gzip",
-            Kind::Xz => "compressed by xz",
-            Kind::Zstd => "compressed by zstd",
-            Kind::Bzip2 => "compressed by bzip2",
+            Format::Empty => "empty",
+            Format::Transcript => "a transcript",
+            Format::Tree => "a tree file",
+            Format::Archive => "an archive",
+            Format::Gzip => "compressed by gzip",
+            Format::Xz => "compressed by xz",
+            Format::Zstd => "compressed by zstd",
+            Format::Bzip2 => "compressed by bzip2",
         }
     }
 }
@@ -93,7 +93,7 @@ pub struct ReadFiles<'a> {
 pub struct Faulty<'a> {
     pub(crate) name: &'a str,
     /// What it is, if it is of another kind than what it is taken for.
-    pub(crate) kind: Option<Kind>,
+    pub(crate) format: Option<Format>,
     taken_for: Role,
     /// Whether the line of the failure has its name.
     is_named: bool,
@@ -108,14 +108,14 @@ impl<'a> Faulty<'a> {
     ) -> Option<Faulty<'a>> {
         let mut faulty = faulty_of(files, failure)?;
         if is_at_opening(failure) {
-            faulty.kind = kind_of_file(rt, faulty.name);
+            faulty.format = format_of_file(rt, faulty.name);
         }
         Some(faulty)
     }
 
     /// Writes the line about the file, if it says more than the line of the failure.
     pub fn put<E: Write>(&self, errors: &mut E) {
-        if self.kind.is_some() || !self.is_named {
+        if self.format.is_some() || !self.is_named {
             let _ = write_flushed(errors, format_args!("sftpv3: {self}\n"));
         }
     }
@@ -123,12 +123,12 @@ impl<'a> Faulty<'a> {
 
 impl fmt::Display for Faulty<'_> {
     fn fmt<W: fmt::Write>(&self, f: &mut fmt::Formatter<W>) -> fmt::Result {
-        match self.kind {
-            Some(kind) => {
+        match self.format {
+            Some(format) => {
                 let name = Named(self.name);
-                let text = kind.text();
+                let text = format.text();
                 write!(f, "{name} is {text}")?;
-                f.write_str(advice(kind, self.taken_for))
+                f.write_str(advice(format, self.taken_for))
             }
             None => {
                 let name = Named(self.name);
@@ -139,10 +139,10 @@ impl fmt::Display for Faulty<'_> {
 }
 
 /// What a message adds about a file that is of another kind.
-fn advice(kind: Kind, taken_for: Role) -> &'static str {
-    match (kind, taken_for) {
-        (Kind::Empty, _) => "",
-        (Kind::Archive, Role::Tree) => ", not a tree file; 'sftpv3 import' makes one of it",
+fn advice(format: Format, taken_for: Role) -> &'static str {
+    match (format, taken_for) {
+        (Format::Empty, _) => "",
+        (Format::Archive, Role::Tree) => ", not a tree file; 'sftpv3 import' makes one of it",
         _ => taken_for.lack(),
     }
 }
@@ -164,7 +164,7 @@ fn faulty_of<'a>(files: ReadFiles<'a>, failure: &Failure<'a>) -> Option<Faulty<'
 fn unseen<'a>(name: &'a str, taken_for: Role) -> Faulty<'a> {
     Faulty {
         name,
-        kind: None,
+        format: None,
         taken_for,
         is_named: false,
     }
@@ -182,16 +182,16 @@ fn is_at_opening(failure: &Failure<'_>) -> bool {
 }
 
 /// What a file is, if that is known and the file can be read again. A pipe cannot.
-fn kind_of_file<R: Files + AllocGlobal>(rt: &R, name: &str) -> Option<Kind> {
+fn format_of_file<R: Files + AllocGlobal>(rt: &R, name: &str) -> Option<Format> {
     let mut start = Vec::new(rt.alloc());
     let is_read = is_regular(rt, name) && is_start_read(rt, name, &mut start);
-    let kind = if is_read {
-        kind_of(start.as_slice())
+    let format = if is_read {
+        format_of(start.as_slice())
     } else {
         None
     };
     drop(start);
-    kind
+    format
 }
 
 fn is_regular<R: Files>(rt: &R, name: &str) -> bool {
@@ -210,30 +210,30 @@ fn is_start_read<R: Files>(rt: &R, name: &str, start: &mut Vec<u8>) -> bool {
 }
 
 /// What a file with these first bytes is, if that is known.
-fn kind_of(start: &[u8]) -> Option<Kind> {
+fn format_of(start: &[u8]) -> Option<Format> {
     if start.is_empty() {
-        Some(Kind::Empty)
+        Some(Format::Empty)
     } else if start.starts_with(b"SFTPTR01") {
-        Some(Kind::Transcript)
+        Some(Format::Transcript)
     } else if start.starts_with(b"SFTREE01") || start.starts_with(b"SFTREE02") {
-        Some(Kind::Tree)
+        Some(Format::Tree)
     } else if start.get(MARK_PLACE..).unwrap_or(&[]).starts_with(MARK) {
-        Some(Kind::Archive)
+        Some(Format::Archive)
     } else {
         compression_of(start)
     }
 }
 
 /// By which program a file with these first bytes is compressed, if it is by a usual one.
-fn compression_of(start: &[u8]) -> Option<Kind> {
+fn compression_of(start: &[u8]) -> Option<Format> {
     if start.starts_with(b"\x1f\x8b") {
-        Some(Kind::Gzip)
+        Some(Format::Gzip)
     } else if start.starts_with(b"\xfd7zXZ\0") {
-        Some(Kind::Xz)
+        Some(Format::Xz)
     } else if start.starts_with(b"\x28\xb5\x2f\xfd") {
-        Some(Kind::Zstd)
+        Some(Format::Zstd)
     } else if start.starts_with(b"BZh") {
-        Some(Kind::Bzip2)
+        Some(Format::Bzip2)
     } else {
         None
     }

@@ -1,6 +1,6 @@
 //! `audit --keep-going`: a recorded session without its wrong replies, their requests, and what hangs on these.
 ghost use Rattle.std.specs.Prelude.{◌<◌, ◌≤◌, length, IfOk, IfSome};
-ghost use Rattle.sftp_transcript.specs.Ahead.{size_of};
+ghost use Rattle.sftp_transcript.specs.Recorded.{size_of};
 
 use crate::bearings::{Bearing, Outcome, bearing_of, outcome_of};
 use sftp_transcript::{Event, Reader, Source, TranscriptError, WINDOW};

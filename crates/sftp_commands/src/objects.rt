@@ -76,8 +76,8 @@ fn put_file<'a, O: Write>(
     if let Some(name) = name_of(failure, file) {
         json.word("file", name);
     }
-    if let Some(kind) = file.and_then(|file| file.kind) {
-        json.word("found", kind.word());
+    if let Some(format) = file.and_then(|file| file.format) {
+        json.word("found", format.word());
     }
     match failure {
         Failure::Tree(error) | Failure::TreeOf(_, error) => {

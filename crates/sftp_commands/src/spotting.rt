@@ -1,6 +1,6 @@
 //! `--explain` for malformed files: the field of the fault, and its place in the file.
 ghost use Rattle.std.specs.Prelude.{◌<◌, IfSome, IsSome, MatchResult};
-ghost use Rattle.sftp_transcript.specs.Ahead.{size_of};
+ghost use Rattle.sftp_transcript.specs.Recorded.{size_of};
 
 use sftp_faults::{Spot, spot_in_record, spot_in_tree};
 use sftp_files::Failure;

@@ -141,7 +141,7 @@ fn open_old<R: System>(rt: &R, name: &str, path: &str) -> io::Result<Opened> {
         }
         Ok(found) => {
             let file = open_found(rt, path, &found)?;
-            opened_if(is_open(&file, &found), file)
+            opened_if(is_same_file(&file, &found), file)
         }
         Err(_) => {
             let file = OpenOptions::new().write(true).open(rt, name)?;
@@ -173,7 +173,7 @@ fn opened_if(is_wanted: bool, file: File) -> io::Result<Opened> {
 }
 
 /// Whether an open file is the one that was found.
-fn is_open(file: &File, found: &Metadata) -> bool {
+fn is_same_file(file: &File, found: &Metadata) -> bool {
     match file.metadata() {
         Ok(opened) => opened.dev() == found.dev() && opened.ino() == found.ino(),
         Err(_) => false,

@@ -27,8 +27,8 @@ pub use Rattle.std.specs.Ordering.{nat_cmp, is_eq}
 pub use Rattle.std.specs.Prelude.{codes, bytes_eq}
 pub use Rattle.std.specs.declared.cmp.Ordering.{Ordering}
 pub use Rattle.std.specs.declared.cmp.Ordering.TheVariants.{Equal}
-pub use Rattle.sftp_path.proofs.Order.{bytes_cmp-same, place_cmp-same, place_cmp-total}
-pub use Rattle.sftp_path.proofs.Table.Counts.{one_if, count-without, count-found}
+pub use Rattle.sftp_path.proofs.Move.{bytes_cmp-same, place_cmp-same, place_cmp-total}
+pub use Rattle.sftp_path.proofs.Table.Entries.{one_if, count-without, count-found}
 pub use Rattle.sftp_path.proofs.Table.Entries.{without-absent}
 pub use Rattle.sftp_path.proofs.Table.Laws.{get-put, get-put_here, InOrder-put, same_table, size-put, InOrder-retain}
 pub use Rattle.sftp_path.proofs.Table.Laws.{InOrder-without, size-put_present, size-without, get-without, InOrder-empty}
@@ -44,7 +44,7 @@ pub use Rattle.sftp_tree.proofs.Limits.Tests.{Stands, fits-parts, fits-from}
 pub use Rattle.sftp_tree.proofs.PlaceTables.Each.{each-get, each-put, get-each, each-retain, each-all}
 pub use Rattle.sftp_tree.proofs.Requests.Outcomes.{PathsLeadWell, outcome-stands, pins-stay, limits-stay}
 pub use Rattle.sftp_tree.proofs.WellFormedTrees.Fields.{bytes-fit, bytes-dropped}
-pub use Rattle.sftp_packets.specs.AskValues.{IsAsk}
+pub use Rattle.sftp_packets.specs.Layouts.{IsAsk}
 pub use Rattle.sftp_tree.specs.Attributes.{changed_content, resized, said, shown, shown_content}
 pub use Rattle.sftp_tree.specs.Causes.{CauseSet, allows, allow, is_none, every_cause, only, row}
 unfoldable pub use Rattle.sftp_tree.specs.Causes.{no_causes, when}
@@ -102,7 +102,7 @@ pub use Rattle.sftp_handles.specs.Handles.{Left, Handles, open_at, is_open, with
 pub use Rattle.sftp_handles.specs.Handles.{opens_file, times_open}
 unfoldable pub use Rattle.sftp_handles.specs.Handles.{pins_of}
 pub use Rattle.sftp_handles.specs.Judged.{IsDone, IsJudged, refusal_code, IsRefusal, IsJudgedCode}
-pub use Rattle.sftp_handles.specs.Kinds.{kind_of}
+pub use Rattle.sftp_handles.specs.Purposes.{purpose_of}
 pub use Rattle.sftp_handles.specs.Laws.{is_opening, asked_state, IsOpenedBy, IsAskable, IsAnswerable}
 pub use Rattle.sftp_handles.specs.Payloads.{FitsSaid, FitsTwice, FitsData, HasNewName, said_in, answer_of, Carries}
 pub use Rattle.sftp_handles.specs.Replies.{Said, says, names_in, names_given, refuses, is_new_handle, gives_some}

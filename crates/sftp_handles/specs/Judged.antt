@@ -8,12 +8,12 @@ use Rattle.sftp_packets.specs.Requests.{asked_handle}
 use Rattle.sftp_path.specs.declared.errors.NoMemory.{NoMemory}
 use Rattle.sftp_tree.specs.declared.causes.Refused.{Refused}
 use Rattle.sftp_tree.specs.declared.causes.Refused.TheVariants as refusals
-use Rattle.sftp_handles.specs.declared.requests.Kind.{Kind}
-use Rattle.sftp_handles.specs.declared.requests.Kind.TheVariants.{Change}
+use Rattle.sftp_handles.specs.declared.requests.Purpose.{Purpose}
+use Rattle.sftp_handles.specs.declared.requests.Purpose.TheVariants.{Change}
 use Rattle.sftp_handles.specs.State.{State}
 use Rattle.sftp_handles.specs.Requests.{causes}
 use Rattle.sftp_handles.specs.Allowed.{Does, step}
-use Rattle.sftp_handles.specs.Kinds.{kind_of}
+use Rattle.sftp_handles.specs.Purposes.{purpose_of}
 
 -- the code of a status that says neither OK nor that the end was reached
 abbrev pub refusal_code : Answer → Option ℕ
@@ -45,10 +45,10 @@ is_done (Ok value) = Ok true
 is_done (Err (refusals.Cause cause)) = Ok false
 is_done (Err refusals.NoMemory) = Err (record {})
 
--- whether a request of this kind that names this handle, if any, changes the tree by its paths alone
-abbrev pub changes_by : Kind → Option (List ℕ) → Bool
+-- whether a request for this purpose that names this handle, if any, changes the tree by its paths alone
+abbrev pub changes_by : Purpose → Option (List ℕ) → Bool
 changes_by Change None = true
 changes_by _ _ = false
 
 abbrev pub changes_tree : Ask → Bool
-changes_tree ask = changes_by (kind_of ask) (asked_handle ask)
+changes_tree ask = changes_by (purpose_of ask) (asked_handle ask)

@@ -20,7 +20,7 @@ pub mod FirstNames
 pub mod Found
 pub mod Uses
 pub mod Judged
-pub mod Kinds
+pub mod Purposes
 pub mod Answered
 pub mod Payloads
 pub mod Opening

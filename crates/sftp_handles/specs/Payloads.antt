@@ -9,7 +9,7 @@ use Rattle.sftp_packets.specs.Spelling.{FitsString, FitsAttrs}
 use Rattle.sftp_packets.specs.Requests.{asked_handle}
 use Rattle.sftp_path.specs.Place.{bytes_cmp}
 use Rattle.sftp_path.specs.Table.{InOrder, size}
-use Rattle.sftp_treefile.specs.Limits.{highest_limits}
+use Rattle.sftp_treefile.specs.TreeFile.{highest_limits}
 use Rattle.sftp_tree.specs.Causes.{is_none}
 use Rattle.sftp_handles.specs.declared.payloads.Payload.{Payload}
 use Rattle.sftp_handles.specs.declared.payloads.Payload.TheVariants as payloads

@@ -2,8 +2,8 @@
 ghost use Rattle.std.specs.Prelude.{◌≡◌, ◌^◌, ◌<◌, false, Some, IfOk, IfErr, OnErr};
 ghost use Rattle.sftp_packets.specs.declared.packets.Packet.TheVariants.{Reply as reply_packet};
 ghost use Rattle.sftp_packets.specs.Packets.{HasSpelling};
-ghost use Rattle.sftp_handles.specs.declared.requests.Kind.TheVariants.{Change};
-ghost use Rattle.sftp_handles.specs.Kinds as kinds;
+ghost use Rattle.sftp_handles.specs.declared.requests.Purpose.TheVariants.{Change};
+ghost use Rattle.sftp_handles.specs.Purposes as purposes;
 ghost use Rattle.sftp_handles.specs.Allowed.{Allowed, step};
 ghost use Rattle.sftp_handles.specs.Judged.{IsRefusal};
 ghost use Rattle.sftp_handles.specs.Answered.{IsSpelledAnswer, IsAnswered};
@@ -12,7 +12,7 @@ pub(crate) mod forms;
 mod names;
 
 use crate::answer::forms::status;
-use crate::requests::{Kind, kind_of};
+use crate::requests::{Purpose, purpose_of};
 use crate::sessions::Session;
 use crate::tables::HandleTable;
 use sftp_tree::{Cause, NoMemory, Refused};
@@ -63,12 +63,12 @@ impl<T: HandleTable> Session<T> {
         ensures refused { IfErr result (IsRefusal self.old ask.now) }
         ensures kept { OnErr result (self.new ≡ self.old) }
     {
-        match kind_of(ask) {
-            Kind::Change => self.answer_change(ask),
-            Kind::Open => self.answer_open(ask),
-            Kind::List => self.answer_list(ask),
-            Kind::Query => self.answer_query(ask),
-            Kind::Unknown => Err(Refused::Cause(Cause::Unknown)),
+        match purpose_of(ask) {
+            Purpose::Change => self.answer_change(ask),
+            Purpose::Open => self.answer_open(ask),
+            Purpose::List => self.answer_list(ask),
+            Purpose::Query => self.answer_query(ask),
+            Purpose::Unknown => Err(Refused::Cause(Cause::Unknown)),
         }
     }
 
@@ -78,7 +78,7 @@ impl<T: HandleTable> Session<T> {
     ///
     /// A cause that refuses the request, or `NoMemory` if memory runs out. On error the session is unchanged.
     fn answer_change(&mut self, ask: &Ask) -> Result<Answer, Refused>
-        requires { kinds.kind_of ask.now ≡ Change }
+        requires { purposes.purpose_of ask.now ≡ Change }
         ensures done { IfOk result (λ answer. IsAnswered self.old ask.now answer self.new) }
         ensures refused { IfErr result (IsRefusal self.old ask.now) }
         ensures kept { OnErr result (self.new ≡ self.old) }

@@ -1,7 +1,7 @@
 //! Requests whose reply says OK.
 ghost use Rattle.std.specs.Prelude.{◌≡◌, None, IsTrue, IfOk, IfErr, OnOk, OnErr};
-ghost use Rattle.sftp_handles.specs.declared.requests.Kind.TheVariants.{Change};
-ghost use Rattle.sftp_handles.specs.Kinds as kinds;
+ghost use Rattle.sftp_handles.specs.declared.requests.Purpose.TheVariants.{Change};
+ghost use Rattle.sftp_handles.specs.Purposes as purposes;
 ghost use Rattle.sftp_handles.specs.Judged.{IsJudged, IsDone, IsRefusal, changes_tree, is_done, refusal_code};
 
 use crate::answer::forms::has_code;
@@ -18,7 +18,7 @@ impl<T: HandleTable> Session<T> {
     ///
     /// `NoMemory` if memory runs out; the session is unchanged.
     pub(crate) fn judge_change(&mut self, ask: &Ask, answer: &Answer) -> Result<bool, NoMemory>
-        requires kind { kinds.kind_of ask.now ≡ Change }
+        requires purpose { purposes.purpose_of ask.now ≡ Change }
         requires unlike { refusal_code answer.now ≡ None }
         ensures ok { IfOk result (λ ok. IsJudged self.old ask.now answer.now ok self.new) }
         ensures err { OnErr result (self.new ≡ self.old) }

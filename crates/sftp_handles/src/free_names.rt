@@ -2,7 +2,7 @@
 ghost use Rattle.std.specs.Prelude.{◌≡◌, ◌<◌, ◌≤◌, false, length, IfOk};
 ghost use Rattle.sftp_packets.specs.Spelling.{uint32, handle_limit};
 ghost use Rattle.sftp_path.specs.Table.{size};
-ghost use Rattle.sftp_treefile.specs.Limits.{highest_limits};
+ghost use Rattle.sftp_treefile.specs.TreeFile.{highest_limits};
 ghost use Rattle.sftp_handles.specs.Handles.{is_open};
 ghost use Rattle.sftp_handles.specs.Given.{handles_in};
 

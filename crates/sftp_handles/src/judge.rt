@@ -1,15 +1,15 @@
 //! Which replies of another server a session allows (draft, sections 6 and 7).
 ghost use Rattle.std.specs.Prelude.{◌≡◌, false, None, IsTrue, IfOk, OnErr};
 ghost use Rattle.sftp_packets.specs.declared.requests.Ask.TheVariants.{Readdir};
-ghost use Rattle.sftp_handles.specs.declared.requests.Kind.TheVariants as variants;
-ghost use Rattle.sftp_handles.specs.Kinds as kinds;
+ghost use Rattle.sftp_handles.specs.declared.requests.Purpose.TheVariants as variants;
+ghost use Rattle.sftp_handles.specs.Purposes as purposes;
 ghost use Rattle.sftp_handles.specs.State as state;
 ghost use Rattle.sftp_handles.specs.Allowed.{Allowed};
 ghost use Rattle.sftp_handles.specs.Judged.{IsJudged, refusal_code};
 
 use crate::answer::forms::has_code;
 use crate::given_table::GivenTable;
-use crate::requests::{Kind, kind_of};
+use crate::requests::{Purpose, purpose_of};
 use crate::sessions::Session;
 use crate::tables::HandleTable;
 use sftp_tree::{NoMemory, Refused};
@@ -67,12 +67,12 @@ impl<T: HandleTable> Session<T> {
         ensures ok { IfOk result (λ ok. IsJudged self.old ask.now answer.now ok self.new) }
         ensures err { OnErr result (self.new ≡ self.old) }
     {
-        match kind_of(ask) {
-            Kind::Change => self.judge_change(ask, answer),
-            Kind::Open => self.judge_open(ask, answer),
-            Kind::List => self.judge_list(ask, answer),
-            Kind::Query => self.judge_query(ask, answer),
-            Kind::Unknown => Ok(false),
+        match purpose_of(ask) {
+            Purpose::Change => self.judge_change(ask, answer),
+            Purpose::Open => self.judge_open(ask, answer),
+            Purpose::List => self.judge_list(ask, answer),
+            Purpose::Query => self.judge_query(ask, answer),
+            Purpose::Unknown => Ok(false),
         }
     }
 
@@ -83,7 +83,7 @@ impl<T: HandleTable> Session<T> {
     /// `NoMemory` if memory runs out; the session is unchanged.
     fn judge_open(&mut self, ask: &Ask, answer: &Answer) -> Result<bool, NoMemory>
         requires table { IsTrue T.takes_want }
-        requires kind { kinds.kind_of ask.now ≡ variants.Open }
+        requires purpose { purposes.purpose_of ask.now ≡ variants.Open }
         requires unlike { refusal_code answer.now ≡ None }
         ensures ok { IfOk result (λ ok. IsJudged self.old ask.now answer.now ok self.new) }
         ensures err { OnErr result (self.new ≡ self.old) }
@@ -100,7 +100,7 @@ impl<T: HandleTable> Session<T> {
     ///
     /// `NoMemory` if memory runs out; the session is unchanged.
     fn judge_list(&mut self, ask: &Ask, answer: &Answer) -> Result<bool, NoMemory>
-        requires kind { kinds.kind_of ask.now ≡ variants.List }
+        requires purpose { purposes.purpose_of ask.now ≡ variants.List }
         requires unlike { refusal_code answer.now ≡ None }
         ensures ok { IfOk result (λ ok. IsJudged self.old ask.now answer.now ok self.new) }
         ensures err { OnErr result (self.new ≡ self.old) }
@@ -137,7 +137,7 @@ impl<T: HandleTable> Session<T> {
     ///
     /// `NoMemory` if memory runs out.
     fn judge_query(&self, ask: &Ask, answer: &Answer) -> Result<bool, NoMemory>
-        requires kind { kinds.kind_of ask.now ≡ variants.Query }
+        requires purpose { purposes.purpose_of ask.now ≡ variants.Query }
         requires unlike { refusal_code answer.now ≡ None }
         ensures { IfOk result (λ ok. IsJudged self.now ask.now answer.now ok self.now) }
     {

@@ -6,7 +6,7 @@ ghost use Rattle.sftp_packets.specs.declared.packets.Request.{Request};
 ghost use Rattle.sftp_packets.specs.declared.packets.Reply.{Reply};
 ghost use Rattle.sftp_packets.specs.declared.packets.Packet.TheVariants.{Request as request_packet};
 ghost use Rattle.sftp_packets.specs.Packets.{HasSpelling};
-ghost use Rattle.sftp_packets.specs.AskValues.{IsAsk};
+ghost use Rattle.sftp_packets.specs.Layouts.{IsAsk};
 ghost use Rattle.sftp_tree.specs.declared.file_contents.Content.{Content};
 ghost use Rattle.sftp_tree.specs.declared.causes.Cause.TheVariants.{NoRoom};
 ghost use Rattle.sftp_tree.specs.Tree.{Tree, IsKept, HasFile, fits, limits, content_fits, with_content};

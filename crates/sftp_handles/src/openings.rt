@@ -6,8 +6,8 @@ ghost use Rattle.sftp_packets.specs.declared.requests.Ask.TheVariants as asks;
 ghost use Rattle.sftp_packets.specs.declared.replies.Answer.TheVariants as replies;
 ghost use Rattle.sftp_handles.specs.declared.not_opened.NotOpened.TheVariants as failures;
 ghost use Rattle.sftp_handles.specs.declared.opens.Open.TheVariants as opens;
-ghost use Rattle.sftp_handles.specs.declared.requests.Kind.TheVariants as variants;
-ghost use Rattle.sftp_handles.specs.Kinds as kinds;
+ghost use Rattle.sftp_handles.specs.declared.requests.Purpose.TheVariants as variants;
+ghost use Rattle.sftp_handles.specs.Purposes as purposes;
 ghost use Rattle.sftp_handles.specs.Handles as handles;
 ghost use Rattle.sftp_tree.specs.Tree.{Tree as tree};
 ghost use Rattle.sftp_handles.specs.State.{Good, has_handle_left};
@@ -32,7 +32,7 @@ impl<T: HandleTable> Session<T> {
     ///
     /// `Taken` if the wanted name is open already, and else as the tree's call. On error the session is unchanged.
     pub(crate) fn open_for(&mut self, ask: &Ask, want: Vec<u8>) -> Result<Vec<u8>, NotOpened>
-        requires kind { kinds.kind_of ask.now ≡ variants.Open }
+        requires purpose { purposes.purpose_of ask.now ≡ variants.Open }
         requires short { length want.items ≤ handle_limit }
         requires room { IsTrue (has_handle_left self.old) }
         ensures done { IfOk result (λ name. Does self.old ask.now (replies.Handle name.items) self.new) }
@@ -52,7 +52,7 @@ impl<T: HandleTable> Session<T> {
     /// `NoMemory` if memory runs out; the session is unchanged.
     pub(crate) fn judge_handle(&mut self, ask: &Ask, handle: &[u8]) -> Result<bool, NoMemory>
         requires table { IsTrue T.takes_want }
-        requires kind { kinds.kind_of ask.now ≡ variants.Open }
+        requires purpose { purposes.purpose_of ask.now ≡ variants.Open }
         ensures ok { IfOk result (λ ok. IsJudged self.old ask.now (replies.Handle handle.now) ok self.new) }
         ensures err { OnErr result (self.new ≡ self.old) }
     {
@@ -87,7 +87,7 @@ fn open_in<T: HandleTable>(
     ask: &Ask,
     want: Vec<u8>,
 ) -> Result<Vec<u8>, NotOpened>
-    requires kind { kinds.kind_of ask.now ≡ variants.Open }
+    requires purpose { purposes.purpose_of ask.now ≡ variants.Open }
     requires short { length want.items ≤ handle_limit }
     requires good { Good (session_of tree.old (T.handles table.old)) }
     requires room { IsTrue (has_handle_left (session_of tree.old (T.handles table.old))) }

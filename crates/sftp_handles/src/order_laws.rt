@@ -4,7 +4,7 @@ ghost use Rattle.std.specs.Prelude.{◌≡◌, ◌≢◌, true, false, IsTrue};
 ghost use Rattle.sftp_packets.specs.declared.requests.Ask.{Ask};
 ghost use Rattle.sftp_packets.specs.declared.packets.Request.{Request};
 ghost use Rattle.sftp_packets.specs.declared.packets.Reply.{Reply};
-ghost use Rattle.sftp_packets.specs.AskValues.{IsAsk};
+ghost use Rattle.sftp_packets.specs.Layouts.{IsAsk};
 ghost use Rattle.sftp_handles.specs.State.{State, Good};
 ghost use Rattle.sftp_handles.specs.Allowed.{Allowed};
 ghost use Rattle.sftp_handles.specs.Clash.{everything, is_barrier, touched, clash, ComesFirst};

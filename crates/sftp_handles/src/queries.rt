@@ -2,15 +2,15 @@
 ghost use Rattle.std.specs.Prelude.{◌≡◌, IfOk, IfErr, IfSome};
 ghost use Rattle.sftp_packets.specs.declared.requests.Ask.TheVariants.{Fstat, Limits, Read, Readlink, Realpath};
 ghost use Rattle.sftp_tree.specs.Refusals.{stat_ask};
-ghost use Rattle.sftp_handles.specs.declared.requests.Kind.TheVariants.{Query};
-ghost use Rattle.sftp_handles.specs.Kinds as kinds;
+ghost use Rattle.sftp_handles.specs.declared.requests.Purpose.TheVariants.{Query};
+ghost use Rattle.sftp_handles.specs.Purposes as purposes;
 ghost use Rattle.sftp_handles.specs.Judged.{IsRefusal};
 ghost use Rattle.sftp_handles.specs.Payloads.{Carries, said_in};
 ghost use Rattle.sftp_handles.specs.Answered.{IsAnswered};
 
 use crate::limits::limits_data;
 use crate::payloads::Payload;
-use crate::requests::{Kind, kind_of};
+use crate::requests::{Purpose, purpose_of};
 use crate::sessions::Session;
 use crate::tables::HandleTable;
 use sftp_tree::Refused;
@@ -27,8 +27,8 @@ impl<T: HandleTable> Session<T> {
         ensures done { IfSome result (λ r. IfOk r (λ answer. IsAnswered self.now ask.now answer self.now)) }
         ensures refused { IfSome result (λ r. IfErr r (IsRefusal self.now ask.now)) }
     {
-        match kind_of(ask) {
-            Kind::Query => Some(self.answer_query(ask)),
+        match purpose_of(ask) {
+            Purpose::Query => Some(self.answer_query(ask)),
             _ => None,
         }
     }
@@ -39,7 +39,7 @@ impl<T: HandleTable> Session<T> {
     ///
     /// `Cause` with a cause that refuses the request. `NoMemory` if memory runs out.
     pub(crate) fn answer_query(&self, ask: &Ask) -> Result<Answer, Refused>
-        requires { kinds.kind_of ask.now ≡ Query }
+        requires { purposes.purpose_of ask.now ≡ Query }
         ensures done { IfOk result (λ answer. IsAnswered self.now ask.now answer self.now) }
         ensures refused { IfErr result (IsRefusal self.now ask.now) }
     {
@@ -58,7 +58,7 @@ impl<T: HandleTable> Session<T> {
     ///
     /// `Cause` with the first cause that holds. `NoMemory` if memory runs out.
     pub(crate) fn payload(&self, ask: &Ask) -> Result<Payload<'_>, Refused>
-        requires { kinds.kind_of ask.now ≡ Query }
+        requires { purposes.purpose_of ask.now ≡ Query }
         ensures carried { IfOk result (λ payload. Carries self.now ask.now (said_in payload)) }
         ensures refused { IfErr result (IsRefusal self.now ask.now) }
     {

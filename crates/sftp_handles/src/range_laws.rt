@@ -4,7 +4,7 @@ ghost use Rattle.std.specs.Prelude.{◌≡◌, ◌≢◌, ◌≤◌, ◌+◌, �
 ghost use Rattle.sftp_packets.specs.declared.requests.Ask.{Ask};
 ghost use Rattle.sftp_packets.specs.declared.packets.Request.{Request};
 ghost use Rattle.sftp_packets.specs.declared.packets.Reply.{Reply};
-ghost use Rattle.sftp_packets.specs.AskValues.{IsAsk};
+ghost use Rattle.sftp_packets.specs.Layouts.{IsAsk};
 ghost use Rattle.sftp_tree.specs.FileChanges.{written};
 ghost use Rattle.sftp_handles.specs.declared.byte_range.ByteRange.{ByteRange};
 ghost use Rattle.sftp_handles.specs.State.{State, Good};

@@ -1,15 +1,15 @@
-//! What the code knows of each request: its kind, how it uses what is open under its handle, which causes refuse it,
+//! What the code knows of each request: its purpose, how it uses what is open under its handle, which causes refuse it,
 //! and how it is done if its reply says OK.
 ghost use Rattle.std.specs.Prelude.{◌≡◌, Some, None, IfNone, IfSome, IfOk, IfErr, OnOk, OnErr};
 ghost use Rattle.sftp_packets.specs.Requests.{asked_handle};
 ghost use Rattle.sftp_tree.specs.declared.causes.Cause.{Cause as cause};
 ghost use Rattle.sftp_tree.specs.Refusals.{in_set};
-ghost use Rattle.sftp_handles.specs.declared.requests.Kind.TheVariants.{Change};
+ghost use Rattle.sftp_handles.specs.declared.requests.Purpose.TheVariants.{Change};
 ghost use Rattle.sftp_handles.specs.Requests as requests;
 ghost use Rattle.sftp_handles.specs.Judged.{IsDone, IsRefusal};
 ghost use Rattle.sftp_handles.specs.Clash.{bars, may_change};
 ghost use Rattle.sftp_handles.specs.RequestRows.{row_of};
-ghost use Rattle.sftp_handles.specs.Kinds as kinds;
+ghost use Rattle.sftp_handles.specs.Purposes as purposes;
 ghost use Rattle.sftp_handles.specs.Uses as uses;
 
 use crate::handle_requests::only;
@@ -18,9 +18,9 @@ use crate::tables::HandleTable;
 use sftp_tree::{Cause, Causes, NoMemory, Refused};
 use sftp_wire::Ask;
 
-/// The kind of a request, by what its reply says where no cause refuses it.
+/// What a request is for, by what its reply says where no cause refuses it.
 #[derive(Clone, Copy)]
-pub(crate) enum Kind {
+pub(crate) enum Purpose {
     /// A change, done or not: the reply says OK.
     Change,
     /// Something is opened: the reply gives a new handle.
@@ -60,20 +60,20 @@ impl Use {
     }
 }
 
-/// The kind of a request.
-pub(crate) fn kind_of(ask: &Ask) -> Kind
-    ensures { result ≡ kinds.kind_of ask.now }
+/// What a request is for.
+pub(crate) fn purpose_of(ask: &Ask) -> Purpose
+    ensures { result ≡ purposes.purpose_of ask.now }
 {
     match ask {
-        Ask::Open { .. } | Ask::Opendir { .. } => Kind::Open,
-        Ask::Readdir { .. } => Kind::List,
+        Ask::Open { .. } | Ask::Opendir { .. } => Purpose::Open,
+        Ask::Readdir { .. } => Purpose::List,
         Ask::Read { .. }
         | Ask::Stat { .. }
         | Ask::Lstat { .. }
         | Ask::Fstat { .. }
         | Ask::Realpath { .. }
         | Ask::Readlink { .. }
-        | Ask::Limits => Kind::Query,
+        | Ask::Limits => Purpose::Query,
         Ask::Close { .. }
         | Ask::Write { .. }
         | Ask::Setstat { .. }
@@ -85,8 +85,8 @@ pub(crate) fn kind_of(ask: &Ask) -> Kind
         | Ask::Symlink { .. }
         | Ask::PosixRename { .. }
         | Ask::Hardlink { .. }
-        | Ask::Fsync { .. } => Kind::Change,
-        Ask::Unknown { .. } => Kind::Unknown,
+        | Ask::Fsync { .. } => Purpose::Change,
+        Ask::Unknown { .. } => Purpose::Unknown,
     }
 }
 
@@ -164,7 +164,7 @@ impl<T: HandleTable> Session<T> {
     ///
     /// `Cause` with the first cause that holds. `NoMemory` if memory runs out. On error the session is unchanged.
     pub(crate) fn do_ok(&mut self, ask: &Ask) -> Result<(), Refused>
-        requires { kinds.kind_of ask.now ≡ Change }
+        requires { purposes.purpose_of ask.now ≡ Change }
         ensures done { OnOk result (IsDone self.old ask.now self.new) }
         ensures refused { IfErr result (IsRefusal self.old ask.now) }
         ensures kept { OnErr result (self.new ≡ self.old) }

@@ -6,7 +6,7 @@ ghost use Rattle.std.specs.Option.{option_copied_mut};
 ghost use Rattle.sftp_packets.specs.Spelling.{AreBytes, handle_limit};
 ghost use Rattle.sftp_path.specs.Place.{bytes_cmp};
 ghost use Rattle.sftp_path.specs.Table.{InOrder, size};
-ghost use Rattle.sftp_treefile.specs.Limits.{highest_limits};
+ghost use Rattle.sftp_treefile.specs.TreeFile.{highest_limits};
 ghost use Rattle.sftp_handles.specs.declared.tables.PutError.TheVariants.{Taken, NoMemory as no_memory};
 ghost use Rattle.sftp_handles.specs.contracts.opens.Open.{the_row};
 ghost use Rattle.sftp_handles.specs.Handles.{Handles, open_at, with_open, without_open, is_open};

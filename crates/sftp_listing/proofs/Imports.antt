@@ -14,7 +14,7 @@ pub use Rattle.std.specs.List.{AllByRecursion, list_any, list_all, insert}
 pub use Rattle.std.specs.Map.{keys_of, remove_entry}
 pub use Rattle.std.specs.Ordering.{nat_cmp, is_eq}
 pub use Rattle.std.specs.declared.cmp.Ordering.TheVariants.{Equal, Less, Greater}
-pub use Rattle.sftp_path.proofs.Order.{bytes_cmp-same, place_cmp-same}
+pub use Rattle.sftp_path.proofs.Move.{bytes_cmp-same, place_cmp-same}
 pub use Rattle.sftp_path.proofs.Table.Entries.{without-absent}
 pub use Rattle.sftp_path.proofs.Table.Laws.{InOrder-put, same_table, InOrder-retain, InOrder-without, get-without}
 pub use Rattle.sftp_path.proofs.Table.Laws.{InOrder-empty, get-empty, get-cons, get-below, get-retain}

@@ -1,7 +1,7 @@
 -- The layouts of packets: what each consists of, without its values, for a reader that goes over a packet's bytes field
 -- by field. Those of requests and replies follow from their rows.
-use Rattle.std.specs.Prelude.{ℕ, ◌==◌, ◌&&◌, Bool, true, false, if◌then◌else◌, nat_eq, bytes_eq}
-use Rattle.std.specs.Prelude.{List, [], ◌∷◌, codes, drop, find, map, Option, Some, None}
+use Rattle.std.specs.Prelude.{ℕ, ◌==◌, ◌&&◌, Bool, true, false, if◌then◌else◌, nat_eq, bytes_eq, List, [], ◌∷◌, codes}
+use Rattle.std.specs.Prelude.{drop, find, map, Option, Some, None, ◌≡◌, ◌⊎◌, ◌<◌, ◌++◌, length, IfSome}
 use Rattle.std.specs.List.{starts_with}
 use Rattle.sftp_packets.specs.declared.packets.Packet.{Packet}
 use Rattle.sftp_packets.specs.declared.packets.Packet.TheVariants.{Init, Version, Request, Reply}
@@ -13,9 +13,17 @@ use Rattle.sftp_packets.specs.declared.layouts.Tail.{Tail}
 use Rattle.sftp_packets.specs.declared.layouts.Tail.TheVariants as tails
 use Rattle.sftp_packets.specs.declared.layouts.Layout.{Layout}
 use Rattle.sftp_packets.specs.Spelling.{Field, Number, LongNumber, Flags, Text, Handle, ExtensionName, Message, Rest}
-use Rattle.sftp_packets.specs.Spelling.{Attributes, Items, Row, string}
+use Rattle.sftp_packets.specs.Spelling.{Attributes, Items, Row, string, packet_limit, handle_limit, AreBytes, FitsTwo}
 use Rattle.sftp_packets.specs.Requests.{ask_row, every_ask}
-use Rattle.sftp_packets.specs.Replies.{answer_row, every_answer}
+use Rattle.sftp_packets.specs.Requests.{answer_row, every_answer}
+use Rattle.std.specs.Option.{IsSomeAnd}
+use Rattle.sftp_packets.specs.Packets.{handle_of, hides_extension, spelling}
+use Rattle.sftp_packets.specs.declared.attributes.Attrs.{Attrs}
+use Rattle.sftp_packets.specs.declared.requests.Ask.{Ask}
+use Rattle.sftp_packets.specs.declared.lent_fields.Field.{Field as Lent}
+use Rattle.sftp_packets.specs.declared.lent_fields.Field.TheVariants as lent
+use Rattle.sftp_packets.specs.declared.lent_fields.Fields.{Fields}
+use Rattle.sftp_packets.specs.declared.lent_fields.Fields.TheVariants.{One, Two, Three}
 
 -- A layout: the packet's type, whether an id comes after it, the type's name, the name of a known extension as a string
 -- (the mark, which is empty in every other layout), the kinds of the fields, and what comes after them.
@@ -124,3 +132,78 @@ is_of_type kind s = s.kind == kind && bytes_eq s.mark []
 abbrev pub name_in : Option Shape → List ℕ
 name_in None = []
 name_in (Some s) = s.name
+
+-- ==== What `encode` leaves of the bytes that it appends to, and which packets it refuses.
+
+-- `new` is `old` with bytes appended
+pub record Extends (old new : List ℕ) : Type 0 where
+  pub tail : List ℕ
+  pub parts : new ≡ old ++ tail
+
+-- the whole packet would be too long, or its handle is
+abbrev pub IsTooLong : Packet → Type 0
+IsTooLong packet =
+    (packet_limit < length (spelling packet)) ⊎ IsSomeAnd (handle_of packet) (λ handle. handle_limit < length handle)
+
+-- the packet is within its limits, but is an `Unknown` with the name of an extension that has a request of its own
+abbrev pub IsNotCanonical : Packet → Type 0
+IsNotCanonical packet = (IsTooLong packet → ⊥) × (hides_extension packet ≡ true)
+
+-- ==== What a request has that takes memory: its strings, and its attributes. Words of private contracts.
+
+-- the strings of fields
+abbrev pub strings_in : List Field → List (List ℕ)
+strings_in [] = []
+strings_in (Text text ∷ fields) = text ∷ strings_in fields
+strings_in (Handle handle ∷ fields) = handle ∷ strings_in fields
+strings_in (ExtensionName name ∷ fields) = name ∷ strings_in fields
+strings_in (Rest bytes ∷ fields) = bytes ∷ strings_in fields
+strings_in (other ∷ fields) = strings_in fields
+
+-- the attributes among them
+abbrev pub attributes_in : List Field → Option Attrs
+attributes_in [] = None
+attributes_in (Attributes attrs ∷ fields) = Some attrs
+attributes_in (other ∷ fields) = attributes_in fields
+
+abbrev pub owned_by : Ask → List (List ℕ) × Option Attrs
+owned_by ask = (strings_in (ask_row ask).fields, attributes_in (ask_row ask).fields)
+
+-- ==== The fields of packets as the code lends them. Words of private contracts.
+
+abbrev pub seen : Lent → Field
+seen (lent.Number number) = Number number
+seen (lent.LongNumber number) = LongNumber number
+seen (lent.Text text) = Text text.now
+seen (lent.ExtensionName name) = ExtensionName name.now
+seen (lent.Rest bytes) = Rest bytes.now
+seen (lent.Attributes attrs) = Attributes attrs.now
+seen (lent.Items items) = Items items.now
+
+-- the name of an extension is the first of them
+abbrev pub all_seen : Fields → List Field
+all_seen (One field) = seen field ∷ []
+all_seen (Two first second) = seen first ∷ seen second ∷ []
+all_seen (Three first second third) = seen first ∷ seen second ∷ seen third ∷ []
+
+-- ==== What holds of the values of requests: their bytes are bytes, and the numbers of an owner have 32 bits. Nothing
+-- is said of lengths, so it holds of more requests than can be encoded.
+
+-- the numbers of the owner, if one is given, have 32 bits
+abbrev pub IsAttrs : Attrs → Type 0
+IsAttrs attrs = IfSome attrs.owner FitsTwo
+
+-- of a field: a path and the data of a WRITE are bytes; nothing is said of a handle and of an unknown extension
+abbrev pub IsValue : Field → Type 0
+IsValue (Text text) = AreBytes text
+IsValue (Attributes attrs) = IsAttrs attrs
+IsValue other = Unit {0}
+
+abbrev pub AreValues : List Field → Type 0
+AreValues [] = Unit {0}
+AreValues (field ∷ []) = IsValue field
+AreValues (field ∷ next ∷ others) = IsValue field × AreValues (next ∷ others)
+
+-- of a request
+abbrev pub IsAsk : Ask → Type 0
+IsAsk ask = AreValues (ask_row ask).fields

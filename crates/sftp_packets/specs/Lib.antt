@@ -1,10 +1,5 @@
 pub mod Spelling
 pub mod Reading
 pub mod Requests
-pub mod Replies
 pub mod Packets
 pub mod Layouts
-pub mod Writing
-pub mod Copying
-pub mod Seen
-pub mod AskValues

@@ -13,7 +13,7 @@ use Rattle.sftp_packets.specs.declared.packets.Side.TheVariants.{Client, Server}
 use Rattle.sftp_packets.specs.Spelling.{uint32, string, pairs, with_id, FitsPairs, packet_limit, handle_limit}
 use Rattle.sftp_packets.specs.Reading.{Reader, ◌>>=◌, two, uint32_at, pairs_at}
 use Rattle.sftp_packets.specs.Requests.{ask_parts, FitsAsk, asked_handle, asks_known, reply_type, request_packet_at}
-use Rattle.sftp_packets.specs.Replies.{answer_parts, FitsAnswer, answered_handle, reply_packet_at}
+use Rattle.sftp_packets.specs.Requests.{answer_parts, FitsAnswer, answered_handle, reply_packet_at}
 
 -- ---- how packets are spelled
 

@@ -4,8 +4,8 @@
 //! A copy of a request says that its bytes are bytes and that the numbers of an owner have 32 bits. A proof learns that
 //! only of what code reads, so functions here read them.
 ghost use Rattle.std.specs.Prelude.{◌≡◌, [], ◌∷◌, IfOk, IfSome, Some, None};
-ghost use Rattle.sftp_packets.specs.AskValues.{IsAsk, IsAttrs};
-ghost use Rattle.sftp_packets.specs.Copying.{owned_by};
+ghost use Rattle.sftp_packets.specs.Layouts.{IsAsk, IsAttrs};
+ghost use Rattle.sftp_packets.specs.Layouts.{owned_by};
 ghost use Rattle.sftp_packets.specs.Spelling.{AreBytes, FitsTwo};
 
 use crate::attributes::Attrs;

@@ -8,9 +8,9 @@ ghost use Rattle.sftp_packets.specs.Spelling.{attributes, name_item, names, AreB
 ghost use Rattle.sftp_packets.specs.Spelling.{FitsPairs, FitsCounted, FitsAttrs, FitsNameItem, FitsNames, field_bytes};
 ghost use Rattle.sftp_packets.specs.Spelling.{fields_bytes, FitsField, Fit};
 ghost use Rattle.sftp_packets.specs.Requests.{ask_parts, FitsAsk};
-ghost use Rattle.sftp_packets.specs.Replies.{answer_parts, FitsAnswer};
+ghost use Rattle.sftp_packets.specs.Requests.{answer_parts, FitsAnswer};
 ghost use Rattle.sftp_packets.specs.Packets.{contents, FitsFields};
-ghost use Rattle.sftp_packets.specs.Seen.{seen, all_seen};
+ghost use Rattle.sftp_packets.specs.Layouts.{seen, all_seen};
 
 use crate::attributes::Attrs;
 use crate::lent_fields::Field::{Attributes, ExtensionName, Items, LongNumber, Number, Rest, Text};
@@ -80,7 +80,7 @@ fn pairs_length(extensions: &Pairs) -> usize
     total
 }
 
-#[tactic(auto, using(crate::proofs::FieldLaws::Lengths::length_pairs))]
+#[tactic(auto, using(crate::proofs::FieldLaws::length_pairs))]
 fn counted_pairs_length(extensions: &Pairs) -> usize
     ensures exact { result ≡ min (length (counted_pairs extensions.now)) (2 ^ 64 - 1) }
     ensures fits { length (counted_pairs extensions.now) < 2 ^ 32 → FitsCounted extensions.now }
@@ -169,7 +169,7 @@ fn name_items_length(items: &Names) -> usize
     total
 }
 
-#[tactic(auto, using(crate::proofs::FieldLaws::Lengths::length_names))]
+#[tactic(auto, using(crate::proofs::FieldLaws::length_names))]
 fn names_length(items: &Names) -> usize
     ensures exact { result ≡ min (length (names items.now)) (2 ^ 64 - 1) }
     ensures fits { length (names items.now) < 2 ^ 32 → FitsNames items.now }

@@ -3,7 +3,7 @@ ghost use Rattle.std.specs.Prelude.{◌≡◌, option_copied};
 ghost use Rattle.sftp_packets.specs.declared.replies.Answer.{Answer};
 ghost use Rattle.sftp_packets.specs.Reading.{Reads, one, three, uint32_at, string_at, handle_at, rest_at};
 ghost use Rattle.sftp_packets.specs.Reading.{attributes_at, names_at};
-ghost use Rattle.sftp_packets.specs.Replies.{answer_parts, answered_handle, reply_at, reply_packet_at};
+ghost use Rattle.sftp_packets.specs.Requests.{answer_parts, answered_handle, reply_at, reply_packet_at};
 
 use crate::attributes::Attrs;
 use crate::errors::{Fault, ReadError};

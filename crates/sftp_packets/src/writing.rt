@@ -6,10 +6,10 @@ ghost use Rattle.sftp_packets.specs.Spelling.{uint32, uint64, two_uint32, string
 ghost use Rattle.sftp_packets.specs.Spelling.{attribute_flags, attribute_fields, attributes, name_item, names, with_id};
 ghost use Rattle.sftp_packets.specs.Spelling.{field_bytes, fields_bytes};
 ghost use Rattle.sftp_packets.specs.Requests.{ask_parts};
-ghost use Rattle.sftp_packets.specs.Replies.{answer_parts};
+ghost use Rattle.sftp_packets.specs.Requests.{answer_parts};
 ghost use Rattle.sftp_packets.specs.Packets.{contents, spelling, HasSpelling};
-ghost use Rattle.sftp_packets.specs.Seen.{seen, all_seen};
-ghost use Rattle.sftp_packets.specs.Writing.{Extends, IsTooLong, IsNotCanonical};
+ghost use Rattle.sftp_packets.specs.Layouts.{seen, all_seen};
+ghost use Rattle.sftp_packets.specs.Layouts.{Extends, IsTooLong, IsNotCanonical};
 
 use crate::attributes::{AttrFlags, Attrs};
 use crate::errors::WireError;

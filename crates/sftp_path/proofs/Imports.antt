@@ -24,9 +24,9 @@ pub use Rattle.std.specs.Map.{keys_of, lookup, remove_entry}
 pub use Rattle.std.specs.Ordering.{is_eq, ordering_then, match_ordering, is_lt, nat_cmp}
 pub use Rattle.std.specs.declared.cmp.Ordering.{Ordering}
 pub use Rattle.std.specs.declared.cmp.Ordering.TheVariants.{Equal, Less, Greater}
-pub use Rattle.sftp_path.specs.Cut.{begins_at_slash, parts_after}
-pub use Rattle.sftp_path.specs.Rekeying.{renamed, renamed_entry, NothingFrom}
-unfoldable pub use Rattle.sftp_path.specs.Rekeying.{rekeyed}
+pub use Rattle.sftp_path.specs.Place.{begins_at_slash, parts_after}
+pub use Rattle.sftp_path.specs.Table.{renamed, renamed_entry, NothingFrom}
+unfoldable pub use Rattle.sftp_path.specs.Table.{rekeyed}
 pub use Rattle.sftp_path.specs.Table.{Table, InOrder, count, size, kept, with_values}
 unfoldable pub use Rattle.sftp_path.specs.Table.{get, put, without, from_entries, retain}
-pub use Rattle.sftp_path.specs.Text.{IsTextOf, with_slashes}
+pub use Rattle.sftp_path.specs.Place.{IsTextOf, with_slashes}

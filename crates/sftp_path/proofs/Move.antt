@@ -1,17 +1,76 @@
 -- Laws of a directory that moves in a table of places.
-use Rattle.sftp_path.proofs.Imports.{◌≡◌, ◌+◌, Bool, true, false, if◌then◌else◌, ◌&&◌, [], ◌∷◌, ◌++◌, length, drop, map}
-use Rattle.sftp_path.proofs.Imports.{refl, sym, ap, ◌∙◌, arith, None, inl, inr, true≢false, is_eq, ordering_then}
-use Rattle.sftp_path.proofs.Imports.{Equal-is, nat_list_cmp_total, nat_list_eq_equiv, keys_of, and_parts, cases_Bool}
-use Rattle.sftp_path.proofs.Imports.{false_from_ne_true, false≢true, tied_itself, append_assoc, length-append}
+use Rattle.sftp_path.proofs.Imports.{◌≡◌, ◌&&◌, ℕ, suc, nat_eq, nat_lt, true, [], ◌∷◌, ◌++◌, length, take, drop, refl}
+use Rattle.sftp_path.proofs.Imports.{ap, sym, ◌∙◌, arith, IsTotalOrder, nat_list_cmp_total, nat_list_eq_equiv}
+use Rattle.sftp_path.proofs.Imports.{IsAntisymmetric, nat_cmp-IsAntisymmetric, slice_cmp-IsAntisymmetric, and_parts}
+use Rattle.sftp_path.proofs.Imports.{lt-ltb, and_assoc, append-nil, length-append, common_steps, ◌+◌, Bool, false}
+use Rattle.sftp_path.proofs.Imports.{if◌then◌else◌, map, None, inl, inr, true≢false, is_eq, ordering_then, Equal-is}
+use Rattle.sftp_path.proofs.Imports.{keys_of, cases_Bool, false_from_ne_true, false≢true, tied_itself, append_assoc}
 use Rattle.sftp_path.proofs.Imports.{sorted_head, sorted_tail, Table, InOrder, get, from_entries, size, renamed}
-use Rattle.sftp_path.proofs.Imports.{renamed_entry, rekeyed, NothingFrom}
-use Rattle.sftp_path.specs.Place.{Place, place_cmp, same_bytes, begins}
-use Rattle.sftp_path.proofs.Order.{begins-front, begins-append, place_cmp-total, place_cmp-same}
-use Rattle.sftp_path.proofs.Table.Entries.{get-none}
+use Rattle.sftp_path.proofs.Imports.{renamed_entry, rekeyed, NothingFrom, ◌≢◌, Some, Equal, map-append, put, without}
+use Rattle.sftp_path.proofs.Imports.{count, list_all}
+use Rattle.std.specs.Cmp.Lexicographic.{pointwise, bytes_decides, lists_total}
+use Rattle.std.proofs.lemmas.Bool.Decides.{nat_tests}
+use Rattle.std.proofs.Math.Seq.{take-append_seam}
+use Rattle.sftp_path.specs.Place.{Name, Place, bytes_cmp, place_cmp, same_bytes, begins, is_below, parent}
+use Rattle.sftp_path.proofs.Table.Entries.{get-none, get-none_front, get-none_behind, get-front, from_entries-last}
+use Rattle.sftp_path.proofs.Table.Entries.{put-without, one_if, count-step, count-put_new, all-put_new}
 use Rattle.sftp_path.proofs.Table.Laws.{get-empty, get-cons, get-below, get-from_entries, InOrder-from_entries}
-use Rattle.sftp_path.proofs.Table.Laws.{size-put, same_table}
-pub mod Entries
-pub mod Tests
+use Rattle.sftp_path.proofs.Table.Laws.{size-put, same_table, get-put_here, get-put_elsewhere, get-without}
+use Rattle.sftp_path.proofs.Table.Laws.{get-without_here, get-without_elsewhere, InOrder-put, InOrder-without}
+
+-- ==== Places that begin others, and the orders of keys.
+
+-- ---- places that begin others
+
+-- the test by the names in front
+pub begins-is : (top place : Place) → pointwise (pointwise nat_eq) top (take (length top) place) ≡ begins top place
+begins-is [] place = refl
+begins-is (m ∷ ms) [] = refl
+begins-is (m ∷ ms) (n ∷ ns) = ap (λ b. same_bytes m n && b) (begins-is ms ns)
+
+pub begins-front : (top place : Place) → begins top place ≡ true → place ≡ top ++ drop (length top) place
+begins-front [] place h = refl
+begins-front (m ∷ ms) [] h = cc
+begins-front (m ∷ ms) (n ∷ ns) h =
+    let p = and_parts (same_bytes m n) (begins ms ns) h in
+    let same : m ≡ n = (bytes_decides m n).0 p.0 in
+    λ i. sym same i ∷ begins-front ms ns p.1 i
+
+pub begins-append : (top rest : Place) → begins top (top ++ rest) ≡ true
+begins-append [] rest = refl
+begins-append (m ∷ ms) rest = ap (λ b. b && begins ms (ms ++ rest)) (nat_list_eq_equiv.refl m) ∙ begins-append ms rest
+
+pub begins-itself : (place : Place) → begins place place ≡ true
+begins-itself place = ap (begins place) (sym (append-nil place)) ∙ begins-append place []
+
+shorter-tails : (a b : ℕ) → nat_lt a b ≡ nat_lt (suc a) (suc b)
+shorter-tails a b = grind (arith, nat_tests)
+
+pub below-begins : (top place : Place) → is_below top place ≡ (begins top place && nat_lt (length top) (length place))
+below-begins [] [] = refl
+below-begins [] (n ∷ ns) = sym (lt-ltb 0 (length (n ∷ ns)) (omega arith))
+below-begins (m ∷ ms) [] = refl
+below-begins (m ∷ ms) (n ∷ ns) = grind (arith, and_assoc, shorter-tails, below-begins ms ns)
+
+-- ---- the parent
+
+pub parent-entered : (place : Place) (name : Name) → parent (place ++ name ∷ []) ≡ place
+parent-entered place name = grind (arith, common_steps, length-append, take-append_seam)
+
+-- ---- the orders of keys
+
+pub place_cmp-total : IsTotalOrder place_cmp
+place_cmp-total = lists_total nat_list_cmp_total
+
+pub bytes_cmp-same : IsAntisymmetric bytes_cmp
+bytes_cmp-same = slice_cmp-IsAntisymmetric nat_cmp-IsAntisymmetric
+
+pub place_cmp-same : IsAntisymmetric place_cmp
+place_cmp-same = slice_cmp-IsAntisymmetric bytes_cmp-same
+
+pub ruleset front_laws = (begins-front, begins-append, below-begins)
+
+pub ruleset front_tests = (begins-is)
 
 -- ---- places
 
@@ -226,3 +285,178 @@ module _ {X : Type 0} (old new : Place) where
       ]
 
 pub ruleset move_laws = (get-rekeyed_moved, get-rekeyed_left, get-rekeyed_behind, get-rekeyed_elsewhere, InOrder-rekeyed, size-rekeyed, length-renamed, rekeyed-unique, nothing-at)
+
+-- ==== More laws of a directory that moves in a table of places: what is counted, an entry with none below it, and the
+-- move entry by entry.
+
+-- places that differ do not tie
+differ : (p q : Place) → (p ≡ q → ⊥) → place_cmp p q ≢ Equal
+differ p q apart tie = apart (place_cmp-same p q tie)
+
+-- what one place begins and another does not
+begins-apart : (top p q : Place) → begins top p ≡ true → begins top q ≡ false → p ≡ q → ⊥
+begins-apart top p q inside outside is = true≢false (sym inside ∙ ap (begins top) is ∙ outside)
+
+longer-apart : (place : Place) (name : Name) (names : Place) → place ++ name ∷ names ≡ place → ⊥
+longer-apart place name names is =
+    let long : length (place ++ name ∷ names) ≡ length place + length (name ∷ names) =
+    length-append place (name ∷ names) in
+    let short : length (place ++ name ∷ names) ≡ length place = ap length is in
+    absurd (omega arith)
+
+-- there is no entry from a place on, neither in front nor behind
+pub NothingFrom-front : {X : Type 0} (place : Place) (es fs : Table Place X) → NothingFrom (es ++ fs) place
+    → NothingFrom es place
+NothingFrom-front place es fs nothing rest = get-none_front place_cmp es fs (place ++ rest) (nothing rest)
+
+pub NothingFrom-behind : {X : Type 0} (place : Place) (es fs : Table Place X) → NothingFrom (es ++ fs) place
+    → NothingFrom fs place
+NothingFrom-behind place es fs nothing rest = get-none_behind place_cmp es fs (place ++ rest) (nothing rest)
+
+module _ {X : Type 0} (old new : Place) where
+  -- ---- how many values pass
+
+  count-made : (es : Table Place X) (passes : X → Bool) → InOrder place_cmp es → NothingFrom es new
+      → count (from_entries place_cmp (map (renamed_entry old new) es)) passes ≡ count es passes
+  unfolding from_entries
+  count-made [] passes order nothing = refl
+  count-made (e ∷ es) passes order nothing =
+      let others : Table Place X = map (renamed_entry old new) es in
+      let rest : count (from_entries place_cmp others) passes ≡ count es passes =
+      count-made es passes (sorted_tail place_cmp e.0 (keys_of es) order) (nothing-behind old new e es nothing) in
+      let absent : get place_cmp (from_entries place_cmp others) (renamed old new e.0) ≡ None =
+      get-from_entries place_cmp place_cmp-total others (renamed old new e.0)
+      ∙ first-alone old new e es order nothing in
+      let more = count-put_new place_cmp (from_entries place_cmp others) (renamed old new e.0) e.1 passes absent in
+      let first : count (e ∷ es) passes ≡ one_if (passes e.1) + count es passes = count-step e es passes in
+      let swapped : count es passes + one_if (passes e.1) ≡ count (e ∷ es) passes = omega (arith, first) in
+      more ∙ ap (λ n. n + one_if (passes e.1)) rest ∙ swapped
+
+  pub count-rekeyed : (table : Table Place X) (passes : X → Bool) → InOrder place_cmp table → NothingFrom table new
+      → count (rekeyed old new table) passes ≡ count table passes
+  unfolding rekeyed
+  count-rekeyed = count-made
+
+  -- ---- the move entry by entry
+
+  pub rekeyed-empty : rekeyed {X = X} old new [] ≡ []
+  unfolding rekeyed from_entries
+  rekeyed-empty = refl
+
+  -- no entry in front comes to the place of one after
+  last-alone : (before : Table Place X) (e : Place × X) (rest : Table Place X)
+      → InOrder place_cmp (before ++ e ∷ rest) → NothingFrom (before ++ e ∷ rest) new
+      → get place_cmp (map (renamed_entry old new) before) (renamed old new e.0) ≡ None
+  last-alone before e rest order nothing =
+      let once : get place_cmp before e.0 ≡ None =
+      get-front place_cmp place_cmp-total place_cmp-same before e rest order in
+      elim (cases_Bool (begins old e.0)) [
+        | inl inside ↦
+            let names = drop (length old) e.0 in
+            ap (get place_cmp (map (renamed_entry old new) before)) (renamed-inside old new e.0 inside)
+            ∙ get-moved old new before names (NothingFrom-front new before (e ∷ rest) nothing names)
+            ∙ ap (get place_cmp before) (sym (begins-front old e.0 inside)) ∙ once
+        | inr outside ↦ ap (get place_cmp (map (renamed_entry old new) before)) (renamed-outside old new e.0 outside)
+            ∙ get-elsewhere old new before e.0 outside (first-outside old new e rest (NothingFrom-behind new before (e ∷ rest) nothing))
+            ∙ once
+      ]
+
+  pub rekeyed-free : (before rest : Table Place X) (e : Place × X) → InOrder place_cmp (before ++ e ∷ rest)
+      → NothingFrom (before ++ e ∷ rest) new → get place_cmp (rekeyed old new before) (renamed old new e.0) ≡ None
+  rekeyed-free before rest e order nothing = grind (arith, get-rekeyed, last-alone)
+
+  pub rekeyed-last : (before rest : Table Place X) (e : Place × X) → InOrder place_cmp (before ++ e ∷ rest)
+      → NothingFrom (before ++ e ∷ rest) new
+      → rekeyed old new (before ++ e ∷ []) ≡ put place_cmp (rekeyed old new before) (renamed old new e.0) e.1
+  unfolding rekeyed
+  rekeyed-last before rest e order nothing =
+      grind (arith, map-append, from_entries-last, place_cmp-total, place_cmp-same, last-alone)
+
+  -- the same of a table that is these entries
+  pub rekeyed-free_of : (table before rest : Table Place X) (e : Place × X) → InOrder place_cmp table
+      → NothingFrom table new → before ++ e ∷ rest ≡ table
+      → get place_cmp (rekeyed old new before) (renamed old new e.0) ≡ None
+  rekeyed-free_of table before rest e order nothing is = grind (arith, rekeyed-free)
+
+  pub rekeyed-last_of : (table before rest : Table Place X) (e : Place × X) → InOrder place_cmp table
+      → NothingFrom table new → before ++ e ∷ rest ≡ table
+      → rekeyed old new (before ++ e ∷ []) ≡ put place_cmp (rekeyed old new before) (renamed old new e.0) e.1
+  rekeyed-last_of table before rest e order nothing is = grind (arith, rekeyed-last)
+
+  -- ---- an entry with nothing below it
+
+  away-none : (table : Table Place X) (place : Place) → InOrder place_cmp table → get place_cmp table place ≡ None
+      → get place_cmp (without place_cmp table old) place ≡ None
+  away-none table place order none = grind (arith, get-without, place_cmp-total)
+
+  module _ (table : Table Place X) (value : X) where
+    abbrev moved_alone : Table Place X
+    moved_alone = put place_cmp (without place_cmp table old) new value
+
+    -- elsewhere than at the new place
+    other : (place : Place) → (place ≡ new → ⊥)
+        → get place_cmp moved_alone place ≡ get place_cmp (without place_cmp table old) place
+    other place apart = simp (get-put_elsewhere, place_cmp-total, differ)
+
+    pub rekeyed-alone : InOrder place_cmp table → get place_cmp table old ≡ Some value
+        → ((name : Name) (names : Place) → get place_cmp table (old ++ name ∷ names) ≡ None) → NothingFrom table new
+        → rekeyed old new table ≡ put place_cmp (without place_cmp table old) new value
+    rekeyed-alone order stands alone nothing =
+        sym (rekeyed-unique old new table moved_alone (InOrder-put place_cmp place_cmp-total (without place_cmp table old) new value (InOrder-without place_cmp table old order)) nothing at_new at_old beside)
+      where
+        at_new : (rest : Place) → get place_cmp moved_alone (new ++ rest) ≡ get place_cmp table (old ++ rest)
+        at_new [] = grind (arith, append-nil, get-put_here, place_cmp-total)
+        at_new (name ∷ names) = grind (arith, other, longer-apart, away-none)
+
+        below : (rest : Place) → get place_cmp (without place_cmp table old) (old ++ rest) ≡ None
+        below [] = grind (arith, append-nil, get-without_here, place_cmp-total)
+        below (name ∷ names) = away-none table (old ++ name ∷ names) order (alone name names)
+
+        not_new : (place : Place) → begins new place ≡ false → place ≡ new → ⊥
+        not_new place outside is = begins-apart new new place (begins-itself new) outside (sym is)
+
+        at_old : (place : Place) → begins old place ≡ true → begins new place ≡ false
+            → get place_cmp moved_alone place ≡ None
+        at_old place inside outside = other place (not_new place outside)
+            ∙ ap (get place_cmp (without place_cmp table old)) (begins-front old place inside)
+            ∙ below (drop (length old) place)
+
+        beside : (place : Place) → begins old place ≡ false → begins new place ≡ false
+            → get place_cmp moved_alone place ≡ get place_cmp table place
+        beside place not_old outside = other place (not_new place outside)
+            ∙ get-without_elsewhere place_cmp place_cmp-total table old place order (differ old place (begins-apart old old place (begins-itself old) not_old))
+
+    pub rekeyed-alone_put_first : InOrder place_cmp table → get place_cmp table old ≡ Some value
+        → ((name : Name) (names : Place) → get place_cmp table (old ++ name ∷ names) ≡ None) → NothingFrom table new
+        → rekeyed old new table ≡ without place_cmp (put place_cmp table new value) old
+    rekeyed-alone_put_first order stands alone nothing = rekeyed-alone order stands alone nothing
+        ∙ put-without place_cmp place_cmp-total place_cmp-same table old new value order (differ old new apart)
+      where
+        apart : old ≡ new → ⊥
+        apart is =
+            let none : get place_cmp table old ≡ None =
+            ap (get place_cmp table) (is ∙ sym (append-nil new)) ∙ nothing [] in
+            cc
+
+pub ruleset entry_laws = (count-rekeyed, rekeyed-alone, rekeyed-alone_put_first, rekeyed-empty, rekeyed-last, rekeyed-free, rekeyed-last_of, rekeyed-free_of)
+
+-- ==== Tests of all entries of a table in which a directory moves.
+
+module _ {X : Type 0} (old new : Place) where
+  all-made : (keeps : Place × X → Bool) (es : Table Place X) → InOrder place_cmp es → NothingFrom es new
+      → list_all keeps (from_entries place_cmp (map (renamed_entry old new) es))
+      ≡ list_all (λ e. keeps (renamed_entry old new e)) es
+  unfolding from_entries
+  all-made keeps [] order nothing = refl
+  all-made keeps (e ∷ es) order nothing =
+      let others : Table Place X = map (renamed_entry old new) es in
+      all-put_new place_cmp (from_entries place_cmp others) (renamed old new e.0) e.1 keeps
+      (get-from_entries place_cmp place_cmp-total others (renamed old new e.0) ∙ first-alone old new e es order nothing)
+      ∙ ap (λ b. keeps (renamed_entry old new e) && b) (all-made keeps es (sorted_tail place_cmp e.0 (keys_of es) order) (nothing-behind old new e es nothing))
+
+  pub all-rekeyed : (table : Table Place X) (keeps : Place × X → Bool) → InOrder place_cmp table → NothingFrom table new
+      → list_all keeps (rekeyed old new table) ≡ list_all (λ e. keeps (renamed_entry old new e)) table
+  unfolding rekeyed
+  all-rekeyed table keeps = all-made keeps table
+
+pub ruleset moved_tests = (all-rekeyed)

@@ -1,6 +1,3 @@
 -- Tables: what each operation does to keys, values, counts and tests.
 pub mod Laws
 pub mod Entries
-pub mod Counts
-pub mod Values
-pub mod Tests

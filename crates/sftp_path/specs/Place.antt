@@ -1,11 +1,13 @@
 -- Names, places and paths (draft-ietf-secsh-filexfer-02, section 6.2). The limits, and that empty
 -- components are passed over, are this profile's own.
 use Rattle.std.specs.Prelude.{◌==◌, ◌&&◌, ◌||◌, not, nat_lt, nat_le, nat_eq, ℕ, ◌-◌, Bool, true, false, if◌then◌else◌}
-use Rattle.std.specs.Prelude.{List, [], ◌∷◌, length, take, filter}
+use Rattle.std.specs.Prelude.{List, [], ◌∷◌, length, take, filter, Some, refl, ◌≡◌, ◌++◌, IsTrue}
 use Rattle.std.specs.Ordering.{nat_cmp}
 use Rattle.std.specs.declared.cmp.Ordering.{Ordering}
-use Rattle.std.specs.Cmp.Lexicographic.{slice_cmp, pointwise}
+use Rattle.std.specs.Cmp.Lexicographic.{slice_cmp, pointwise, slice_partial_cmp, lists_po, lists_agrees, texts_po}
 use Rattle.std.specs.List.{list_all, flat_map}
+use Rattle.std.proofs.Common.{subst}
+use Rattle.std.specs.Cmp.{IsPartialOrder, Agrees}
 
 -- ---- names
 
@@ -126,3 +128,44 @@ unfoldable pub is_good_path : List ℕ → Bool
 is_good_path path =
     nat_le (length path) path_limit
     && (list_all (λ b. not (b == 0)) path && list_all (λ part. nat_le (length part) name_limit) (components path))
+
+-- ==== The order of places is one.
+
+pub places_po : IsPartialOrder (pointwise (pointwise nat_eq)) (λ xs ys. Some (slice_cmp (slice_cmp nat_cmp) xs ys))
+places_po =
+    let o = lists_po texts_po in
+    let a : Agrees (slice_partial_cmp (λ x y. Some (slice_cmp nat_cmp x y))) (slice_cmp (slice_cmp nat_cmp)) =
+    lists_agrees (λ x y. refl) in
+    subst (IsPartialOrder (pointwise (pointwise nat_eq))) (λ i xs ys. a xs ys i) o
+
+-- ==== What follows the first part of a path.
+
+-- nothing, or a `/` and what follows it
+abbrev pub begins_at_slash : List ℕ → Bool
+begins_at_slash [] = true
+begins_at_slash (b ∷ bytes) = b == 47
+
+-- the parts after the first `/`, and none of no bytes
+abbrev pub parts_after : List ℕ → List (List ℕ)
+parts_after [] = []
+parts_after (b ∷ bytes) = parts bytes
+
+-- ==== A path that was split into its components.
+
+pub record Split : Type 0 where
+  -- whether the path starts at the root
+  pub absolute : Bool
+  -- the components that are still to come
+  pub left : List (List ℕ)
+
+-- ==== The texts of places.
+
+-- what is the absolute text of a place
+abbrev pub IsTextOf : List ℕ → Place → Type 0
+IsTextOf text place = IsTrue (are_names place) × (text ≡ absolute place)
+
+-- the parts again, with a `/` between each and the next
+abbrev pub with_slashes : List (List ℕ) → List ℕ
+with_slashes [] = []
+with_slashes (part ∷ []) = part
+with_slashes (part ∷ next ∷ parts) = part ++ 47 ∷ with_slashes (next ∷ parts)

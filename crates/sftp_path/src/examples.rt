@@ -6,7 +6,7 @@ ghost use Rattle.std.specs.declared.cmp.Ordering.TheVariants.{Less, Equal, Great
 ghost use Rattle.sftp_path.specs.Place.{Place, is_name, name_cmp, place_cmp, parent, begins};
 ghost use Rattle.sftp_path.specs.Place.{is_below, absolute, components, is_absolute, is_good_path};
 ghost use Rattle.sftp_path.specs.Table.{get, put, without, from_entries};
-ghost use Rattle.sftp_path.specs.Rekeying.{renamed, rekeyed};
+ghost use Rattle.sftp_path.specs.Table.{renamed, rekeyed};
 
 /// Empty components do not count; `.` and `..` do.
 #[tactic(auto, unfolding(crate::specs::Place::components, crate::specs::Place::parts))]
@@ -95,7 +95,7 @@ pub fn renamed_places()
 {}
 
 /// `/d` moves to `/x` with what is below it, and the entries come in their new order; `/dd` and `/f` stay.
-#[tactic(auto, unfolding(crate::specs::Rekeying::rekeyed, crate::specs::Table::from_entries, crate::specs::Table::put))]
+#[tactic(auto, unfolding(crate::specs::Table::rekeyed, crate::specs::Table::from_entries, crate::specs::Table::put))]
 pub fn rekeyed_tables()
     ensures moved { rekeyed {X = ℕ} (codes "d" ∷ []) (codes "x" ∷ [])
         ((codes "d" ∷ [], 1) ∷ (codes "d" ∷ codes "e" ∷ [], 2) ∷ (codes "f" ∷ [], 3) ∷ [])
@@ -107,7 +107,7 @@ pub fn rekeyed_tables()
 
 /// What the premises of the laws exclude. If there is an entry at the new place, the entry that moves may be lost. What
 /// moves below itself is still below its old place. What moves up to a place above may come to its old place again.
-#[tactic(auto, unfolding(crate::specs::Rekeying::rekeyed, crate::specs::Table::from_entries, crate::specs::Table::put))]
+#[tactic(auto, unfolding(crate::specs::Table::rekeyed, crate::specs::Table::from_entries, crate::specs::Table::put))]
 pub fn rekeyed_without_premises()
     ensures taken { rekeyed {X = ℕ} (codes "f" ∷ []) (codes "d" ∷ []) ((codes "d" ∷ [], 1) ∷ (codes "f" ∷ [], 3) ∷ [])
         ≡ (codes "d" ∷ [], 1) ∷ [] }

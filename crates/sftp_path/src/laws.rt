@@ -5,16 +5,16 @@ ghost use Rattle.std.specs.Prelude.{Option, Some, IsTrue, IfSome, IfNone, length
 ghost use Rattle.std.specs.List.{list_all};
 ghost use Rattle.sftp_path.specs.Place.{Name, Place, are_names, is_step, is_inner, begins, is_below};
 ghost use Rattle.sftp_path.specs.Place.{parent, absolute, parts, components, is_absolute, is_good_path};
-ghost use Rattle.sftp_path.specs.Text.{IsTextOf, with_slashes};
+ghost use Rattle.sftp_path.specs.Place.{IsTextOf, with_slashes};
 
 /// Two places whose absolute texts are equal are equal.
-#[tactic(auto, using(crate::proofs::PathTexts::AbsoluteTexts::absolute_laws))]
+#[tactic(auto, using(crate::proofs::PathTexts::absolute_laws))]
 pub fn absolute_is_one()
     ensures { (p q : Place) → IsTrue (are_names p) → IsTrue (are_names q) → absolute p ≡ absolute q → p ≡ q }
 {}
 
 /// `canonical` undoes `absolute`: by its contract it returns, for the absolute text of a place, that place.
-#[tactic(auto, using(crate::proofs::PathTexts::AbsoluteTexts::absolute_laws))]
+#[tactic(auto, using(crate::proofs::PathTexts::absolute_laws))]
 pub fn canonical_undoes_absolute()
     ensures { (place : Place) (found : Option Place) → IsTrue (are_names place) →
         IfSome found (λ p. IsTextOf (absolute place) p) →
@@ -22,7 +22,7 @@ pub fn canonical_undoes_absolute()
 {}
 
 /// The absolute text of a place is an absolute path, whose components are the names of the place.
-#[tactic(auto, using(crate::proofs::PathTexts::AbsoluteTexts::absolute_laws))]
+#[tactic(auto, using(crate::proofs::PathTexts::absolute_laws))]
 pub fn absolute_leads_there()
     ensures absolute { (place : Place) → is_absolute (absolute place) ≡ true }
     ensures components { (place : Place) → IsTrue (are_names place) → components (absolute place) ≡ place }
@@ -30,7 +30,7 @@ pub fn absolute_leads_there()
 
 /// The parts of a path have no `/`, and make the path with a `/` between each and the next. No other list of
 /// such parts makes it.
-#[tactic(auto, using(crate::proofs::PathTexts::part_laws, crate::proofs::PathTexts::GoodPaths::inner_laws))]
+#[tactic(auto, using(crate::proofs::PathTexts::part_laws, crate::proofs::PathTexts::inner_laws))]
 pub fn parts_make_the_path()
     ensures inner { (path : List ℕ) → IsTrue (list_all (list_all is_inner) (parts path)) }
     ensures joined { (path : List ℕ) → with_slashes (parts path) ≡ path }
@@ -39,14 +39,14 @@ pub fn parts_make_the_path()
 {}
 
 /// Each component of a good path is `.`, `..` or a name.
-#[tactic(auto, using(crate::proofs::PathTexts::GoodPaths::component_laws))]
+#[tactic(auto, using(crate::proofs::PathTexts::component_laws))]
 pub fn components_are_steps()
     ensures { (path : List ℕ) → IsTrue (is_good_path path) → IsTrue (list_all (λ b. nat_lt b 256) path) →
         IsTrue (list_all is_step (components path)) }
 {}
 
 /// A place begins those that start with its names; those with more names are below it.
-#[tactic(auto, using(crate::proofs::Order::front_laws))]
+#[tactic(auto, using(crate::proofs::Move::front_laws))]
 pub fn places_in_front()
     ensures front { (top place : Place) → IsTrue (begins top place) → place ≡ top ++ drop (length top) place }
     ensures begins { (top rest : Place) → IsTrue (begins top (top ++ rest)) }

@@ -2,7 +2,7 @@
 ghost use Rattle.std.specs.Prelude.{⊤, ◌≡◌, ◌==◌, ◌++◌, ◌∷◌, not, length, IsTrue};
 ghost use Rattle.std.specs.List.{position};
 ghost use Rattle.std.specs.Iterator.{YieldsFirstRef, MakesProgress, item_count};
-ghost use Rattle.sftp_path.specs.Cut.{begins_at_slash, parts_after};
+ghost use Rattle.sftp_path.specs.Place.{begins_at_slash, parts_after};
 ghost use Rattle.sftp_path.specs.Place as spec;
 
 use bstr::ByteSlice;
@@ -17,7 +17,7 @@ pub struct Parts<'a> {
 }
 
 impl<'a> Model for Parts<'a> {
-    ghost use Rattle.sftp_path.specs.Split.{Split};
+    ghost use Rattle.sftp_path.specs.Place.{Split};
     ghost use Rattle.sftp_path.specs.Place.{components};
 
     ghost Value = { Split };

@@ -4,7 +4,7 @@ ghost use Rattle.std.specs.Ordering.{nat_cmp};
 ghost use Rattle.std.specs.Cmp.{partial_equiv_from_equiv};
 ghost use Rattle.std.specs.Cmp.Lexicographic.{pointwise, slice_cmp, nat_list_eq_equiv, nat_list_cmp_total};
 ghost use Rattle.std.specs.Cmp.Lexicographic.{lists_equiv, lists_total, lists_ties, texts_ties};
-ghost use Rattle.sftp_path.specs.PlaceOrder.{places_po};
+ghost use Rattle.sftp_path.specs.Place.{places_po};
 ghost use Rattle.sftp_path.specs.Place as spec;
 
 use crate::errors::NoMemory;
@@ -124,7 +124,7 @@ impl Place {
     }
 
     /// Whether this place is the other one, or is below it.
-    #[tactic(auto, using(crate::proofs::Order::front_tests))]
+    #[tactic(auto, using(crate::proofs::Move::front_tests))]
     pub fn starts_with(&self, top: &Place) -> bool
         ensures { result ≡ spec.begins top.now self.now }
     {

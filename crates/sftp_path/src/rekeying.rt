@@ -4,7 +4,7 @@ ghost use Rattle.std.specs.Prelude.{◌≡◌, ◌+◌, ◌++◌, [], ◌∷◌,
 ghost use Rattle.std.specs.List.{list_all};
 ghost use Rattle.sftp_path.specs.Place.{Name, Place, place_cmp, begins};
 ghost use Rattle.sftp_path.specs.Table.{Table, InOrder, get, put, without, size, count};
-ghost use Rattle.sftp_path.specs.Rekeying.{renamed, renamed_entry, rekeyed, NothingFrom};
+ghost use Rattle.sftp_path.specs.Table.{renamed, renamed_entry, rekeyed, NothingFrom};
 
 /// The entries at and below the old place come to the new place and below it, if there were none; none is left at or
 /// below the old place; and all other entries stay. That none is left at a place needs no premise on the table if the
@@ -58,7 +58,7 @@ pub fn rekeyed_is_one<X>()
 {}
 
 /// As many values pass a test after the move as before it.
-#[tactic(auto, using(crate::proofs::Move::Entries::entry_laws))]
+#[tactic(auto, using(crate::proofs::Move::entry_laws))]
 pub fn counts_after_rekeying<X>()
     ensures { (old new : Place) (table : Table Place X) (passes : X → Bool) → InOrder place_cmp table →
         NothingFrom table new →
@@ -66,7 +66,7 @@ pub fn counts_after_rekeying<X>()
 {}
 
 /// All entries pass a test after the move exactly if each one before it passes the test with its place renamed.
-#[tactic(auto, using(crate::proofs::Move::Tests::moved_tests))]
+#[tactic(auto, using(crate::proofs::Move::moved_tests))]
 pub fn tests_after_rekeying<X>()
     ensures { (old new : Place) (table : Table Place X) (keeps : Place × X → Bool) → InOrder place_cmp table →
         NothingFrom table new →
@@ -75,7 +75,7 @@ pub fn tests_after_rekeying<X>()
 
 /// If there is no entry below the old place, the move removes the one entry and puts it at the new place, in either
 /// order.
-#[tactic(auto, using(crate::proofs::Move::Entries::entry_laws))]
+#[tactic(auto, using(crate::proofs::Move::entry_laws))]
 pub fn moving_what_stands_alone<X>()
     ensures away_first { (old new : Place) (table : Table Place X) (value : X) → InOrder place_cmp table →
         get place_cmp table old ≡ Some value →
@@ -92,7 +92,7 @@ pub fn moving_what_stands_alone<X>()
 /// The move entry by entry: from the first to the last, each one is put at its renamed place, which none of those
 /// before it has taken. The clauses that end in `_of` say the same of a table that is given as the entries before, the
 /// entry and the rest.
-#[tactic(auto, using(crate::proofs::Move::Entries::entry_laws))]
+#[tactic(auto, using(crate::proofs::Move::entry_laws))]
 pub fn moving_entry_by_entry<X>()
     ensures none { (old new : Place) → rekeyed {X = X} old new [] ≡ [] }
     ensures one_more { (old new : Place) (before rest : Table Place X) (entry : Place × X) →

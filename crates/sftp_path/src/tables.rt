@@ -51,7 +51,7 @@ pub fn sizes<K: Ord, X>()
 
 /// How many values pass a test: a new key adds its value to the count, a new value of a key takes the place of the old
 /// one, a removed key takes its value from the count, and the count is not 0 if some value passes.
-#[tactic(auto, using(crate::proofs::Table::Counts::count_laws))]
+#[tactic(auto, using(crate::proofs::Table::Entries::count_laws))]
 pub fn counts<K: Ord, X>()
     ensures put_new { (table : Table K X) (key : K) (value : X) (passes : X → Bool) → get K.cmp table key ≡ None →
         count (put K.cmp table key value) passes ≡ count table passes + (if passes value then 1 else 0) }
@@ -72,7 +72,7 @@ pub fn absent_keys<K: Ord, X>()
 {}
 
 /// Where each value is replaced by one made of it, each operation does the same as before, on the new values.
-#[tactic(auto, using(crate::proofs::Table::Values::value_laws))]
+#[tactic(auto, using(crate::proofs::Table::Entries::value_laws))]
 pub fn other_values<K: Ord, X, Y>()
     ensures get { (f : X → Y) (table : Table K X) (key : K) →
         get K.cmp (with_values f table) key ≡ option_map f (get K.cmp table key) }
@@ -87,7 +87,7 @@ pub fn other_values<K: Ord, X, Y>()
 /// A test that all entries pass: a new key asks it of its entry too; removing a key keeps it passed, as does a new
 /// value of a key if the test is on values alone and the value passes it; if the test is on keys alone, a new value
 /// changes nothing.
-#[tactic(auto, using(crate::proofs::Table::Tests::test_laws))]
+#[tactic(auto, using(crate::proofs::Table::Entries::test_laws))]
 pub fn passing_tests<K: Ord, X>()
     ensures put_new { (table : Table K X) (key : K) (value : X) (keeps : K × X → Bool) → get K.cmp table key ≡ None →
         list_all keeps (put K.cmp table key value) ≡ (keeps (key, value) && list_all keeps table) }

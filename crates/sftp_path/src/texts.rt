@@ -1,7 +1,7 @@
 //! The one absolute text of each place.
 ghost use Rattle.std.specs.Prelude.{◌≡◌, IfOk, IfSome, IfNone};
 ghost use Rattle.sftp_path.specs.Place as spec;
-ghost use Rattle.sftp_path.specs.Text.{IsTextOf};
+ghost use Rattle.sftp_path.specs.Place.{IsTextOf};
 
 use crate::errors::NoMemory;
 use crate::names::{Name, is_name};

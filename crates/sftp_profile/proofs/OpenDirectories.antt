@@ -168,16 +168,23 @@ given-outcome s end ask due items ok is found = record {
   kept = found.kept;
 }
 
+-- what giving these names does, by whether there are none
+given-as : (s : State) (ask : Ask) (items : List NameItem) (is_none : Bool) → (length items == 0) ≡ is_none
+    → under s (if length items == 0 then Some s.session else strictly.step s.session ask (replies.Name items))
+    ≡ under s (if is_none then Some s.session else strictly.step s.session ask (replies.Name items))
+given-as s ask items is_none is =
+    ap (λ b. under s (if b then Some s.session else strictly.step s.session ask (replies.Name items))) is
+
 pub none-given : (s : State) (ask : Ask) (items : List NameItem) → (length items == 0) ≡ true
     → IsGiven s ask items true s
 none-given s ask items is = record {
-  is = ap (λ b. under s (if b then Some s.session else strictly.step s.session ask (replies.Name items))) is;
+  is = given-as s ask items true is;
   kept = λ e. refl;
 }
 
 pub some-given : (s end : State) (ask : Ask) (items : List NameItem) (ok : Bool) → (length items == 0) ≡ false
     → IsStrict s ask (replies.Name items) ok end → IsGiven s ask items ok end
 some-given s end ask items ok is found = record {
-  is = ap (λ b. under s (if b then Some s.session else strictly.step s.session ask (replies.Name items))) is ∙ found.is;
+  is = given-as s ask items false is ∙ found.is;
   kept = found.kept;
 }

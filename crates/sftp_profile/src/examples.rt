@@ -30,7 +30,7 @@ ghost use Rattle.sftp_profile.specs.Examples.{owned_by_bit, with_set_group, set_
 ghost use Rattle.sftp_profile.specs.Examples.{kept_owners, owned_by, open_of_another, denied_requests, full_disks};
 ghost use Rattle.sftp_profile.specs.Flags.{empties};
 ghost use Rattle.sftp_profile.specs.BytesRead.{is_count};
-ghost use Rattle.sftp_treefile.specs.Limits.{usual_limits};
+ghost use Rattle.sftp_treefile.specs.TreeFile.{usual_limits};
 
 /// The name `hardlink-link` switches the departure of a hardlink of a link, and `hardlink` none.
 pub fn names_of_departures()

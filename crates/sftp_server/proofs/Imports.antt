@@ -34,8 +34,8 @@ pub use Rattle.sftp_handles.specs.declared.byte_range.ByteRange.{ByteRange}
 pub use Rattle.sftp_handles.specs.declared.byte_range.Span.{Span}
 pub use Rattle.sftp_handles.specs.declared.touch.Touch.{Touch}
 pub use Rattle.sftp_handles.specs.declared.touch.Touch.TheVariants.{Everything, Nothing, WritesFile}
-pub use Rattle.sftp_packets.specs.AskValues.{IsAsk}
-pub use Rattle.sftp_packets.proofs.PacketLaws.Extensions.{version_spelled}
+pub use Rattle.sftp_packets.specs.Layouts.{IsAsk}
+pub use Rattle.sftp_packets.proofs.PacketLaws.{version_spelled}
 pub use Rattle.sftp_packets.specs.Spelling.{FitsString, packet_limit}
 pub use Rattle.sftp_packets.specs.Requests.{server_extensions, asked_handle}
 pub use Rattle.sftp_packets.specs.Packets.{HasSpelling, side_of}
@@ -55,8 +55,8 @@ pub use Rattle.sftp_transcript.specs.Examples.{handshake_bytes}
 pub use Rattle.sftp_transcript.specs.Explained.{StepOf, window as full_window, Run, window, Explained, BeginsFrom}
 unfoldable pub use Rattle.sftp_transcript.specs.Explained.{leading_pairs, exchanges_of, in_window, next_reply}
 unfoldable pub use Rattle.sftp_transcript.specs.Explained.{turn_after, requests_before_reply}
-pub use Rattle.sftp_transcript.specs.Ledger.{Exchange, StandsFor, keeps_window, IsAnswered}
-unfoldable pub use Rattle.sftp_transcript.specs.Ledger.{with_replies, is_open}
+pub use Rattle.sftp_transcript.specs.Explained.{Exchange, StandsFor, keeps_window, IsAnswered}
+unfoldable pub use Rattle.sftp_transcript.specs.Explained.{with_replies, is_open}
 pub use Rattle.sftp_transcript.specs.Log.{Log, IsAppended, FailsToRecord, opened_text}
 pub use Rattle.sftp_streams.specs.Streams.{AppendsPart}
 pub use Rattle.sftp_transcript.specs.Transcript.{IsEvent, record_text, packet_of, transcript_opening}
@@ -68,10 +68,10 @@ pub use Rattle.sftp_tree.proofs.PlaceTables.Rising.{all_both}
 pub use Rattle.sftp_tree.proofs.Requests.Outcomes.{PathsLeadWell}
 pub use Rattle.sftp_tree.proofs.Requests.Rows.{path-bytes}
 pub use Rattle.sftp_tree.specs.Tree.{Tree}
-pub use Rattle.sftp_wire.proofs.StreamLaws.Front.{length-spelling, none-leaves_room, front_again, spellings-apart}
+pub use Rattle.sftp_wire.proofs.StreamLaws.{length-spelling, none-leaves_room, front_again, spellings-apart}
 pub use Rattle.sftp_wire.specs.Examples.{version_bytes, no_attributes}
 unfoldable pub use Rattle.sftp_wire.specs.Examples.{hex}
-pub use Rattle.sftp_wire.specs.Framing.{place_after}
+pub use Rattle.sftp_wire.specs.Fronts.{place_after}
 pub use Rattle.sftp_wire.specs.Fronts.{StandsInFront}
 unfoldable pub use Rattle.sftp_wire.specs.Fronts.{front_of}
 pub use mathlib.Core.Bool.{or-true, and-false, and-true, or-false, or_assoc, or_comm}

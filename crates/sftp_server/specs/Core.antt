@@ -14,7 +14,7 @@ use Rattle.sftp_server.specs.declared.queue.Progress.{Progress}
 use Rattle.sftp_server.specs.declared.queue.Progress.TheVariants.{Pending, Done, Sent}
 use Rattle.sftp_server.specs.declared.acts.Act.{Act}
 use Rattle.sftp_handles.specs.Laws.{IsAskable}
-use Rattle.sftp_packets.specs.AskValues.{IsAsk}
+use Rattle.sftp_packets.specs.Layouts.{IsAsk}
 use Rattle.sftp_server.specs.declared.refusals.Refuse.{Refuse}
 use Rattle.sftp_server.specs.declared.refusals.Refuse.TheVariants.{Full, IdInUse, NoMemory}
 use Rattle.sftp_server.specs.Machine.{Machine, at_start, ClashOf, AreActs, Delivers, is_unsent, can_take}

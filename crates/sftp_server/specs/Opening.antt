@@ -3,7 +3,7 @@ use Rattle.std.specs.Prelude.{◌≡◌, ℕ, List, Option, Some, None, Result, 
 use Rattle.sftp_packets.specs.declared.packets.Packet.{Packet}
 use Rattle.sftp_packets.specs.declared.packets.Side.TheVariants.{Client}
 use Rattle.sftp_wire.specs.Fronts.{front_of}
-use Rattle.sftp_transcript.specs.Records.{IsInit}
+use Rattle.sftp_transcript.specs.Transcript.{IsInit}
 use Rattle.sftp_transcript.specs.Explained.{window}
 use Rattle.sftp_tree.specs.Tree.{Tree}
 use Rattle.sftp_handles.specs.State.{Good, started}

@@ -14,13 +14,13 @@ use Rattle.sftp_packets.specs.declared.packets.Side.TheVariants.{Client, Server}
 use Rattle.sftp_packets.specs.Requests.{server_extensions}
 use Rattle.sftp_packets.specs.Packets.{spelling, side_of, HasSpelling}
 use Rattle.sftp_wire.specs.Fronts.{front_of}
-use Rattle.sftp_wire.specs.Framing.{place_after}
+use Rattle.sftp_wire.specs.Fronts.{place_after}
 use Rattle.sftp_transcript.specs.declared.events.Event.{Event}
 use Rattle.sftp_transcript.specs.declared.events.Event.TheVariants.{Asked, Replied}
 use Rattle.sftp_streams.specs.Streams.{one_more}
 use Rattle.sftp_transcript.specs.Log.{Log}
 use Rattle.sftp_transcript.specs.Transcript.{packet_of, record_text, transcript_opening, IsEvent}
-use Rattle.sftp_transcript.specs.Records.{IsInit}
+use Rattle.sftp_transcript.specs.Transcript.{IsInit}
 use Rattle.sftp_transcript.specs.Explained.{Explained, BeginsFrom}
 use Rattle.sftp_tree.specs.Tree.{Tree}
 use Rattle.sftp_handles.specs.State.{State, started, closed_tree}

@@ -10,7 +10,7 @@ use Rattle.sftp_packets.specs.declared.packets.Side.TheVariants.{Client, Server}
 use Rattle.sftp_packets.specs.Spelling.{packet_limit}
 use Rattle.sftp_packets.specs.Packets.{spelling}
 use Rattle.sftp_wire.specs.Fronts.{front_of}
-use Rattle.sftp_wire.specs.Framing.{place_after}
+use Rattle.sftp_wire.specs.Fronts.{place_after}
 use Rattle.sftp_transcript.specs.declared.events.Event.{Event}
 use Rattle.sftp_streams.specs.Streams.{AppendsPart}
 use Rattle.sftp_transcript.specs.Log.{Log, opened_text}

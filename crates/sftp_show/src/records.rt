@@ -1,6 +1,6 @@
 //! The lines of a transcript file.
 ghost use Rattle.std.specs.Prelude.{◌<◌, IfOk, IsSome, IsTrue, MatchResult};
-ghost use Rattle.sftp_transcript.specs.Ahead.{size_of};
+ghost use Rattle.sftp_transcript.specs.Recorded.{size_of};
 
 use crate::errors::ShowError;
 use crate::packets::{number, put_details};

@@ -6,4 +6,4 @@ pub use Rattle.std.proofs.lemmas.List.{length-append, drop-drop, drop-take, take
 pub use Rattle.std.proofs.lemmas.List.{take-append-le, drop_at}
 pub use Rattle.std.proofs.lemmas.Option.{same_Some}
 pub use Rattle.std.specs.Io.KnownBytes.{Keeps, prepend_known}
-pub use Rattle.sftp_streams.specs.Ahead.{Ahead, bytes_ahead, HasAhead, ahead_without}
+pub use Rattle.sftp_streams.specs.Streams.{Ahead, bytes_ahead, HasAhead, ahead_without}

@@ -1,6 +1,6 @@
 //! A stream of the bytes of a slice.
 ghost use Rattle.std.specs.Prelude.{◌≡◌, Some, false, length};
-ghost use Rattle.sftp_streams.specs.Memories.{bytes_of};
+ghost use Rattle.sftp_streams.specs.Streams.{bytes_of};
 
 use crate::streams::{Failed, Source};
 

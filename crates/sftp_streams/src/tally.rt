@@ -1,6 +1,6 @@
 //! The readers and writers of the standard library as streams whose failures are counted.
 ghost use Rattle.std.specs.Prelude.{◌≡◌, ◌-◌, ◌^◌, true};
-ghost use Rattle.sftp_streams.specs.Tallies.{inner_of, failures_of, reads_left_of};
+ghost use Rattle.sftp_streams.specs.Streams.{inner_of, failures_of, reads_left_of};
 ghost use Rattle.sftp_streams.specs.Streams.{one_more};
 
 use crate::streams::{Failed, Sink, Source};

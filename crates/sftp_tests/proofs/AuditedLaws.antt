@@ -6,7 +6,7 @@ use Rattle.std.specs.Io.KnownBytes.{Appends, IsAtEnd}
 use Rattle.sftp_transcript.specs.declared.events.Event.{Event}
 use Rattle.sftp_transcript.specs.Transcript.{IsRecord}
 use Rattle.sftp_transcript.specs.Explained.{Explained}
-use Rattle.sftp_transcript.proofs.transcripts.OneRecord.{records_are_one_lem}
+use Rattle.sftp_transcript.proofs.transcripts.{records_are_one_lem}
 use Rattle.sftp_tree.specs.Tree.{Tree}
 use Rattle.sftp_tree.specs.Picture.{IsStart, picture}
 use Rattle.sftp_tree.proofs.TreeFiles.Files.{one_start}

@@ -6,7 +6,7 @@ use Rattle.std.specs.Prelude.{option_and_then}
 use Rattle.std.specs.List.{flat_map}
 use Rattle.sftp_packets.specs.declared.packets.Side.{Side}
 use Rattle.sftp_text.specs.Lines.{line_of, side_of_letter, record_length, records_up_to, text_of}
-use Rattle.sftp_text.specs.Wholes.{lines_onto, behind_side, next_record, fed_line}
+use Rattle.sftp_text.specs.Texts.{lines_onto, behind_side, next_record, fed_line}
 
 onto-nothing : (text : List ℕ) → lines_onto text (Some []) ≡ Some text
 unfolding text_of

@@ -1,12 +1,6 @@
 -- Lemmas by subject, each citing those above it alone. Beside them each function of `src` has its own proof, at its
 -- module's path.
-pub mod Stripping
-pub mod DigitLaws
-pub mod QuotedLaws
-pub mod FlagLaws
 pub mod ListLaws
-pub mod KindLaws
-pub mod SpaceLaws
 pub mod FileLaws
 pub mod TextLaws
 pub mod Exact
@@ -14,11 +8,8 @@ pub mod Repeats
 pub mod Numerals
 pub mod Strings
 pub mod Parts
-pub mod Tails
 pub mod Bodies
 pub mod Written
-pub mod Sessions
 pub mod TreeLines
-pub mod Files
 pub mod Shows
 pub mod Named

@@ -14,14 +14,14 @@ use Rattle.sftp_packets.specs.declared.layouts.Tail.{Tail}
 use Rattle.sftp_packets.specs.declared.layouts.Tail.TheVariants.{Nothing, Attributes, Pairs, Items, Message, Rest}
 use Rattle.sftp_packets.specs.Spelling as wire
 use Rattle.sftp_packets.specs.Requests.{ask_row}
-use Rattle.sftp_packets.specs.Replies.{answer_row}
+use Rattle.sftp_packets.specs.Requests.{answer_row}
 use Rattle.sftp_packets.specs.Packets as packets
 use Rattle.sftp_packets.specs.Layouts.{Shape, before, kinds_of, mark_of, row_shape, first_packet, packet_shape, layout_of_bytes}
-use Rattle.sftp_packets.proofs.PacketLaws.Layouts.{has_others, ends_last, ask_ends_last, answer_ends_last, packet_layout}
+use Rattle.sftp_packets.proofs.PacketLaws.{has_others, ends_last, ask_ends_last, answer_ends_last, packet_layout}
 use Rattle.sftp_text.specs.Formats.{Format, nothing as no_text, ◌then◌, word, mark}
 use Rattle.sftp_text.specs.Digits as digits
 use Rattle.sftp_text.specs.Fields.{field_text, tail_text, fields_text}
-use Rattle.sftp_text.specs.Layouts.{body_text, packet_text}
+use Rattle.sftp_text.specs.Fields.{body_text, packet_text}
 use Rattle.sftp_text.specs.Lines.{side_letter, whole, show_whole, show_packet, named_line}
 use Rattle.sftp_text.proofs.Shows.{Takes, TakesAll, all_from_front, after-all, mark-takes, word_then-takes, front_uint32-spelled}
 use Rattle.sftp_text.proofs.Shows.{number-takes, long-takes, flags-takes, string_text-takes, pairs-all, attributes-takes, names-takes, message-all, rest-all}

@@ -9,10 +9,10 @@ use Rattle.std.proofs.lemmas.Option.{option_and_then_some}
 use Rattle.sftp_packets.specs.declared.attributes.Attrs.{Attrs as WireAttrs}
 use Rattle.sftp_packets.specs.Spelling.{AreBytes, flag}
 use Rattle.sftp_packets.specs.Reading.{has_flag, are_known}
-use Rattle.sftp_packets.proofs.FieldLaws.Flags.{attribute_flags-are, SaysFields}
+use Rattle.sftp_packets.proofs.FieldLaws.{attribute_flags-are, SaysFields}
 use Rattle.sftp_text.specs.Formats.{Format, ◌then◌, word, strip, stay, begins_with, if_found, listed}
 use Rattle.sftp_text.specs.Digits.{number}
-use Rattle.sftp_text.specs.Quoted.{string_text}
+use Rattle.sftp_text.specs.Digits.{string_text}
 use Rattle.sftp_text.specs.Fields.{two_numbers, pair, pairs, counted_pairs, Part, attribute_parts, show_part, read_part, show_parts, read_parts, and_flag}
 use Rattle.sftp_text.specs.Fields.{known_parts, attributes}
 use Rattle.sftp_text.specs.Lines.{is_printable}

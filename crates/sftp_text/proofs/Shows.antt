@@ -10,12 +10,12 @@ use Rattle.sftp_packets.specs.declared.attributes.Attrs.{Attrs as WireAttrs}
 use Rattle.sftp_packets.specs.declared.names.NameItem.{NameItem}
 use Rattle.sftp_packets.specs.Spelling as wire
 use Rattle.sftp_packets.specs.Reading.{has_flag, are_known}
-use Rattle.sftp_packets.proofs.Bytes.Numbers.{IsWide, wide32, wide64}
-use Rattle.sftp_packets.proofs.FieldLaws.Flags.{attribute_flags-say, attribute_flags-known}
+use Rattle.sftp_packets.proofs.Bytes.{IsWide, wide32, wide64}
+use Rattle.sftp_packets.proofs.FieldLaws.{attribute_flags-say, attribute_flags-known}
 use Rattle.sftp_text.specs.Formats.{Step, Format, Counted, stay, after, ◌then◌, word, mark, strip, front_number, front_uint32, ahead, if_found}
 use Rattle.sftp_text.specs.Formats.{show_each, show_list, listed, repeat}
 use Rattle.sftp_text.specs.Digits.{four_bytes, eight_bytes, decimal_in, octal_text, octal_in, flags_text, flags_in, number, long, octal, flags}
-use Rattle.sftp_text.specs.Quoted.{quoted, counted_text, string_text, rest_text}
+use Rattle.sftp_text.specs.Digits.{quoted, counted_text, string_text, rest_text}
 use Rattle.sftp_text.specs.Fields.{two_numbers, pair, pairs, counted_pairs, Part, part, attribute_parts, show_part, show_parts, known_parts, attributes, name_item, names, no_message, two_texts, message}
 use Rattle.sftp_text.proofs.Exact.{strip-same, strip-some}
 

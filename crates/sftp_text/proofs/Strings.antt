@@ -7,10 +7,10 @@ use Rattle.std.proofs.lemmas.Bool.{cond-true, cond-false, cases_Bool, and_parts,
 use Rattle.std.proofs.lemmas.List.{append-nil, length-take, take-append-drop}
 use Rattle.sftp_packets.specs.Spelling.{AreBytes}
 use Rattle.sftp_text.specs.Formats.{begins_with}
-use Rattle.sftp_text.specs.Quoted.{hex_digit, hex_value, hex_byte, hex_text, byte_of, hex_onto, is_plain, byte_text, quoted}
-use Rattle.sftp_text.specs.Quoted.{Place, Effect, effect_of, with_effect, unquoted, text_in, rest_text, counted_text, string_text, or_refuse}
-use Rattle.sftp_text.specs.Quoted.Place.{Plain, Escape, FirstDigit, SecondDigit}
-use Rattle.sftp_text.specs.Quoted.Effect.{Close, Refuse, Go, Give}
+use Rattle.sftp_text.specs.Digits.{hex_digit, hex_value, hex_byte, hex_text, byte_of, hex_onto, is_plain, byte_text, quoted}
+use Rattle.sftp_text.specs.Digits.{Place, Effect, effect_of, with_effect, unquoted, text_in, rest_text, counted_text, string_text, or_refuse}
+use Rattle.sftp_text.specs.Digits.Place.{Plain, Escape, FirstDigit, SecondDigit}
+use Rattle.sftp_text.specs.Digits.Effect.{Close, Refuse, Go, Give}
 use Rattle.sftp_text.specs.Lines.{is_printable}
 use Rattle.sftp_text.proofs.Exact.{some-inj, none-some, printable-append, AreBytes-front, IsExact, IsExactCounted, ahead-exact}
 

@@ -1,20 +1,22 @@
 -- The line of a record is read as its side and its bytes, and is printable.
-use Rattle.std.proofs.Common.{◌≡◌, ℕ, ◌^◌, ◌<◌, List, [], ◌∷◌, ◌++◌, length}
-use Rattle.std.proofs.Common.{Option, Some, None, refl, sym, ap, subst, ◌∙◌, arith, inl, inr, cond}
+use Rattle.std.proofs.Common.{◌≡◌, ℕ, ◌^◌, ◌<◌, List, [], ◌∷◌, ◌++◌, length, Option, Some, None, refl, sym, ap, subst}
+use Rattle.std.proofs.Common.{◌∙◌, arith, inl, inr, cond, true, false, append_assoc}
 use Rattle.std.specs.Prelude.{IsTrue, option_and_then, ◌==◌, codes, nat_lt}
-use Rattle.std.specs.List.{list_all}
+use Rattle.std.specs.List.{list_all, AllByRecursion}
 use Rattle.std.specs.Int.{w32, to_be_bytes}
-use Rattle.std.proofs.lemmas.Bool.{cond-true, cond-false, cases_Bool, eqb-true, lt-ltb}
+use Rattle.std.proofs.lemmas.Bool.{cond-true, cond-false, cases_Bool, eqb-true, lt-ltb, and_parts}
 use Rattle.std.proofs.lemmas.List.{append-nil}
 use Rattle.sftp_packets.specs.declared.packets.Side.{Side}
 use Rattle.sftp_packets.specs.declared.packets.Side.TheVariants.{Client, Server}
 use Rattle.sftp_packets.specs.Spelling.{AreBytes}
 use Rattle.sftp_packets.specs.Layouts.{Shape, layout_of_bytes}
-use Rattle.sftp_packets.proofs.Bytes.Numbers.{wide32}
+use Rattle.sftp_packets.proofs.Bytes.{wide32}
 use Rattle.sftp_text.specs.Formats.{front_uint32, if_found}
-use Rattle.sftp_text.specs.Layouts.{packet_text, layout_of_text}
-use Rattle.sftp_text.specs.Lines.{is_printable, whole, digits_text, raw_text, digits_read, raw_read, side_letter, show_whole, show_packet, named_line, line_of}
-use Rattle.sftp_text.specs.Lines.{side_of_letter, with_length, read_packet, bytes_of_text, line_read}
+use Rattle.sftp_text.specs.Fields.{packet_text, layout_of_text}
+use Rattle.sftp_text.specs.Lines.{is_printable, whole, digits_text, raw_text, digits_read, raw_read, side_letter}
+use Rattle.sftp_text.specs.Lines.{show_whole, show_packet, named_line, line_of, side_of_letter, with_length}
+use Rattle.sftp_text.specs.Lines.{read_packet, bytes_of_text, line_read, text_of, is_blank, and_others, with_line}
+use Rattle.sftp_text.specs.Lines.{lines_read, text_read}
 use Rattle.sftp_text.proofs.Exact.{some-inj, none-some, AreBytes-behind, printable-append, front_number-some}
 use Rattle.sftp_text.proofs.Strings.{hex_onto-text, hex_text-printable}
 use Rattle.sftp_text.proofs.Bodies.{packet_text-exact, layout_of_text-named, no_raw}
@@ -160,3 +162,59 @@ line-IsLine side bytes are = by_layout (layout_of_bytes side bytes) refl
         (sym some) (by_line layout some (show_packet side bytes layout) refl)
 
 pub ruleset line_laws = (line-IsLine)
+
+-- ==== The text of a session is read as that session.
+
+-- a line up to its line feed
+lines_read-line : (done line text : List ℕ) → IsTrue (list_all is_printable line)
+    → lines_read done (line ++ (10 ∷ text)) ≡ with_line (done ++ line) (lines_read [] text)
+lines_read-line done [] text printable = ap (λ l. with_line l (lines_read [] text)) (sym (append-nil done))
+lines_read-line done (c ∷ line) text printable =
+    let parts = and_parts _ _ printable in
+    cond-false (c == 10) (with_line done (lines_read [] (line ++ (10 ∷ text)))) (lines_read (done ++ c ∷ []) (line ++ (10 ∷ text))) (other parts.0)
+    ∙ lines_read-line (done ++ c ∷ []) line text parts.1
+    ∙ ap (λ l. with_line l (lines_read [] text)) (append_assoc done (c ∷ []) line)
+  where
+    no_feed : is_printable 10 ≡ true → (c == 10) ≡ false
+    no_feed e = cc
+
+    other : is_printable c ≡ true → (c == 10) ≡ false
+    other ok =
+        elim (cases_Bool (c == 10)) [
+          | inl same ↦ no_feed (subst (λ b. is_printable b ≡ true) (eqb-true c 10 same) ok)
+          | inr differs ↦ differs
+        ]
+
+-- a line that is read is not blank
+not_blank : (line : List ℕ) (record_of : Side × List ℕ) → line_read line ≡ Some record_of → is_blank line ≡ false
+unfolding line_read
+not_blank [] r e = none-some r e
+not_blank (c ∷ line) r e =
+    elim (cases_Bool (c == 32)) [
+      | inl space ↦ none-some r (sym (ap none_for (eqb-true c 32 space)) ∙ e)
+      | inr no_space ↦
+          elim (cases_Bool (c == 35)) [
+            | inl sharp ↦ none-some r (sym (ap none_for (eqb-true c 35 sharp)) ∙ e)
+            | inr no_sharp ↦ cond-false (c == 32) (is_blank line) (c == 35) no_space ∙ no_sharp
+          ]
+    ]
+  where
+    none_for : ℕ → Option (Side × List ℕ)
+    none_for b = option_and_then (λ side. option_and_then (λ bytes. Some (side, bytes)) (bytes_of_text side line)) (side_of_letter b)
+
+pub text_read-text_of : (records : List (Side × List ℕ)) → AllByRecursion (λ r. AreBytes r.1) records
+    → text_read (text_of records) ≡ Some records
+unfolding text_read text_of
+text_read-text_of [] all = refl
+text_read-text_of (r ∷ records) all =
+    let line = line_of r.0 r.1 in
+    let known = line-IsLine r.0 r.1 all.0 in
+    let others = text_of records in
+    let add : Side × List ℕ → Option (List (Side × List ℕ)) → Option (List (Side × List ℕ)) =
+    λ x o. and_others (Some x) o
+    in
+    ap (lines_read []) (append_assoc line (10 ∷ []) others) ∙ lines_read-line [] line others known.printable
+    ∙ cond-false (is_blank line) (lines_read [] others) (and_others (line_read line) (lines_read [] others)) (not_blank line (r.0, r.1) known.back)
+    ∙ ap (λ o. and_others o (lines_read [] others)) known.back ∙ ap (add (r.0, r.1)) (text_read-text_of records all.1)
+
+pub ruleset session_laws = (text_read-text_of)

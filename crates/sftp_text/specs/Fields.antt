@@ -1,15 +1,17 @@
 -- The fields of packets (draft-ietf-secsh-filexfer-02, sections 3 to 7).
-use Rattle.std.specs.Prelude.{ℕ, ◌+◌, if◌then◌else◌, List, [], ◌∷◌, ◌++◌, codes}
-use Rattle.std.specs.Prelude.{Option, Some, None, option_and_then, replicate}
+use Rattle.std.specs.Prelude.{ℕ, ◌+◌, if◌then◌else◌, List, [], ◌∷◌, ◌++◌, codes, Option, Some, None, option_and_then}
+use Rattle.std.specs.Prelude.{replicate, ◌==◌, Bool, true, false, drop, bytes_eq, find}
 use Rattle.sftp_packets.specs.declared.layouts.FieldKind.{FieldKind}
 use Rattle.sftp_packets.specs.declared.layouts.FieldKind.TheVariants.{Number, LongNumber, Flags, Text, Handle}
 use Rattle.sftp_packets.specs.declared.layouts.Tail.{Tail}
 use Rattle.sftp_packets.specs.declared.layouts.Tail.TheVariants.{Nothing, Attributes, Pairs, Items, Message, Rest}
 use Rattle.sftp_packets.specs.Reading.{has_flag, are_known}
-use Rattle.sftp_text.specs.Formats.{Step, Format, Counted, stay, after, nothing, ◌then◌, strip, word, ahead}
-use Rattle.sftp_text.specs.Formats.{if_found, if_any, listed, to_end}
-use Rattle.sftp_text.specs.Digits.{number, long, octal, flags}
-use Rattle.sftp_text.specs.Quoted.{string_text, rest_text}
+use Rattle.sftp_text.specs.Formats.{Step, Format, Counted, stay, after, nothing, ◌then◌, strip, word, ahead, if_found}
+use Rattle.sftp_text.specs.Formats.{if_any, listed, to_end, mark}
+use Rattle.sftp_text.specs.Digits.{number, long, octal, flags, is_digit}
+use Rattle.sftp_text.specs.Digits.{string_text, rest_text}
+use Rattle.sftp_packets.specs.declared.packets.Side.{Side}
+use Rattle.sftp_packets.specs.Layouts.{Shape, shapes}
 
 -- ---- lists
 
@@ -134,3 +136,39 @@ tail_text Rest = word (codes " ") then rest_text
 abbrev pub fields_text : List FieldKind → Format
 fields_text [] = nothing
 fields_text (field ∷ fields) = (word (codes " ") then field_text field) then fields_text fields
+
+-- ==== The text of a packet by its layout (sftp_packets/specs/Layouts.antt), and the layout of a line by the name in
+-- it.
+
+-- the id, if there is one
+abbrev pub id_text : Bool → Format
+id_text true = word (codes " ") then number
+id_text false = nothing
+
+-- a packet's body as text: the id, the name, the fields and what comes after them
+abbrev pub body_text : Shape → Format
+body_text s =
+    id_text s.has_id then word (32 ∷ s.name) then mark s.mark then fields_text s.fields then tail_text s.tail
+
+-- a packet after its length: its type and its body
+abbrev pub packet_text : Shape → Format
+packet_text s = mark (s.kind ∷ []) then body_text s
+
+-- the characters up to a space or the end
+abbrev pub up_to_space : List ℕ → List ℕ
+up_to_space [] = []
+up_to_space (c ∷ text) = if c == 32 then [] else c ∷ up_to_space text
+
+-- what follows the first space, or nothing
+abbrev pub behind_space : List ℕ → List ℕ
+behind_space [] = []
+behind_space (c ∷ text) = if c == 32 then text else behind_space text
+
+-- the name of a line after its side and a space: behind a number if a digit comes first
+abbrev pub name_in : List ℕ → List ℕ
+name_in [] = []
+name_in (c ∷ text) = if is_digit 10 c then up_to_space (behind_space (c ∷ text)) else up_to_space (c ∷ text)
+
+-- the layout of a line after its side, by the name in it
+unfoldable pub layout_of_text : Side → List ℕ → Option Shape
+layout_of_text side text = find (λ s. bytes_eq s.name (name_in (drop 1 text))) (shapes side)

@@ -7,8 +7,8 @@ use Rattle.sftp_packets.specs.declared.packets.Side.{Side}
 use Rattle.sftp_packets.specs.declared.packets.Side.TheVariants.{Client, Server}
 use Rattle.sftp_packets.specs.Layouts.{Shape, layout_of_bytes}
 use Rattle.sftp_text.specs.Formats.{Format, if_found, if_any, strip, front_uint32}
-use Rattle.sftp_text.specs.Quoted.{hex_text, hex_onto}
-use Rattle.sftp_text.specs.Layouts.{packet_text, layout_of_text}
+use Rattle.sftp_text.specs.Digits.{hex_text, hex_onto}
+use Rattle.sftp_text.specs.Fields.{packet_text, layout_of_text}
 
 -- what is done, where nothing is left
 abbrev pub whole : Option (List ℕ × List ℕ) → Option (List ℕ)

@@ -1,16 +1,103 @@
 -- Texts of several lines: how they are cut into lines, and what the code that reads them does.
-use Rattle.std.specs.Prelude.{◌≡◌, ◌==◌, ℕ, if◌then◌else◌, List, [], ◌∷◌, ◌++◌, Option, Some, None, Result, Ok, Err}
-use Rattle.std.specs.Prelude.{option_and_then, flat_map}
+use Rattle.std.specs.Prelude.{◌≡◌, ◌≢◌, ◌==◌, ℕ, List, [], length, if◌then◌else◌, Option, Some, None, Result, Ok, Err}
+use Rattle.std.specs.Prelude.{option_and_then, ◌∷◌, ◌++◌, take, drop, flat_map}
 use Rattle.sftp_packets.specs.declared.packets.Side.{Side}
+use Rattle.sftp_text.specs.declared.errors.Stop.{Stop}
+use Rattle.sftp_text.specs.declared.errors.Stop.TheVariants as stops
 use Rattle.sftp_text.specs.declared.errors.Fault.{Fault}
 use Rattle.sftp_text.specs.declared.errors.Fault.TheVariants as faults
+use Rattle.sftp_text.specs.declared.errors.ShowFault.{ShowFault}
+use Rattle.sftp_text.specs.declared.errors.ShowFault.TheVariants as shows
+use Rattle.sftp_text.specs.Formats.{Format, front_uint32}
+use Rattle.sftp_text.specs.Lines.{whole, line_of, side_of_letter, record_length, text_of, line_read, side_letter}
+use Rattle.sftp_text.specs.Lines.{is_blank, transcript_of}
 use Rattle.sftp_text.specs.declared.errors.TextFault.{TextFault}
 use Rattle.sftp_text.specs.declared.errors.TextFault.TheVariants as texts
 use Rattle.sftp_text.specs.declared.due.Due.{Due}
 use Rattle.sftp_text.specs.declared.due.Due.TheVariants as dues
-use Rattle.sftp_text.specs.Formats.{Format}
-use Rattle.sftp_text.specs.Lines.{line_read, side_letter, is_blank, transcript_of}
 use Rattle.sftp_text.specs.Trees.{head_text, root_text, entry_text, bytes_and, entries_read, tree_of_lines}
+
+-- ==== What the code of records returns, beside the definitions of lines.
+
+-- what is done with the text of a packet in a format, if its length is right
+abbrev pub show_with : Format → List ℕ → List ℕ → Option (List ℕ)
+show_with format text bytes =
+    option_and_then
+    (λ front. if front.0 == length front.1 then whole (format.show text front.1) else None)
+    (front_uint32 bytes)
+
+-- the side and the bytes are as read, unless memory runs out
+abbrev pub ReadsLine : Result Side Stop → List ℕ → Option (Side × List ℕ) → Type 0
+ReadsLine (Ok side) bytes read = read ≡ Some (side, bytes)
+ReadsLine (Err stops.NoMemory) bytes read = Unit {0}
+ReadsLine (Err (stops.Unfit expected)) bytes read = read ≡ None
+
+-- the record is as read, unless memory runs out
+abbrev pub GivesRecord : Result Side Fault → List ℕ → Option (Side × List ℕ) → Type 0
+GivesRecord (Ok side) bytes read = read ≡ Some (side, bytes)
+GivesRecord (Err faults.NoMemory) bytes read = Unit {0}
+GivesRecord (Err (faults.Unread column expected)) bytes read = read ≡ None
+
+-- what is done and what is left are as the step says, unless memory runs out
+abbrev pub ShowsAs : Result (Unit {0}) ShowFault → List ℕ → List ℕ → Option (List ℕ × List ℕ) → Type 0
+ShowsAs (Ok x) done left step = step ≡ Some (done, left)
+ShowsAs (Err shows.NoMemory) done left step = Unit {0}
+ShowsAs (Err shows.Unfit) done left step = step ≡ None
+
+-- the bytes are as read from a whole line, unless memory runs out
+abbrev pub ReadsAs : Result (Unit {0}) Fault → List ℕ → Option (List ℕ × List ℕ) → Type 0
+ReadsAs (Ok x) bytes step = step ≡ Some (bytes, [])
+ReadsAs (Err faults.NoMemory) bytes step = Unit {0}
+ReadsAs (Err (faults.Unread column expected)) bytes step = whole step ≡ None
+
+-- what is done is as the step says, which leaves nothing, unless memory runs out
+abbrev pub ShowsWhole : Result (Unit {0}) ShowFault → List ℕ → Option (List ℕ × List ℕ) → Type 0
+ShowsWhole (Ok x) done step = step ≡ Some (done, [])
+ShowsWhole (Err shows.NoMemory) done step = Unit {0}
+ShowsWhole (Err shows.Unfit) done step = whole step ≡ None
+
+-- nothing is left of a line, or the fault says that its end was expected
+abbrev pub EndsAt : Result (Unit {0}) Fault → List ℕ → Type 0
+EndsAt (Ok x) rest = rest ≡ []
+EndsAt (Err faults.NoMemory) rest = ⊥
+EndsAt (Err (faults.Unread column expected)) rest = rest ≢ []
+
+-- ==== Where a line stops being one.
+
+-- the fault of a line says what was expected, and is want of memory where that was so
+abbrev pub IsFaultOf : Stop → Fault → Type 0
+IsFaultOf stops.NoMemory fault = fault ≡ faults.NoMemory
+IsFaultOf (stops.Unfit expected) fault = (column : ℕ) × (fault ≡ faults.Unread column expected)
+
+-- the fault of a text is that of its line of this number
+abbrev pub IsInLine : Fault → ℕ → TextFault → Type 0
+IsInLine faults.NoMemory line fault = fault ≡ texts.NoMemory
+IsInLine (faults.Unread column expected) line fault = fault ≡ texts.Unread line column expected
+
+-- ==== What the code of whole files does, beside their definitions.
+
+-- the text is as shown, unless memory runs out
+abbrev pub Shows : {A : Type 0} → Result A ShowFault → List ℕ → Option (List ℕ) → Type 0
+Shows (Ok x) text shown = shown ≡ Some text
+Shows (Err shows.NoMemory) text shown = Unit {0}
+Shows (Err shows.Unfit) text shown = shown ≡ None
+
+-- a text, and the lines of records
+abbrev pub lines_onto : List ℕ → Option (List (Side × List ℕ)) → Option (List ℕ)
+lines_onto text records = option_and_then (λ rs. Some (text ++ text_of rs)) records
+
+-- the record of a side in front of bytes, and what follows it
+abbrev pub behind_side : List ℕ → Side → Option ((Side × List ℕ) × List ℕ)
+behind_side bytes side = Some ((side, take (record_length bytes) bytes), drop (record_length bytes) bytes)
+
+-- the record in front of a transcript's bytes, and what follows it
+abbrev pub next_record : List ℕ → Option ((Side × List ℕ) × List ℕ)
+next_record [] = None
+next_record (c ∷ bytes) = option_and_then (behind_side bytes) (side_of_letter c)
+
+-- the line of a record, with its line feed
+abbrev pub fed_line : Side → List ℕ → List ℕ
+fed_line side packet = line_of side packet ++ 10 ∷ []
 
 -- ---- lines
 

@@ -4,7 +4,7 @@ ghost use Rattle.sftp_text.specs.Digits.{octal};
 ghost use Rattle.sftp_text.specs.Fields.{two_numbers, counted_pairs, part, show_part, show_parts, read_parts};
 ghost use Rattle.sftp_text.specs.Fields.{attribute_parts};
 ghost use Rattle.sftp_text.specs.Fields as fields;
-ghost use Rattle.sftp_text.specs.Moves.{Moves, Counts, value_text};
+ghost use Rattle.sftp_text.specs.Trees.{Moves, Counts, value_text};
 
 use crate::errors::{Expected, Stop};
 use crate::lists::{Pair, put_counted, read_counted};

@@ -147,7 +147,7 @@ impl From<AllocError> for ShowFault {
 }
 
 impl Stop {
-    ghost use Rattle.sftp_text.specs.Faults.{IsFaultOf};
+    ghost use Rattle.sftp_text.specs.Texts.{IsFaultOf};
 
     /// The fault of a line of `length` bytes, of which `left` were left where it stopped.
     pub(crate) fn in_line(self, length: usize, left: usize) -> Fault
@@ -164,7 +164,7 @@ impl Stop {
 }
 
 impl Fault {
-    ghost use Rattle.sftp_text.specs.Faults.{IsInLine};
+    ghost use Rattle.sftp_text.specs.Texts.{IsInLine};
 
     /// The fault of a text, in the line of this number.
     pub(crate) fn at_line(self, line: u64) -> TextFault

@@ -2,8 +2,8 @@
 ghost use Rattle.std.specs.Prelude.{◌≡◌, codes};
 ghost use Rattle.sftp_text.specs.Formats.{◌then◌, word};
 ghost use Rattle.sftp_text.specs.Fields.{field_text, fields_text, tail_text};
-ghost use Rattle.sftp_text.specs.Quoted.{rest_text};
-ghost use Rattle.sftp_text.specs.Moves.{Moves};
+ghost use Rattle.sftp_text.specs.Digits.{rest_text};
+ghost use Rattle.sftp_text.specs.Trees.{Moves};
 
 use crate::attributes::{put_attributes, read_attributes};
 use crate::errors::{Expected, Stop};
@@ -83,7 +83,7 @@ fn put_any(bytes: &mut &[u8], text: &mut Vec<u8>) -> Result<(), Stop>
     put_rest(bytes, text)
 }
 
-#[tactic(auto, unfolding(crate::specs::Quoted::rest_text))]
+#[tactic(auto, unfolding(crate::specs::Digits::rest_text))]
 fn read_any(line: &mut &[u8], bytes: &mut Vec<u8>) -> Result<(), Stop>
     ensures { Moves result bytes.new.items line.new.now
         ((word (codes " ") then rest_text).read bytes.old.items line.old.now) }

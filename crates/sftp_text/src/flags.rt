@@ -2,8 +2,8 @@
 ghost use Rattle.std.specs.Prelude.{◌≡◌, [], ◌++◌, ◌<◌, OnOk};
 ghost use Rattle.sftp_text.specs.Digits as digits;
 ghost use Rattle.sftp_text.specs.Digits.{flags_text, flag_names, flags_from, flags_in};
-ghost use Rattle.sftp_text.specs.Moves.{Moves, Finds, FindsUpTo, flag_part, lower_flags, higher_flags};
-ghost use Rattle.sftp_text.specs.Moves as moves;
+ghost use Rattle.sftp_text.specs.Trees.{Moves, Finds, FindsUpTo, flag_part, lower_flags, higher_flags};
+ghost use Rattle.sftp_text.specs.Trees as moves;
 
 use crate::errors::{Expected, Stop};
 use crate::numbers::{digit_of, put_decimal, read_decimal};

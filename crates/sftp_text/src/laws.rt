@@ -22,7 +22,7 @@ pub fn lines_are_printable()
 {}
 
 /// The text of a session, a line for each record, is read as that session.
-#[tactic(auto, using(crate::proofs::Sessions::session_laws))]
+#[tactic(auto, using(crate::proofs::Written::session_laws))]
 pub fn sessions_are_read()
     ensures { (records : List (Side × List ℕ)) → AllByRecursion (λ r. AreBytes r.1) records
         → text_read (text_of records) ≡ Some records }
@@ -62,7 +62,7 @@ pub fn transcripts_are_read()
 {}
 
 /// The text of a tree file is read as that file.
-#[tactic(auto, using(crate::proofs::Files::file_laws))]
+#[tactic(auto, using(crate::proofs::TreeLines::file_laws))]
 pub fn trees_are_read()
     ensures { (bytes text : List ℕ) → AreBytes bytes → show_tree [] bytes ≡ Some (text, [])
         → tree_read text ≡ Some bytes }

@@ -5,7 +5,7 @@ ghost use Rattle.sftp_text.specs.Formats.{Format, begins_with, show_list, show_e
 ghost use Rattle.sftp_text.specs.Formats.{◌then◌, word, ahead, listed, front_uint32};
 ghost use Rattle.sftp_text.specs.Formats as formats;
 ghost use Rattle.sftp_text.specs.Fields.{pair, pairs, name_item, message, two_texts};
-ghost use Rattle.sftp_text.specs.Moves.{Moves, Counts};
+ghost use Rattle.sftp_text.specs.Trees.{Moves, Counts};
 
 use crate::attributes::{put_attributes, read_attributes};
 use crate::errors::{Expected, Stop};

@@ -2,8 +2,8 @@
 ghost use Rattle.std.specs.Prelude.{◌≡◌, bytes_eq, drop, find, map};
 ghost use Rattle.std.specs.Option.{option_map};
 ghost use Rattle.sftp_packets.specs.Layouts.{shape};
-ghost use Rattle.sftp_text.specs.Layouts as texts;
-ghost use Rattle.sftp_text.specs.Layouts.{layout_of_text, name_in};
+ghost use Rattle.sftp_text.specs.Fields as texts;
+ghost use Rattle.sftp_text.specs.Fields.{layout_of_text, name_in};
 
 use crate::numbers::digit_of;
 use sftp_wire::{Layout, Side, layouts_of};
@@ -33,7 +33,7 @@ fn behind_space(text: &[u8]) -> &[u8]
 }
 
 /// What comes before the first space, or before the end.
-#[tactic(auto, using(crate::proofs::SpaceLaws::up_to_space_more, crate::proofs::SpaceLaws::up_to_space_end))]
+#[tactic(auto, using(crate::proofs::ListLaws::up_to_space_more, crate::proofs::ListLaws::up_to_space_end))]
 fn up_to_space(text: &[u8]) -> &[u8]
     ensures { result.now ≡ texts.up_to_space text.now }
 {
@@ -83,7 +83,7 @@ fn first_named(layouts: &[Layout], name: &[u8]) -> Option<Layout>
 }
 
 /// The layout that a line names after its side.
-#[tactic(auto, unfolding(crate::specs::Layouts::layout_of_text))]
+#[tactic(auto, unfolding(crate::specs::Fields::layout_of_text))]
 pub(crate) fn layout_named(side: Side, text: &[u8]) -> Option<Layout>
     ensures { option_map shape result ≡ layout_of_text side text.now }
 {

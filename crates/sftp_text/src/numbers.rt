@@ -3,7 +3,7 @@ ghost use Rattle.std.specs.Prelude.{◌≡◌, ◌∷◌, ◌++◌, ◌+◌, ◌
 ghost use Rattle.std.specs.Prelude.{OnOk, MatchOption};
 ghost use Rattle.std.specs.Fmt.{digits};
 ghost use Rattle.sftp_text.specs.Digits.{is_digit, digits_from, number_in, decimal_in, octal_in, number, long, octal};
-ghost use Rattle.sftp_text.specs.Moves.{Moves, FindsUpTo};
+ghost use Rattle.sftp_text.specs.Trees.{Moves, FindsUpTo};
 
 use crate::errors::{Expected, Stop};
 use bytes::{Buf, BufMut};
@@ -132,7 +132,7 @@ pub(crate) fn read_decimal(line: &mut &[u8]) -> Result<u32, Stop>
 }
 
 /// Reads a uint32 in decimal.
-#[tactic(auto, unfolding(crate::specs::Digits::number), using(crate::proofs::DigitLaws::above))]
+#[tactic(auto, unfolding(crate::specs::Digits::number), using(crate::proofs::ListLaws::above))]
 pub(crate) fn read_number(line: &mut &[u8], bytes: &mut Vec<u8>) -> Result<(), Stop>
     ensures { Moves result bytes.new.items line.new.now (number.read bytes.old.items line.old.now) }
 {

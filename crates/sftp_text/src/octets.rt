@@ -1,7 +1,7 @@
 //! Bytes as two hexadecimal digits each.
 ghost use Rattle.std.specs.Prelude.{◌≡◌, ◌++◌, ◌<◌, None, Some, OnOk, MatchOption};
-ghost use Rattle.sftp_text.specs.Quoted.{hex_digit, hex_byte, hex_text, hex_value, hex_onto};
-ghost use Rattle.sftp_text.specs.Moves.{Makes, octet_in};
+ghost use Rattle.sftp_text.specs.Digits.{hex_digit, hex_byte, hex_text, hex_value, hex_onto};
+ghost use Rattle.sftp_text.specs.Trees.{Makes, octet_in};
 
 use crate::errors::{Expected, Stop};
 use std::alloc::AllocError;
@@ -24,7 +24,7 @@ pub(crate) fn put_octet(byte: u8, text: &mut Vec<u8>) -> Result<(), AllocError>
 }
 
 /// Writes bytes as two hexadecimal digits each.
-#[tactic(auto, unfolding(crate::specs::Quoted::hex_text))]
+#[tactic(auto, unfolding(crate::specs::Digits::hex_text))]
 pub(crate) fn put_octets(bytes: &[u8], text: &mut Vec<u8>) -> Result<(), AllocError>
     ensures { OnOk result (text.new.items ≡ text.old.items ++ hex_text bytes.now) }
 {

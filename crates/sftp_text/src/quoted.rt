@@ -3,10 +3,10 @@
 ghost use Rattle.std.specs.Prelude.{◌≡◌, ◌++◌, None, Some, OnOk, MatchOption, ℕ, List, length};
 ghost use Rattle.std.specs.Int.{w32, to_be_bytes};
 ghost use Rattle.std.specs.List.{flat_map};
-ghost use Rattle.sftp_text.specs.Quoted as text;
-ghost use Rattle.sftp_text.specs.Quoted.{byte_text, quoted, rest_text, unquoted, Plain, text_in, string_text};
+ghost use Rattle.sftp_text.specs.Digits as text;
+ghost use Rattle.sftp_text.specs.Digits.{byte_text, quoted, rest_text, unquoted, Plain, text_in, string_text};
 ghost use Rattle.sftp_text.specs.Formats.{numbered};
-ghost use Rattle.sftp_text.specs.Moves.{Moves, character_in, escape_in};
+ghost use Rattle.sftp_text.specs.Trees.{Moves, character_in, escape_in};
 
 use crate::errors::{Expected, Stop};
 use crate::octets::{put_octet, take_octet};
@@ -41,7 +41,7 @@ fn put_characters(bytes: &[u8], text: &mut Vec<u8>) -> Result<(), AllocError>
 }
 
 /// Writes bytes as a text in quotes.
-#[tactic(auto, unfolding(crate::specs::Quoted::quoted))]
+#[tactic(auto, unfolding(crate::specs::Digits::quoted))]
 pub(crate) fn put_quoted(bytes: &[u8], text: &mut Vec<u8>) -> Result<(), AllocError>
     ensures { OnOk result (text.new.items ≡ text.old.items ++ quoted bytes.now) }
 {
@@ -52,7 +52,7 @@ pub(crate) fn put_quoted(bytes: &[u8], text: &mut Vec<u8>) -> Result<(), AllocEr
 }
 
 /// Shows a string as a text in quotes.
-#[tactic(auto, unfolding(crate::specs::Quoted::string_text))]
+#[tactic(auto, unfolding(crate::specs::Digits::string_text))]
 pub(crate) fn put_string(bytes: &mut &[u8], text: &mut Vec<u8>) -> Result<(), Stop>
     ensures { Moves result text.new.items bytes.new.now (string_text.show text.old.items bytes.old.now) }
 {
@@ -66,7 +66,7 @@ pub(crate) fn put_string(bytes: &mut &[u8], text: &mut Vec<u8>) -> Result<(), St
 }
 
 /// Shows all the bytes that are left as a text in quotes.
-#[tactic(auto, unfolding(crate::specs::Quoted::rest_text))]
+#[tactic(auto, unfolding(crate::specs::Digits::rest_text))]
 pub(crate) fn put_rest(bytes: &mut &[u8], text: &mut Vec<u8>) -> Result<(), Stop>
     ensures { Moves result text.new.items bytes.new.now (rest_text.show text.old.items bytes.old.now) }
 {
@@ -123,7 +123,7 @@ fn read_characters(line: &mut &[u8], bytes: &mut Vec<u8>) -> Result<(), Stop>
 }
 
 /// Reads a text in quotes as the bytes that it stands for.
-#[tactic(auto, unfolding(crate::specs::Quoted::text_in))]
+#[tactic(auto, unfolding(crate::specs::Digits::text_in))]
 pub(crate) fn read_quoted(line: &mut &[u8], bytes: &mut Vec<u8>) -> Result<(), Stop>
     ensures { Moves result bytes.new.items line.new.now (text_in bytes.old.items line.old.now) }
 {
@@ -162,7 +162,7 @@ pub(crate) fn append_string(string: &[u8], bytes: &mut Vec<u8>) -> Result<(), St
 }
 
 /// Reads a text in quotes as a string.
-#[tactic(auto, unfolding(crate::specs::Quoted::string_text))]
+#[tactic(auto, unfolding(crate::specs::Digits::string_text))]
 pub(crate) fn read_string(line: &mut &[u8], bytes: &mut Vec<u8>) -> Result<(), Stop>
     ensures { Moves result bytes.new.items line.new.now (string_text.read bytes.old.items line.old.now) }
 {

@@ -4,11 +4,11 @@ ghost use Rattle.std.specs.Prelude.{◌≡◌, [], ◌∷◌, ◌++◌, OnOk, op
 ghost use Rattle.sftp_packets.specs.Layouts.{shape};
 ghost use Rattle.sftp_text.specs.Formats.{◌then◌, mark, word, skip, strip};
 ghost use Rattle.sftp_text.specs.Fields.{fields_text, tail_text};
-ghost use Rattle.sftp_text.specs.Layouts.{id_text, packet_text};
+ghost use Rattle.sftp_text.specs.Fields.{id_text, packet_text};
 ghost use Rattle.sftp_text.specs.Lines.{side_letter, side_of_letter, named_line, raw_text, digits_read};
 ghost use Rattle.sftp_text.specs.Lines.{raw_read, whole, with_length, bytes_of_text, line_of, line_read};
-ghost use Rattle.sftp_text.specs.Moves.{Moves, MovesOver, Makes};
-ghost use Rattle.sftp_text.specs.Reads.{ReadsLine, GivesRecord, show_with};
+ghost use Rattle.sftp_text.specs.Trees.{Moves, MovesOver, Makes};
+ghost use Rattle.sftp_text.specs.Texts.{ReadsLine, GivesRecord, show_with};
 
 use crate::errors::{Expected, Fault, Stop};
 use crate::fields::{put_fields, put_tail, read_fields, read_tail};

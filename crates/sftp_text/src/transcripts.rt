@@ -3,7 +3,7 @@ ghost use Rattle.std.specs.Prelude.{◌≡◌, ◌∷◌, ◌++◌, ◌≤◌, l
 ghost use Rattle.sftp_text.specs.Lines as lines;
 ghost use Rattle.sftp_text.specs.Lines.{records_of, records_up_to, side_letter, text_read};
 ghost use Rattle.sftp_text.specs.Texts.{GivesLine, GivesText, onto, line_bytes, transcript_onto};
-ghost use Rattle.sftp_text.specs.Wholes.{Shows, lines_onto, next_record, fed_line};
+ghost use Rattle.sftp_text.specs.Texts.{Shows, lines_onto, next_record, fed_line};
 
 use crate::errors::{Fault, ShowFault, TextFault};
 use crate::lines::{is_blank, take_line};

@@ -2,13 +2,13 @@
 ghost use Rattle.std.specs.Prelude.{◌≡◌, [], codes, is_some};
 ghost use Rattle.sftp_text.specs.Formats.{◌then◌, word};
 ghost use Rattle.sftp_text.specs.Digits.{number};
-ghost use Rattle.sftp_text.specs.Quoted.{string_text};
+ghost use Rattle.sftp_text.specs.Digits.{string_text};
 ghost use Rattle.sftp_text.specs.Trees as trees;
 ghost use Rattle.sftp_text.specs.Trees.{owner_text, entry_of, kind_text};
 ghost use Rattle.sftp_text.specs.Trees.{entry_line, first_lines};
 ghost use Rattle.sftp_text.specs.Formats.{repeat_to_end};
-ghost use Rattle.sftp_text.specs.Moves.{Moves, FindsKind, TellsWhether, behind_path};
-ghost use Rattle.sftp_text.specs.Reads.{ShowsAs, ShowsWhole, ReadsAs, EndsAt};
+ghost use Rattle.sftp_text.specs.Trees.{Moves, FindsKind, TellsWhether, behind_path};
+ghost use Rattle.sftp_text.specs.Texts.{ShowsAs, ShowsWhole, ReadsAs, EndsAt};
 ghost use Rattle.sftp_text.specs.Lines.{whole};
 ghost use Rattle.sftp_text.specs.Texts.{GivesLine, GivesText, onto, form_of, due_after, lines_from};
 
@@ -277,7 +277,7 @@ fn put_kind(kind: u8, bytes: &mut &[u8], text: &mut Vec<u8>) -> Result<(), Stop>
 
 /// Shows an entry: its kind, its path, and by its kind its owner, its owner and bytes, the number of the entry that
 /// is its file's first name, or its target.
-#[tactic(auto, unfolding(crate::specs::Trees::entry_text), using(crate::proofs::KindLaws::kind_is_shown))]
+#[tactic(auto, unfolding(crate::specs::Trees::entry_text), using(crate::proofs::ListLaws::kind_is_shown))]
 fn put_entry_parts(bytes: &mut &[u8], text: &mut Vec<u8>) -> Result<(), Stop>
     ensures { Moves result text.new.items bytes.new.now (trees.entry_text.show text.old.items bytes.old.now) }
 {
@@ -331,7 +331,7 @@ fn read_kind(kind: u8, line: &mut &[u8], bytes: &mut Vec<u8>) -> Result<(), Stop
 }
 
 /// Reads an entry.
-#[tactic(auto, unfolding(crate::specs::Trees::entry_text), using(crate::proofs::KindLaws::kind_is_read, crate::proofs::KindLaws::no_kind_is_read))]
+#[tactic(auto, unfolding(crate::specs::Trees::entry_text), using(crate::proofs::ListLaws::kind_is_read, crate::proofs::ListLaws::no_kind_is_read))]
 fn read_entry_parts(line: &mut &[u8], bytes: &mut Vec<u8>) -> Result<(), Stop>
     ensures { Moves result bytes.new.items line.new.now (trees.entry_text.read bytes.old.items line.old.now) }
 {

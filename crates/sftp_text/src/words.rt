@@ -1,7 +1,7 @@
 //! Words and marks: what a line has and the bytes do not, and what the bytes have and the line does not.
 ghost use Rattle.std.specs.Prelude.{◌≡◌, ◌≢◌, [], MatchOption, MatchResult};
 ghost use Rattle.sftp_text.specs.Formats.{strip};
-ghost use Rattle.sftp_text.specs.Moves.{MovesOver, IsStripped};
+ghost use Rattle.sftp_text.specs.Trees.{MovesOver, IsStripped};
 
 use crate::errors::{Expected, Stop};
 

@@ -7,9 +7,9 @@ use Rattle.sftp_transcript.proofs.Imports.{IsEvent, packet_of, Stage, Transcript
 use Rattle.sftp_transcript.proofs.Imports.{number_after_events}
 use Rattle.std.proofs.lemmas.Grind.{flat_map-append}
 use Rattle.sftp_transcript.specs.Packets.{event_from}
-use Rattle.sftp_transcript.specs.Refused.{IsEventPacket}
+use Rattle.sftp_transcript.specs.Transcript.{IsEventPacket}
 use Rattle.sftp_transcript.specs.declared.stage.Stage.TheVariants as stages
-use Rattle.sftp_transcript.proofs.transcripts.Reading.{handshake_by}
+use Rattle.sftp_transcript.proofs.transcripts.{handshake_by}
 
 -- ---- the event of a packet
 

@@ -13,25 +13,25 @@ pub use Rattle.std.proofs.lemmas.Result.{err_from_is_err_and, IfOk-weaker, IfErr
 pub use Rattle.std.specs.Int.{w32, from_be_bytes}
 pub use Rattle.std.specs.Io.KnownBytes.{IsAtEnd, Keeps, prepend_known}
 pub use Rattle.std.specs.List.{flat_map, AllByRecursion, list_any}
-pub use Rattle.sftp_packets.proofs.Bytes.Numbers.{wide32}
+pub use Rattle.sftp_packets.proofs.Bytes.{wide32}
 unfoldable pub use Rattle.sftp_wire.specs.Fronts.{front_of}
 pub use Rattle.sftp_packets.specs.declared.errors.Fault.{Fault}
 pub use Rattle.sftp_packets.specs.declared.packets.Packet.{Packet}
 pub use Rattle.sftp_packets.specs.declared.packets.Packet.TheVariants.{Init, Version}
 pub use Rattle.sftp_packets.specs.declared.packets.Side.{Side}
 pub use Rattle.sftp_packets.specs.declared.packets.Side.TheVariants.{Client, Server}
-pub use Rattle.sftp_streams.specs.Ahead.{bytes_ahead, Ahead}
-pub use Rattle.sftp_transcript.specs.Ahead.{IsSameAhead, HoldsOpening, CutsPacket, CutsAtEnd}
-pub use Rattle.sftp_streams.specs.Ahead.{ahead_without}
-pub use Rattle.sftp_transcript.specs.Ahead.{size_of}
-pub use Rattle.sftp_transcript.specs.Begun.{number_after_events, ReadUpTo, HasGiven, HasGivenOf, FaultAhead, FaultOf}
-pub use Rattle.sftp_transcript.specs.Begun.{GaveFrom, HasStillGiven, with_given, FaultAfter, BeginsWithInit}
+pub use Rattle.sftp_streams.specs.Streams.{bytes_ahead, Ahead}
+pub use Rattle.sftp_transcript.specs.Recorded.{IsSameAhead, HoldsOpening, CutsPacket, CutsAtEnd}
+pub use Rattle.sftp_streams.specs.Streams.{ahead_without}
+pub use Rattle.sftp_transcript.specs.Recorded.{size_of}
+pub use Rattle.sftp_transcript.specs.Sound.{number_after_events, ReadUpTo, HasGiven, HasGivenOf, FaultAhead, FaultOf}
+pub use Rattle.sftp_transcript.specs.Sound.{GaveFrom, HasStillGiven, with_given, FaultAfter, BeginsWithInit}
 pub use Rattle.sftp_transcript.specs.Packets.{MayCome, stage_after, BeginsNext, FaultNext, GivenRecord}
 pub use Rattle.sftp_transcript.specs.Packets.{GivesNext, IsStageThen, number_then, record_number, GivesPacket}
 pub use Rattle.sftp_transcript.specs.Recorded.{Reading, Records, RecordsSame, rank, IsKnown, Gave, Gives}
-pub use Rattle.sftp_transcript.specs.Records.{BeginsKind, side_of_direction, Begins, IsInit, IsVersion, BeginsVersion}
-pub use Rattle.sftp_streams.specs.Ahead.{HasAhead}
-pub use Rattle.sftp_transcript.specs.Steps.{IsExcuse, IsOpened, Took}
+pub use Rattle.sftp_transcript.specs.Transcript.{BeginsKind, side_of_direction, Begins, IsInit, IsVersion, BeginsVersion}
+pub use Rattle.sftp_streams.specs.Streams.{HasAhead}
+pub use Rattle.sftp_transcript.specs.Recorded.{IsExcuse, IsOpened, Took}
 pub use Rattle.sftp_transcript.specs.Transcript.{BeginsRecord, event_record, IsEvent, transcript_opening, record_text}
 pub use Rattle.sftp_transcript.specs.Transcript.{packet_of, AreRecords, IsRecord, direction_of, IsHandshake}
 pub use Rattle.sftp_transcript.specs.declared.errors.TranscriptError.{TranscriptError}

@@ -1,12 +1,7 @@
 pub mod Imports
 pub mod pairing
 pub mod transcripts
-pub mod Inputs
 pub mod Fronts
-pub mod Taking
-pub mod Faults
-pub mod Numbers
 pub mod Begun
-pub mod Coming
 pub mod Reaching
 pub mod Packets

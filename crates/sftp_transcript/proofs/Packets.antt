@@ -9,11 +9,11 @@ use Rattle.sftp_transcript.proofs.Imports.{GivesNext, IsStageThen, Begins, IsIni
 use Rattle.sftp_transcript.proofs.Imports.{rank, HasAhead, IsExcuse, transcript_opening}
 use Rattle.sftp_transcript.specs.Packets.{stage_opened, IsAfterOpening}
 use Rattle.sftp_transcript.specs.declared.stage.Stage.TheVariants as stages
-use Rattle.sftp_transcript.specs.Refused.{KindFault, IsEventPacket, FaultIn}
-use Rattle.sftp_transcript.proofs.Faults.{fault_ahead, event_fault}
+use Rattle.sftp_transcript.specs.Transcript.{KindFault, IsEventPacket, FaultIn}
+use Rattle.sftp_transcript.proofs.Fronts.{fault_ahead, event_fault}
 use Rattle.sftp_transcript.proofs.Reaching.{memory_or}
-use Rattle.sftp_transcript.proofs.transcripts.Beginnings.{not_both}
-use Rattle.sftp_transcript.proofs.transcripts.OneRecord.{begins_one}
+use Rattle.sftp_transcript.proofs.transcripts.{not_both}
+use Rattle.sftp_transcript.proofs.transcripts.{begins_one}
 
 -- ---- what is taken from the bytes held
 

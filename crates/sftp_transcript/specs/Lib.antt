@@ -1,13 +1,7 @@
 pub mod Transcript
-pub mod Records
-pub mod Refused
 pub mod Explained
-pub mod Ledger
 pub mod Examples
 pub mod Log
-pub mod Ahead
-pub mod Steps
 pub mod Recorded
 pub mod Sound
-pub mod Begun
 pub mod Packets

@@ -9,14 +9,14 @@ use Rattle.sftp_transcript.specs.declared.events.Event.{Event}
 use Rattle.sftp_transcript.specs.declared.events.Event.TheVariants.{Asked, Replied}
 use Rattle.sftp_transcript.specs.declared.stage.Stage.{Stage}
 use Rattle.sftp_transcript.specs.declared.stage.Stage.TheVariants as stages
-use Rattle.sftp_streams.specs.Ahead.{Ahead}
-use Rattle.sftp_transcript.specs.Ahead.{IsSameAhead}
-use Rattle.sftp_transcript.specs.Begun.{FaultAhead}
-use Rattle.sftp_transcript.specs.Records.{Begins, IsInit, IsVersion}
+use Rattle.sftp_streams.specs.Streams.{Ahead}
+use Rattle.sftp_transcript.specs.Recorded.{IsSameAhead}
+use Rattle.sftp_transcript.specs.Sound.{FaultAhead}
+use Rattle.sftp_transcript.specs.Transcript.{Begins, IsInit, IsVersion}
 use Rattle.sftp_transcript.specs.Recorded.{Reading}
-use Rattle.sftp_transcript.specs.Refused.{IsEventPacket, InitFault}
-use Rattle.sftp_streams.specs.Ahead.{HasAhead}
-use Rattle.sftp_transcript.specs.Steps.{IsOpened, Took}
+use Rattle.sftp_transcript.specs.Transcript.{IsEventPacket, InitFault}
+use Rattle.sftp_streams.specs.Streams.{HasAhead}
+use Rattle.sftp_transcript.specs.Recorded.{IsOpened, Took}
 use Rattle.sftp_streams.specs.Streams.{one_more}
 
 -- the packet of the next record, where the opening or a record of this stage is next

@@ -1,16 +1,78 @@
 -- A transcript file that is being read: which events are still to come. This profile's own.
-use Rattle.std.specs.Prelude.{◌≡◌, ℕ, ◌≤◌, List, [], ◌∷◌, Option, Some, None}
+use Rattle.std.specs.Prelude.{◌≡◌, ℕ, ◌+◌, ◌*◌, ◌≤◌, List, ◌∷◌, ◌++◌, length, drop, Option, Some, None, Ok, ⊤, Bool}
+use Rattle.std.specs.Prelude.{IsTrue, Result, MatchResult, []}
+use Rattle.std.specs.Io.KnownBytes.{Keeps, IsAtEnd, prepend_known}
+use Rattle.sftp_packets.specs.declared.packets.Side.{Side}
+use Rattle.sftp_wire.specs.Fronts.{front_of}
+use Rattle.sftp_packets.specs.Spelling.{packet_limit}
+use Rattle.sftp_streams.specs.Streams.{Ahead, bytes_ahead, HasAhead}
+use Rattle.sftp_transcript.specs.Transcript.{transcript_opening, AreRecords, IsRecord}
 use Rattle.sftp_transcript.specs.declared.errors.TranscriptError.{TranscriptError}
-use Rattle.sftp_transcript.specs.declared.errors.TranscriptError.TheVariants.{NoMemory}
+use Rattle.sftp_transcript.specs.declared.errors.TranscriptError.TheVariants.{Io, NoMemory}
+use Rattle.sftp_streams.specs.Streams.{one_more}
 use Rattle.sftp_transcript.specs.declared.events.Event.{Event}
 use Rattle.sftp_transcript.specs.declared.stage.Stage.{Stage}
 use Rattle.sftp_transcript.specs.declared.stage.Stage.TheVariants as stages
-use Rattle.sftp_streams.specs.Ahead.{Ahead}
-use Rattle.sftp_transcript.specs.Ahead.{size_of}
-use Rattle.sftp_transcript.specs.Records.{BeginsInit, BeginsVersion}
-use Rattle.sftp_streams.specs.Ahead.{HasAhead}
-use Rattle.sftp_streams.specs.Streams.{one_more}
-use Rattle.sftp_transcript.specs.Transcript.{AreRecords, IsRecord}
+use Rattle.sftp_transcript.specs.Transcript.{BeginsInit, BeginsVersion}
+
+-- ==== What a reader of a transcript file has ahead of it: bytes that it holds, and bytes that its source has left.
+
+-- how many bytes are held at most: as many as two of the longest packets have
+abbrev pub capacity : ℕ
+capacity = 2 * packet_limit
+
+-- the most bytes of a record: the direction, and then the packet
+abbrev pub record_limit : ℕ
+record_limit = packet_limit + 1
+
+-- a number that falls with each byte taken, and does not rise where bytes are read
+abbrev pub size_of : Ahead → ℕ
+size_of a = a.reads_left * (capacity + 1) + length a.held
+
+-- the same bytes are ahead
+pub record IsSameAhead (old new : Ahead) : Type 0 where
+  pub bytes : Keeps (bytes_ahead old) (bytes_ahead new)
+  pub never_rises : size_of new ≤ size_of old
+
+-- the opening, if the bytes ahead begin with it, is held whole
+abbrev pub HoldsOpening : Ahead → Type 0
+HoldsOpening a =
+    (bytes rest : List ℕ) → bytes_ahead a ≡ Some bytes → bytes ≡ transcript_opening ++ rest
+    → length transcript_opening ≤ length a.held
+
+-- the bytes are a direction, and then a packet of that side that is not whole
+abbrev pub CutsPacket : List ℕ → Side → Type 0
+CutsPacket bytes side =
+    (direction : ℕ) × (spelled : List ℕ) × (bytes ≡ direction ∷ spelled) × (front_of side spelled ≡ Ok None)
+
+-- a record is held in part only where nothing is left
+abbrev pub CutsAtEnd : Ahead → Type 0
+CutsAtEnd a = (side : Side) → CutsPacket a.held side → IsAtEnd a.left
+
+-- ==== How a reader of a transcript file takes what is in front of the bytes ahead. This profile's own.
+
+-- memory ran out, or the source failed
+abbrev pub IsExcuse : TranscriptError → Type 0
+IsExcuse NoMemory = ⊤
+IsExcuse (Io number) = ⊤
+IsExcuse other = ⊥
+
+-- the source failed once if the error is `Io`, and then it may fail; else it did not fail
+abbrev pub CountsIo : Bool → TranscriptError → ℕ → ℕ → Type 0
+CountsIo may_fail (Io number) old new = IsTrue may_fail × (new ≡ one_more old)
+CountsIo may_fail other old new = new ≡ old
+
+-- the same of a result
+abbrev pub CountsError : {A : Type 0} → Bool → Result A TranscriptError → ℕ → ℕ → Type 0
+CountsError may_fail result old new = MatchResult result (λ _. new ≡ old) (λ error. CountsIo may_fail error old new)
+
+-- the bytes before are the opening and the bytes after
+abbrev pub IsOpened : List ℕ → List ℕ → Type 0
+IsOpened before after = before ≡ transcript_opening ++ after
+
+-- some bytes are ahead: those that follow what the bytes before begin with
+abbrev pub Took : (List ℕ → List ℕ → Type 0) → List ℕ → Ahead → Type 0
+Took P before new = (after : List ℕ) × HasAhead new after × P before after
 
 -- What a reader has of a transcript file: the bytes ahead, what comes next in them, the number of the next event's
 -- record, and the fault that was reported, if any.

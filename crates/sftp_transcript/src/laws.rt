@@ -3,7 +3,7 @@ ghost use Rattle.std.specs.Prelude.{◌≡◌, ◌≢◌, ◌↔◌, ℕ, List, 
 ghost use Rattle.sftp_transcript.specs.declared.errors.TranscriptError.{TranscriptError};
 ghost use Rattle.sftp_transcript.specs.declared.errors.TranscriptError.TheVariants.{NoMemory};
 ghost use Rattle.sftp_transcript.specs.declared.events.Event.{Event};
-ghost use Rattle.sftp_transcript.specs.Begun.{FaultAfter};
+ghost use Rattle.sftp_transcript.specs.Sound.{FaultAfter};
 ghost use Rattle.sftp_transcript.specs.Explained.{Matching, exchanges_of, leading_pairs, window};
 ghost use Rattle.sftp_transcript.specs.Sound.{InTurn, IsWaiting};
 

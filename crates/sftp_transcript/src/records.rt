@@ -4,9 +4,9 @@ ghost use Rattle.std.specs.Prelude.{◌≡◌, ℕ, List, ◌++◌, ◌<◌, len
 ghost use Rattle.sftp_packets.specs.Packets.{spelling, HasSpelling, side_of};
 ghost use Rattle.sftp_transcript.specs.declared.events.Event.{Event};
 ghost use Rattle.sftp_transcript.specs.Transcript.{transcript_opening, IsRecord};
-ghost use Rattle.sftp_transcript.specs.Records.{side_of_direction, read_fault, Begins};
-ghost use Rattle.sftp_transcript.specs.Records.{IsInit, IsVersion};
-ghost use Rattle.sftp_transcript.specs.Refused.{PacketFault, RecordFault, KindFault, IsEventPacket};
+ghost use Rattle.sftp_transcript.specs.Transcript.{side_of_direction, read_fault, Begins};
+ghost use Rattle.sftp_transcript.specs.Transcript.{IsInit, IsVersion};
+ghost use Rattle.sftp_transcript.specs.Transcript.{PacketFault, RecordFault, KindFault, IsEventPacket};
 ghost use Rattle.sftp_transcript.specs.Packets.{MayCome, event_from};
 
 use crate::errors::TranscriptError;

@@ -2,13 +2,13 @@
 ghost use Rattle.std.specs.Prelude.{◌≡◌, ◌⊎◌, ◌<◌, ◌≤◌, List, ℕ, [], Some, None, OnOk, OnErr, IfOk, IfErr};
 ghost use Rattle.std.specs.Prelude.{IfSome, IsTrue, false, length};
 ghost use Rattle.sftp_packets.specs.Packets.{spelling};
-ghost use Rattle.sftp_transcript.specs.Ahead.{IsSameAhead, size_of};
-ghost use Rattle.sftp_transcript.specs.Begun.{FaultAhead};
+ghost use Rattle.sftp_transcript.specs.Recorded.{IsSameAhead, size_of};
+ghost use Rattle.sftp_transcript.specs.Sound.{FaultAhead};
 ghost use Rattle.sftp_transcript.specs.Packets.{MayCome, TookPacket, record_number};
 ghost use Rattle.sftp_transcript.specs.Recorded.{rank};
-ghost use Rattle.sftp_transcript.specs.Refused.{FaultIn};
-ghost use Rattle.sftp_streams.specs.Ahead.{HasAhead};
-ghost use Rattle.sftp_transcript.specs.Steps.{IsExcuse, CountsError, IsOpened, Took};
+ghost use Rattle.sftp_transcript.specs.Transcript.{FaultIn};
+ghost use Rattle.sftp_streams.specs.Streams.{HasAhead};
+ghost use Rattle.sftp_transcript.specs.Recorded.{IsExcuse, CountsError, IsOpened, Took};
 
 use crate::errors::TranscriptError;
 use crate::input::Input;

@@ -41,30 +41,30 @@ pub use Rattle.std.specs.Result.{IfErr, IsErrAnd}
 pub use Rattle.std.specs.declared.cmp.Ordering.{Ordering}
 pub use Rattle.std.specs.declared.cmp.Ordering.TheVariants.{Less, Equal, Greater}
 pub use Rattle.sftp_path.proofs.Move.{nothing-at, size-rekeyed, renamed-outside, length-renamed, rekeyed-unique}
-pub use Rattle.sftp_path.proofs.Order.{place_cmp-total, place_cmp-same, begins-append, begins-front, begins-itself}
-pub use Rattle.sftp_path.proofs.Order.{bytes_cmp-same, parent-entered, begins-is, below-begins}
-pub use Rattle.sftp_path.proofs.PathTexts.AbsoluteTexts.{components-absolute}
-pub use Rattle.sftp_path.proofs.PathTexts.GoodPaths.{filter_all, components-steps, list_all-weaker, list_all-octets}
-pub use Rattle.sftp_path.proofs.Table.Counts.{count-put_new, count-without, count-found, count-put_again}
+pub use Rattle.sftp_path.proofs.Move.{place_cmp-total, place_cmp-same, begins-append, begins-front, begins-itself}
+pub use Rattle.sftp_path.proofs.Move.{bytes_cmp-same, parent-entered, begins-is, below-begins}
+pub use Rattle.sftp_path.proofs.PathTexts.{components-absolute}
+pub use Rattle.sftp_path.proofs.PathTexts.{filter_all, components-steps, list_all-weaker, list_all-octets}
+pub use Rattle.sftp_path.proofs.Table.Entries.{count-put_new, count-without, count-found, count-put_again}
 pub use Rattle.sftp_path.proofs.Table.Entries.{without-absent}
 pub use Rattle.sftp_path.proofs.Table.Laws.{get-put, get-without, get-without_here, InOrder-put, InOrder-without}
 pub use Rattle.sftp_path.proofs.Table.Laws.{same_table, get-put_here, get-put_elsewhere, get-retain, InOrder-retain}
 pub use Rattle.sftp_path.proofs.Table.Laws.{size-put, size-put_present, get-cons, size-without, get-below, get-empty}
-pub use Rattle.sftp_path.proofs.Table.Tests.{all-put_new, all-without, keys-put_again, values-put, keys-put_in_order}
-pub use Rattle.sftp_path.proofs.Table.Values.{get-with_values, InOrder-with_values, with_values-put}
+pub use Rattle.sftp_path.proofs.Table.Entries.{all-put_new, all-without, keys-put_again, values-put, keys-put_in_order}
+pub use Rattle.sftp_path.proofs.Table.Entries.{get-with_values, InOrder-with_values, with_values-put}
 pub use Rattle.sftp_path.specs.Place.{Place, Name, place_cmp, begins, parent, are_names, is_name, name_cmp, same_bytes}
 pub use Rattle.sftp_path.specs.Place.{depth_limit, is_below, absolute, is_absolute, is_dot, is_dot_dot, is_step}
 unfoldable pub use Rattle.sftp_path.specs.Place.{components, parts, is_good_path}
-pub use Rattle.sftp_path.specs.Rekeying.{renamed, NothingFrom}
-unfoldable pub use Rattle.sftp_path.specs.Rekeying.{rekeyed}
-pub use Rattle.sftp_path.specs.Split.{Split}
+pub use Rattle.sftp_path.specs.Table.{renamed, NothingFrom}
+unfoldable pub use Rattle.sftp_path.specs.Table.{rekeyed}
+pub use Rattle.sftp_path.specs.Place.{Split}
 pub use Rattle.sftp_path.specs.Table.{InOrder, Table, kept, with_values}
 unfoldable pub use Rattle.sftp_path.specs.Table.{get, put, without, retain}
-pub use Rattle.sftp_treefile.proofs.Texts.Fields.{path_length, target_length, place_is}
+pub use Rattle.sftp_treefile.proofs.Texts.{path_length, target_length, place_is}
 pub use Rattle.sftp_treefile.proofs.Texts.Files.{one_file, spelled_head}
-pub use Rattle.sftp_treefile.proofs.Texts.Limits.{highest_are, usual_are, file_bytes_bound, rows_wider}
+pub use Rattle.sftp_treefile.proofs.Texts.{highest_are, usual_are, file_bytes_bound, rows_wider}
 pub use Rattle.sftp_treefile.specs.Examples.{blank_bytes, raised_bytes}
-pub use Rattle.sftp_treefile.specs.Limits.{highest_limits, usual_limits}
+pub use Rattle.sftp_treefile.specs.TreeFile.{highest_limits, usual_limits}
 pub use Rattle.sftp_treefile.specs.TreeFile.{is_root, same_place, is_target, IsOwner, are_bytes, IsKind, AreRows}
 pub use Rattle.sftp_treefile.specs.TreeFile.{row_text, IsPlaceText, IsTreeFile, IsSpelled, place_of, is_dir, IsNext}
 pub use Rattle.sftp_treefile.specs.TreeFile.{is_first, is_first_row, entry_at, is_dir_at}
@@ -79,7 +79,7 @@ unfoldable pub use Rattle.sftp_wire.specs.Examples.{hex}
 pub use Rattle.sftp_packets.specs.Spelling.{AreBytes}
 pub use Rattle.sftp_packets.specs.declared.attributes.Attrs.{Attrs}
 pub use Rattle.sftp_packets.specs.declared.requests.Ask.{Ask}
-pub use Rattle.sftp_packets.specs.AskValues.{IsAttrs, IsAsk}
+pub use Rattle.sftp_packets.specs.Layouts.{IsAttrs, IsAsk}
 pub use Rattle.sftp_tree.specs.Asks.{asked, has_room_for, HasNode}
 pub use Rattle.sftp_tree.specs.Attributes.{directory_owner, changed_owner, changed_content, resized, file_owner}
 pub use Rattle.sftp_tree.specs.Causes.{row, CauseSet, every_cause, is_none, only}
@@ -123,7 +123,7 @@ pub use Rattle.sftp_tree.specs.StoredFiles.{AreCounted, file_named, IsChangedWhe
 pub use Rattle.sftp_tree.specs.StoredFiles.{with_content_made, without_pins, unpinned, seen, with_attributes_set}
 pub use Rattle.sftp_tree.specs.StoredFiles.{with_a_pin, without_a_pin, with_bytes_written}
 unfoldable pub use Rattle.sftp_tree.specs.Told.{listing_to, shown_to, text_to, file_to}
-pub use Rattle.sftp_tree.specs.Trail.{IsAt, IsLentAt, Standing, root_of, AreAlong, LeadTo, IsDirAt}
+pub use Rattle.sftp_tree.specs.Trail.{IsAt, IsLentAt, Standing, root_of, AreAlong, DescendTo, IsDirAt}
 pub use Rattle.sftp_tree.specs.Tree.{Tree, WellFormed, IsKept, limits, node_at, content_at, is_taken, is_directory}
 pub use Rattle.sftp_tree.specs.Tree.{is_link, Names, with_node, without_node, names_file, times_named, with_content}
 pub use Rattle.sftp_tree.specs.Tree.{times_pinned, is_pinned, Pins, is_named, with_pins, IsContent, trim, raised}

@@ -1,7 +1,7 @@
 -- What is left of the targets that a walk goes over.
 use Rattle.std.specs.Prelude.{◌==◌, Bool, List, [], ◌∷◌, ◌++◌, length}
 use Rattle.sftp_path.specs.Place.{Name}
-use Rattle.sftp_path.specs.Split.{Split}
+use Rattle.sftp_path.specs.Place.{Split}
 
 -- the components of all targets, the last one's in front
 abbrev pub left_of : List Split → List Name

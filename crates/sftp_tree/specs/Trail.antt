@@ -32,9 +32,9 @@ AreAlong (dir ∷ above) (name ∷ names) here =
     IsAt dir.now (name ∷ []) (root_of above here).now × AreAlong above names here
 
 -- by the names of the place one goes from the root through the directories between to the one where the walk stands
-abbrev pub LeadTo : Bor Names → List (Bor Names) → Place → Bor Names → Type 0
-LeadTo root between [] here = (between ≡ []) × (here ≡ root)
-LeadTo root between (name ∷ names) here = AreAlong (root ∷ between) (name ∷ names) here
+abbrev pub DescendTo : Bor Names → List (Bor Names) → Place → Bor Names → Type 0
+DescendTo root between [] here = (between ≡ []) × (here ≡ root)
+DescendTo root between (name ∷ names) here = AreAlong (root ∷ between) (name ∷ names) here
 
 -- a directory that is lent is the one at this place
 abbrev pub IsDirAt : Names → Place → Seen → Type 0

@@ -7,7 +7,7 @@ use Rattle.std.specs.List.{list_any, list_all, AllByRecursion}
 use Rattle.sftp_path.specs.Place.{Place, place_cmp, parent, is_below, are_names, depth_limit}
 use Rattle.sftp_path.specs.Table.{Table, InOrder, get, put, without, retain, count}
 use Rattle.sftp_treefile.specs.declared.limits.TreeLimits.{TreeLimits}
-use Rattle.sftp_treefile.specs.Limits.{highest_limits, AreLimits}
+use Rattle.sftp_treefile.specs.TreeFile.{highest_limits, AreLimits}
 use Rattle.sftp_treefile.specs.TreeFile.{IsOwner, is_target, are_bytes}
 use Rattle.sftp_tree.specs.declared.file_contents.Content.{Content}
 use Rattle.sftp_tree.specs.declared.nodes.Node.{Node}

@@ -3,7 +3,7 @@
 //! `measuring` and `rows` of `pictures`. The rest see places, and what a trail or a look-up lends.
 ghost use Rattle.std.specs.Prelude.{◌≡◌, [], length, false, None, IfOk, OnOk, OnErr, IsTrue};
 ghost use Rattle.sftp_path.specs.Place.{parent, begins, place_cmp};
-ghost use Rattle.sftp_path.specs.Rekeying.{rekeyed};
+ghost use Rattle.sftp_path.specs.Table.{rekeyed};
 ghost use Rattle.sftp_path.specs.Table.{InOrder};
 ghost use Rattle.sftp_treefile.specs.TreeFile.{is_root};
 ghost use Rattle.sftp_tree.specs.declared.nodes.Node.TheVariants.{Dir as dir_node};

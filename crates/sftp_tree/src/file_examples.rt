@@ -1,10 +1,10 @@
 //! Worked examples: what is read of open files and changed in them, computed by the checker on the definitions that the
 //! contracts name. The functions do nothing; each promise is in the contract.
-#![tactic(auto, unfolding(crate::specs::Requests::led, crate::specs::Causes::no_causes, crate::specs::Causes::when, crate::specs::Causes::joined, crate::specs::Requests::plain_causes, crate::specs::Requests::causes, crate::specs::Requests::outcome, crate::specs::Told::shown_to, crate::specs::Told::text_to, crate::specs::Walk::meets, crate::specs::Walk::walk_parts, crate::specs::Walk::walk, crate::specs::Walk::reached, crate::specs::Tree::has_entries, crate::specs::Tree::fits, sftp_path::specs::Place::components, sftp_path::specs::Place::parts, sftp_path::specs::Place::is_good_path, sftp_path::specs::Table::get, sftp_path::specs::Table::put, sftp_path::specs::Table::without, sftp_path::specs::Table::retain, sftp_path::specs::Table::from_entries, sftp_path::specs::Rekeying::rekeyed))]
+#![tactic(auto, unfolding(crate::specs::Requests::led, crate::specs::Causes::no_causes, crate::specs::Causes::when, crate::specs::Causes::joined, crate::specs::Requests::plain_causes, crate::specs::Requests::causes, crate::specs::Requests::outcome, crate::specs::Told::shown_to, crate::specs::Told::text_to, crate::specs::Walk::meets, crate::specs::Walk::walk_parts, crate::specs::Walk::walk, crate::specs::Walk::reached, crate::specs::Tree::has_entries, crate::specs::Tree::fits, sftp_path::specs::Place::components, sftp_path::specs::Place::parts, sftp_path::specs::Place::is_good_path, sftp_path::specs::Table::get, sftp_path::specs::Table::put, sftp_path::specs::Table::without, sftp_path::specs::Table::retain, sftp_path::specs::Table::from_entries, sftp_path::specs::Table::rekeyed))]
 
 ghost use Rattle.std.specs.Prelude.{◌≡◌, ℕ, true, false, List, [], ◌∷◌, ◌++◌, Some, None, length, codes};
 ghost use Rattle.sftp_packets.specs.declared.requests.Ask.TheVariants.{Remove};
-ghost use Rattle.sftp_treefile.specs.Limits.{usual_limits, highest_limits};
+ghost use Rattle.sftp_treefile.specs.TreeFile.{usual_limits, highest_limits};
 ghost use Rattle.sftp_tree.specs.Tree.{content_at, with_pin, without_pin, is_held};
 ghost use Rattle.sftp_tree.specs.Attributes.{shown_content};
 ghost use Rattle.sftp_tree.specs.FileChanges.{bytes_at, written, write_fits};

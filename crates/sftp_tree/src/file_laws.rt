@@ -4,7 +4,7 @@ ghost use Rattle.std.specs.Prelude.{◌≡◌, ◌≢◌, ◌<◌, ◌+◌, ◌-
 ghost use Rattle.std.specs.Ordering.{nat_cmp};
 ghost use Rattle.sftp_packets.specs.declared.attributes.Attrs.{Attrs};
 ghost use Rattle.sftp_path.specs.Table.{InOrder};
-ghost use Rattle.sftp_packets.specs.AskValues.{IsAttrs};
+ghost use Rattle.sftp_packets.specs.Layouts.{IsAttrs};
 ghost use Rattle.sftp_treefile.specs.TreeFile.{are_bytes};
 ghost use Rattle.sftp_tree.specs.Tree.{Tree, Pins, WellFormed, IsKept, HasFile, limits};
 ghost use Rattle.sftp_tree.specs.Tree.{times_pinned, is_pinned, with_pin, without_pin};

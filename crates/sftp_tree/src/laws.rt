@@ -4,7 +4,7 @@ ghost use Rattle.std.specs.Prelude.{◌≡◌, ◌↔◌, ◌⊎◌, ◌<◌, �
 ghost use Rattle.std.specs.Prelude.{List, Some, None, Result, Ok, [], ◌∷◌, ◌++◌, true, false, IsTrue};
 ghost use Rattle.sftp_packets.specs.declared.requests.Ask.{Ask};
 ghost use Rattle.sftp_packets.specs.Requests.{FitsAsk};
-ghost use Rattle.sftp_packets.specs.AskValues.{IsAsk};
+ghost use Rattle.sftp_packets.specs.Layouts.{IsAsk};
 ghost use Rattle.sftp_path.specs.Place.{Name, Place, name_cmp, parent, are_names, is_good_path};
 ghost use Rattle.sftp_path.specs.Table.{InOrder, get};
 ghost use Rattle.sftp_treefile.specs.TreeFile.{are_bytes};

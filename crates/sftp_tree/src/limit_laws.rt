@@ -5,8 +5,8 @@ ghost use Rattle.std.specs.Prelude.{◌≡◌, ◌&&◌, nat_le, ℕ, true, fals
 ghost use Rattle.std.specs.List.{list_all};
 ghost use Rattle.sftp_path.specs.Place.{Place, place_cmp};
 ghost use Rattle.sftp_path.specs.Table.{InOrder};
-ghost use Rattle.sftp_path.specs.Rekeying.{renamed, NothingFrom};
-ghost use Rattle.sftp_treefile.specs.Limits.{usual_limits, highest_limits};
+ghost use Rattle.sftp_path.specs.Table.{renamed, NothingFrom};
+ghost use Rattle.sftp_treefile.specs.TreeFile.{usual_limits, highest_limits};
 ghost use Rattle.sftp_tree.specs.declared.file_contents.Content.{Content};
 ghost use Rattle.sftp_tree.specs.declared.nodes.Node.{Node};
 ghost use Rattle.sftp_packets.specs.declared.attributes.Attrs.{Attrs};

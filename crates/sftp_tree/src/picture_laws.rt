@@ -2,7 +2,7 @@
 //! nothing; each promise is in the contract.
 ghost use Rattle.std.specs.Prelude.{◌≡◌, ◌++◌, ℕ, List, length, IsTrue};
 ghost use Rattle.sftp_treefile.specs.Examples.{blank_bytes, raised_bytes};
-ghost use Rattle.sftp_treefile.specs.Limits.{highest_limits};
+ghost use Rattle.sftp_treefile.specs.TreeFile.{highest_limits};
 ghost use Rattle.sftp_treefile.specs.TreeFile.{IsSpelled};
 ghost use Rattle.sftp_treefile.specs.declared.files.TreeFile.{TreeFile};
 ghost use Rattle.sftp_tree.specs.Tree.{Tree, WellFormed, IsKept, fits, limits, raised};
@@ -47,7 +47,7 @@ pub fn blank_is_a_start()
 {}
 
 /// A tree with a directory and a link to it is one that the program may have, and these 69 bytes are its tree file.
-#[tactic(auto, unfolding(crate::specs::Picture::picture, sftp_treefile::specs::TreeFile::spelled, sftp_treefile::specs::Limits::are_own, sftp_path::specs::Table::get))]
+#[tactic(auto, unfolding(crate::specs::Picture::picture, sftp_treefile::specs::TreeFile::spelled, sftp_treefile::specs::TreeFile::are_own, sftp_path::specs::Table::get))]
 pub fn file_of_a_directory_and_a_link()
     ensures kept { IsKept linked }
     ensures bytes { picture linked ≡ linked_front ++ (linked_root ++ (linked_directory ++ linked_link)) }

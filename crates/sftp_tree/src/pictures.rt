@@ -2,7 +2,7 @@
 ghost use Rattle.std.specs.Prelude.{◌≡◌, ◌+◌, ℕ, List, Some, length, IfOk, IfErr, OnOk, OnErr};
 ghost use Rattle.std.specs.Io.KnownBytes.{Appends};
 ghost use Rattle.sftp_streams.specs.Streams.{AppendsPart};
-ghost use Rattle.sftp_treefile.specs.Sent.{CountsSink};
+ghost use Rattle.sftp_treefile.specs.Streamed.{CountsSink};
 ghost use Rattle.sftp_treefile.specs.Streamed.{MayFail};
 ghost use Rattle.sftp_tree.specs.Tree.{Tree as tree};
 ghost use Rattle.sftp_tree.specs.Picture.{IsStart, GivesTree, GivesTreeUnless, picture, blank};

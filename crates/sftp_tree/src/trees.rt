@@ -1,7 +1,7 @@
 //! The tree.
 ghost use Rattle.std.specs.Prelude.{◌≡◌, [], ◌<◌, ◌^◌, false, None, option_copied, OnOk, OnErr, IsTrue, ◌+◌, nat_lt};
 ghost use Rattle.sftp_path.specs.Place.{are_names, parent};
-ghost use Rattle.sftp_treefile.specs.Limits.{numbers};
+ghost use Rattle.sftp_treefile.specs.TreeFile.{numbers};
 ghost use Rattle.sftp_treefile.specs.TreeFile.{IsOwner, is_root, same_place};
 
 use crate::entries::Entries;

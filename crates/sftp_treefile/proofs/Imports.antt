@@ -12,8 +12,8 @@ pub use Rattle.std.specs.Prelude.{◌↔◌, IsTrue, nat_eq}
 pub use Rattle.sftp_packets.specs.Spelling.{string, uint32}
 unfoldable pub use Rattle.sftp_path.specs.Place.{components, is_good_path, parts}
 unfoldable pub use Rattle.sftp_wire.specs.Examples.{hex}
-pub use Rattle.sftp_treefile.specs.Limits.{usual_limits, highest_limits, AreLimits}
-unfoldable pub use Rattle.sftp_treefile.specs.Limits.{are_own}
+pub use Rattle.sftp_treefile.specs.TreeFile.{usual_limits, highest_limits, AreLimits}
+unfoldable pub use Rattle.sftp_treefile.specs.TreeFile.{are_own}
 pub use Rattle.sftp_treefile.specs.TreeFile.{place_of, row_text, kind_text, IsPlaceText, IsKind, AreRows, owner_text}
 pub use Rattle.sftp_treefile.specs.TreeFile.{IsOwner, tree_opening, limits_text}
 unfoldable pub use Rattle.sftp_treefile.specs.TreeFile.{has_dir, spelled}
@@ -29,7 +29,7 @@ pub use Rattle.sftp_treefile.specs.declared.heads.Front.{Front}
 pub use Rattle.sftp_treefile.specs.declared.heads.Head.{Head}
 pub use Rattle.sftp_treefile.specs.declared.limits.TreeLimits.{TreeLimits}
 pub use Rattle.std.specs.Io.KnownBytes.{IsAtEnd}
-pub use Rattle.sftp_streams.specs.Ahead.{Ahead, bytes_ahead, HasAhead, ahead_without}
+pub use Rattle.sftp_streams.specs.Streams.{Ahead, bytes_ahead, HasAhead, ahead_without}
 pub use Rattle.sftp_treefile.specs.Streamed.{IsExcuse, ExcuseOr, window, HoldsWindow, IsSame, Takes, Lacks, AreCounted}
 pub use Rattle.sftp_treefile.specs.Streamed.{plain, IsFileStart, file_start_text, file_kind_text, IsNothing, TakesSome}
 pub use Rattle.sftp_treefile.specs.Streamed.{TakesRows, LacksRows}

@@ -3,7 +3,7 @@ use Rattle.std.specs.Prelude.{ℕ, List, [], ◌∷◌, ◌++◌, codes}
 use Rattle.sftp_wire.specs.Examples.{hex}
 use Rattle.sftp_treefile.specs.declared.files.Kind.TheVariants.{Dir, First, Further, Link}
 use Rattle.sftp_treefile.specs.declared.files.TreeFile.{TreeFile}
-use Rattle.sftp_treefile.specs.Limits.{usual_limits, highest_limits}
+use Rattle.sftp_treefile.specs.TreeFile.{usual_limits, highest_limits}
 
 -- the root alone, which is the home
 abbrev pub blank : TreeFile

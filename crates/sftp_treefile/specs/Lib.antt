@@ -1,6 +1,4 @@
-pub mod Limits
 pub mod TreeFile
 pub mod TreeFileParts
 pub mod Examples
 pub mod Streamed
-pub mod Sent

@@ -3,7 +3,7 @@ use Rattle.std.specs.Prelude.{◌≡◌, ℕ, ◌<◌, ◌≤◌, ◌^◌, ◌�
 use Rattle.std.specs.Prelude.{MatchResult}
 use Rattle.std.specs.Io.KnownBytes.{IsAtEnd, Keeps}
 use Rattle.sftp_packets.specs.Spelling.{uint32}
-use Rattle.sftp_streams.specs.Ahead.{Ahead, bytes_ahead, HasAhead}
+use Rattle.sftp_streams.specs.Streams.{Ahead, bytes_ahead, HasAhead}
 use Rattle.sftp_treefile.specs.declared.errors.TreeError.{TreeError}
 use Rattle.sftp_treefile.specs.declared.errors.TreeError.TheVariants.{NoMemory, Io}
 use Rattle.sftp_treefile.specs.declared.files.Owner.{Owner}
@@ -12,6 +12,9 @@ use Rattle.sftp_treefile.specs.declared.files.TreeFile.{TreeFile}
 use Rattle.sftp_treefile.specs.declared.limits.TreeLimits.{TreeLimits}
 use Rattle.sftp_treefile.specs.TreeFile.{owner_text, IsOwner, AreRows, are_bytes}
 use Rattle.sftp_treefile.specs.TreeFileParts.{ReadsNone, IsAt, AreRead, AreNone, file_text}
+use Rattle.sftp_streams.specs.Streams.{one_more}
+use Rattle.sftp_treefile.specs.declared.errors.WriteError.{WriteError}
+use Rattle.sftp_treefile.specs.declared.errors.WriteError.TheVariants.{NoMemory, Failed}
 
 -- ---- why nothing is read
 
@@ -115,3 +118,14 @@ LacksRows limits count old = (before : List ℕ) → HasAhead old before → Are
 -- the result says this, unless memory ran out or the source failed
 abbrev pub GivesUnless : Result TreeFile TreeError → TreeFile → Type 0
 GivesUnless result file = MatchResult result (λ f. f ≡ file) (λ error. IsExcuse error)
+
+-- ==== Tree files that are written to a sink: how many of its calls failed.
+
+-- one more call failed if the sink did, and none if memory ran out
+abbrev pub CountsError : WriteError → ℕ → ℕ → Type 0
+CountsError NoMemory old new = new ≡ old
+CountsError Failed old new = new ≡ one_more old
+
+-- one more call of the sink failed if that is the error, and none otherwise
+abbrev pub CountsSink : {A : Type 0} → Result A WriteError → ℕ → ℕ → Type 0
+CountsSink result old new = MatchResult result (λ _. new ≡ old) (λ error. CountsError error old new)

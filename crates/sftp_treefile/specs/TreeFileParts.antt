@@ -15,7 +15,7 @@ use Rattle.sftp_treefile.specs.declared.files.TreeFile.{TreeFile}
 use Rattle.sftp_treefile.specs.declared.heads.Head.{Head}
 use Rattle.sftp_treefile.specs.declared.limits.TreeLimits.{TreeLimits}
 use Rattle.sftp_treefile.specs.declared.heads.Front.{Front}
-use Rattle.sftp_treefile.specs.Limits.{AreLimits, are_own}
+use Rattle.sftp_treefile.specs.TreeFile.{AreLimits, are_own}
 use Rattle.sftp_treefile.specs.TreeFile.{tree_opening, limits_text, owner_text, row_text, place_of, has_dir, is_target}
 use Rattle.sftp_treefile.specs.TreeFile.{are_bytes, is_first_row, entry_at, IsPlaceText, IsOwner, AreRows}
 

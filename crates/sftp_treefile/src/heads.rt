@@ -1,7 +1,7 @@
 //! The heads of tree files: what they say before their entries.
 ghost use Rattle.std.specs.Prelude.{◌≡◌, ◌++◌, ℕ, Bool, true, List, IfOk, IfErr};
 ghost use Rattle.sftp_packets.specs.Spelling.{uint32, string};
-ghost use Rattle.sftp_treefile.specs.Limits.{IsBetween, AreLimits};
+ghost use Rattle.sftp_treefile.specs.TreeFile.{IsBetween, AreLimits};
 ghost use Rattle.sftp_treefile.specs.TreeFile.{tree_opening, limits_text, IsPlaceText};
 ghost use Rattle.sftp_treefile.specs.TreeFileParts.{Reads, ReadsNone, OutOfMemoryOr, IsAt, IsCount, head_bytes, IsHead};
 ghost use Rattle.sftp_treefile.specs.TreeFileParts.{IsFront, front_bytes, AreSet, IsRoot, root_text};

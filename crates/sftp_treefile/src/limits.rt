@@ -1,6 +1,6 @@
 //! The limits that a tree may set.
 ghost use Rattle.std.specs.Prelude.{◌≡◌};
-ghost use Rattle.sftp_treefile.specs.Limits as spec;
+ghost use Rattle.sftp_treefile.specs.TreeFile as spec;
 
 /// What a tree file begins with whose limits are the usual ones.
 pub(crate) const OPENING: &[u8] = b"SFTREE01";
@@ -48,7 +48,7 @@ pub fn highest_limits() -> TreeLimits
 impl TreeLimits {
     /// Whether a tree with these limits sets limits of its own, and its file has the opening `SFTREE02`: they are not
     /// all the usual ones.
-    #[tactic(auto, unfolding(crate::specs::Limits::are_own))]
+    #[tactic(auto, unfolding(crate::specs::TreeFile::are_own))]
     pub fn are_own(self) -> bool
         ensures { result ≡ spec.are_own self }
     {

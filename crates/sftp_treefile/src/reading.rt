@@ -2,7 +2,7 @@
 ghost use Rattle.std.specs.Prelude.{◌≡◌, ◌<◌, ℕ, List, Some, length, OnOk, IfOk, IfErr};
 ghost use Rattle.sftp_treefile.specs.declared.files.TreeFile.{TreeFile as file};
 ghost use Rattle.sftp_treefile.specs.TreeFile.{IsTreeFile, IsSpelled, GivesFile};
-ghost use Rattle.sftp_streams.specs.Ahead.{HasAhead};
+ghost use Rattle.sftp_streams.specs.Streams.{HasAhead};
 ghost use Rattle.sftp_treefile.specs.Streamed.{GivesUnless, MayFail, ExcuseOr, IsIn, IsNothing};
 
 use crate::entries::take_rows;

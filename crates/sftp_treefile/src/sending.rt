@@ -6,7 +6,7 @@ ghost use Rattle.sftp_streams.specs.Streams.{AppendsPart};
 ghost use Rattle.sftp_treefile.specs.declared.files.Kind.TheVariants.{Dir, First, Further, Link};
 ghost use Rattle.sftp_treefile.specs.TreeFile.{IsTreeFile, row_text, spelled};
 ghost use Rattle.sftp_treefile.specs.TreeFileParts.{head_text, head_bytes, HasLengths};
-ghost use Rattle.sftp_treefile.specs.Sent.{CountsSink};
+ghost use Rattle.sftp_treefile.specs.Streamed.{CountsSink};
 
 use crate::errors::WriteError;
 use crate::files::{Kind, Owner, Row, TreeFile};

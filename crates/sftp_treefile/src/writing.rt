@@ -4,7 +4,7 @@
 ghost use Rattle.std.specs.Prelude.{◌≡◌, ◌++◌, ◌<◌, ◌^◌, true, length, OnOk};
 ghost use Rattle.sftp_packets.specs.Spelling.{uint32, string};
 ghost use Rattle.sftp_treefile.specs.declared.files.Kind.TheVariants.{Dir, First, Further, Link};
-ghost use Rattle.sftp_treefile.specs.Limits as spec;
+ghost use Rattle.sftp_treefile.specs.TreeFile as spec;
 ghost use Rattle.sftp_treefile.specs.TreeFile.{tree_opening, limits_text, owner_text, row_text};
 ghost use Rattle.sftp_treefile.specs.TreeFileParts.{front_text, root_text, head_bytes};
 ghost use Rattle.sftp_treefile.specs.Streamed.{file_start_text};

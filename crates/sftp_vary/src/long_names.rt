@@ -12,7 +12,7 @@ const COUNT: usize = 13;
 
 const OWNER: usize = 15;
 
-/// Room for the columns before the date: those before the owner's, two numbers of ten digits, one of twenty, and spaces.
+/// Room for the columns before the date: those before the owner's, two numbers of ten digits, one of twenty, spaces.
 const ROOM: usize = 64;
 
 /// The date, which no reply knows.

@@ -1,6 +1,6 @@
 //! The records of a transcript, one by one: which are shown, and when.
 ghost use Rattle.std.specs.Prelude.{◌<◌, IfOk, IsTrue};
-ghost use Rattle.sftp_transcript.specs.Ahead.{size_of};
+ghost use Rattle.sftp_transcript.specs.Recorded.{size_of};
 
 use crate::clocks::Clock;
 use crate::errors::ViewError;

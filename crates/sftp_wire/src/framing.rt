@@ -8,8 +8,8 @@ ghost use Rattle.sftp_packets.specs.declared.packets.Packet.{Packet};
 ghost use Rattle.sftp_packets.specs.declared.packets.Side.{Side};
 ghost use Rattle.sftp_packets.specs.Spelling.{packet_limit};
 ghost use Rattle.sftp_packets.specs.Packets.{HasSpelling, side_of, spelling};
-ghost use Rattle.sftp_wire.specs.Framing.{Frames, Step, IsStep, AreSteps, no_frames, place_after, room_of, told_of};
-ghost use Rattle.sftp_wire.specs.Framing.{all_in, all_out, whole_of, lent_of};
+ghost use Rattle.sftp_wire.specs.Fronts.{Frames, Step, IsStep, AreSteps, no_frames, place_after, room_of, told_of};
+ghost use Rattle.sftp_wire.specs.Fronts.{all_in, all_out, whole_of, lent_of};
 
 use crate::fronts::front;
 use sftp_packets::{Fault, PACKET_LIMIT, Packet, Side, WireError, take_number};
@@ -35,7 +35,7 @@ impl Model for FrameBuf {
     ghost use Rattle.std.specs.Prelude.{◌+◌, ◌≤◌, ◌*◌, drop};
     ghost use Rattle.std.specs.Vec.{vec_len, vec_capacity};
     ghost use Rattle.sftp_packets.specs.Spelling.{packet_limit};
-    ghost use Rattle.sftp_wire.specs.Framing.{Frames};
+    ghost use Rattle.sftp_wire.specs.Fronts.{Frames};
 
     ghost Value = { Frames };
 
@@ -81,7 +81,7 @@ fn append(store: &mut Vec<u8>, start: usize, more: &[u8]) -> usize
 }
 
 /// The packet in front, length field and all, once it is complete; `None` also if its length is out of range.
-#[tactic(auto, unfolding(crate::specs::Framing::whole_of))]
+#[tactic(auto, unfolding(crate::specs::Fronts::whole_of))]
 fn whole(bytes: &[u8]) -> Option<&[u8]>
     ensures { option_copied result ≡ whole_of bytes.now }
 {

@@ -1,6 +1,6 @@
 -- A session that may have been cut is complete where none of its requests is unanswered.
 use Rattle.sftp_audit.proofs.Imports.{◌≡◌, ℕ, false, List, [], ◌∷◌, length, refl, ap, cases_Bool, eq-eqb, StepOf, Event}
-use Rattle.sftp_audit.proofs.Imports.{sound_by, Tree, AccountsBy, Exchange, recorded_exchanges, is_open, unsettled}
+use Rattle.sftp_audit.proofs.Imports.{sound_by, Tree, AccountsBy, Exchange, recorded_exchanges, is_awaited, unsettled}
 use Rattle.sftp_audit.proofs.Imports.{arith, waits_for}
 use Rattle.std.proofs.lemmas.Bool.{or_parts}
 use Rattle.sftp_audit.specs.Cuts.{AccountsCutBy, is_unanswered, unanswered_count, unsettled_count}
@@ -8,16 +8,16 @@ use Rattle.sftp_audit.proofs.auditing.Turns.{closed_if_none, none_if_closed}
 
 -- ---- nothing unanswered, nothing open
 
-pub none_open : (xs : List Exchange) → unanswered_count xs ≡ 0 → (id : ℕ) → is_open id xs ≡ false
-unfolding is_open is_unanswered
+pub none_open : (xs : List Exchange) → unanswered_count xs ≡ 0 → (id : ℕ) → is_awaited id xs ≡ false
+unfolding is_awaited is_unanswered
 none_open [] none id = refl
 none_open (x ∷ xs) none id = grind (arith, cases_Bool, none_open xs)
 
-pub none_unanswered : (xs : List Exchange) → ((id : ℕ) → is_open id xs ≡ false) → unanswered_count xs ≡ 0
-unfolding is_open is_unanswered
+pub none_unanswered : (xs : List Exchange) → ((id : ℕ) → is_awaited id xs ≡ false) → unanswered_count xs ≡ 0
+unfolding is_awaited is_unanswered
 none_unanswered [] shut = refl
 none_unanswered (x ∷ xs) shut =
-    let rest = none_unanswered xs (λ id. (or_parts (waits_for id x) (is_open id xs) (shut id)).1) in
+    let rest = none_unanswered xs (λ id. (or_parts (waits_for id x) (is_awaited id xs) (shut id)).1) in
     grind (arith, eq-eqb, or_parts, cases_Bool, shut x.request.id, rest)
 
 pub none_unsettled : (xs : List Exchange) → unanswered_count xs ≡ 0 → unsettled xs ≡ []

@@ -5,7 +5,7 @@ use Rattle.sftp_audit.proofs.Imports.{eqb-true, eqb-false, eq-eqb, ne_eqb, cases
 use Rattle.sftp_audit.proofs.Imports.{Request, Reply, Event, Asked, Replied, first_number, number_after_events}
 use Rattle.sftp_audit.proofs.Imports.{next_reply, exchanges_of, leading_pairs, RecordedReply, Exchange, next_recorded}
 use Rattle.sftp_audit.proofs.Imports.{exchanges_from, recorded_exchanges, is_answered, unsettled, AreAnswered}
-use Rattle.sftp_audit.proofs.Imports.{waits_for, is_open, reply_of, ledger_of, or_assoc}
+use Rattle.sftp_audit.proofs.Imports.{waits_for, is_awaited, reply_of, ledger_of, or_assoc}
 use Rattle.sftp_streams.specs.Streams.{one_more, largest_count}
 use Rattle.sftp_audit.specs.Exchanges.{answered_by, with_reply}
 use Rattle.sftp_audit.specs.Cuts.{is_unanswered, unanswered_count}
@@ -181,15 +181,15 @@ first_unsettled (y ∷ xs) x others is = grind (arith, cases_Bool, first_unsettl
 
 -- ---- who waits
 
-pub is_open-append : (id : ℕ) (xs ys : List Exchange) → is_open id (xs ++ ys) ≡ (is_open id xs || is_open id ys)
-unfolding is_open
-is_open-append id [] ys = refl
-is_open-append id (x ∷ xs) ys = simp (or_assoc, is_open-append id xs ys)
+pub is_awaited-append : (id : ℕ) (xs ys : List Exchange) → is_awaited id (xs ++ ys) ≡ (is_awaited id xs || is_awaited id ys)
+unfolding is_awaited
+is_awaited-append id [] ys = refl
+is_awaited-append id (x ∷ xs) ys = simp (or_assoc, is_awaited-append id xs ys)
 
-pub is_open-unsettled : (id : ℕ) (xs : List Exchange) → is_open id (unsettled xs) ≡ is_open id xs
-unfolding is_open unsettled
-is_open-unsettled id [] = refl
-is_open-unsettled id (x ∷ xs) = grind (arith, cases_Bool, is_open-unsettled id xs)
+pub is_awaited-unsettled : (id : ℕ) (xs : List Exchange) → is_awaited id (unsettled xs) ≡ is_awaited id xs
+unfolding is_awaited unsettled
+is_awaited-unsettled id [] = refl
+is_awaited-unsettled id (x ∷ xs) = grind (arith, cases_Bool, is_awaited-unsettled id xs)
 
 -- ---- what a reply changes
 
@@ -199,11 +199,11 @@ pub waits_for-replied : (id : ℕ) (r : RecordedReply) (x : Exchange)
 waits_for-replied id r x = grind (arith, cases_Bool, eqb-true, eqb-false, eq-eqb, ne_eqb)
 
 -- the reply takes its id away, and nothing else
-pub is_open-replied : (id : ℕ) (r : RecordedReply) (xs : List Exchange)
-    → is_open id (with_reply r xs) ≡ (is_open id xs && not (r.reply.id == id))
-unfolding is_open
-is_open-replied id r [] = refl
-is_open-replied id r (x ∷ xs) = grind (arith, cases_Bool, waits_for-replied id r x, is_open-replied id r xs)
+pub is_awaited-replied : (id : ℕ) (r : RecordedReply) (xs : List Exchange)
+    → is_awaited id (with_reply r xs) ≡ (is_awaited id xs && not (r.reply.id == id))
+unfolding is_awaited
+is_awaited-replied id r [] = refl
+is_awaited-replied id r (x ∷ xs) = grind (arith, cases_Bool, waits_for-replied id r x, is_awaited-replied id r xs)
 
 pub with_reply-append : (recorded : RecordedReply) (xs ys : List Exchange)
     → with_reply recorded (xs ++ ys) ≡ with_reply recorded xs ++ with_reply recorded ys

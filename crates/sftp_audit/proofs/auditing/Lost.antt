@@ -3,10 +3,10 @@ use Rattle.sftp_audit.proofs.Imports.{◌≡◌, ◌≢◌, ◌==◌, ℕ, true,
 use Rattle.sftp_audit.proofs.Imports.{cases_Bool, refl, sym, ap, ◌∙◌, subst, eq-eqb, Request, Reply, StepOf, Event}
 use Rattle.sftp_audit.proofs.Imports.{Asked, Replied, closed, waiting, turn_after, next_reply, exchanges_of}
 use Rattle.sftp_audit.proofs.Imports.{leading_pairs, Run, Explained, Sound, sound_by, Refusal, Exchange, Refuses}
-use Rattle.sftp_audit.proofs.Imports.{LacksReply, IsFirstWrong, recorded_exchanges, is_answered, is_open, ledger_of}
+use Rattle.sftp_audit.proofs.Imports.{LacksReply, IsFirstWrong, recorded_exchanges, is_answered, is_awaited, ledger_of}
 use Rattle.sftp_audit.specs.declared.errors.Refusal.TheVariants as refusals
 use Rattle.sftp_audit.proofs.steps.StepLaws.{HasOneEnd, run-one_end}
-use Rattle.sftp_audit.proofs.auditing.Lists.{ledger_of-recorded, is_open-unsettled, leading_pairs-settled}
+use Rattle.sftp_audit.proofs.auditing.Lists.{ledger_of-recorded, is_awaited-unsettled, leading_pairs-settled}
 use Rattle.sftp_audit.proofs.auditing.Lists.{first_unsettled}
 use Rattle.sftp_audit.proofs.auditing.Turns.{waits_if_open, window-full, run-split, one_more_event, second_request}
 use Rattle.sftp_audit.proofs.auditing.Turns.{reply_unasked}
@@ -115,10 +115,10 @@ module _ {S : Type 0} (step : StepOf S) (one_end : HasOneEnd step) where
       refuses_unsound start events event refusal end sound refuses memory more last
       (sound_by step start (events ++ event ∷ more) last explained)
 
-  first_is_open : (x : Exchange) (others : List Exchange) → is_answered x ≡ false
-      → is_open x.request.id (x ∷ others) ≡ true
-  unfolding is_open
-  first_is_open x others waits =
+  first_is_awaited : (x : Exchange) (others : List Exchange) → is_answered x ≡ false
+      → is_awaited x.request.id (x ∷ others) ≡ true
+  unfolding is_awaited
+  first_is_awaited x others waits =
       let same : (x.request.id == x.request.id) ≡ true = eq-eqb x.request.id x.request.id refl in
       rw (waits, same) refl
 
@@ -128,10 +128,10 @@ module _ {S : Type 0} (step : StepOf S) (one_end : HasOneEnd step) where
       → Explained step start events last → ⊥
   lacks_lost start events (refusals.Unanswered number) end sound lacks last explained =
       let x = lacks.0 in
-      let opened : is_open x.request.id (recorded_exchanges events) ≡ true =
-      sym (is_open-unsettled x.request.id (recorded_exchanges events))
-      ∙ ap (is_open x.request.id) lacks.2
-      ∙ first_is_open x lacks.1 (first_unsettled (recorded_exchanges events) x lacks.1 lacks.2) in
+      let opened : is_awaited x.request.id (recorded_exchanges events) ≡ true =
+      sym (is_awaited-unsettled x.request.id (recorded_exchanges events))
+      ∙ ap (is_awaited x.request.id) lacks.2
+      ∙ first_is_awaited x lacks.1 (first_unsettled (recorded_exchanges events) x lacks.1 lacks.2) in
       let waits : turn_after x.request.id closed events ≡ waiting =
       waits_if_open events x.request.id sound.in_turn opened in
       let end_is : turn_after x.request.id closed events ≡ closed = explained.matching x.request.id in

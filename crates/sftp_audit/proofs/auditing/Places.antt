@@ -4,11 +4,11 @@ use Rattle.sftp_audit.proofs.Imports.{cond, List, [], ◌∷◌, ◌++◌, Optio
 use Rattle.sftp_audit.proofs.Imports.{slice_get, refl, sym, ap, ◌∙◌, arith, inl, inr, option_map, eqb-true, cases_Bool}
 use Rattle.sftp_audit.proofs.Imports.{true≢false, length-append, length-map, none-some, same_Some, and_parts, Request}
 use Rattle.sftp_audit.proofs.Imports.{window, RecordedReply, Exchange, starts_answered, ordinal_at, IsIndexed, AreApart}
-use Rattle.sftp_audit.proofs.Imports.{place_of, is_answered, waits_for, is_open}
+use Rattle.sftp_audit.proofs.Imports.{place_of, is_answered, waits_for, is_awaited}
 use Rattle.std.proofs.lemmas.Bool.{or_parts}
 use Rattle.std.specs.Map.{lookup}
 use Rattle.sftp_audit.specs.Exchanges.{answered_by, with_reply}
-use Rattle.sftp_audit.proofs.auditing.Lists.{flipped, is_open-append, waits_for-replied, is_open-replied}
+use Rattle.sftp_audit.proofs.auditing.Lists.{flipped, is_awaited-append, waits_for-replied, is_awaited-replied}
 
 -- ---- where a request waits
 
@@ -21,8 +21,8 @@ mapped-there : (f : ℕ → ℕ) (o : Option ℕ) → is_some (option_map f o) �
 mapped-there f None = refl
 mapped-there f (Some m) = refl
 
-pub place_of-open : (id : ℕ) (xs : List Exchange) → is_some (place_of id xs) ≡ is_open id xs
-unfolding place_of is_open
+pub place_of-open : (id : ℕ) (xs : List Exchange) → is_some (place_of id xs) ≡ is_awaited id xs
+unfolding place_of is_awaited
 place_of-open id [] = refl
 place_of-open id (x ∷ xs) = grind (arith, cases_Bool, mapped-there, place_of-open id xs)
 
@@ -39,18 +39,18 @@ unfolding place_of
 place_of-push id [] x other = rw other refl
 place_of-push id (y ∷ xs) x other = rw (place_of-push id xs x other) refl
 
-place_of-pushed : (id : ℕ) (xs : List Exchange) (x : Exchange) → is_open id xs ≡ false → waits_for id x ≡ true
+place_of-pushed : (id : ℕ) (xs : List Exchange) (x : Exchange) → is_awaited id xs ≡ false → waits_for id x ≡ true
     → place_of id (xs ++ x ∷ []) ≡ Some (length xs)
-unfolding place_of is_open
+unfolding place_of is_awaited
 place_of-pushed id [] x shut own = simp own
 place_of-pushed id (y ∷ xs) x shut own = grind (arith, or_parts, place_of-pushed id xs x)
 
-apart-asked : (xs : List Exchange) (x : Exchange) → AreApart xs → is_open x.request.id xs ≡ false
+apart-asked : (xs : List Exchange) (x : Exchange) → AreApart xs → is_awaited x.request.id xs ≡ false
     → AreApart (xs ++ x ∷ [])
-unfolding AreApart is_open
+unfolding AreApart is_awaited
 apart-asked [] x apart free = (λ waits. refl, tt)
 apart-asked (y ∷ xs) x apart free = (
-  λ waits. grind (arith, cases_Bool, or_parts, is_open-append, flipped, apart.0),
+  λ waits. grind (arith, cases_Bool, or_parts, is_awaited-append, flipped, apart.0),
   apart-asked xs x apart.1 (or_parts _ _ free).1,
 )
 
@@ -66,11 +66,11 @@ apart-replied : (r : RecordedReply) (xs : List Exchange) → AreApart xs → Are
 unfolding AreApart
 apart-replied r [] apart = tt
 apart-replied r (x ∷ xs) apart =
-    (λ waits. grind (arith, cases_Bool, is_open-replied, apart.0), apart-replied r xs apart.1)
+    (λ waits. grind (arith, cases_Bool, is_awaited-replied, apart.0), apart-replied r xs apart.1)
 
 -- a reply of an id that does not wait changes nothing
-with_reply-shut : (r : RecordedReply) (xs : List Exchange) → is_open r.reply.id xs ≡ false → with_reply r xs ≡ xs
-unfolding is_open
+with_reply-shut : (r : RecordedReply) (xs : List Exchange) → is_awaited r.reply.id xs ≡ false → with_reply r xs ≡ xs
+unfolding is_awaited
 with_reply-shut r [] shut = refl
 with_reply-shut r (x ∷ xs) shut = grind (arith, or_parts, with_reply-shut r xs)
 
@@ -85,7 +85,7 @@ stored r (y ∷ xs) place x apart at got = elim (cases_Bool (waits_for r.reply.i
       let first : 0 ≡ place = same_Some 0 place (rw here at at) in
       let is : y ≡ x = same_Some y x (rw (← first) at got) in
       let parts = and_parts (not (is_answered y)) (y.request.id == r.reply.id) here in
-      let shut : is_open r.reply.id xs ≡ false =
+      let shut : is_awaited r.reply.id xs ≡ false =
       rw (← eqb-true y.request.id r.reply.id parts.1) (apart.0 (grind (arith, cases_Bool, parts.0))) in
       rw (← first, ← is, here, with_reply-shut r xs shut) refl
   | inr past ↦
@@ -100,7 +100,7 @@ unfolding AreApart place_of
 indexed-new first = record { few = omega arith; apart = tt; found = λ id. refl }
 
 pub in_use : (xs : List Exchange) (index : List (ℕ × ℕ)) (first id : ℕ) (used : Bool) → IsIndexed xs index first
-    → is_some (lookup (nat_eq id) index) ≡ used → is_open id xs ≡ used
+    → is_some (lookup (nat_eq id) index) ≡ used → is_awaited id xs ≡ used
 in_use xs index first id used indexed is =
     sym (ap is_some (indexed.found id) ∙ mapped-there (ordinal_at first) (place_of id xs) ∙ place_of-open id xs) ∙ is
 
@@ -118,7 +118,7 @@ abbrev pub asked : Request → ℕ → Exchange
 asked request number = record { request = request; number = number; reply = None }
 
 pub indexed-asked : (xs : List Exchange) (index after : List (ℕ × ℕ)) (first : ℕ) (request : Request) (number : ℕ)
-    → IsIndexed xs index first → length xs < window → is_open request.id xs ≡ false
+    → IsIndexed xs index first → length xs < window → is_awaited request.id xs ≡ false
     → ((id : ℕ) → lookup (nat_eq id) after
     ≡ cond (nat_eq request.id id) (Some (ordinal_at first (length xs))) (lookup (nat_eq id) index))
     → IsIndexed (xs ++ asked request number ∷ []) after first
@@ -132,7 +132,7 @@ indexed-asked xs index after first request number indexed few free changed = rec
         → cond (nat_eq request.id id) (Some (ordinal_at first (length xs))) (lookup (nat_eq id) index)
         ≡ option_map (ordinal_at first) (place_of id (xs ++ asked request number ∷ []))
     by id (inl own) =
-        let shut : is_open id xs ≡ false = rw (← eqb-true request.id id own) free in
+        let shut : is_awaited id xs ≡ false = rw (← eqb-true request.id id own) free in
         rw (own, place_of-pushed id xs (asked request number) shut own) refl
     by id (inr other) = rw (other, place_of-push id xs (asked request number) other) (indexed.found id)
 

@@ -4,14 +4,14 @@ use Rattle.sftp_audit.proofs.Imports.{None, Ok, Err, Result, OnOk, refl, sym, ap
 use Rattle.sftp_audit.proofs.Imports.{arith, Request, Reply, StepOf, FollowsOf, Event, Asked, Replied, first_number}
 use Rattle.sftp_audit.proofs.Imports.{Run, Explained, exchanges_of, leading_pairs, window, turn_after, closed, broken}
 use Rattle.sftp_audit.proofs.Imports.{in_window, IsWaiting, Refusal, Exchange, Audited, StandsFor, LacksReply, IsTold}
-use Rattle.sftp_audit.proofs.Imports.{IsFirstWrong, recorded_exchanges, exchanges_from, unsettled, AreAnswered, is_open}
+use Rattle.sftp_audit.proofs.Imports.{IsFirstWrong, recorded_exchanges, exchanges_from, unsettled, AreAnswered, is_awaited}
 use Rattle.sftp_audit.proofs.Imports.{ledger_of, RefusesRequest, RefusesReply}
 use Rattle.sftp_audit.specs.Auditor.{RefusesToSettle, IsWrongIn, HasNoted, HasReason, StopsIn, Reports}
 use Rattle.sftp_audit.specs.Exchanges.{with_reply}
 use Rattle.sftp_audit.specs.declared.errors.Refusal.TheVariants as refusals
 use Rattle.sftp_audit.proofs.auditing.Lists.{answered-append, ledger_of-recorded, recorded-asked, recorded-replied}
 use Rattle.sftp_audit.proofs.auditing.Lists.{settled_parts, unsettled-answered, unsettled-asked, with_reply-answered}
-use Rattle.sftp_audit.proofs.auditing.Lists.{with_reply-append, is_open-unsettled, leading_pairs-settled}
+use Rattle.sftp_audit.proofs.auditing.Lists.{with_reply-append, is_awaited-unsettled, leading_pairs-settled}
 use Rattle.sftp_audit.proofs.auditing.Lists.{leading_pairs-unsettled, leading_pairs-asked}
 use Rattle.sftp_audit.proofs.auditing.Turns.{waits_if_open, closed_if_none, in_turn-asked, in_turn-replied}
 use Rattle.sftp_audit.proofs.auditing.Turns.{window-asked, window-replied, run-append}
@@ -29,7 +29,7 @@ record Answered {S : Type 0} (step : StepOf S) (start : S) (events : List Event)
 -- a request of the reply's id waited, and these exchanges have the reply
 abbrev pub HasReply : {S : Type 0} → Reply → Audited S → List Exchange → Type 0
 HasReply reply old kept =
-    (is_open reply.id old.kept ≡ true) × (kept ≡ with_reply (record { reply = reply; number = old.number }) old.kept)
+    (is_awaited reply.id old.kept ≡ true) × (kept ≡ with_reply (record { reply = reply; number = old.number }) old.kept)
 
 -- what was seen of an auditor, as its parts say it
 abbrev pub viewed : {S : Type 0} {old seen : Audited S} → old ≡ seen → Audited S
@@ -57,17 +57,17 @@ module _ {S : Type 0} (step : StepOf S) where
   -- ---- what is kept says which requests wait
 
   waits_as : (start : S) (events : List Event) (old : Audited S) (id : ℕ) (b : Bool) → StandsFor step start events old
-      → is_open id old.kept ≡ b → is_open id (recorded_exchanges events) ≡ b
-  waits_as start events old id b stands is = rw (← is_open-unsettled id (recorded_exchanges events), ← stands.kept) is
+      → is_awaited id old.kept ≡ b → is_awaited id (recorded_exchanges events) ≡ b
+  waits_as start events old id b stands is = rw (← is_awaited-unsettled id (recorded_exchanges events), ← stands.kept) is
 
   waiting_of : (start : S) (events : List Event) (old : Audited S) (id : ℕ) → StandsFor step start events old
-      → is_open id old.kept ≡ true → IsWaiting events id
+      → is_awaited id old.kept ≡ true → IsWaiting events id
   waiting_of start events old id stands is =
       waits_if_open events id stands.sound.in_turn
       (waits_as start events old id true stands is)
 
   closed_of : (start : S) (events : List Event) (old : Audited S) (id : ℕ) → StandsFor step start events old
-      → is_open id old.kept ≡ false → turn_after id closed events ≡ closed
+      → is_awaited id old.kept ≡ false → turn_after id closed events ≡ closed
   closed_of start events old id stands is =
       closed_if_none events id stands.sound.in_turn
       (waits_as start events old id false stands is)
@@ -84,7 +84,7 @@ module _ {S : Type 0} (step : StepOf S) where
       )
       (leading_pairs-asked (recorded_exchanges events) _ refl)
 
-  noted-asked : (request : Request) (old new : Audited S) → is_open request.id old.kept ≡ false → length old.kept < window
+  noted-asked : (request : Request) (old new : Audited S) → is_awaited request.id old.kept ≡ false → length old.kept < window
       → new.kept ≡ old.kept ++ record { request = request; number = old.number; reply = None } ∷ []
       → new.state ≡ old.state → new.follows ≡ old.follows → HasNoted step old (Asked request) new
   noted-asked request old new none room kept same stays start events stands = record {
@@ -99,7 +99,7 @@ module _ {S : Type 0} (step : StepOf S) where
   }
 
   pub result-asked : {T : Type 0} (result : Result T Refusal) (request : Request) (old new : Audited S)
-      → OnOk result (is_open request.id old.kept ≡ false) → OnOk result (length old.kept < window)
+      → OnOk result (is_awaited request.id old.kept ≡ false) → OnOk result (length old.kept < window)
       → OnOk result (new.kept ≡ old.kept ++ record { request = request; number = old.number; reply = None } ∷ [])
       → new.state ≡ old.state → new.follows ≡ old.follows → OnOk result (HasNoted step old (Asked request) new)
   result-asked (Ok x) request old new none room kept same stays = noted-asked request old new none room kept same stays
@@ -266,9 +266,9 @@ module _ {S : Type 0} (step : StepOf S) where
   -- where nothing is kept, the events are explained
   pub explained-settled : (start : S) (events : List Event) (old : Audited S) → StandsFor step start events old
       → slice_get old.kept 0 ≡ None → Explained step start events old.state
-  unfolding is_open
+  unfolding is_awaited
   explained-settled start events old stands none = record {
-    matching = λ id. closed_of start events old id stands (ap (is_open id) (nothing_first old.kept none));
+    matching = λ id. closed_of start events old id stands (ap (is_awaited id) (nothing_first old.kept none));
     within_window = stands.sound.within_window;
     run = stands.sound.run;
   }

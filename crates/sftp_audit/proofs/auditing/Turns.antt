@@ -4,13 +4,13 @@ use Rattle.sftp_audit.proofs.Imports.{◌∷◌, ◌++◌, is_some, IsTrue, leng
 use Rattle.sftp_audit.proofs.Imports.{arith, eqb-true, eq-eqb, and_parts, ltb-true, cases_Bool, append-nil, Request}
 use Rattle.sftp_audit.proofs.Imports.{Reply, Event, Asked, Replied, Turn, closed, waiting, broken, turn_after}
 use Rattle.sftp_audit.proofs.Imports.{in_window, requests_before_reply, window, StepOf, Run, InTurn, IsWaiting}
-use Rattle.sftp_audit.proofs.Imports.{next_recorded, exchanges_from, recorded_exchanges, unsettled, is_open}
+use Rattle.sftp_audit.proofs.Imports.{next_recorded, exchanges_from, recorded_exchanges, unsettled, is_awaited}
 use Rattle.std.proofs.lemmas.Bool.{and_from, lt-ltb}
 use Rattle.sftp_streams.specs.Streams.{one_more}
 use Rattle.sftp_transcript.specs.Explained.{after_event}
-use Rattle.sftp_transcript.proofs.pairing.Standing.{cond_alike}
+use Rattle.sftp_transcript.proofs.pairing.{cond_alike}
 use Rattle.sftp_audit.proofs.auditing.Lists.{recorded-asked, recorded-replied}
-use Rattle.sftp_audit.proofs.auditing.Lists.{unsettled-within, is_open-append, is_open-replied}
+use Rattle.sftp_audit.proofs.auditing.Lists.{unsettled-within, is_awaited-append, is_awaited-replied}
 
 -- ---- turns over two parts
 
@@ -78,15 +78,15 @@ turn_if opened = if opened then waiting else closed
 
 -- an event breaks the turn, or does to it what it does to the exchanges
 one_event : (id : ℕ) (events : List Event) (event : Event)
-    → after_event id event (turn_if (is_open id (recorded_exchanges events))) ≢ broken
-    → after_event id event (turn_if (is_open id (recorded_exchanges events)))
-    ≡ turn_if (is_open id (recorded_exchanges (events ++ event ∷ [])))
-unfolding is_open
-one_event id events (Asked request) unbroken = grind (arith, cases_Bool, recorded-asked, is_open-append)
-one_event id events (Replied reply) unbroken = grind (arith, cases_Bool, recorded-replied, is_open-replied)
+    → after_event id event (turn_if (is_awaited id (recorded_exchanges events))) ≢ broken
+    → after_event id event (turn_if (is_awaited id (recorded_exchanges events)))
+    ≡ turn_if (is_awaited id (recorded_exchanges (events ++ event ∷ [])))
+unfolding is_awaited
+one_event id events (Asked request) unbroken = grind (arith, cases_Bool, recorded-asked, is_awaited-append)
+one_event id events (Replied reply) unbroken = grind (arith, cases_Bool, recorded-replied, is_awaited-replied)
 
 abbrev IsTurn : ℕ → List Event → Type 0
-IsTurn id events = turn_after id closed events ≡ turn_if (is_open id (recorded_exchanges events))
+IsTurn id events = turn_after id closed events ≡ turn_if (is_awaited id (recorded_exchanges events))
 
 turn_behind : (id : ℕ) (seen more : List Event) → IsTurn id seen → InTurn (seen ++ more) → IsTurn id (seen ++ more)
 turn_behind id seen [] is in_turn = subst (IsTurn id) (sym (append-nil seen)) is
@@ -98,19 +98,19 @@ turn_behind id seen (event ∷ more) is in_turn =
     subst (IsTurn id) (one_more_event seen event more) (turn_behind id (seen ++ event ∷ []) more next later)
 
 turn_is : (events : List Event) (id : ℕ) → InTurn events → IsTurn id events
-unfolding turn_after exchanges_from is_open
+unfolding turn_after exchanges_from is_awaited
 turn_is events id in_turn = turn_behind id [] events refl in_turn
 
-pub waits_if_open : (events : List Event) (id : ℕ) → InTurn events → is_open id (recorded_exchanges events) ≡ true
+pub waits_if_open : (events : List Event) (id : ℕ) → InTurn events → is_awaited id (recorded_exchanges events) ≡ true
     → IsWaiting events id
 waits_if_open events id in_turn opened = turn_is events id in_turn ∙ ap turn_if opened
 
-pub closed_if_none : (events : List Event) (id : ℕ) → InTurn events → is_open id (recorded_exchanges events) ≡ false
+pub closed_if_none : (events : List Event) (id : ℕ) → InTurn events → is_awaited id (recorded_exchanges events) ≡ false
     → turn_after id closed events ≡ closed
 closed_if_none events id in_turn none = turn_is events id in_turn ∙ ap turn_if none
 
 pub none_if_closed : (events : List Event) (id : ℕ) → InTurn events → turn_after id closed events ≡ closed
-    → is_open id (recorded_exchanges events) ≡ false
+    → is_awaited id (recorded_exchanges events) ≡ false
 none_if_closed events id in_turn shut = grind (arith, cases_Bool, turn_is events id in_turn)
 
 -- ---- one event more, in turn

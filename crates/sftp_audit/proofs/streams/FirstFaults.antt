@@ -6,7 +6,7 @@ use Rattle.sftp_audit.proofs.Imports.{AuditError, Refusal, Exchange, Refuses, La
 use Rattle.sftp_audit.proofs.Imports.{FaultAt, IsFirstFaultBy, IsTreeError, IsPlain, begins_each, faulty_records_none}
 use Rattle.sftp_audit.specs.Auditor.{IsOldestOpen}
 use Rattle.sftp_transcript.specs.declared.errors.TranscriptError.TheVariants as transcript_errors
-use Rattle.sftp_transcript.proofs.transcripts.FirstFaults.{Extends, beginnings_compared, one_fault, first_before_fault}
+use Rattle.sftp_transcript.proofs.transcripts.{Extends, beginnings_compared, one_fault, first_before_fault}
 use Rattle.sftp_audit.specs.declared.errors.AuditError.TheVariants as audit_errors
 use Rattle.sftp_audit.specs.declared.errors.Refusal.TheVariants as refusals
 use Rattle.sftp_audit.proofs.steps.StepLaws.{HasOneEnd}

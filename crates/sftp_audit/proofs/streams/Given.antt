@@ -5,7 +5,7 @@ use Rattle.sftp_audit.proofs.Imports.{Replied, exchanges_of, Reading, StepOf, Fo
 use Rattle.sftp_audit.proofs.Imports.{Refuses, IsTold, IsNew, IsNoJudgement, WasFed, StopsFeed, IsToldOf, request_count}
 use Rattle.sftp_audit.proofs.Imports.{is_request, HasRefused, error_of_transcript, error_of_session, recorded_exchanges}
 use Rattle.sftp_transcript.specs.Transcript.{BeginsRecord, IsRecord}
-use Rattle.sftp_transcript.specs.Begun.{ReadUpTo, HasGiven, GaveFrom, FaultOf}
+use Rattle.sftp_transcript.specs.Sound.{ReadUpTo, HasGiven, GaveFrom, FaultOf}
 use Rattle.sftp_transcript.specs.declared.stage.Stage.{Stage}
 use Rattle.sftp_transcript.specs.declared.errors.TranscriptError.TheVariants as transcript_errors
 use Rattle.sftp_transcript.specs.declared.stage.Stage.TheVariants as stages

@@ -8,7 +8,7 @@ use Rattle.sftp_packets.specs.declared.packets.Packet.TheVariants.{Init, Version
 use Rattle.sftp_packets.specs.Spelling.{packet_limit, AreBytes, FitsString, FitsAttrs}
 use Rattle.sftp_packets.specs.Requests.{server_extensions}
 use Rattle.sftp_packets.specs.Packets.{spelling, HasSpelling}
-use Rattle.sftp_packets.proofs.PacketLaws.Extensions.{version_spelled}
+use Rattle.sftp_packets.proofs.PacketLaws.{version_spelled}
 use Rattle.sftp_audit.specs.Examples.{backward_replies, backward_replies_bytes, removal_done_bytes, limits_session}
 use Rattle.sftp_audit.specs.Examples.{usual_limits_told, limits_bytes}
 

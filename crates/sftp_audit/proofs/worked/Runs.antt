@@ -3,7 +3,7 @@ use Rattle.sftp_audit.proofs.Imports.{◌≡◌, ◌≢◌, ◌==◌, ◌||◌, 
 use Rattle.sftp_audit.proofs.Imports.{IsTrue, refl, subst, inl, inr, list_any, AllByRecursion, Tree, Allowed, Event}
 use Rattle.sftp_audit.proofs.Imports.{closed, turn_after, exchanges_of, leading_pairs, in_window, Explained, Turn}
 use Rattle.sftp_audit.proofs.Imports.{waiting, broken, InTurn, Sound, started, eqb-true, Unexplained}
-use Rattle.sftp_transcript.proofs.pairing.Turns.{ids_of, turn_after-others, Matching-from_ids}
+use Rattle.sftp_transcript.proofs.pairing.{ids_of, turn_after-others, Matching-from_ids}
 use Rattle.sftp_audit.proofs.steps.RunEnds.{run_end, run-of_run_end, no_run-of_run_end}
 
 pub explained_by : (start : Tree) (events : List Event) (end : Tree)

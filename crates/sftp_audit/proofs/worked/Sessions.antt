@@ -2,7 +2,7 @@
 use Rattle.sftp_audit.proofs.Imports.{◌≡◌, [], refl, sym, ◌∙◌, hex, picture, blank, Allowed, closed, waiting, broken}
 use Rattle.sftp_audit.proofs.Imports.{turn_after, Explained, started, Unexplained}
 use Rattle.sftp_path.specs.Table.{get}
-use Rattle.sftp_treefile.specs.Limits.{are_own}
+use Rattle.sftp_treefile.specs.TreeFile.{are_own}
 use Rattle.sftp_treefile.specs.TreeFile.{spelled}
 use Rattle.sftp_audit.specs.Examples.{with_a, with_a_and_b, with_a_and_b_bytes, backward_replies, one_unanswered}
 use Rattle.sftp_audit.specs.Examples.{one_answered_twice, same_directory_twice, data_for_mkdir, opendir_of_nothing}

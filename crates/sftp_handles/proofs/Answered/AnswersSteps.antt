@@ -1,9 +1,9 @@
 -- The answers that are given are steps: refusals with a code that their cause allows, and what was done.
 use Rattle.sftp_handles.proofs.Imports.{◌≡◌, ◌&&◌, ℕ, false, [], Some, None, IsTrue, lit<, and_from, not-false, Ask}
 use Rattle.sftp_handles.proofs.Imports.{Answer, Cause, Unknown, CauseSet, allows, allow, State, causes, step, IsDone}
-use Rattle.sftp_handles.proofs.Imports.{IsJudged, refusal_code, kind_of, IsAnswered, status_of}
+use Rattle.sftp_handles.proofs.Imports.{IsJudged, refusal_code, purpose_of, IsAnswered, status_of}
 use Rattle.sftp_packets.specs.declared.requests.Ask.TheVariants as asks
-use Rattle.sftp_handles.specs.declared.requests.Kind.TheVariants as kinds
+use Rattle.sftp_handles.specs.declared.requests.Purpose.TheVariants as purposes
 use Rattle.sftp_handles.proofs.Judged.Steps.{done-step}
 use Rattle.sftp_handles.proofs.Judged.Judgements.{some-holds, refused-step, judged-refused, unlike}
 use Rattle.sftp_handles.proofs.OpenFiles.SeenAnswers.{cause-holds}
@@ -24,12 +24,12 @@ refusal-step s ask cause code holds allowed =
     refused-step s ask (status_of code) (allow-by (causes s ask) cause code holds allowed)
 
 -- an extension that is not known is refused
-pub unknown-refused : (s : State) (ask : Ask) → kind_of ask ≡ kinds.Unknown → IsTrue (causes s ask Unknown)
+pub unknown-refused : (s : State) (ask : Ask) → purpose_of ask ≡ purposes.Unknown → IsTrue (causes s ask Unknown)
 unfolding causes
 unknown-refused s (asks.Unknown name rest) is = cause-holds Unknown
 unknown-refused s other is = absurd cc
 
-pub judged-unknown : (s : State) (ask : Ask) (answer : Answer) → kind_of ask ≡ kinds.Unknown
+pub judged-unknown : (s : State) (ask : Ask) (answer : Answer) → purpose_of ask ≡ purposes.Unknown
     → refusal_code answer ≡ None → IsJudged s ask answer false s
 judged-unknown s ask answer is code =
     judged-refused s ask answer Unknown (unknown-refused s ask is) (unlike s ask answer code)

@@ -2,13 +2,13 @@
 use Rattle.sftp_handles.proofs.Imports.{◌≡◌, ◌&&◌, ◌||◌, not, ℕ, ◌≤◌, Bool, true, false, List, length, refl, sym, ap}
 use Rattle.sftp_handles.proofs.Imports.{◌∙◌, IsTrue, nat_le, leb-true, and_parts, Ask, AreBytes, handle_limit, NoRoom}
 use Rattle.sftp_handles.proofs.Imports.{Refused, CauseSet, is_none, when, State, has_handle_left, Handles, is_open}
-use Rattle.sftp_handles.proofs.Imports.{is_new_handle, causes, with_handle_room, Does, kind_of, IsRefusal, IsAnswered}
+use Rattle.sftp_handles.proofs.Imports.{is_new_handle, causes, with_handle_room, Does, purpose_of, IsRefusal, IsAnswered}
 use Rattle.sftp_packets.specs.declared.requests.Ask.TheVariants.{Open, Opendir}
 use Rattle.sftp_packets.specs.declared.replies.Answer.TheVariants as replies
 use Rattle.sftp_tree.specs.Requests as paths
 use Rattle.sftp_tree.specs.Refusals as refusals_of
 use Rattle.sftp_handles.specs.Replies.{opens}
-use Rattle.sftp_handles.specs.declared.requests.Kind.TheVariants as kinds
+use Rattle.sftp_handles.specs.declared.requests.Purpose.TheVariants as purposes
 use Rattle.sftp_handles.proofs.Judged.HandleReplies.{opens-said}
 use Rattle.sftp_handles.proofs.Judged.Judgements.{answers-said}
 use Rattle.sftp_handles.proofs.OpenFiles.Opened.{refused-file, refused-listing}
@@ -31,7 +31,7 @@ room-refuses s set none full =
     no-room (is_none set && not (has_handle_left s)) set (lacks (is_none set) (has_handle_left s) none full)
 
 -- a request that no other cause refuses
-pub handles-refuse : (s : State) (ask : Ask) → kind_of ask ≡ kinds.Open → IsTrue (is_none (paths.causes s.tree ask))
+pub handles-refuse : (s : State) (ask : Ask) → purpose_of ask ≡ purposes.Open → IsTrue (is_none (paths.causes s.tree ask))
     → has_handle_left s ≡ false → IsTrue (causes s ask NoRoom)
 unfolding causes
 handles-refuse s (Open path pflags attrs) opening none full =
@@ -40,7 +40,7 @@ handles-refuse s (Opendir path) opening none full = room-refuses s (paths.causes
 handles-refuse s other opening none full = absurd cc
 
 -- one that another cause refuses
-pub path-refuses : (s : State) (ask : Ask) (refused : Refused) → kind_of ask ≡ kinds.Open
+pub path-refuses : (s : State) (ask : Ask) (refused : Refused) → purpose_of ask ≡ purposes.Open
     → refusals_of.IsRefusal s.tree ask refused → IsRefusal s ask refused
 path-refuses s (Open path pflags attrs) refused opening holds =
     refused-file s s.tree path pflags attrs refused refl holds
@@ -56,7 +56,7 @@ new-short handles handle is =
     leb-true (length handle) handle_limit
     (and_parts (nat_le (length handle) handle_limit) (not (is_open handles handle)) is).0
 
-pub handle-answered : (s : State) (ask : Ask) (handle : List ℕ) (end : State) → kind_of ask ≡ kinds.Open
+pub handle-answered : (s : State) (ask : Ask) (handle : List ℕ) (end : State) → purpose_of ask ≡ purposes.Open
     → Does s ask (replies.Handle handle) end → AreBytes handle → IsAnswered s ask (replies.Handle handle) end
 handle-answered s ask handle end is does bytes =
     let said = answers-said s ask (opens s.handles) (replies.Handle handle) (opens-said s ask is does.free) in

@@ -7,7 +7,7 @@ use Rattle.sftp_handles.proofs.Imports.{bytes_cmp, InOrder, get, put, count, ret
 use Rattle.sftp_handles.proofs.Imports.{InOrder-without, get-put, get-without, same_table, one_if, count-without, Pins}
 use Rattle.sftp_handles.proofs.Imports.{times_pinned, with_pins, with_pin, without_pin, File, Listing, Left, Handles}
 use Rattle.sftp_handles.proofs.Imports.{open_at, with_open, without_open, opens_file, times_open, pins_of}
-use Rattle.sftp_path.proofs.Table.Counts.{count-step, count-put_new, count-put_again}
+use Rattle.sftp_path.proofs.Table.Entries.{count-step, count-put_new, count-put_again}
 use Rattle.sftp_tree.proofs.TreeFiles.Contents.{number_is}
 
 -- ---- one more pin

@@ -8,7 +8,7 @@ use Rattle.sftp_packets.specs.declared.requests.Ask.TheVariants.{Open, Opendir}
 use Rattle.sftp_tree.specs.Requests.{plain_causes, causes as tree_causes}
 use Rattle.sftp_handles.proofs.Good.NewStates.{state_of}
 use Rattle.sftp_handles.proofs.Imports.{◌<◌, ◌+◌, Good, arith, leb-true}
-use Rattle.sftp_treefile.specs.Limits.{highest_limits}
+use Rattle.sftp_treefile.specs.TreeFile.{highest_limits}
 
 -- one more handle may be opened exactly if the handles with a new one are not too many
 pub left-fits : (s : State) (handle : List ℕ) (it : Opened) → open_at s.handles handle ≡ None

@@ -4,12 +4,12 @@ use Rattle.sftp_handles.proofs.Imports.{Ok, Err, refl, sym, ap, subst, ◌∙◌
 use Rattle.sftp_handles.proofs.Imports.{handle_limit, asked_handle, Place, Cause, Tree, reached, is_none, done, led}
 use Rattle.sftp_handles.proofs.Imports.{led_to, new_led, told_at, follows, IsFree, free-led, lost-first, Handles}
 use Rattle.sftp_handles.proofs.Imports.{is_open, State, has_handle_left, refuses, is_new_handle, causes, said_to}
-use Rattle.sftp_handles.proofs.Imports.{said_by, told_to, Does, IsJudged, refusal_code, kind_of}
+use Rattle.sftp_handles.proofs.Imports.{said_by, told_to, Does, IsJudged, refusal_code, purpose_of}
 use Rattle.sftp_packets.specs.declared.requests.Ask.TheVariants as asks
 use Rattle.sftp_tree.specs.declared.causes.Refused.TheVariants as refusals
 use Rattle.sftp_tree.specs.Requests as paths
 use Rattle.sftp_handles.specs.Replies.{opens}
-use Rattle.sftp_handles.specs.declared.requests.Kind.TheVariants as kinds
+use Rattle.sftp_handles.specs.declared.requests.Purpose.TheVariants as purposes
 use Rattle.sftp_handles.specs.declared.not_opened.NotOpened.{NotOpened}
 use Rattle.sftp_handles.specs.declared.not_opened.NotOpened.TheVariants.{Taken, Refused}
 use Rattle.sftp_handles.specs.Opening.{IsNotOpened, not_opened}
@@ -33,7 +33,7 @@ path-opens s ask (Ok place) leads free each =
     ap (λ end. said_by s.handles (led_to done end (told_at s.tree ask))) leads ∙ each place
 path-opens s ask (Err failed) leads free each = absurd (led-nowhere s.tree ask failed leads free)
 
-pub opens-said : (s : State) (ask : Ask) → kind_of ask ≡ kinds.Open → is_none (causes s ask) ≡ true
+pub opens-said : (s : State) (ask : Ask) → purpose_of ask ≡ purposes.Open → is_none (causes s ask) ≡ true
     → said_to s ask (asked_handle ask) ≡ opens s.handles
 unfolding causes led
 opens-said s (asks.Open path pflags attrs) is free =
@@ -45,7 +45,7 @@ opens-said s (asks.Opendir path) is free =
 opens-said s other is free = absurd cc
 
 -- one more handle may be opened
-opens-room : (s : State) (ask : Ask) → kind_of ask ≡ kinds.Open → is_none (causes s ask) ≡ true
+opens-room : (s : State) (ask : Ask) → purpose_of ask ≡ purposes.Open → is_none (causes s ask) ≡ true
     → has_handle_left s ≡ true
 unfolding causes
 opens-room s (asks.Open path pflags attrs) is free =
@@ -57,7 +57,7 @@ opens-room s other is free = absurd cc
 -- ---- answers
 
 -- an answer that gives no new handle
-judged-old : (s : State) (ask : Ask) (answer : Answer) → kind_of ask ≡ kinds.Open
+judged-old : (s : State) (ask : Ask) (answer : Answer) → purpose_of ask ≡ purposes.Open
     → refuses (causes s ask) answer ≡ false
     → (is_none (causes s ask) ≡ true → is_new_handle s.handles answer ≡ false) → IsJudged s ask answer false s
 judged-old s ask answer is other old =
@@ -70,7 +70,7 @@ no-handle : (handles : Handles) (answer : Answer) → ((name : List ℕ) → ans
 no-handle handles (Handle name) other = absurd (other name refl)
 no-handle handles answer other = refl
 
-pub judged-no_handle : (s : State) (ask : Ask) (answer : Answer) → kind_of ask ≡ kinds.Open
+pub judged-no_handle : (s : State) (ask : Ask) (answer : Answer) → purpose_of ask ≡ purposes.Open
     → refusal_code answer ≡ None → ((name : List ℕ) → answer ≡ Handle name → ⊥) → IsJudged s ask answer false s
 judged-no_handle s ask answer is code other =
     judged-old s ask answer is (unlike s ask answer code) (λ free. no-handle s.handles answer other)
@@ -80,7 +80,7 @@ not-both true b is holds = absurd (let clash : true ≡ false = sym holds ∙ is
 not-both false b is holds = refl
 
 -- the name is too long, or no more handles may be opened
-pub judged-lacking : (s : State) (ask : Ask) (handle : List ℕ) → kind_of ask ≡ kinds.Open
+pub judged-lacking : (s : State) (ask : Ask) (handle : List ℕ) → purpose_of ask ≡ purposes.Open
     → (nat_le (length handle) handle_limit && has_handle_left s) ≡ false → IsJudged s ask (Handle handle) false s
 judged-lacking s ask handle is lacks =
     judged-old s ask (Handle handle) is refl
@@ -89,7 +89,7 @@ judged-lacking s ask handle is lacks =
     (not-both (nat_le (length handle) handle_limit) (has_handle_left s) lacks (opens-room s ask is free)))
 
 -- the name is open
-judged-taken : (s : State) (ask : Ask) (handle : List ℕ) → kind_of ask ≡ kinds.Open
+judged-taken : (s : State) (ask : Ask) (handle : List ℕ) → purpose_of ask ≡ purposes.Open
     → is_open s.handles handle ≡ true → IsJudged s ask (Handle handle) false s
 judged-taken s ask handle is taken =
     judged-old s ask (Handle handle) is refl
@@ -104,7 +104,7 @@ judged-opened s ask given wanted handle end is_wanted is_handle does =
 
 -- nothing was opened
 pub judged-failed : (s : State) (ask : Ask) (wanted handle : List ℕ) (end : State) (failed : NotOpened)
-    → kind_of ask ≡ kinds.Open → wanted ≡ handle → IsNotOpened s ask wanted failed → end ≡ s
+    → purpose_of ask ≡ purposes.Open → wanted ≡ handle → IsNotOpened s ask wanted failed → end ≡ s
     → IfOk (not_opened failed) (λ ok. IsJudged s ask (Handle handle) ok end)
 judged-failed s ask wanted handle end Taken is is_handle taken kept =
     subst (IsJudged s ask (Handle handle) false) (sym kept)

@@ -7,13 +7,13 @@ use Rattle.sftp_handles.proofs.Imports.{told_at, has_step, outcome, IsFree, pins
 use Rattle.sftp_handles.proofs.Imports.{open_at, State, Good, settled, Needed, anything, a_file, a_listing, seen}
 use Rattle.sftp_handles.proofs.Imports.{seen_among, seen_file, has_code, Row, row_of, said_of, causes, path_causes}
 use Rattle.sftp_handles.proofs.Imports.{path_said, causes_by, after, after_by, told_to, said_to, said_by, with_new}
-use Rattle.sftp_handles.proofs.Imports.{flags_of, opened_by, IsJudged, IsDone, IsRefusal, refusal_code, kind_of}
+use Rattle.sftp_handles.proofs.Imports.{flags_of, opened_by, IsJudged, IsDone, IsRefusal, refusal_code, purpose_of}
 use Rattle.sftp_packets.specs.declared.requests.Ask.TheVariants as asks
 use Rattle.sftp_tree.specs.declared.causes.Refused.TheVariants as refusals
 use Rattle.sftp_tree.specs.Requests as paths
 use Rattle.sftp_tree.specs.Refusals as of_tree
 use Rattle.sftp_handles.specs.Replies.{ok}
-use Rattle.sftp_handles.specs.declared.requests.Kind.TheVariants.{Change}
+use Rattle.sftp_handles.specs.declared.requests.Purpose.TheVariants.{Change}
 use Rattle.sftp_handles.specs.Judged.{is_done, changes_by, changes_tree}
 use Rattle.sftp_handles.proofs.Good.NewStates.{state_of, settled-pinned}
 use Rattle.sftp_handles.proofs.Judged.Judgements.{not-answered, answers-said, unlike, judged-none, judged-ok}
@@ -110,7 +110,7 @@ record IsOk (ask : Ask) : Type 0 where
   pub no_listing : (row_of ask).needed ≢ a_listing
   pub told : (bounds : TreeLimits) (before : Content) → (row_of ask).said_of_file bounds before ≡ ok
 
-is-ok : (ask : Ask) → kind_of ask ≡ Change → IsOk ask
+is-ok : (ask : Ask) → purpose_of ask ≡ Change → IsOk ask
 is-ok (asks.Close handle) is = record { no_listing = λ needs. cc; told = λ bounds before. refl }
 is-ok other is = record { no_listing = λ needs. cc; told = λ bounds before. cc }
 
@@ -128,7 +128,7 @@ module _ (bounds : TreeLimits) (row : Row) (told : (before : Content) → row.sa
   seen-ok files a_file (Some (Listing left)) other = refl
   seen-ok files a_listing (Some it) other = absurd (other refl)
 
-module _ (s : State) (ask : Ask) (is : kind_of ask ≡ Change) where
+module _ (s : State) (ask : Ask) (is : purpose_of ask ≡ Change) where
   said-ok : (named : Option (List ℕ)) → asked_handle ask ≡ named → said_to s ask named ≡ ok
   unfolding seen
   said-ok None asked = path-ok s ask (λ i. changes_by (is i) (asked i))
@@ -140,7 +140,7 @@ module _ (s : State) (ask : Ask) (is : kind_of ask ≡ Change) where
   change-said = said-ok (asked_handle ask) refl
 
 -- an answer that does not say OK
-pub judged-other_answer : (s : State) (ask : Ask) (answer : Answer) → kind_of ask ≡ Change
+pub judged-other_answer : (s : State) (ask : Ask) (answer : Answer) → purpose_of ask ≡ Change
     → refusal_code answer ≡ None → has_code 0 answer ≡ false → IsJudged s ask answer false s
 judged-other_answer s ask answer is code other =
     judged-none s ask answer

@@ -7,7 +7,7 @@ use Rattle.sftp_handles.proofs.Imports.{IsFree, stat_ask, PathsLeadWell, Opened,
 use Rattle.sftp_handles.proofs.Imports.{settled, a_file, seen, seen_among, Said, says, Row, row_of, change_of}
 use Rattle.sftp_handles.proofs.Imports.{change_file, nothing, causes, answers, after, after_by, told_to, said_by}
 use Rattle.sftp_handles.proofs.Imports.{said_to, opened_by, flags_of, with_new, changed, path_said, IsJudged, IsRefusal}
-use Rattle.sftp_handles.proofs.Imports.{refusal_code, kind_of, FitsSaid, Carries, IsReplyOf, IsAnswered, said_in}
+use Rattle.sftp_handles.proofs.Imports.{refusal_code, purpose_of, FitsSaid, Carries, IsReplyOf, IsAnswered, said_in}
 use Rattle.sftp_handles.proofs.Imports.{answer_of}
 use Rattle.sftp_packets.specs.declared.requests.Ask.TheVariants as asks
 use Rattle.sftp_tree.specs.declared.causes.Refused.TheVariants as refusals
@@ -17,7 +17,7 @@ use Rattle.sftp_tree.specs.Told.{shown_to, text_to}
 use Rattle.sftp_tree.specs.Refusals as of_tree
 use Rattle.sftp_handles.specs.Replies.{shows, names}
 use Rattle.sftp_handles.specs.declared.payloads.Payload.{Payload}
-use Rattle.sftp_handles.specs.declared.requests.Kind.TheVariants.{Query}
+use Rattle.sftp_handles.specs.declared.requests.Purpose.TheVariants.{Query}
 use Rattle.sftp_handles.proofs.Good.GoodStates.{good-settled}
 use Rattle.sftp_handles.proofs.Judged.Judgements.{answers-said, unlike, judged-still}
 use Rattle.sftp_handles.proofs.Answered.LimitsAnswers.{limits-still}
@@ -34,19 +34,19 @@ nothing-changes t None = refl
 nothing-changes t (Some (Ok place)) = refl
 nothing-changes t (Some (Err cause)) = refl
 
-path-left : (t : Tree) (ask : Ask) → kind_of ask ≡ Query → asked_handle ask ≡ None → IsTrue (has_step ask)
+path-left : (t : Tree) (ask : Ask) → purpose_of ask ≡ Query → asked_handle ask ≡ None → IsTrue (has_step ask)
     → outcome t ask ≡ t
 unfolding outcome
 path-left t (asks.Stat path) is asked on = nothing-changes t (led t (asks.Stat path))
 path-left t other is asked on = first_of (cc, search nothing-changes)
 
-path-causes : (s : State) (ask : Ask) → kind_of ask ≡ Query → asked_handle ask ≡ None → IsTrue (has_step ask)
+path-causes : (s : State) (ask : Ask) → purpose_of ask ≡ Query → asked_handle ask ≡ None → IsTrue (has_step ask)
     → causes s ask ≡ paths.causes s.tree ask
 unfolding causes
 path-causes s (asks.Stat path) is asked on = refl
 path-causes s other is asked on = cc
 
-path-said : (s : State) (ask : Ask) → kind_of ask ≡ Query → asked_handle ask ≡ None → IsTrue (has_step ask)
+path-said : (s : State) (ask : Ask) → purpose_of ask ≡ Query → asked_handle ask ≡ None → IsTrue (has_step ask)
     → path_said s ask ≡ said_by s.handles (told_to s.tree ask)
 path-said s (asks.Stat path) is asked on = refl
 path-said s other is asked on = cc
@@ -58,7 +58,7 @@ opens-none pflags None at none = refl
 opens-none pflags (Some (Ok place)) at none = none place
 opens-none pflags (Some (Err cause)) at none = refl
 
-module _ (s : State) (ask : Ask) (is : kind_of ask ≡ Query) (asked : asked_handle ask ≡ None)
+module _ (s : State) (ask : Ask) (is : purpose_of ask ≡ Query) (asked : asked_handle ask ≡ None)
     (on : IsTrue (has_step ask)) where
   path-still : ((place : Place) → opened_by (flags_of ask) (told_at s.tree ask place) ≡ None) → (answer : Answer)
       → Good s → after s ask answer ≡ s
@@ -189,7 +189,7 @@ module _ (s : State) (ask : Ask) (handle : List ℕ) (asked : asked_handle ask �
 
 -- ---- all queries
 
-query-still : (s : State) (ask : Ask) (answer : Answer) → kind_of ask ≡ Query → Good s → after s ask answer ≡ s
+query-still : (s : State) (ask : Ask) (answer : Answer) → purpose_of ask ≡ Query → Good s → after s ask answer ≡ s
 query-still s (asks.Stat path) answer is good =
     path-still s (asks.Stat path) refl refl refl (λ place. refl) answer good
 query-still s (asks.Lstat path) answer is good =
@@ -206,13 +206,13 @@ query-still s (asks.Read handle offset len) answer is good =
 query-still s other answer is good = absurd cc
 
 -- an answer is allowed exactly if it carries what the query asks for
-pub judged-query : (s : State) (ask : Ask) (said : Said) (answer : Answer) (fits : Bool) → kind_of ask ≡ Query
+pub judged-query : (s : State) (ask : Ask) (said : Said) (answer : Answer) (fits : Bool) → purpose_of ask ≡ Query
     → refusal_code answer ≡ None → Carries s ask said → fits ≡ says said answer → IsJudged s ask answer fits s
 judged-query s ask said answer fits is code carries fits_is =
     judged-still s ask answer fits (unlike s ask answer code) (λ e. query-still s ask answer is carries.good)
     (sym (ap (λ b. b && answers s ask answer) carries.free ∙ (answers-said s ask said answer carries.is ∙ sym fits_is)))
 
-pub answered-query : (s : State) (ask : Ask) (payload : Payload) (answer : Answer) → kind_of ask ≡ Query
+pub answered-query : (s : State) (ask : Ask) (payload : Payload) (answer : Answer) → purpose_of ask ≡ Query
     → Carries s ask (said_in payload) → answer ≡ answer_of payload → IsAnswered s ask answer s
 answered-query s ask payload answer is carries same =
     let reply = subst (IsReplyOf (said_in payload)) (sym same) (payload-reply payload carries.fits) in

@@ -7,7 +7,7 @@ use Rattle.sftp_handles.proofs.Imports.{each-get, bytes-dropped, Open, File, Lis
 use Rattle.sftp_handles.proofs.Imports.{IsHandle, IsLeft, Needed, anything, a_file, a_listing, seen, seen_among}
 use Rattle.sftp_handles.proofs.Imports.{seen_file, FitsData, FitsSaid, row_of, said_of, seen_by}
 use Rattle.sftp_packets.specs.declared.requests.Ask.TheVariants as asks
-use Rattle.sftp_treefile.specs.Limits.{highest_limits}
+use Rattle.sftp_treefile.specs.TreeFile.{highest_limits}
 use Rattle.sftp_handles.specs.Replies.{gives, ended}
 use Rattle.sftp_handles.specs.RequestRows.{listed}
 use Rattle.sftp_listing.proofs.FirstListings.{content-shown}

@@ -4,8 +4,8 @@ ghost use Rattle.sftp_packets.specs.Spelling.{handle_limit};
 ghost use Rattle.sftp_packets.specs.declared.requests.Ask.TheVariants as asks;
 ghost use Rattle.sftp_handles.specs.Handles.{open_at, is_open};
 ghost use Rattle.sftp_handles.specs.State as state;
-ghost use Rattle.sftp_handles.specs.declared.requests.Kind.TheVariants as variants;
-ghost use Rattle.sftp_handles.specs.Kinds as kinds;
+ghost use Rattle.sftp_handles.specs.declared.requests.Purpose.TheVariants as variants;
+ghost use Rattle.sftp_handles.specs.Purposes as purposes;
 ghost use Rattle.sftp_handles.specs.FirstNames.{AreFirstNames, AreUpTo, names_in_reply};
 ghost use Rattle.sftp_handles.specs.Judged.{IsRefusal};
 ghost use Rattle.sftp_handles.specs.Answered.{IsAnswered};
@@ -29,7 +29,7 @@ impl<T: HandleTable> Session<T> {
     ///
     /// `Cause` with the first cause that holds. `NoMemory` if memory runs out. On error the session is unchanged.
     pub(crate) fn answer_open(&mut self, ask: &Ask) -> Result<Answer, Refused>
-        requires { kinds.kind_of ask.now ≡ variants.Open }
+        requires { purposes.purpose_of ask.now ≡ variants.Open }
         ensures done { IfOk result (λ answer. IsAnswered self.old ask.now answer self.new) }
         ensures refused { IfErr result (IsRefusal self.old ask.now) }
         ensures kept { OnErr result (self.new ≡ self.old) }
@@ -63,7 +63,7 @@ impl<T: HandleTable> Session<T> {
     /// If there is none, `Cause` with the first cause that holds: one of the path's, or else `NoRoom`. `NoMemory` if
     /// memory runs out.
     fn check_handles(&self, ask: &Ask) -> Result<(), Refused>
-        requires { kinds.kind_of ask.now ≡ variants.Open }
+        requires { purposes.purpose_of ask.now ≡ variants.Open }
         ensures left { OnOk result (IsTrue (state.has_handle_left self.now)) }
         ensures refused { IfErr result (IsRefusal self.now ask.now) }
     {
@@ -80,7 +80,7 @@ impl<T: HandleTable> Session<T> {
     ///
     /// The cause that holds. `NoMemory` if memory runs out. On error the session is unchanged.
     pub(crate) fn answer_list(&mut self, ask: &Ask) -> Result<Answer, Refused>
-        requires { kinds.kind_of ask.now ≡ variants.List }
+        requires { purposes.purpose_of ask.now ≡ variants.List }
         ensures done { IfOk result (λ answer. IsAnswered self.old ask.now answer self.new) }
         ensures refused { IfErr result (IsRefusal self.old ask.now) }
         ensures kept { OnErr result (self.new ≡ self.old) }

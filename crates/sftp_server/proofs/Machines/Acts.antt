@@ -7,7 +7,7 @@ use Rattle.sftp_server.proofs.Imports.{StepOf, Run, window, Exchange, StandsFor,
 use Rattle.sftp_server.proofs.Imports.{Act, Deliver, Work, Send, Machine, ClashOf, at_start, taken, can_take, is_unsent}
 use Rattle.sftp_server.proofs.Imports.{is_free_of, ready_in, is_ready, reply_at, from_unsent, IsWorked, IsSent, IsIdle}
 use Rattle.sftp_server.proofs.Imports.{IsDelivery, IsWork, IsSend, IsAct, AreActs, Delivers, all_both}
-use Rattle.sftp_transcript.proofs.pairing.Standing.{stands_from_start}
+use Rattle.sftp_transcript.proofs.pairing.{stands_from_start}
 use Rattle.sftp_server.proofs.Machines.Premises.{Premises}
 use Rattle.sftp_server.proofs.Machines.Histories.{Fate, Item, Pair, pending, done, sent, progress_of, entry_of}
 use Rattle.sftp_server.proofs.Machines.Histories.{entries_of, ledger_of, answered, sent_first, unsent_on, IsItem}

@@ -3,7 +3,7 @@ use Rattle.sftp_server.proofs.Imports.{◌≡◌, true, List, [], ◌∷◌, ◌
 use Rattle.sftp_server.proofs.Imports.{append_assoc, append-nil, inr, AllByRecursion, and_from, Request, Reply, Event}
 use Rattle.sftp_server.proofs.Imports.{Replied, IsEvent, StepOf, Run, Explained, BeginsFrom, leading_pairs}
 use Rattle.sftp_server.proofs.Imports.{exchanges_of, in_window, Exchange, StandsFor, keeps_window, Machine, ClashOf}
-use Rattle.sftp_transcript.proofs.pairing.Standing.{stands_replied, complete}
+use Rattle.sftp_transcript.proofs.pairing.{stands_replied, complete}
 use Rattle.sftp_server.proofs.Machines.Premises.{Premises}
 use Rattle.sftp_server.proofs.Machines.Histories.{Item, Pair, pending, done, sent, entries_of, ledger_of, answered}
 use Rattle.sftp_server.proofs.Machines.Histories.{IsItem, Finishes, RunsOn, Follows}

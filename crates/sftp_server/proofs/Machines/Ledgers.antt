@@ -4,8 +4,8 @@ use Rattle.sftp_server.proofs.Imports.{length, refl, sym, ap, subst, ◌∙◌, 
 use Rattle.sftp_server.proofs.Imports.{length-append, map-append, Request, Reply, Event, Asked, Replied, leading_pairs}
 use Rattle.sftp_server.proofs.Imports.{window, Exchange, keeps_window, StandsFor, is_unsent, from_unsent, length-map}
 use Rattle.sftp_server.proofs.Imports.{is_open, IsAnswered}
-use Rattle.sftp_transcript.proofs.pairing.Standing.{stands_asked, stands_replied, is_open-append, none_open}
-use Rattle.sftp_transcript.proofs.pairing.Standing.{keeps_window-answered, keeps_window-few}
+use Rattle.sftp_transcript.proofs.pairing.{stands_asked, stands_replied, is_open-append, none_open}
+use Rattle.sftp_transcript.proofs.pairing.{keeps_window-answered, keeps_window-few}
 use Rattle.sftp_server.proofs.Machines.Histories.{Item, Pair, pending, done, sent, entry_of, entries_of, ledger_of}
 use Rattle.sftp_server.proofs.Machines.Histories.{exchange_of, answered, sent_first, unsent_on}
 

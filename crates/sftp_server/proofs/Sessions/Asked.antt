@@ -10,7 +10,7 @@ use Rattle.sftp_server.proofs.Imports.{Front, Refuse, Machine, taken, can_take, 
 use Rattle.sftp_server.proofs.Imports.{fault_of, found_refused, TakesOn, session_packets, sent_by, recorded, IsListed}
 use Rattle.sftp_server.proofs.Imports.{IsBeginning, IsCutInLast, StreamBytes, stream_bytes, Passed, Stops, tree_left}
 use Rattle.sftp_server.proofs.Imports.{IsLogging, Ahead, IsRunning, IsFaultAhead, all_more, ahead_without}
-use Rattle.sftp_packets.proofs.PacketLaws.Values.{encoded-ask}
+use Rattle.sftp_packets.proofs.PacketLaws.{encoded-ask}
 use Rattle.sftp_handles.proofs.TotalSteps.SpelledRequests.{spelled-askable}
 use Rattle.sftp_server.specs.declared.ends.SessionFault.TheVariants as faults
 use Rattle.sftp_server.specs.declared.ends.Stop.TheVariants as stops

@@ -14,7 +14,7 @@ use Rattle.sftp_server.proofs.Imports.{IsLeftAfter}
 use Rattle.sftp_packets.specs.declared.packets.Packet.TheVariants.{Version, Request, Reply}
 use Rattle.sftp_server.specs.Opening.{IsFirst, IsInFront, IsGreetingOf}
 use Rattle.std.specs.Result.{IsErrAnd}
-use Rattle.sftp_transcript.specs.Records.{IsInit}
+use Rattle.sftp_transcript.specs.Transcript.{IsInit}
 use Rattle.sftp_server.specs.declared.ends.SessionFault.TheVariants as faults
 use Rattle.sftp_server.specs.declared.ends.Stop.TheVariants as stops
 use Rattle.sftp_server.specs.declared.ends.Stream.TheVariants as streams

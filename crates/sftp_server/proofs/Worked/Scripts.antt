@@ -19,7 +19,7 @@ use Rattle.sftp_tree.specs.declared.nodes.Node.TheVariants.{Dir}
 use Rattle.sftp_tree.specs.Walk.{meets, walk, walk_parts, reached}
 use Rattle.sftp_tree.specs.Causes.{no_causes, when, joined}
 use Rattle.sftp_tree.specs.Picture.{blank}
-use Rattle.sftp_transcript.proofs.pairing.Turns.{Matching-from_ids}
+use Rattle.sftp_transcript.proofs.pairing.{Matching-from_ids}
 
 -- ---- requests and replies
 

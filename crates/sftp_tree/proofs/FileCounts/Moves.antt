@@ -6,7 +6,7 @@ use Rattle.sftp_tree.proofs.Imports.{InOrder, rekeyed, NothingFrom}
 use Rattle.sftp_tree.proofs.Imports.{place_cmp-total, get-without}
 use Rattle.sftp_tree.proofs.Imports.{get-without_here, InOrder-without}
 use Rattle.sftp_tree.proofs.Imports.{Node, Names, node_at, without_node, names_file, times_named}
-use Rattle.sftp_path.proofs.Move.Entries.{count-rekeyed}
+use Rattle.sftp_path.proofs.Move.{count-rekeyed}
 use Rattle.sftp_tree.proofs.FileCounts.Names.{one_name, named-without}
 
 -- ---- a place that is freed

@@ -5,7 +5,7 @@ use Rattle.sftp_tree.proofs.Imports.{NothingFrom, place_cmp-total, place_cmp-sam
 use Rattle.sftp_tree.proofs.Imports.{all-put_new, all-without, keys-put_again, values-put, size-rekeyed, Content, Node}
 use Rattle.sftp_tree.proofs.Imports.{Tree, limits, entries_fit, depths_fit, links_fit, files_fit, depth_fits, link_fits}
 use Rattle.sftp_tree.proofs.Imports.{content_fits, node_at, with_node, without_node, content_at, with_content, moved}
-use Rattle.sftp_path.proofs.Move.Tests.{all-rekeyed}
+use Rattle.sftp_path.proofs.Move.{all-rekeyed}
 use Rattle.sftp_tree.proofs.PlaceTables.Removals.{length-without}
 
 -- ---- an entry at a new place

@@ -8,7 +8,7 @@ use Rattle.sftp_tree.proofs.Imports.{place_cmp-same, begins-front, begins-itself
 use Rattle.sftp_tree.proofs.Imports.{renamed-outside, length-renamed, size-rekeyed, without-absent, Node, Names, Tree}
 use Rattle.sftp_tree.proofs.Imports.{IsKept, limits, fits, depth_fits, link_fits, node_at, without_node, is_taken}
 use Rattle.sftp_tree.proofs.Imports.{reaches_at_most, move_fits, moved, put_in_its_stead}
-use Rattle.sftp_path.proofs.Move.Tests as tests
+use Rattle.sftp_path.proofs.Move as tests
 use Rattle.sftp_tree.proofs.Limits.Entries.{fits-names}
 use Rattle.sftp_tree.proofs.PlaceTables.Removals.{length-without}
 use Rattle.sftp_tree.proofs.Limits.Tests.{Fits, fits-parts}

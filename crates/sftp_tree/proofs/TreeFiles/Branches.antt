@@ -4,7 +4,7 @@ use Rattle.std.specs.Prelude.{Option}
 use Rattle.std.specs.Io.KnownBytes.{Appends}
 use Rattle.std.proofs.KnownBytes.{Appends-nil}
 use Rattle.sftp_streams.specs.Streams.{AppendsPart}
-use Rattle.sftp_streams.proofs.Putting.{Appends-then, AppendsPart-first, AppendsPart-then}
+use Rattle.sftp_streams.proofs.Buffers.{Appends-then, AppendsPart-first, AppendsPart-then}
 use Rattle.sftp_tree.proofs.Imports.{refl, sym, ap, subst, ◌∙◌, append_assoc, append-nil, arith, flat_map-append}
 use Rattle.sftp_tree.proofs.Imports.{length-append, take-append_seam, flat_map, AllByRecursion, nat_cmp, IsTrue, Name}
 use Rattle.sftp_tree.proofs.Imports.{Place, place_cmp, absolute, InOrder, get, get-empty, Owner, Row, row_text, Child}

@@ -4,7 +4,7 @@ use Rattle.sftp_tree.proofs.Imports.{is_good_path, get, TreeFile, usual_limits, 
 use Rattle.sftp_tree.proofs.Imports.{spelled, IsPlaceText, IsTreeFile, IsSpelled, usual_are, IsKept, raised, IsStart}
 use Rattle.sftp_tree.proofs.Imports.{picture, blank, user_owner, linked, two_names, two_names_bytes}
 use Rattle.sftp_treefile.specs.declared.files.Kind.TheVariants as kinds
-use Rattle.sftp_treefile.specs.Limits.{are_own}
+use Rattle.sftp_treefile.specs.TreeFile.{are_own}
 use Rattle.sftp_tree.proofs.KeptTrees.Raised.{raised-start}
 use Rattle.sftp_tree.proofs.TreeFiles.Files.{blank_kept, kept_of_file, start_of_spelled}
 

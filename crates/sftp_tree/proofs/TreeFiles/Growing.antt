@@ -7,8 +7,8 @@ use Rattle.sftp_tree.proofs.Imports.{are_names, InOrder, put, place_cmp-total, b
 use Rattle.sftp_tree.proofs.Imports.{Row, TreeLimits, place_of, is_dir, IsOwner, IsNext, AreRows, IsLast, Node, Names}
 use Rattle.sftp_tree.proofs.Imports.{with_node, open_after, names_of, known_node}
 use Rattle.sftp_treefile.specs.declared.files.Kind.TheVariants as kinds
-use Rattle.sftp_treefile.proofs.Order.LastEntry.{no_last, last_more, begins_last, begun_whole}
-use Rattle.sftp_treefile.proofs.Texts.Entries.{follows_next}
+use Rattle.sftp_treefile.proofs.Order.{no_last, last_more, begins_last, begun_whole}
+use Rattle.sftp_treefile.proofs.Texts.Heads.{follows_next}
 use Rattle.sftp_tree.proofs.Nesting.Growth.{front_open}
 use Rattle.sftp_tree.proofs.PlaceTables.Rising.{insert_last}
 use Rattle.sftp_tree.proofs.TreeFiles.Files.{table_of_file}

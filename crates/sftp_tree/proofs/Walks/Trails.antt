@@ -2,7 +2,7 @@
 use Rattle.sftp_tree.proofs.Imports.{◌≡◌, ℕ, ◌-◌, suc, List, [], ◌∷◌, ◌++◌, length, take, append-nil, append_assoc}
 use Rattle.sftp_tree.proofs.Imports.{arith, refl, sym, ap, subst, ◌∙◌, Option, Some, None, option_copied, Bor, Name}
 use Rattle.sftp_tree.proofs.Imports.{Place, parent, get, Owner, Child, Names, node_at, branch, branch_of, Standing}
-use Rattle.sftp_tree.proofs.Imports.{IsAt, root_of, AreAlong, LeadTo, IsLentAt}
+use Rattle.sftp_tree.proofs.Imports.{IsAt, root_of, AreAlong, DescendTo, IsLentAt}
 use Rattle.sftp_tree.specs.declared.nodes.Node.TheVariants as nodes
 use Rattle.sftp_tree.specs.declared.entries.directories.Child.TheVariants as children
 use Rattle.sftp_tree.specs.declared.entries.seen.Seen.TheVariants.{Dir, File, Link}
@@ -23,13 +23,13 @@ along-here (dir ∷ above) (name ∷ names) here along rest =
     along-here above names here along.1 rest ∙ along.0 (names ++ rest)
 
 pub lead-here : (root : Bor Names) (between : List (Bor Names)) (at : Place) (here : Bor Names)
-    → LeadTo root between at here → IsAt root.now at here.now
+    → DescendTo root between at here → IsAt root.now at here.now
 lead-here root between [] here lead rest = ap (λ (dir : Bor Names). node_at dir.now rest) lead.1
 lead-here root between (name ∷ names) here lead rest = along-here (root ∷ between) (name ∷ names) here lead rest
 
 -- a child at its name
 lead-child : (root : Bor Names) (between : List (Bor Names)) (at : Place) (here : Bor Names) (name : Name)
-    (rest : Place) → LeadTo root between at here
+    (rest : Place) → DescendTo root between at here
     → node_at root.now ((at ++ name ∷ []) ++ rest) ≡ node_at here.now (name ∷ rest)
 lead-child root between at here name rest lead = ap (node_at root.now) (append_assoc at (name ∷ []) rest)
     ∙ sym (lead-here root between at here lead (name ∷ rest))
@@ -47,34 +47,34 @@ along-push (dir ∷ above) (first ∷ names) here child name along is = (
 
 -- from the root
 first-down : (root : Bor Names) (between : List (Bor Names)) (at : Place) (here child : Bor Names) (name : Name)
-    → LeadTo root between at here → IsAt root.now (at ++ name ∷ []) child.now → length at ≡ 0
-    → LeadTo root between (at ++ name ∷ []) child
+    → DescendTo root between at here → IsAt root.now (at ++ name ∷ []) child.now → length at ≡ 0
+    → DescendTo root between (at ++ name ∷ []) child
 first-down root between [] here child name lead is none =
-    subst (λ dirs. LeadTo root dirs (name ∷ []) child) (sym lead.0) (is, tt)
+    subst (λ dirs. DescendTo root dirs (name ∷ []) child) (sym lead.0) (is, tt)
 first-down root between (first ∷ names) here child name lead is none = absurd (omega (arith, none))
 
 -- from a directory below
 further-down : (root : Bor Names) (between : List (Bor Names)) (at : Place) (here child : Bor Names) (name : Name)
-    → LeadTo root between at here → IsAt root.now (at ++ name ∷ []) child.now → (length at ≡ 0 → ⊥)
-    → LeadTo root (between ++ here ∷ []) (at ++ name ∷ []) child
+    → DescendTo root between at here → IsAt root.now (at ++ name ∷ []) child.now → (length at ≡ 0 → ⊥)
+    → DescendTo root (between ++ here ∷ []) (at ++ name ∷ []) child
 further-down root between [] here child name lead is some = elim (some refl) [ ]
 further-down root between (first ∷ names) here child name lead is some =
     along-push (root ∷ between) (first ∷ names) here child name lead
     (λ rest. is rest ∙ lead-child root between (first ∷ names) here name rest lead)
 
 pub lead-first : (root : Bor Names) (between : List (Bor Names)) (at after : Place) (here child : Bor Names)
-    (name : Name) → LeadTo root between at here → IsAt root.now (at ++ name ∷ []) child.now → length at ≡ 0
-    → after ≡ at ++ name ∷ [] → LeadTo root between after child
+    (name : Name) → DescendTo root between at here → IsAt root.now (at ++ name ∷ []) child.now → length at ≡ 0
+    → after ≡ at ++ name ∷ [] → DescendTo root between after child
 lead-first root between at after here child name lead is none entered =
-    subst (λ place. LeadTo root between place child) (sym entered)
+    subst (λ place. DescendTo root between place child) (sym entered)
     (first-down root between at here child name lead is none)
 
 pub lead-further : (root : Bor Names) (between longer : List (Bor Names)) (at after : Place) (here child : Bor Names)
-    (name : Name) → LeadTo root between at here → IsAt root.now (at ++ name ∷ []) child.now → (length at ≡ 0 → ⊥)
-    → after ≡ at ++ name ∷ [] → longer ≡ between ++ here ∷ [] → LeadTo root longer after child
+    (name : Name) → DescendTo root between at here → IsAt root.now (at ++ name ∷ []) child.now → (length at ≡ 0 → ⊥)
+    → after ≡ at ++ name ∷ [] → longer ≡ between ++ here ∷ [] → DescendTo root longer after child
 lead-further root between longer at after here child name lead is some entered pushed =
-    subst (λ place. LeadTo root longer place child) (sym entered)
-    (subst (λ dirs. LeadTo root dirs (at ++ name ∷ []) child) (sym pushed)
+    subst (λ place. DescendTo root longer place child) (sym entered)
+    (subst (λ dirs. DescendTo root dirs (at ++ name ∷ []) child) (sym pushed)
     (further-down root between at here child name lead is some))
 
 -- one name up
@@ -98,13 +98,13 @@ along-pop (dir ∷ above) (first ∷ second ∷ names) last here along =
     )
 
 along-lead : (root : Bor Names) (between : List (Bor Names)) (at : Place) (here : Bor Names)
-    → AreAlong (root ∷ between) at here → LeadTo root between at here
+    → AreAlong (root ∷ between) at here → DescendTo root between at here
 along-lead root between [] here along = elim along [ ]
 along-lead root between (name ∷ names) here along = along
 
 -- to a directory that is not the root
 up-between : (root : Bor Names) (between : List (Bor Names)) (at : Place) (last here : Bor Names)
-    → LeadTo root (between ++ last ∷ []) at here → LeadTo root between (parent at) last
+    → DescendTo root (between ++ last ∷ []) at here → DescendTo root between (parent at) last
 up-between root [] [] last here lead = absurd (let none : last ∷ [] ≡ [] = lead.0 in cc)
 up-between root (dir ∷ between) [] last here lead =
     absurd (let none : dir ∷ (between ++ last ∷ []) ≡ [] = lead.0 in cc)
@@ -112,33 +112,33 @@ up-between root between (name ∷ names) last here lead =
     along-lead root between (parent (name ∷ names)) last (along-pop (root ∷ between) (name ∷ names) last here lead)
 
 -- to the root, or at the root
-up-to-root : (root : Bor Names) (at : Place) (here : Bor Names) → LeadTo root [] at here → LeadTo root [] (parent at) root
+up-to-root : (root : Bor Names) (at : Place) (here : Bor Names) → DescendTo root [] at here → DescendTo root [] (parent at) root
 up-to-root root [] here lead = (refl, refl)
 up-to-root root (name ∷ []) here lead = (refl, refl)
 up-to-root root (first ∷ second ∷ names) here lead = elim lead.1 [ ]
 
 pub lead-up : (root : Bor Names) (between shorter : List (Bor Names)) (at after : Place) (last here : Bor Names)
-    → LeadTo root between at here → between ≡ shorter ++ last ∷ [] → after ≡ parent at → LeadTo root shorter after last
+    → DescendTo root between at here → between ≡ shorter ++ last ∷ [] → after ≡ parent at → DescendTo root shorter after last
 lead-up root between shorter at after last here lead popped leaves =
-    subst (λ place. LeadTo root shorter place last) (sym leaves)
-    (up-between root shorter at last here (subst (λ dirs. LeadTo root dirs at here) popped lead))
+    subst (λ place. DescendTo root shorter place last) (sym leaves)
+    (up-between root shorter at last here (subst (λ dirs. DescendTo root dirs at here) popped lead))
 
 pub lead-up-to-root : (root : Bor Names) (between shorter : List (Bor Names)) (at after : Place) (here : Bor Names)
-    → LeadTo root between at here → between ≡ [] → shorter ≡ [] → after ≡ parent at → LeadTo root shorter after root
+    → DescendTo root between at here → between ≡ [] → shorter ≡ [] → after ≡ parent at → DescendTo root shorter after root
 lead-up-to-root root between shorter at after here lead none empty leaves =
-    subst (λ place. LeadTo root shorter place root) (sym leaves)
-    (subst (λ dirs. LeadTo root dirs (parent at) root) (sym empty)
-    (up-to-root root at here (subst (λ dirs. LeadTo root dirs at here) none lead)))
+    subst (λ place. DescendTo root shorter place root) (sym leaves)
+    (subst (λ dirs. DescendTo root dirs (parent at) root) (sym empty)
+    (up-to-root root at here (subst (λ dirs. DescendTo root dirs at here) none lead)))
 
 -- at the root
 pub lead-root : (root : Bor Names) (between : List (Bor Names)) (at : Place) → between ≡ [] → at ≡ []
-    → LeadTo root between at root
+    → DescendTo root between at root
 lead-root root between [] none is = (none, refl)
 lead-root root between (name ∷ names) none is = absurd cc
 
 -- the table of a child is the one at its place
 pub lead-found : (standing : Standing) (root : Bor Names) (between : List (Bor Names)) (at : Place) (here : Bor Names)
-    (name : Name) (child : Names) → record { names = root.now; at = at } ≡ standing → LeadTo root between at here
+    (name : Name) (child : Names) → record { names = root.now; at = at } ≡ standing → DescendTo root between at here
     → ((rest : Place) → node_at here.now (name ∷ rest) ≡ node_at child rest)
     → IsAt standing.names (standing.at ++ name ∷ []) child
 lead-found standing root between at here name child seen lead below rest =

@@ -23,13 +23,13 @@ pub(crate) struct Trail<'a> {
 }
 
 impl<'a> Model for Trail<'a> {
-    ghost use Rattle.sftp_tree.specs.Trail.{Standing, LeadTo};
+    ghost use Rattle.sftp_tree.specs.Trail.{Standing, DescendTo};
 
     ghost Value = { Standing };
 
     ghost view = { λ trail. record { names = trail.root.now; at = trail.at } };
 
-    ghost invariant = { λ trail. LeadTo trail.root trail.between.items trail.at trail.here };
+    ghost invariant = { λ trail. DescendTo trail.root trail.between.items trail.at trail.here };
 }
 
 impl<'a> Trail<'a> {

@@ -4,7 +4,7 @@ ghost use Rattle.std.specs.List.{flat_map};
 ghost use Rattle.std.specs.Io.KnownBytes.{Appends};
 ghost use Rattle.sftp_streams.specs.Streams.{AppendsPart};
 ghost use Rattle.sftp_treefile.specs.TreeFile.{row_text};
-ghost use Rattle.sftp_treefile.specs.Sent.{CountsSink};
+ghost use Rattle.sftp_treefile.specs.Streamed.{CountsSink};
 ghost use Rattle.sftp_tree.specs.Nesting.{branch};
 ghost use Rattle.sftp_tree.specs.Picture.{rows_after};
 ghost use Rattle.sftp_tree.specs.Tree.{IsKept};

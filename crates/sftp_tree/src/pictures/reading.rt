@@ -1,6 +1,6 @@
 //! From what a tree file says to its tree.
 ghost use Rattle.std.specs.Prelude.{◌≡◌, ◌≤◌, [], length, IfOk, OnOk};
-ghost use Rattle.sftp_treefile.specs.Limits.{usual_limits};
+ghost use Rattle.sftp_treefile.specs.TreeFile.{usual_limits};
 ghost use Rattle.sftp_treefile.specs.TreeFile.{place_of, IsPlaceText, IsOwner, AreRows, IsTreeFile};
 ghost use Rattle.sftp_tree.specs.PictureParts as parts;
 

@@ -2,7 +2,7 @@
 ghost use Rattle.std.specs.Prelude.{◌≡◌, ◌+◌, ◌≤◌, ◌<◌, ◌++◌, [], ◌∷◌, length, take, IfOk, IsTrue};
 ghost use Rattle.std.specs.Iterator.{YieldsFirstRef};
 ghost use Rattle.sftp_path.specs.Place.{is_name};
-ghost use Rattle.sftp_treefile.specs.Limits.{highest_limits};
+ghost use Rattle.sftp_treefile.specs.TreeFile.{highest_limits};
 ghost use Rattle.sftp_treefile.specs.TreeFile.{place_of, IsPlaceText, IsOwner, AreRows};
 ghost use Rattle.sftp_tree.specs.PictureParts as parts;
 

@@ -6,7 +6,7 @@ ghost use Rattle.sftp_path.specs.Table.{get, put};
 ghost use Rattle.sftp_streams.specs.Streams.{AppendsPart};
 ghost use Rattle.sftp_treefile.specs.TreeFile.{row_text};
 ghost use Rattle.sftp_treefile.specs.TreeFileParts.{head_bytes};
-ghost use Rattle.sftp_treefile.specs.Sent.{CountsSink};
+ghost use Rattle.sftp_treefile.specs.Streamed.{CountsSink};
 ghost use Rattle.sftp_tree.specs.declared.file_contents.Content.{Content as content};
 ghost use Rattle.sftp_tree.specs.Tree.{node_at, content_at};
 ghost use Rattle.sftp_tree.specs.Picture as spec;

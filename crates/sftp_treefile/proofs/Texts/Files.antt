@@ -1,14 +1,20 @@
 -- What a tree file says is a head and its entries, and each tree file says one thing.
-use Rattle.sftp_treefile.proofs.Imports.{◌≡◌, ℕ, ◌<◌, List, [], ◌++◌, length, sym, ap, subst, ◌∙◌, append_assoc, arith}
-use Rattle.sftp_treefile.proofs.Imports.{inl, inr, flat_map, append-nil, nil_from_length, TreeError, Row, Head}
+use Rattle.sftp_treefile.proofs.Imports.{◌≡◌, ℕ, ◌<◌, List, [], ◌++◌, length, sym, ap, subst, ◌∙◌, append_assoc}
+use Rattle.sftp_treefile.proofs.Imports.{arith, inl, inr, flat_map, append-nil, nil_from_length, TreeError, Row, Head}
 use Rattle.sftp_treefile.proofs.Imports.{TreeLimits, row_text, spelled, AreRows, Reads, ReadsNone, OutOfMemoryOr}
-use Rattle.sftp_treefile.proofs.Imports.{head_bytes, IsHead, head_text, AreRead, AreNone}
+use Rattle.sftp_treefile.proofs.Imports.{head_bytes, IsHead, head_text, AreRead, AreNone, suc, zero, ◌^◌, ◌∷◌, get_or}
+use Rattle.sftp_treefile.proofs.Imports.{Kind, IsKind, KindHasLengths, HasLengths, ◌+◌, ◌≤◌, Bool, true, false, refl}
+use Rattle.sftp_treefile.proofs.Imports.{length-append, string, uint32, Owner, owner_text, kind_text, IsPlaceText}
+use Rattle.sftp_treefile.proofs.Imports.{tree_opening, limits_text, front_text, root_text, IsFileStart}
+use Rattle.sftp_treefile.proofs.Imports.{file_start_text, Follows, window, are_own}
 use Rattle.sftp_treefile.specs.declared.errors.TreeError.TheVariants.{NoMemory}
 use Rattle.sftp_treefile.specs.declared.files.TreeFile.{TreeFile}
-use Rattle.sftp_treefile.specs.TreeFile.{IsTreeFile, IsSpelled}
-use Rattle.sftp_treefile.proofs.Texts.Limits.{file_bytes_bound}
+use Rattle.sftp_treefile.specs.TreeFile.{IsTreeFile, IsSpelled, is_first}
+use Rattle.sftp_treefile.proofs.Texts.{file_bytes_bound}
 use Rattle.sftp_treefile.proofs.Texts.Heads.{head_front}
-use Rattle.sftp_treefile.proofs.Texts.Entries.{entries_are_one}
+use Rattle.sftp_treefile.proofs.Texts.Heads.{entries_are_one}
+use Rattle.sftp_treefile.specs.declared.files.Kind.TheVariants.{First, Link, Dir, Further}
+use Rattle.sftp_treefile.proofs.Texts.{path_length, target_length, file_bytes_length, path_short, target_short}
 
 -- ---- a head and entries
 
@@ -108,3 +114,63 @@ file_read bytes rest more head rows read all ended = grind (arith, nil_from_leng
 pub head_written : (file : TreeFile) → spelled file ≡ head_text file ++ flat_map row_text file.rows
 unfolding spelled
 head_written file = grind (arith, append_assoc)
+
+-- ==== What is written, piece by piece.
+
+pub two_pieces : (a b o0 o1 o2 : List ℕ) → o1 ≡ o0 ++ a → o2 ≡ o1 ++ b → o2 ≡ o0 ++ (a ++ b)
+two_pieces a b o0 o1 o2 p q = rw (q, p) (simp append_assoc)
+
+pub three_pieces : (a b c o0 o1 o2 o3 : List ℕ) → o1 ≡ o0 ++ a → o2 ≡ o1 ++ b → o3 ≡ o2 ++ c
+    → o3 ≡ o0 ++ (a ++ (b ++ c))
+three_pieces a b c o0 o1 o2 o3 p q r = rw (r, q, p) (simp append_assoc)
+
+pub four_pieces : (a b c d o0 o1 o2 o3 o4 : List ℕ) → o1 ≡ o0 ++ a → o2 ≡ o1 ++ b → o3 ≡ o2 ++ c → o4 ≡ o3 ++ d
+    → o4 ≡ o0 ++ (a ++ (b ++ (c ++ d)))
+four_pieces a b c d o0 o1 o2 o3 o4 p q r s = rw (s, r, q, p) (simp append_assoc)
+
+-- the lengths of the strings of an entry that fits can be written
+kind_lengths : (limits : TreeLimits) → limits.file_bytes < 2 ^ 32 → (earlier : List Row) (kind : Kind)
+    → IsKind limits earlier kind → KindHasLengths kind
+kind_lengths limits bound earlier (First owner bytes) fits = file_bytes_length limits bound bytes (fits.1, fits.2)
+kind_lengths limits bound earlier (Link target) fits = target_length target fits
+kind_lengths limits bound earlier other fits = tt
+
+pub row_at_place : (limits : TreeLimits) → limits.file_bytes < 2 ^ 32 → (earlier rows : List Row) (i : ℕ) (row : Row)
+    → AreRows limits earlier rows → i < length rows → row ≡ get_or rows i row → HasLengths row
+row_at_place limits bound earlier [] i row fits lt is = absurd (omega arith)
+row_at_place limits bound earlier (r ∷ rows) zero row fits lt is = grind (arith, path_length, kind_lengths)
+row_at_place limits bound earlier (r ∷ rows) (suc i) row fits lt is =
+    row_at_place limits bound (earlier ++ r ∷ []) rows i row fits.1 (omega arith) is
+
+-- ==== What is read of the bytes held is short: a path, a head, and what an entry says besides the bytes of a file.
+
+string_length : (text : List ℕ) → length (string text) ≡ 4 + length text
+string_length text = length-append (uint32 (length text)) text
+
+pub path_bound : (rows : List Row) (text : List ℕ) → Follows rows text → length (string text) ≤ window
+path_bound rows text fits = omega (arith, string_length text, path_short text fits.text)
+
+pub start_bound : (start : Owner × ℕ) → IsFileStart start → length (file_start_text start) ≤ window
+start_bound start fits = omega arith
+
+pub kind_bound : (limits : TreeLimits) (rows : List Row) (kind : Kind) → IsKind limits rows kind → is_first kind ≡ false
+    → length (kind_text kind) ≤ window
+kind_bound limits rows (Dir owner) fits other = omega arith
+kind_bound limits rows (First owner bytes) fits other = absurd cc
+kind_bound limits rows (Further number) fits other = omega arith
+kind_bound limits rows (Link target) fits other = omega (arith, string_length target, target_short target fits)
+
+opening_length : (own : Bool) → length (tree_opening own) ≡ 8
+opening_length false = refl
+opening_length true = refl
+
+limits_length : (own : Bool) (limits : TreeLimits) → length (limits_text own limits) ≤ 16
+limits_length false limits = omega arith
+limits_length true limits = omega arith
+
+pub head_bound : (head : Head) → IsHead head → length (head_bytes head) ≤ window
+head_bound head fits =
+    let own = are_own head.limits in
+    let numbers = uint32 head.uid ++ uint32 head.gid in
+    let root = root_text (head.count, head.root) in
+    omega (arith, length-append (front_text own head.home head.uid head.gid) (limits_text own head.limits ++ root), length-append (limits_text own head.limits) root, length-append (tree_opening own) (string head.home ++ numbers), length-append (string head.home) numbers, string_length head.home, path_short head.home fits.home, opening_length own, limits_length own head.limits)

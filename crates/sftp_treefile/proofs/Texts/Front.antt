@@ -1,27 +1,31 @@
 -- What is read of the bytes held is read of the bytes ahead.
-use Rattle.sftp_treefile.proofs.Imports.{◌≡◌, ℕ, ◌+◌, ◌-◌, ◌<◌, ◌≤◌, ◌^◌, Bool, false, List, [], ◌∷◌, ◌++◌, length, drop, refl}
-use Rattle.sftp_treefile.proofs.Imports.{sym, ap, subst, ◌∙◌, append_assoc, append-nil, arith, inl, inr, length-append}
-use Rattle.sftp_treefile.proofs.Imports.{IsAtEnd, min, take, nil_from_length, take-append-drop, length-take-le, Ahead, bytes_ahead, HasAhead, ahead_without, string, uint32, IsTrue}
-use Rattle.sftp_treefile.proofs.Imports.{TreeError, Owner, Kind, Row, TreeLimits, kind_text, row_text, IsKind, Reads}
-use Rattle.sftp_treefile.proofs.Imports.{ReadsNone, OutOfMemoryOr, IsFile, file_text, owner_text, IsOwner, Follows}
-use Rattle.sftp_treefile.proofs.Imports.{IsExcuse, ExcuseOr, window, HoldsWindow, IsSame, Takes, Lacks, AreCounted}
-use Rattle.sftp_treefile.proofs.Imports.{plain, IsFileStart, file_start_text, file_kind_text, IsNothing, TakesSome}
-use Rattle.sftp_treefile.proofs.Imports.{TakesRows, LacksRows, AreRows, AreRead}
-use Rattle.sftp_streams.proofs.Inputs.{ahead_parts}
-use Rattle.sftp_streams.proofs.Fronts.{known_kept, front_held, front_taken}
-use Rattle.sftp_treefile.specs.TreeFile.{is_first, are_bytes, IsNext}
+use Rattle.sftp_treefile.proofs.Imports.{◌≡◌, ℕ, ◌+◌, ◌-◌, ◌<◌, ◌≤◌, ◌^◌, Bool, false, List, [], ◌∷◌, ◌++◌, length}
+use Rattle.sftp_treefile.proofs.Imports.{drop, refl, sym, ap, subst, ◌∙◌, append_assoc, append-nil, arith, inl, inr}
+use Rattle.sftp_treefile.proofs.Imports.{length-append, IsAtEnd, min, take, nil_from_length, take-append-drop}
+use Rattle.sftp_treefile.proofs.Imports.{length-take-le, Ahead, bytes_ahead, HasAhead, ahead_without, string, uint32}
+use Rattle.sftp_treefile.proofs.Imports.{IsTrue, TreeError, Owner, Kind, Row, TreeLimits, kind_text, row_text, IsKind}
+use Rattle.sftp_treefile.proofs.Imports.{Reads, ReadsNone, OutOfMemoryOr, IsFile, file_text, owner_text, IsOwner}
+use Rattle.sftp_treefile.proofs.Imports.{Follows, IsExcuse, ExcuseOr, window, HoldsWindow, IsSame, Takes, Lacks}
+use Rattle.sftp_treefile.proofs.Imports.{AreCounted, plain, IsFileStart, file_start_text, file_kind_text, IsNothing}
+use Rattle.sftp_treefile.proofs.Imports.{TakesSome, TakesRows, LacksRows, AreRows, AreRead, IsHead, head_bytes, Head}
+use Rattle.sftp_treefile.proofs.Imports.{IsNumber, suc, zero, get_or, flat_map}
+use Rattle.sftp_streams.proofs.Buffers.{ahead_parts}
+use Rattle.sftp_streams.proofs.Buffers.{known_kept, front_held, front_taken}
+use Rattle.sftp_treefile.specs.TreeFile.{is_first, are_bytes, IsNext, IsTreeFile, IsSpelled, GivesFile}
 use Rattle.sftp_treefile.specs.declared.errors.TreeError.TheVariants.{NoMemory, Io}
 use Rattle.sftp_treefile.specs.declared.files.Kind.TheVariants.{Dir, First, Further, Link}
-use Rattle.sftp_treefile.proofs.Texts.Bounds.{kind_bound}
-use Rattle.sftp_treefile.proofs.Texts.Entries.{row_read, row_absent, read_none, kind_absent, read_more, row_none, rows_push}
+use Rattle.sftp_treefile.proofs.Texts.Files.{kind_bound}
+use Rattle.sftp_treefile.proofs.Texts.Heads.{row_read, row_absent, read_none, kind_absent, read_more, row_none}
+use Rattle.sftp_treefile.proofs.Texts.Heads.{rows_push}
 use Rattle.sftp_treefile.specs.declared.files.TreeFile.{TreeFile}
-use Rattle.std.specs.Prelude.{Result, Ok, Err, IfOk, IfErr, Some}
+use Rattle.std.specs.Prelude.{Result, Ok, Err, IfOk, IfErr, Some, Option, None}
 use Rattle.sftp_treefile.specs.TreeFileParts.{IsAt}
 use Rattle.sftp_treefile.specs.Streamed.{IsIn, IsAmong, MayFail, GivesUnless}
-use Rattle.sftp_treefile.specs.TreeFile.{IsTreeFile, IsSpelled, GivesFile}
 use Rattle.sftp_treefile.proofs.Texts.Files.{no_file_head, no_file_entries, no_file_trailing, file_read}
-use Rattle.sftp_treefile.proofs.Imports.{IsHead, head_bytes, Head, IsNumber}
-use Rattle.sftp_treefile.proofs.Texts.Fields.{owner_front, number_front, file_bytes_length, first_none}
+use Rattle.sftp_treefile.proofs.Texts.{owner_front, number_front, file_bytes_length, first_none}
+use Rattle.std.specs.Io.KnownBytes.{Appends}
+use Rattle.sftp_streams.specs.Streams.{AppendsPart}
+use Rattle.sftp_streams.proofs.Buffers.{Appends-then, AppendsPart-first, AppendsPart-then}
 
 -- ---- a part of the bytes held
 
@@ -365,3 +369,60 @@ pub gives_only : (result : Result TreeFile TreeError) (file : TreeFile) → IfEr
     → GivesUnless result file → GivesFile result file
 gives_only (Ok f) file may gives = gives
 gives_only (Err error) file may gives = never_fails error may gives
+
+-- ==== What is written to a sink, piece by piece.
+
+-- a failure before the first byte
+pub AppendsPart-none : (a : Option (List ℕ)) (text : List ℕ) → AppendsPart a a text
+AppendsPart-none None text = record { part = []; rest = text; parts = refl; appended = tt }
+AppendsPart-none (Some written) text =
+    record { part = []; rest = text; parts = refl; appended = sym (append-nil written) }
+
+-- the rows from one on are this one and those after it
+rows_split : (rows : List Row) (i : ℕ) (row : Row) → i < length rows → row ≡ get_or rows i row
+    → (rest : List ℕ) × (flat_map row_text rows ≡ flat_map row_text (take i rows) ++ (row_text row ++ rest))
+rows_split [] i row lt is = absurd (omega arith)
+rows_split (r ∷ rows) zero row lt is =
+    (flat_map row_text rows, ap (λ (x : Row). row_text x ++ flat_map row_text rows) (sym is))
+rows_split (r ∷ rows) (suc i) row lt is =
+    let s = rows_split rows i row (omega arith) is in (
+      s.0,
+      ap (λ (bs : List ℕ). row_text r ++ bs) s.1
+          ∙ sym (append_assoc (row_text r) (flat_map row_text (take i rows)) (row_text row ++ s.0)),
+    )
+
+-- a failure in a row, after a head and the rows before it
+pub AppendsPart-row : (a b c : Option (List ℕ)) (head whole : List ℕ) (rows : List Row) (i : ℕ) (row : Row)
+    → i < length rows → row ≡ get_or rows i row → Appends a b (head ++ flat_map row_text (take i rows))
+    → AppendsPart b c (row_text row) → whole ≡ head ++ flat_map row_text rows → AppendsPart a c whole
+AppendsPart-row a b c head whole rows i row lt is done part whole-is =
+    let s = rows_split rows i row lt is in
+    let front = flat_map row_text (take i rows) in
+    let text : (head ++ front) ++ (row_text row ++ s.0) ≡ whole =
+    append_assoc head front (row_text row ++ s.0) ∙ ap (λ (bs : List ℕ). head ++ bs) (sym s.1) ∙ sym whole-is in
+    subst (AppendsPart a c) text
+    (AppendsPart-then a b c (head ++ front) (row_text row ++ s.0) done (AppendsPart-first b c (row_text row) s.0 part))
+
+-- one row more
+rows_next : (rows : List Row) (i : ℕ) (row : Row) → i < length rows → row ≡ get_or rows i row
+    → flat_map row_text (take (suc i) rows) ≡ flat_map row_text (take i rows) ++ row_text row
+rows_next [] i row lt is = absurd (omega arith)
+rows_next (r ∷ rows) zero row lt is = append-nil (row_text r) ∙ ap row_text (sym is)
+rows_next (r ∷ rows) (suc i) row lt is =
+    ap (λ (bs : List ℕ). row_text r ++ bs) (rows_next rows i row (omega arith) is)
+    ∙ sym (append_assoc (row_text r) (flat_map row_text (take i rows)) (row_text row))
+
+pub Appends-row : (a b c : Option (List ℕ)) (rows : List Row) (i next : ℕ) (row : Row) → i < length rows
+    → row ≡ get_or rows i row → next ≡ suc i → Appends a b (flat_map row_text (take i rows))
+    → Appends b c (row_text row) → Appends a c (flat_map row_text (take next rows))
+Appends-row a b c rows i next row lt is step done more =
+    subst (Appends a c) (sym (rows_next rows i row lt is) ∙ ap (λ n. flat_map row_text (take n rows)) (sym step))
+    (Appends-then a b c (flat_map row_text (take i rows)) (row_text row) done more)
+
+-- the entry of a file is what comes before its bytes, and these
+pub file_whole : (path : List ℕ) (owner : Owner) (bytes : List ℕ)
+    → (string path ++ file_start_text (owner, length bytes)) ++ bytes
+    ≡ row_text (record { path = path; kind = First owner bytes })
+file_whole path owner bytes =
+    append_assoc (string path) (file_start_text (owner, length bytes)) bytes
+    ∙ ap (λ (l : List ℕ). string path ++ 70 ∷ l) (append_assoc (owner_text owner) (uint32 (length bytes)) bytes)

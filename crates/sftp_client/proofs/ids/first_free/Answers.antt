@@ -1,6 +1,6 @@
 use Rattle.std.proofs.Common.{◌<◌, length, sym, ◌∙◌, arith}
 use Rattle.std.proofs.Math.Facts.{Fits-lt-pow, Fits-of_lt}
-use Rattle.sftp_client.proofs.FreeIds.{one_more_is_open}
+use Rattle.sftp_client.proofs.Sessions.{one_more_is_open}
 use Rattle.sftp_client.proofs.ids.first_free.Goals as goal
 use Rattle.sftp_client.proofs.ids.first_free.Goals.{In-loop-skipped}
 

@@ -1,4 +1,4 @@
-use Rattle.sftp_transcript.specs.Ahead.{size_of}
+use Rattle.sftp_transcript.specs.Recorded.{size_of}
 use Rattle.sftp_commands.proofs.leaving_out.find_reply.Given as goal
 
 abbrev pub decreases-events : goal.decreases-events

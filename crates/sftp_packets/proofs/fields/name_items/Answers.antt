@@ -1,6 +1,6 @@
 use Rattle.std.proofs.lemmas.Result.{err_from_is_err_and}
 use Rattle.sftp_packets.specs.Reading.{name_item_at, many_at}
-use Rattle.sftp_packets.proofs.Readers.Loops.{many-goes_on, many-fails}
+use Rattle.sftp_packets.proofs.Readers.{many-goes_on, many-fails}
 use Rattle.sftp_packets.proofs.fields.name_items.Goals as goal
 
 pub returns-in_err-next : goal.returns-in_err-next

@@ -1,6 +1,6 @@
 use Rattle.std.proofs.lemmas.Result.{err_from_is_err_and}
 use Rattle.sftp_packets.specs.Reading.{pair_at, many_at}
-use Rattle.sftp_packets.proofs.Readers.Loops.{many-goes_on, many-fails}
+use Rattle.sftp_packets.proofs.Readers.{many-goes_on, many-fails}
 use Rattle.sftp_packets.proofs.fields.pairs.Goals as goal
 
 pub returns-in_err-next : goal.returns-in_err-next

@@ -1,6 +1,6 @@
 use Rattle.std.proofs.Common.{◌≡◌, ◌-◌}
 use Rattle.sftp_packets.specs.Reading.{pair_at, many_at}
-use Rattle.sftp_packets.proofs.Readers.Loops.{with_front}
+use Rattle.sftp_packets.proofs.Readers.{with_front}
 use Rattle.sftp_packets.proofs.fields.pairs.Given as goal
 
 abbrev pub invariant-pairs : goal.invariant-pairs

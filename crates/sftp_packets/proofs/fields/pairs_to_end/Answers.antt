@@ -1,6 +1,6 @@
 use Rattle.sftp_packets.specs.Reading.{pair_at, pairs_at}
-use Rattle.sftp_packets.proofs.Readers.Loops.{ReadsOn-start, ReadsOn-goes_on}
-use Rattle.sftp_packets.proofs.FieldLaws.Strings.{pair-shortens}
+use Rattle.sftp_packets.proofs.Readers.{ReadsOn-start, ReadsOn-goes_on}
+use Rattle.sftp_packets.proofs.FieldLaws.{pair-shortens}
 use Rattle.sftp_packets.proofs.fields.pairs_to_end.Goals as goal
 
 pub pairs-init : goal.pairs-init

@@ -1,6 +1,6 @@
 use Rattle.std.proofs.Common.{length}
 use Rattle.sftp_packets.specs.Reading.{pair_at, pairs_at}
-use Rattle.sftp_packets.proofs.Readers.Loops.{ReadsOn}
+use Rattle.sftp_packets.proofs.Readers.{ReadsOn}
 use Rattle.sftp_packets.proofs.fields.pairs_to_end.Given as goal
 
 abbrev pub invariant-pairs : goal.invariant-pairs

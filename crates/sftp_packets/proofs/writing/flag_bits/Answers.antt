@@ -1,4 +1,4 @@
-use Rattle.sftp_packets.proofs.FieldLaws.FlagBits.{attribute_flags-is}
+use Rattle.sftp_packets.proofs.FieldLaws.{attribute_flags-is}
 use Rattle.sftp_packets.proofs.writing.flag_bits.Goals as goal
 
 pub returns : goal.returns

@@ -1,5 +1,5 @@
 use Rattle.sftp_path.proofs.Imports.{arith}
-use Rattle.sftp_path.proofs.PathTexts.GoodPaths.{bad_by_length, bad_at_zero, bad_by_component, good_to_the_end}
+use Rattle.sftp_path.proofs.PathTexts.{bad_by_length, bad_at_zero, bad_by_component, good_to_the_end}
 use Rattle.sftp_path.proofs.paths.good_path.Goals as goal
 use Rattle.sftp_path.proofs.paths.good_path.Goals.{then-byte-eq47, else-byte-eq47}
 

@@ -1,5 +1,5 @@
 use Rattle.sftp_path.proofs.Imports.{◌≡◌, ◌≤◌, drop}
-use Rattle.sftp_path.proofs.PathTexts.GoodPaths.{good_from}
+use Rattle.sftp_path.proofs.PathTexts.{good_from}
 use Rattle.sftp_path.proofs.paths.good_path.Given as goal
 
 -- what is left decides as the whole path does

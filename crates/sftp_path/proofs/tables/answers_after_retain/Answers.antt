@@ -1,6 +1,6 @@
 use Rattle.sftp_path.proofs.Imports.{nat_cmp, nat_cmp_total, nat_list_cmp_total, nat_cmp-IsAntisymmetric}
 use Rattle.sftp_path.specs.Place.{place_cmp, bytes_cmp}
-use Rattle.sftp_path.proofs.Order.{place_cmp-total, place_cmp-same, bytes_cmp-same}
+use Rattle.sftp_path.proofs.Move.{place_cmp-total, place_cmp-same, bytes_cmp-same}
 use Rattle.sftp_path.proofs.Table.Laws.{get-retain}
 use Rattle.sftp_path.proofs.tables.answers_after_retain.Goals as goal
 

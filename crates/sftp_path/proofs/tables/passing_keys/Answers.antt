@@ -1,7 +1,7 @@
 use Rattle.sftp_path.proofs.Imports.{nat_cmp, nat_cmp-IsAntisymmetric}
 use Rattle.sftp_path.specs.Place.{place_cmp, bytes_cmp}
-use Rattle.sftp_path.proofs.Order.{place_cmp-same, bytes_cmp-same}
-use Rattle.sftp_path.proofs.Table.Tests.{keys-put_again}
+use Rattle.sftp_path.proofs.Move.{place_cmp-same, bytes_cmp-same}
+use Rattle.sftp_path.proofs.Table.Entries.{keys-put_again}
 use Rattle.sftp_path.proofs.tables.passing_keys.Goals as goal
 
 pub returns-clause-places : goal.returns-clause-places

@@ -1,5 +1,5 @@
 use Rattle.sftp_path.proofs.Imports.{sym, refl, arith, false≢true}
-use Rattle.sftp_path.proofs.PathTexts.AbsoluteTexts.{is_absolute-begins, not_absolute}
+use Rattle.sftp_path.proofs.PathTexts.{is_absolute-begins, not_absolute}
 use Rattle.sftp_path.proofs.PathTexts.{parts_after-first}
 use Rattle.sftp_path.proofs.texts.place_of_text.Goals as goal
 

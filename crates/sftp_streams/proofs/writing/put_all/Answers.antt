@@ -1,6 +1,6 @@
 -- Each write appends the front of what is left.
 use Rattle.std.proofs.lemmas.List.{take_rest}
-use Rattle.sftp_streams.proofs.Putting.{IsPutBefore-next}
+use Rattle.sftp_streams.proofs.Buffers.{IsPutBefore-next}
 use Rattle.sftp_streams.proofs.writing.put_all.Goals as goal
 
 pub rest-preserved : goal.rest-preserved

@@ -1,6 +1,6 @@
 -- The bytes that are no longer in `rest` were appended, and no call failed.
 use Rattle.sftp_streams.proofs.Imports.{length}
-use Rattle.sftp_streams.proofs.Putting.{IsPutBefore}
+use Rattle.sftp_streams.proofs.Buffers.{IsPutBefore}
 use Rattle.sftp_streams.proofs.writing.put_all.Given as goal
 
 abbrev pub invariant-rest : goal.invariant-rest

@@ -1,5 +1,5 @@
 use Rattle.std.proofs.Common.{◌≡◌, ◌++◌, List, ℕ, OnOk, arith, subst}
-use Rattle.sftp_text.proofs.FlagLaws.{flags_text_parts}
+use Rattle.sftp_text.proofs.ListLaws.{flags_text_parts}
 use Rattle.sftp_text.proofs.flags.put_flags_text.Goals as goal
 
 pub returns : goal.returns

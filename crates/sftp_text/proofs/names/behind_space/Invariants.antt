@@ -1,5 +1,5 @@
 use Rattle.std.proofs.Common.{◌≡◌, length}
-use Rattle.sftp_text.specs.Layouts.{behind_space}
+use Rattle.sftp_text.specs.Fields.{behind_space}
 use Rattle.sftp_text.proofs.names.behind_space.Given as goal
 
 abbrev pub invariant-characters : goal.invariant-characters

@@ -1,4 +1,4 @@
-use Rattle.sftp_text.specs.Layouts.{layout_of_text}
+use Rattle.sftp_text.specs.Fields.{layout_of_text}
 use Rattle.sftp_text.proofs.names.layout_named.Goals as goal
 
 pub returns : goal.returns

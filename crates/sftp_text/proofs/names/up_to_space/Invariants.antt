@@ -1,5 +1,5 @@
 use Rattle.std.proofs.Common.{◌≡◌, ◌++◌, take, drop}
-use Rattle.sftp_text.specs.Layouts.{up_to_space}
+use Rattle.sftp_text.specs.Fields.{up_to_space}
 use Rattle.sftp_text.proofs.names.up_to_space.Given as goal
 
 abbrev pub invariant-characters : goal.invariant-characters

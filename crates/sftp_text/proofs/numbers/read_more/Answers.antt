@@ -1,5 +1,5 @@
 use Rattle.std.proofs.Common.{◌≡◌, ◌+◌, ◌-◌, ◌*◌, ◌<◌}
-use Rattle.sftp_text.proofs.DigitLaws.{digits_from-above}
+use Rattle.sftp_text.proofs.ListLaws.{digits_from-above}
 use Rattle.sftp_text.proofs.numbers.read_more.Goals as goal
 
 pub returns-in_default-with_digit : goal.returns-in_default-with_digit

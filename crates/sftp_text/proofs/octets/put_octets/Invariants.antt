@@ -1,6 +1,6 @@
 use Rattle.std.proofs.Common.{◌≡◌, ◌++◌, take}
 use Rattle.std.specs.List.{flat_map}
-use Rattle.sftp_text.specs.Quoted.{hex_byte}
+use Rattle.sftp_text.specs.Digits.{hex_byte}
 use Rattle.sftp_text.proofs.octets.put_octets.Given as goal
 
 abbrev pub invariant-bytes : goal.invariant-bytes

@@ -1,5 +1,5 @@
 use Rattle.std.proofs.Common.{◌∙◌}
-use Rattle.sftp_text.proofs.QuotedLaws.{hex_onto-goes_on}
+use Rattle.sftp_text.proofs.ListLaws.{hex_onto-goes_on}
 use Rattle.sftp_text.proofs.octets.read_octets.Goals as goal
 
 pub octets-preserved : goal.octets-preserved

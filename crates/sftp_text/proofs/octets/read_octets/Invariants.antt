@@ -1,5 +1,5 @@
 use Rattle.std.proofs.Common.{◌≡◌, length}
-use Rattle.sftp_text.specs.Quoted.{hex_onto}
+use Rattle.sftp_text.specs.Digits.{hex_onto}
 use Rattle.sftp_text.proofs.octets.read_octets.Given as goal
 
 abbrev pub invariant-octets : goal.invariant-octets

@@ -1,5 +1,5 @@
 use Rattle.std.proofs.Common.{◌≡◌, length}
-use Rattle.sftp_text.specs.Quoted.{unquoted, Plain}
+use Rattle.sftp_text.specs.Digits.{unquoted, Plain}
 use Rattle.sftp_text.proofs.quoted.read_characters.Given as goal
 
 abbrev pub invariant-characters : goal.invariant-characters

@@ -1,6 +1,6 @@
 use Rattle.std.proofs.Common.{◌≡◌, length}
 use Rattle.sftp_text.specs.Lines.{records_up_to}
-use Rattle.sftp_text.specs.Wholes.{lines_onto}
+use Rattle.sftp_text.specs.Texts.{lines_onto}
 use Rattle.sftp_text.proofs.transcripts.put_records.Given as goal
 
 abbrev pub invariant-records : goal.invariant-records

@@ -1,6 +1,6 @@
 use Rattle.std.proofs.lemmas.Slice.Eq.{strip_prefix_is}
 use Rattle.std.proofs.lemmas.Bool.Decides.{Decides-eqb}
-use Rattle.sftp_text.proofs.Stripping.{stripped}
+use Rattle.sftp_text.proofs.ListLaws.{stripped}
 use Rattle.sftp_text.proofs.words.after_word.Goals as goal
 
 pub returns : goal.returns

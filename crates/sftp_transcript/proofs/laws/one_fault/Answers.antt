@@ -1,4 +1,4 @@
-use Rattle.sftp_transcript.proofs.transcripts.FirstFaults.{one_fault}
+use Rattle.sftp_transcript.proofs.transcripts.{one_fault}
 use Rattle.sftp_transcript.proofs.laws.one_fault.Goals as goal
 
 pub returns : goal.returns

@@ -1,4 +1,4 @@
-use Rattle.sftp_transcript.proofs.pairing.Soundness.{matching_by, in_turn_by, none_waits_by}
+use Rattle.sftp_transcript.proofs.pairing.{matching_by, in_turn_by, none_waits_by}
 use Rattle.sftp_transcript.proofs.laws.sound_and_settled_is_explained.Goals as goal
 
 pub returns : goal.returns

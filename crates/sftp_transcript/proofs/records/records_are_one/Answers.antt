@@ -1,4 +1,4 @@
-use Rattle.sftp_transcript.proofs.transcripts.OneRecord.{records_are_one_lem}
+use Rattle.sftp_transcript.proofs.transcripts.{records_are_one_lem}
 use Rattle.sftp_transcript.proofs.records.records_are_one.Goals as goal
 
 pub returns : goal.returns

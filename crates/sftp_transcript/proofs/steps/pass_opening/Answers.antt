@@ -1,7 +1,7 @@
 -- Where the bytes ahead begin with the opening, so do the bytes held.
 use Rattle.sftp_transcript.proofs.Imports.{err_from_is_err_and, bytes_ahead, HasAhead}
-use Rattle.sftp_transcript.proofs.Faults.{opening_fault}
-use Rattle.sftp_streams.proofs.Fronts.{known_kept}
+use Rattle.sftp_transcript.proofs.Fronts.{opening_fault}
+use Rattle.sftp_streams.proofs.Buffers.{known_kept}
 use Rattle.sftp_transcript.proofs.steps.pass_opening.Goals as goal
 
 pub returns-in_err-left-clause-first : goal.returns-in_err-left-clause-first

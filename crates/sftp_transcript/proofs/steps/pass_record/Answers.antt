@@ -2,10 +2,10 @@
 use Rattle.sftp_transcript.proofs.Imports.{◌≡◌, ◌-◌, ◌<◌, length, rules, sym, subst, Ahead}
 use Rattle.sftp_transcript.proofs.Imports.{bytes_ahead, ahead_without, BeginsNext, MayCome, record_number, Begins, HasAhead, Took}
 use Rattle.sftp_transcript.specs.declared.stage.Stage.TheVariants as stages
-use Rattle.sftp_transcript.specs.Refused.{KindFault}
+use Rattle.sftp_transcript.specs.Transcript.{KindFault}
 use Rattle.sftp_transcript.proofs.Packets.{stage_fault, fault_held}
-use Rattle.sftp_streams.proofs.Fronts.{known_kept}
-use Rattle.sftp_transcript.proofs.Taking.{record_took}
+use Rattle.sftp_streams.proofs.Buffers.{known_kept}
+use Rattle.sftp_transcript.proofs.Fronts.{record_took}
 use Rattle.sftp_transcript.proofs.steps.pass_record.Goals as goal
 
 pub returns-in-Err-clause-first : goal.returns-in-Err-clause-first

@@ -1,7 +1,7 @@
 -- Where a part of the record fails, a beginning of the whole is written.
 use Rattle.sftp_transcript.proofs.Imports.{[], ◌∷◌, direction_of}
 use Rattle.sftp_transcript.specs.Log.{opening_before}
-use Rattle.sftp_streams.proofs.Putting.{on_err, AppendsPart-first, AppendsPart-then}
+use Rattle.sftp_streams.proofs.Buffers.{on_err, AppendsPart-first, AppendsPart-then}
 use Rattle.sftp_transcript.proofs.writer.put_record.Goals as goal
 
 pub returns-in_err-put_all-clause-err : goal.returns-in_err-put_all-clause-err

@@ -1,6 +1,6 @@
 -- The bytes start with a path that may not come next, and so with none that may.
 use Rattle.sftp_treefile.proofs.Imports.{inr, ap, length, ◌∙◌, arith, false≢true, err_from_is_err_and}
-use Rattle.sftp_treefile.proofs.Texts.Entries.{or_fault, path_unfit, path_absent}
+use Rattle.sftp_treefile.proofs.Texts.Heads.{or_fault, path_unfit, path_absent}
 use Rattle.sftp_treefile.proofs.entries.path_at.Goals as goal
 
 pub returns-in_err-text-clause-none : goal.returns-in_err-text-clause-none

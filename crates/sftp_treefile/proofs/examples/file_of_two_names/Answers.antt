@@ -1,5 +1,5 @@
 use Rattle.sftp_treefile.proofs.Imports.{refl, arith, hex, components, parts, are_own, spelled, has_dir}
-use Rattle.sftp_treefile.proofs.Texts.Limits.{usual_are}
+use Rattle.sftp_treefile.proofs.Texts.{usual_are}
 use Rattle.sftp_treefile.proofs.examples.file_of_two_names.Goals as goal
 
 pub returns-clause-length : goal.returns-clause-length

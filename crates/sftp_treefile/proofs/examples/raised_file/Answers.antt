@@ -2,7 +2,7 @@ use Rattle.sftp_treefile.proofs.Imports.{[], ◌∷◌, drop, refl, true, arith,
 use Rattle.sftp_treefile.proofs.Imports.{AreLimits, are_own, spelled, limits_text, Reads, IsFront, front_bytes}
 use Rattle.sftp_treefile.specs.Examples.{usual_bytes}
 use Rattle.sftp_treefile.proofs.Texts.Heads.{limits_none, usual_none}
-use Rattle.sftp_treefile.proofs.Texts.Limits.{usual_are, usual_not_own}
+use Rattle.sftp_treefile.proofs.Texts.{usual_are, usual_not_own}
 use Rattle.sftp_treefile.proofs.Texts.Files.{no_file_head}
 use Rattle.sftp_treefile.proofs.examples.raised_file.Goals as goal
 

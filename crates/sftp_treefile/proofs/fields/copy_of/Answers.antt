@@ -1,5 +1,5 @@
 -- Each place holds a byte.
-use Rattle.sftp_path.proofs.PathTexts.GoodPaths.{list_all-octets}
+use Rattle.sftp_path.proofs.PathTexts.{list_all-octets}
 use Rattle.sftp_treefile.proofs.fields.copy_of.Goals as goal
 
 pub returns-clause-bytes : goal.returns-clause-bytes

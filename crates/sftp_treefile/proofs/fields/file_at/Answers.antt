@@ -1,6 +1,6 @@
 -- A file whose owner cannot be read cannot be read.
 use Rattle.sftp_treefile.proofs.Imports.{inr, err_from_is_err_and}
-use Rattle.sftp_treefile.proofs.Texts.Fields.{file_owner_none}
+use Rattle.sftp_treefile.proofs.Texts.{file_owner_none}
 use Rattle.sftp_treefile.proofs.fields.file_at.Goals as goal
 
 pub returns-in_err-owner-clause-none : goal.returns-in_err-owner-clause-none

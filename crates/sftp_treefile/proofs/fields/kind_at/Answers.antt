@@ -1,7 +1,7 @@
 -- A kind is its letter and what it says.
 use Rattle.sftp_treefile.proofs.Imports.{inr, err_from_is_err_and}
-use Rattle.sftp_treefile.proofs.Texts.Entries.{or_fault}
-use Rattle.sftp_treefile.proofs.Texts.Fields.{dir_none, first_none}
+use Rattle.sftp_treefile.proofs.Texts.Heads.{or_fault}
+use Rattle.sftp_treefile.proofs.Texts.{dir_none, first_none}
 use Rattle.sftp_treefile.proofs.fields.kind_at.Goals as goal
 
 pub returns-in_err-owner-in-68-clause-none : goal.returns-in_err-owner-in-68-clause-none

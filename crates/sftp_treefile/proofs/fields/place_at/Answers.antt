@@ -1,8 +1,8 @@
 -- A string that is no text of a place within the limit leaves nothing to read.
 use Rattle.sftp_treefile.proofs.Imports.{inr, arith, IsPlaceText, common_steps}
 use Rattle.std.proofs.lemmas.Option.{MatchOption-at_none, MatchOption-at_some}
-use Rattle.sftp_treefile.proofs.Texts.Fields.{path_length, string_none_short, string_none, place_is, place_text}
-use Rattle.sftp_treefile.proofs.Texts.Fields.{too_deep}
+use Rattle.sftp_treefile.proofs.Texts.{path_length, string_none_short, string_none, place_is, place_text}
+use Rattle.sftp_treefile.proofs.Texts.{too_deep}
 use Rattle.sftp_treefile.proofs.fields.place_at.Goals as goal
 
 pub returns-in_default-clause-none : goal.returns-in_default-clause-none

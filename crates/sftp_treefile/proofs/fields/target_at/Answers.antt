@@ -1,6 +1,6 @@
 -- A string that is empty or no good path leaves nothing to read.
 use Rattle.sftp_treefile.proofs.Imports.{inr, sym, arith, IsTarget}
-use Rattle.sftp_treefile.proofs.Texts.Fields.{target_length, string_none_short, string_none, empty_target, bad_target}
+use Rattle.sftp_treefile.proofs.Texts.{target_length, string_none_short, string_none, empty_target, bad_target}
 use Rattle.sftp_treefile.proofs.fields.target_at.Goals as goal
 use Rattle.sftp_treefile.proofs.fields.target_at.Goals.{then-is_empty-via-then-is_empty}
 use Rattle.sftp_treefile.proofs.fields.target_at.Goals.{then-is_empty-via-else-is_empty+then-not-good_path}

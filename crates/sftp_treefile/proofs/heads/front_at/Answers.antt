@@ -1,6 +1,6 @@
 -- The front, field by field.
 use Rattle.sftp_treefile.proofs.Imports.{inr, err_from_is_err_and}
-use Rattle.sftp_treefile.proofs.Texts.Entries.{or_fault}
+use Rattle.sftp_treefile.proofs.Texts.Heads.{or_fault}
 use Rattle.sftp_treefile.proofs.Texts.Heads.{opening_none, home_none, uid_none, gid_none, front_read}
 use Rattle.sftp_treefile.proofs.heads.front_at.Goals as goal
 

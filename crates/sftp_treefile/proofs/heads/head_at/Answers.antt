@@ -1,6 +1,6 @@
 -- The head: its front, the limits, and what it says of the root.
 use Rattle.sftp_treefile.proofs.Imports.{inr, err_from_is_err_and}
-use Rattle.sftp_treefile.proofs.Texts.Entries.{or_fault}
+use Rattle.sftp_treefile.proofs.Texts.Heads.{or_fault}
 use Rattle.sftp_treefile.proofs.Texts.Heads.{front_none, limits_none, root_none, head_read}
 use Rattle.sftp_treefile.proofs.heads.head_at.Goals as goal
 

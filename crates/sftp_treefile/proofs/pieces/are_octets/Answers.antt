@@ -1,5 +1,5 @@
 -- Each place holds a byte.
-use Rattle.sftp_path.proofs.PathTexts.GoodPaths.{list_all-octets}
+use Rattle.sftp_path.proofs.PathTexts.{list_all-octets}
 use Rattle.sftp_treefile.proofs.pieces.are_octets.Goals as goal
 
 pub returns : goal.returns

@@ -1,7 +1,7 @@
 -- What is read of the bytes held is read of the bytes ahead.
 use Rattle.sftp_treefile.proofs.Imports.{◌≡◌, ◌-◌, length, rules, sym, subst, err_from_is_err_and, Ahead, ahead_without, Reads}
 use Rattle.sftp_treefile.proofs.Imports.{ReadsNone, Takes, IsFileStart, file_start_text, inr, Owner, ℕ}
-use Rattle.sftp_treefile.proofs.Texts.Bounds.{start_bound}
+use Rattle.sftp_treefile.proofs.Texts.Files.{start_bound}
 use Rattle.sftp_treefile.proofs.Texts.Front.{at_in, lacks_filled, takes_part}
 use Rattle.sftp_treefile.proofs.pieces.take_file_start.Goals as goal
 

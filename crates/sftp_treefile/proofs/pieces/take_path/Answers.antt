@@ -1,7 +1,7 @@
 -- What is read of the bytes held is read of the bytes ahead.
 use Rattle.sftp_treefile.proofs.Imports.{◌≡◌, ◌-◌, length, rules, sym, subst, err_from_is_err_and, Ahead, ahead_without, Reads}
 use Rattle.sftp_treefile.proofs.Imports.{OutOfMemoryOr, ReadsNone, Takes, Follows, string}
-use Rattle.sftp_treefile.proofs.Texts.Bounds.{path_bound}
+use Rattle.sftp_treefile.proofs.Texts.Files.{path_bound}
 use Rattle.sftp_treefile.proofs.Texts.Front.{at_in, excuse_or, lacks_filled, takes_part}
 use Rattle.sftp_treefile.proofs.pieces.take_path.Goals as goal
 

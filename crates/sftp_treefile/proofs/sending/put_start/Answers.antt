@@ -1,7 +1,7 @@
 -- The front, the limits and the root, one after the other.
 use Rattle.sftp_treefile.proofs.Imports.{length, are_own, limits_text, front_text, root_text}
-use Rattle.sftp_treefile.proofs.Texts.Fields.{path_length}
-use Rattle.sftp_treefile.proofs.Texts.Pieces.{three_pieces}
+use Rattle.sftp_treefile.proofs.Texts.{path_length}
+use Rattle.sftp_treefile.proofs.Texts.Files.{three_pieces}
 use Rattle.sftp_treefile.proofs.sending.put_start.Goals as goal
 
 pub put_front-requires : goal.put_front-requires

@@ -1,9 +1,9 @@
 -- Where a part of the entry fails, a beginning of the whole is written.
 use Rattle.sftp_treefile.proofs.Imports.{◌≡◌, List, ℕ, ◌++◌, ◌∙◌, ap, subst, length, string, file_start_text}
 use Rattle.sftp_streams.specs.Streams.{AppendsPart}
-use Rattle.sftp_streams.proofs.Putting.{on_err, AppendsPart-first, AppendsPart-then}
+use Rattle.sftp_streams.proofs.Buffers.{on_err, AppendsPart-first, AppendsPart-then}
 use Rattle.std.specs.Io.KnownBytes.{Appends}
-use Rattle.sftp_treefile.proofs.Texts.Sending.{file_whole}
+use Rattle.sftp_treefile.proofs.Texts.Front.{file_whole}
 use Rattle.sftp_treefile.proofs.sending.send_file.Goals as goal
 
 pub returns-in_err-put_all-clause-err : goal.returns-in_err-put_all-clause-err

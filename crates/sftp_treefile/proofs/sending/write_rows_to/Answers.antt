@@ -4,11 +4,11 @@ use Rattle.sftp_treefile.proofs.Imports.{get_or, flat_map, Row, row_text, head_t
 use Rattle.std.specs.Io.KnownBytes.{Appends}
 use Rattle.std.proofs.KnownBytes.{Appends-nil}
 use Rattle.sftp_streams.specs.Streams.{AppendsPart}
-use Rattle.sftp_streams.proofs.Putting.{on_err, Appends-then, AppendsPart-first}
-use Rattle.sftp_treefile.proofs.Texts.Limits.{file_bytes_bound}
+use Rattle.sftp_streams.proofs.Buffers.{on_err, Appends-then, AppendsPart-first}
+use Rattle.sftp_treefile.proofs.Texts.{file_bytes_bound}
 use Rattle.sftp_treefile.proofs.Texts.Files.{head_written}
-use Rattle.sftp_treefile.proofs.Texts.Pieces.{row_at_place}
-use Rattle.sftp_treefile.proofs.Texts.Sending.{Appends-row, AppendsPart-row}
+use Rattle.sftp_treefile.proofs.Texts.Files.{row_at_place}
+use Rattle.sftp_treefile.proofs.Texts.Front.{Appends-row, AppendsPart-row}
 use Rattle.sftp_treefile.proofs.sending.write_rows_to.Goals as goal
 
 pub returns-in_err-send_start-clause-err : goal.returns-in_err-send_start-clause-err

@@ -1,6 +1,6 @@
 -- The fields, one after the other.
 use Rattle.sftp_treefile.proofs.Imports.{[], ◌∷◌, string, owner_text}
-use Rattle.sftp_treefile.proofs.Texts.Pieces.{three_pieces}
+use Rattle.sftp_treefile.proofs.Texts.Files.{three_pieces}
 use Rattle.sftp_treefile.proofs.writing.put_directory.Goals as goal
 
 pub returns : goal.returns

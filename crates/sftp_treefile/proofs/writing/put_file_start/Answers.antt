@@ -1,6 +1,6 @@
 -- The fields, one after the other.
 use Rattle.sftp_treefile.proofs.Imports.{[], ◌∷◌, string, uint32, owner_text}
-use Rattle.sftp_treefile.proofs.Texts.Pieces.{four_pieces}
+use Rattle.sftp_treefile.proofs.Texts.Files.{four_pieces}
 use Rattle.sftp_treefile.proofs.writing.put_file_start.Goals as goal
 
 pub returns : goal.returns

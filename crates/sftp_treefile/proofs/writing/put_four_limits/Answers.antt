@@ -1,6 +1,6 @@
 -- The limits, one after the other.
 use Rattle.sftp_treefile.proofs.Imports.{uint32}
-use Rattle.sftp_treefile.proofs.Texts.Pieces.{four_pieces}
+use Rattle.sftp_treefile.proofs.Texts.Files.{four_pieces}
 use Rattle.sftp_treefile.proofs.writing.put_four_limits.Goals as goal
 
 pub returns : goal.returns

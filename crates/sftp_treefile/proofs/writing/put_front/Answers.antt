@@ -1,6 +1,6 @@
 -- The fields, one after the other.
 use Rattle.sftp_treefile.proofs.Imports.{uint32, string, tree_opening}
-use Rattle.sftp_treefile.proofs.Texts.Pieces.{four_pieces}
+use Rattle.sftp_treefile.proofs.Texts.Files.{four_pieces}
 use Rattle.sftp_treefile.proofs.writing.put_front.Goals as goal
 
 pub returns : goal.returns

@@ -1,6 +1,6 @@
 -- The front, the limits and the root, one after the other.
 use Rattle.sftp_treefile.proofs.Imports.{are_own, limits_text, front_text, root_text}
-use Rattle.sftp_treefile.proofs.Texts.Pieces.{three_pieces}
+use Rattle.sftp_treefile.proofs.Texts.Files.{three_pieces}
 use Rattle.sftp_treefile.proofs.writing.put_head.Goals as goal
 
 pub returns : goal.returns

@@ -1,6 +1,6 @@
 -- The fields, one after the other.
 use Rattle.sftp_treefile.proofs.Imports.{uint32, owner_text}
-use Rattle.sftp_treefile.proofs.Texts.Pieces.{two_pieces}
+use Rattle.sftp_treefile.proofs.Texts.Files.{two_pieces}
 use Rattle.sftp_treefile.proofs.writing.put_root.Goals as goal
 
 pub returns : goal.returns

@@ -1,5 +1,5 @@
 use Rattle.std.proofs.Common.{arith}
-use Rattle.sftp_wire.proofs.StreamLaws.Front.{is_found, is_only}
+use Rattle.sftp_wire.proofs.StreamLaws.{is_found, is_only}
 use Rattle.sftp_wire.proofs.fronts.front.Goals as goal
 
 pub returns-clause-found : goal.returns-clause-found

@@ -1,6 +1,6 @@
 -- No bytes come back.
 use Rattle.std.proofs.Common.{◌≤◌}
-use Rattle.sftp_transcript.specs.Ahead.{size_of}
+use Rattle.sftp_transcript.specs.Recorded.{size_of}
 use Rattle.sftp_commands.proofs.leaving_out.LeftOut.next.Given as goal
 
 abbrev pub invariant-events : goal.invariant-events

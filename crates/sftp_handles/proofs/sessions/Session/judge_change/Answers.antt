@@ -4,7 +4,7 @@ use Rattle.sftp_handles.proofs.sessions.Session.judge_change.Goals as goal
 
 pub returns-then-not-has_code-clause-ok : goal.returns-then-not-has_code-clause-ok
 returns-then-not-has_code-clause-ok g c =
-    judged-other_answer c.args.self.now c.args.ask.now c.args.answer.now c.requires.kind c.requires.unlike
+    judged-other_answer c.args.self.now c.args.ask.now c.args.answer.now c.requires.purpose c.requires.unlike
     (sym c.has_code.ensures ∙ c.if-not-has_code.true)
 
 pub returns-clause-ok : goal.returns-clause-ok

@@ -6,7 +6,7 @@ use Rattle.sftp_handles.proofs.sessions.Session.judge_query.Goals as goal
 pub returns-in-Ok : goal.returns-in-Ok
 returns-in-Ok g c =
     judged-query c.args.self.now c.args.ask.now (said_in c.in-Ok.payload) c.args.answer.now c.is_in.result
-    c.requires.kind c.requires.unlike c.in-Ok.ensures.carried c.is_in.ensures
+    c.requires.purpose c.requires.unlike c.in-Ok.ensures.carried c.is_in.ensures
 
 pub returns-in-Err-Cause : goal.returns-in-Err-Cause
 returns-in-Err-Cause g c =

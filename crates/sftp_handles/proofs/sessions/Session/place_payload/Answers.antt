@@ -1,6 +1,6 @@
 use Rattle.sftp_handles.proofs.Imports.{◌≡◌, ℕ, List, Some, sym, subst, IsFree, State, Good, Carries, refl}
 use Rattle.sftp_packets.specs.declared.requests.Ask.TheVariants as asks
-use Rattle.sftp_path.proofs.PathTexts.GoodPaths.{list_all-octets}
+use Rattle.sftp_path.proofs.PathTexts.{list_all-octets}
 use Rattle.sftp_tree.specs.Told as told
 use Rattle.sftp_tree.proofs.Walks.Places.{path-found}
 use Rattle.sftp_tree.specs.Refusals as of_tree

@@ -1,5 +1,5 @@
 use Rattle.sftp_path.proofs.Imports.{◌==◌, length, ap, ◌∙◌}
-use Rattle.sftp_path.specs.Split.{Split}
+use Rattle.sftp_path.specs.Place.{Split}
 use Rattle.sftp_path.proofs.PathTexts.{components-none_left}
 use Rattle.sftp_path.proofs.parts.Parts.is_empty.Goals as goal
 

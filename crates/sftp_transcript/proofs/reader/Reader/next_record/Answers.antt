@@ -1,6 +1,6 @@
 -- One record is next at most.
 use Rattle.sftp_transcript.proofs.Imports.{◌∙◌}
-use Rattle.sftp_transcript.proofs.Numbers.{names_record}
+use Rattle.sftp_transcript.proofs.Fronts.{names_record}
 use Rattle.sftp_transcript.proofs.Packets.{gives_only, next_excuse}
 use Rattle.sftp_transcript.proofs.Reaching.{comes-given, comes-untaken, given-by, number-is, still-given}
 use Rattle.sftp_transcript.proofs.reader.Reader.next_record.Goals as goal

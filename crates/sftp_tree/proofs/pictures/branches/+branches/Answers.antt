@@ -3,7 +3,7 @@ use Rattle.sftp_tree.proofs.Imports.{◌≡◌, ℕ, List, ◌∷◌, ◌++◌, 
 use Rattle.sftp_tree.proofs.Imports.{row_text, branch, placed, flat, AreBranches, AreWritable}
 use Rattle.std.specs.Io.KnownBytes.{Appends}
 use Rattle.sftp_streams.specs.Streams.{AppendsPart}
-use Rattle.sftp_streams.proofs.Putting.{on_err}
+use Rattle.sftp_streams.proofs.Buffers.{on_err}
 use Rattle.sftp_tree.proofs.Imports.{refl, Names}
 use Rattle.sftp_tree.proofs.TreeFiles.Branches.{entries_text, dir_unwritten, below_unwritten, none_written}
 use Rattle.sftp_tree.proofs.TreeFiles.Branches.{child_unwritten}

@@ -3,7 +3,7 @@ use Rattle.sftp_tree.proofs.Imports.{◌∙◌, [], ap, sym, subst, length, drop
 use Rattle.sftp_tree.proofs.Imports.{rows_from, AreWritable}
 use Rattle.std.specs.Io.KnownBytes.{Appends}
 use Rattle.sftp_streams.specs.Streams.{AppendsPart}
-use Rattle.sftp_streams.proofs.Putting.{on_err}
+use Rattle.sftp_streams.proofs.Buffers.{on_err}
 use Rattle.sftp_tree.proofs.TreeFiles.Branches.{tree_writable, tree_few, tree_written}
 use Rattle.sftp_tree.proofs.pictures.branches.send_entries.Goals as goal
 

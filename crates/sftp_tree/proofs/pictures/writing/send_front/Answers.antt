@@ -1,8 +1,8 @@
 -- The head's numbers and its home fit their fields.
 use Rattle.sftp_tree.proofs.Imports.{◌-◌, [], length, ap, subst, ◌∙◌, arith, absolute, head_bytes, Names, node_at, root_owner}
 use Rattle.std.specs.Io.KnownBytes.{Appends}
-use Rattle.sftp_streams.proofs.Putting.{on_err}
-use Rattle.sftp_treefile.proofs.Texts.Sending.{AppendsPart-none}
+use Rattle.sftp_streams.proofs.Buffers.{on_err}
+use Rattle.sftp_treefile.proofs.Texts.Front.{AppendsPart-none}
 use Rattle.sftp_tree.specs.PictureParts.{head_of}
 use Rattle.sftp_tree.proofs.TreeFiles.Written.{names_count, home_short}
 use Rattle.sftp_tree.proofs.pictures.writing.send_front.Goals as goal

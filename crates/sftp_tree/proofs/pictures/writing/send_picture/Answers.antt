@@ -2,7 +2,7 @@
 use Rattle.sftp_tree.proofs.Imports.{[], sym, subst, flat_map, row_text, head_bytes, rows_after}
 use Rattle.std.specs.Io.KnownBytes.{Appends}
 use Rattle.sftp_streams.specs.Streams.{AppendsPart}
-use Rattle.sftp_streams.proofs.Putting.{on_err, Appends-then, AppendsPart-first, AppendsPart-then}
+use Rattle.sftp_streams.proofs.Buffers.{on_err, Appends-then, AppendsPart-first, AppendsPart-then}
 use Rattle.sftp_tree.specs.PictureParts.{head_of}
 use Rattle.sftp_tree.proofs.TreeFiles.Written.{picture_written}
 use Rattle.sftp_tree.proofs.pictures.writing.send_picture.Goals as goal

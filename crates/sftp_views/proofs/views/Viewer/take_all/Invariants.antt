@@ -1,5 +1,5 @@
 use Rattle.std.proofs.Common.{ℕ}
-use Rattle.sftp_transcript.specs.Ahead.{size_of}
+use Rattle.sftp_transcript.specs.Recorded.{size_of}
 use Rattle.sftp_views.proofs.views.Viewer.take_all.Given as goal
 
 abbrev pub decreases-records : goal.decreases-records

@@ -1,5 +1,5 @@
 use Rattle.std.proofs.Common.{ap, sym, ◌∙◌, Ok}
-use Rattle.sftp_wire.specs.Framing.{Frames}
+use Rattle.sftp_wire.specs.Fronts.{Frames}
 use Rattle.sftp_wire.specs.Fronts.{front_of}
 use Rattle.sftp_wire.proofs.StreamLaws.{room-left}
 use Rattle.sftp_wire.proofs.framing.FrameBuf.next.Goals as goal
