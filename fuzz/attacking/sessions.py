@@ -79,6 +79,12 @@ def late_transcript(count):
     return put_records([(CLIENT, HELLO), (SERVER, version(3, [])), opening, opened, *writes, *replies])
 
 
+def one_stat(path):
+    """Returns the transcript of a session in which STAT of this path is answered that there is no such file."""
+    asked = encode(Request(1, "STAT", [path]))
+    return put_records([(CLIENT, HELLO), (SERVER, version(3, [])), (CLIENT, asked), (SERVER, status(1, 2))])
+
+
 # A process begins with the memory of the one that started it, as Linux counts the greatest. So a small process starts
 # the program, and writes its status and its greatest memory to a pipe.
 MEASURE = """

@@ -7,6 +7,7 @@ mod bearings;
 mod cuts;
 mod diffing;
 mod faulty;
+mod full;
 mod leaving_out;
 mod objects;
 mod raising;
@@ -31,7 +32,7 @@ pub use spotting::spot_of;
 use std::fs::Files;
 use std::io::Write;
 pub use texts::make;
-pub use trees::write_tree;
+pub use trees::{is_read_again, write_tree};
 
 /// Shows every field of a file, a line for each record or entry that sums it up, or what was selected.
 pub fn show<'a, R: Files + AllocGlobal, O: Write>(
@@ -45,7 +46,7 @@ pub fn show<'a, R: Files + AllocGlobal, O: Write>(
     if viewing::is_viewed(options) {
         viewing::view(rt, options, output)
     } else if options.is_full {
-        texts::show_full(rt, options, output)
+        full::show_full(rt, options, output)
     } else {
         showing::show(rt, options.file, output)
     }

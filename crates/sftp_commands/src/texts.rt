@@ -1,123 +1,17 @@
-//! The subcommands `show --full` and `make`: a transcript or a tree file as text, and the file of such a text.
+//! The subcommand `make`: the file of a text, of a transcript or a tree file.
 ghost use Rattle.std.specs.Prelude.{◌≡◌, IfOk};
 ghost use Rattle.sftp_files.specs.declared.messages.Ending.TheVariants as endings;
 
-use crate::cuts::{is_mark, limit_of, print_lines};
-use crate::showing::outcome;
+use crate::cuts::is_mark;
 use crate::words::word_at;
-use sftp_files::{
-    Ending, Failure, Keeping, STANDARD_INPUT, ShowOptions, System, read_at_most, write_last,
-};
+use sftp_files::{Ending, Failure, Keeping, STANDARD_INPUT, System, write_last};
 use sftp_show::Quoted;
-use sftp_text::{
-    Expected, ShowFault, TextFault, is_blank, put_transcript, put_tree, read_transcript, read_tree,
-    take_line,
-};
-use sftp_transcript::{OPENING, TranscriptError};
-use sftp_treefile::{TreeError, read_rows};
+use sftp_text::{Expected, TextFault, is_blank, read_transcript, read_tree, take_line};
 use std::alloc::{AllocError, Global};
-use std::fs::Files;
-use std::io::{Read, Write};
+use std::io::Read;
 
 /// What the text of a tree file begins with, after blank lines and comments.
 const TREE_LABEL: &[u8] = b"home ";
-
-/// How many times the bytes of the file the memory has at most that its text takes.
-const SHARE: u64 = 32;
-
-/// Shows every field of a file, and as many bytes of each text as the options say. The first bytes say which kind of
-/// file it is.
-pub(crate) fn show_full<'a, R: Files + AllocGlobal, O: Write>(
-    rt: &R,
-    options: &ShowOptions<'a>,
-    output: &mut O,
-) -> Result<Ending, Failure<'a>>
-    ensures { IfOk result (λ ending. ending ≡ endings.Done) }
-{
-    let limit = limit_of(rt.alloc(), options.data)?;
-    let most = options.memory.map(|bytes| bytes / SHARE);
-    let bytes = read_at_most(rt, options.file, most)?;
-    let ending = put_full(rt.alloc(), bytes.as_slice(), limit, output);
-    drop(bytes);
-    ending
-}
-
-fn put_full<'a, O: Write>(
-    alloc: Global,
-    bytes: &[u8],
-    limit: usize,
-    output: &mut O,
-) -> Result<Ending, Failure<'a>>
-    ensures { IfOk result (λ ending. ending ≡ endings.Done) }
-{
-    let mut text = Vec::new(alloc);
-    let shown = put_text(alloc, bytes, &mut text);
-    let printed = print_lines(output, limit, text.as_slice());
-    drop(text);
-    outcome(shown, printed)
-}
-
-/// Appends the text of a file to an empty one. After a failure the text is empty, but for a malformed transcript: then
-/// it has the records before the fault.
-fn put_text<'a>(alloc: Global, bytes: &[u8], text: &mut Vec<u8>) -> Result<(), Failure<'a>> {
-    if bytes.starts_with(OPENING.as_slice()) {
-        put_records(bytes, text)
-    } else {
-        put_rows(alloc, bytes, text)
-    }
-}
-
-/// Appends the text of a transcript to an empty one.
-fn put_records<'a>(bytes: &[u8], text: &mut Vec<u8>) -> Result<(), Failure<'a>> {
-    match put_transcript(bytes, text) {
-        Ok(()) => Ok(()),
-        Err(ShowFault::NoMemory) => {
-            text.clear();
-            Err(Failure::OutOfMemory)
-        }
-        Err(ShowFault::Unfit) => Err(without_side(text.as_slice())),
-    }
-}
-
-/// Appends the text of a file that is no transcript to an empty one.
-fn put_rows<'a>(alloc: Global, bytes: &[u8], text: &mut Vec<u8>) -> Result<(), Failure<'a>> {
-    match put_tree(bytes, text) {
-        Ok(()) => Ok(()),
-        Err(fault) => {
-            text.clear();
-            Err(unshown(alloc, bytes, fault))
-        }
-    }
-}
-
-/// Why a file that is no transcript has no text.
-fn unshown<'a>(alloc: Global, bytes: &[u8], fault: ShowFault) -> Failure<'a> {
-    match fault {
-        ShowFault::NoMemory => Failure::OutOfMemory,
-        ShowFault::Unfit => malformed(alloc, bytes),
-    }
-}
-
-/// The failure for a transcript whose record after these lines begins with neither `C` nor `S`.
-fn without_side<'a>(lines: &[u8]) -> Failure<'a> {
-    let mut record: u64 = 1;
-    for byte in lines {
-        record = record.saturating_add(u64::from(*byte == b'\n'));
-    }
-    Failure::Transcript(TranscriptError::Direction { record })
-}
-
-/// Why bytes are not a tree file, whose form they do not have.
-fn malformed<'a>(alloc: Global, bytes: &[u8]) -> Failure<'a> {
-    match read_rows(alloc, bytes) {
-        Ok(file) => {
-            drop(file);
-            Failure::UnknownFile
-        }
-        Err(TreeError::Magic { .. }) => Failure::UnknownFile,
-        Err(error) => Failure::from(error),
-    }
-}
 
 /// Writes the file `name`, whose text is on standard input. It is a tree file if the first line has `home`, and else a
 /// transcript.

@@ -11,6 +11,7 @@ ghost use Rattle.sftp_tool.specs.Verdicts.{IsAudit, IsStrictCutAudit, IsCutAudit
 ghost use Rattle.sftp_tool.specs.Verdicts.{IsStrictCutVerdict, IsCutVerdictUnder};
 
 use crate::subcommands::{keep_end, report_error};
+use crate::trees::Kept;
 use crate::verdict_objects::print_accepted;
 use sftp_audit::{AuditError, EndedCut, audit_cut_tree_by};
 use sftp_files::{Ending, Failure, System, print};
@@ -72,7 +73,7 @@ pub(crate) fn judge_cut_and_report<
     rt: &R,
     files: &AuditOptions<'a>,
     start: Tree,
-    kept: Option<&[u8]>,
+    kept: Option<Kept<'_>>,
     transcript: F,
     output: &mut O,
     errors: &mut E,
@@ -95,7 +96,7 @@ pub(crate) fn judge_cut_and_report<
 fn report_cut<'a, R: System, O: Write, E: Write>(
     rt: &R,
     files: &AuditOptions<'a>,
-    kept: Option<&[u8]>,
+    kept: Option<Kept<'_>>,
     judged: &Result<EndedCut, AuditError>,
     follows: bool,
     output: &mut O,

@@ -4,6 +4,7 @@ use crate::newcomers::{Newcomer, find_newcomer};
 use crate::readings::{
     content_of, content_of_removed, status_of_set, taken_for, undue, wrong_piece,
 };
+use crate::trees::Kept;
 use sftp_audit::{AuditError, Auditor, Refusal};
 use sftp_commands::LeftOut;
 use sftp_files::{Failure, open, write_flushed};
@@ -15,9 +16,9 @@ use sftp_show::{
     put_record,
 };
 use sftp_transcript::{Reader, Tally, TranscriptError, WINDOW};
-use sftp_tree::{Cause, Causes, NoMemory, Tree};
+use sftp_tree::{Cause, Causes, NoMemory};
+use sftp_treefile::TreeError;
 use sftp_wire::{Answer, Ask, Side};
-use std::alloc::Global;
 use std::fs::Files;
 use std::io;
 use std::io::Write;
@@ -27,6 +28,8 @@ use std::io::Write;
 enum Unexplained {
     /// The transcript is not what it was when it was audited. It may be a pipe.
     OtherTranscript,
+    /// The tree's file is not what it was.
+    OtherTree,
     /// The lines cannot be written.
     Output,
     /// Memory ran out.
@@ -40,6 +43,9 @@ impl Unexplained {
             Unexplained::OtherTranscript => {
                 "sftpv3: the transcript cannot be read again, so the refusal is not explained\n"
             }
+            Unexplained::OtherTree => {
+                "sftpv3: the tree cannot be read again, so the refusal is not explained\n"
+            }
             Unexplained::Output => "sftpv3: cannot write the explanation\n",
             Unexplained::OutOfMemory => "sftpv3: out of memory\n",
         }
@@ -51,6 +57,15 @@ impl From<TranscriptError> for Unexplained {
         match error {
             TranscriptError::NoMemory => Unexplained::OutOfMemory,
             _ => Unexplained::OtherTranscript,
+        }
+    }
+}
+
+impl From<TreeError> for Unexplained {
+    fn from(error: TreeError) -> Self {
+        match error {
+            TreeError::NoMemory => Unexplained::OutOfMemory,
+            _ => Unexplained::OtherTree,
         }
     }
 }
@@ -69,7 +84,7 @@ impl From<ExplainError> for Unexplained {
 pub(crate) fn explain<'s, 'a, R: Files + AllocGlobal, E: Write>(
     rt: &'s R,
     files: &'s AuditOptions<'a>,
-    tree: &'s [u8],
+    tree: Kept<'s>,
     left_out: &'s mut LeftOut,
     refusal: Refusal,
     errors: &'s mut E,
@@ -93,8 +108,8 @@ pub(crate) fn explain<'s, 'a, R: Files + AllocGlobal, E: Write>(
 struct Explanation<'s, 'a, R, E> {
     rt: &'s R,
     files: &'s AuditOptions<'a>,
-    /// The bytes of the tree file.
-    tree: &'s [u8],
+    /// The tree that the session starts from.
+    tree: Kept<'s>,
     /// What the session goes on without.
     left_out: &'s mut LeftOut,
     refusal: Refusal,
@@ -259,13 +274,13 @@ impl<R: Files + AllocGlobal, E: Write> Explanation<'_, '_, R, E> {
 
     /// Why the session does not allow an answer, and what it allows.
     fn put_causes(&mut self, ask: &Ask, answer: &Answer) -> bool {
-        match new_auditor(self.rt.alloc(), self.profile(), self.tree) {
-            Some(mut auditor) => {
+        match self.new_auditor(self.profile()) {
+            Ok(mut auditor) => {
                 let put = self.put_causes_by(&mut auditor, ask, answer);
                 drop(auditor);
                 put
             }
-            None => self.stop(Unexplained::OutOfMemory),
+            Err(reason) => self.stop(reason),
         }
     }
 
@@ -491,13 +506,13 @@ impl<R: Files + AllocGlobal, E: Write> Explanation<'_, '_, R, E> {
 
     /// Whether the session continues beyond its refusal by this profile, which accepts the departure of this name.
     fn goes_on_by(&mut self, profile: Profile, name: &str) -> bool {
-        match new_auditor(self.rt.alloc(), profile, self.tree) {
-            Some(mut auditor) => {
+        match self.new_auditor(profile) {
+            Ok(mut auditor) => {
                 let fed = self.fed(&mut auditor);
                 drop(auditor);
                 self.is_beyond(fed, name)
             }
-            None => self.stop(Unexplained::OutOfMemory),
+            Err(reason) => self.stop(reason),
         }
     }
 
@@ -511,6 +526,15 @@ impl<R: Files + AllocGlobal, E: Write> Explanation<'_, '_, R, E> {
                 other != self.refusal
                     && (!replaces_requests(name) || record_of(other) > record_of(self.refusal))
             }
+        }
+    }
+
+    /// An auditor, by this profile, that has seen nothing of the session.
+    fn new_auditor(&self, profile: Profile) -> Result<Auditor<Judge>, Unexplained> {
+        let tree = self.tree.read(self.rt)?;
+        match Auditor::<Judge>::by(profile, tree) {
+            Ok(auditor) => Ok(auditor),
+            Err(_) => Err(Unexplained::OutOfMemory),
         }
     }
 
@@ -737,13 +761,5 @@ fn target_of(profile: Profile, ask: &Ask) -> Option<&[u8]> {
         Ask::Symlink { linkpath, .. } if profile.symlink_draft => Some(linkpath.as_slice()),
         Ask::Symlink { targetpath, .. } => Some(targetpath.as_slice()),
         _ => None,
-    }
-}
-
-/// An auditor, by this profile, of sessions that start from the tree of this file, or none if memory runs out.
-fn new_auditor(alloc: Global, profile: Profile, tree: &[u8]) -> Option<Auditor<Judge>> {
-    match Tree::read(alloc, tree) {
-        Ok(tree) => Auditor::<Judge>::by(profile, tree).ok(),
-        Err(_) => None,
     }
 }

@@ -8,6 +8,7 @@ use crate::explaining::{numbered, record_of};
 use crate::feeding::feed_rest;
 use crate::subcommands::{Finding, report_finding};
 use crate::totals::{End, Reason, Total, print_total};
+use crate::trees::Kept;
 use sftp_audit::{AuditError, Auditor, Refusal};
 use sftp_commands::{
     Asked, Bearing, LeftOut, Outcome, Replied, find_reply, is_harmless, last_asked,
@@ -17,9 +18,7 @@ use sftp_options::AuditOptions;
 use sftp_profile::{Judge, Profile};
 use sftp_show::{Record, find_record};
 use sftp_transcript::{Reader, Source, Tally};
-use sftp_tree::Tree;
 use sftp_wire::{Answer, asked_handle};
-use std::alloc::Global;
 use std::fs::Files;
 use std::io::{Read, Write};
 
@@ -31,7 +30,7 @@ const MOST: u64 = 100;
 pub(crate) fn report_findings<'a, R: System, O: Write, E: Write>(
     rt: &R,
     files: &AuditOptions<'a>,
-    tree: &[u8],
+    tree: Kept<'_>,
     first: Finding,
     output: &mut O,
     errors: &mut E,
@@ -49,7 +48,7 @@ pub(crate) fn report_findings<'a, R: System, O: Write, E: Write>(
 fn report_each<'a, R: System, O: Write, E: Write>(
     rt: &R,
     files: &AuditOptions<'a>,
-    tree: &[u8],
+    tree: Kept<'_>,
     left_out: &mut LeftOut,
     first: Finding,
     output: &mut O,
@@ -81,7 +80,7 @@ fn report_each<'a, R: System, O: Write, E: Write>(
 fn next_finding<R: System>(
     rt: &R,
     files: &AuditOptions<'_>,
-    tree: &[u8],
+    tree: Kept<'_>,
     left_out: &mut LeftOut,
     finding: Finding,
 ) -> Result<Finding, End> {
@@ -274,7 +273,7 @@ impl From<AuditError> for Halt {
 fn judge_rest<R: System>(
     rt: &R,
     files: &AuditOptions<'_>,
-    tree: &[u8],
+    tree: Kept<'_>,
     left_out: &mut LeftOut,
 ) -> Result<Finding, End> {
     let mut follows = true;
@@ -309,7 +308,7 @@ fn number_of<R: Files + AllocGlobal>(
 fn judge_file<R: System>(
     rt: &R,
     files: &AuditOptions<'_>,
-    tree: &[u8],
+    tree: Kept<'_>,
     left_out: &mut LeftOut,
     follows: &mut bool,
 ) -> Result<Counts, Halt> {
@@ -317,7 +316,7 @@ fn judge_file<R: System>(
     match Meter::new(rt, files.memory) {
         Ok(mut meter) => {
             let bounded = Bounded::new(file, &mut meter);
-            let judged = judge_source(rt.alloc(), files, tree, left_out, bounded, follows);
+            let judged = judge_source(rt, files, tree, left_out, bounded, follows);
             if meter.is_over() {
                 return Err(Halt::Ended(End::OutOfMemory));
             }
@@ -339,31 +338,31 @@ fn opened<F>(file: Result<F, Failure<'_>>) -> Result<F, End> {
 }
 
 /// Audits what is not left out of the session of a transcript that is read as a stream.
-fn judge_source<F: Read + Drop>(
-    alloc: Global,
+fn judge_source<R: Files + AllocGlobal, F: Read + Drop>(
+    rt: &R,
     files: &AuditOptions<'_>,
-    tree: &[u8],
+    tree: Kept<'_>,
     left_out: &mut LeftOut,
     transcript: F,
     follows: &mut bool,
 ) -> Result<Counts, AuditError> {
-    let mut records = Reader::new(alloc, Tally::new(transcript))?;
-    let judged = judge_records(alloc, files, tree, left_out, &mut records, follows);
+    let mut records = Reader::new(rt.alloc(), Tally::new(transcript))?;
+    let judged = judge_records(rt, files, tree, left_out, &mut records, follows);
     drop(records);
     judged
 }
 
 /// Audits what is not left out of the session of a reader that has read nothing yet.
-fn judge_records<T: Source>(
-    alloc: Global,
+fn judge_records<R: Files + AllocGlobal, T: Source>(
+    rt: &R,
     files: &AuditOptions<'_>,
-    tree: &[u8],
+    tree: Kept<'_>,
     left_out: &mut LeftOut,
     records: &mut Reader<T>,
     follows: &mut bool,
 ) -> Result<Counts, AuditError> {
     let profile = files.profile.unwrap_or(Profile::strict());
-    let mut auditor = Auditor::<Judge>::by(profile, Tree::read(alloc, tree)?)?;
+    let mut auditor = Auditor::<Judge>::by(profile, tree.read(rt)?)?;
     match feed_rest(&mut auditor, left_out, records) {
         Ok(requests) => ended(auditor, requests, left_out.hanging(), files.cuts),
         Err(error) => {

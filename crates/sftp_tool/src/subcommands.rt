@@ -13,10 +13,10 @@ ghost use Rattle.sftp_tool.specs.Verdicts.{IsStrictVerdict, IsVerdictUnder, IsVe
 use crate::cut_sessions::judge_cut_and_report;
 use crate::explaining::explain;
 use crate::going_on::report_findings;
-use crate::trees::read_tree_in_view;
+use crate::trees::{Kept, read_tree_in_view};
 use crate::verdict_objects::{print_accepted, print_refused};
 use sftp_audit::{AuditError, Ended, Refusal, audit_tree_by};
-use sftp_commands::{LeftOut, write_tree};
+use sftp_commands::{LeftOut, is_read_again, write_tree};
 use sftp_files::{
     Bounded, Ending, Failure, Keeping, Meter, System, open, print, read_at_most, write_last,
 };
@@ -65,15 +65,17 @@ fn audit_by<'a, R: System + Clock, O: Write, E: Write + IsTerminal>(
 ) -> Result<Ending, Failure<'a>>
     ensures { IsAuditStatus result }
 {
-    if files.explains || files.keeps_going {
+    let goes_back = files.explains || files.keeps_going;
+    if goes_back && !is_read_again(rt, files.tree) {
         return audit_keeping(rt, files, output, errors);
     }
+    let kept = goes_back.then_some(Kept::File(files.tree));
     let start = read_tree_in_view(rt, files.tree, files.memory, files.says_progress, errors)?;
-    audit_from(rt, files, start, None, output, errors)
+    audit_from(rt, files, start, kept, output, errors)
 }
 
-/// Audits such a session, and keeps the bytes of its tree file: what explains a refusal, and what goes on behind it,
-/// starts from the tree again, and its file may be a pipe.
+/// Audits a session whose tree file cannot be read twice, and keeps its bytes: what explains a refusal, and what goes on
+/// behind it, starts from the tree again.
 fn audit_keeping<'a, R: System + Clock, O: Write, E: Write + IsTerminal>(
     rt: &R,
     files: &AuditOptions<'a>,
@@ -84,18 +86,25 @@ fn audit_keeping<'a, R: System + Clock, O: Write, E: Write + IsTerminal>(
 {
     let bytes = read_at_most(rt, files.tree, files.memory)?;
     let start = Tree::read(rt.alloc(), bytes.as_slice());
-    let ending = audit_from(rt, files, start, Some(bytes.as_slice()), output, errors);
+    let ending = audit_from(
+        rt,
+        files,
+        start,
+        Some(Kept::Bytes(bytes.as_slice())),
+        output,
+        errors,
+    );
     drop(bytes);
     ending
 }
 
-/// Audits a session that starts from this tree, unless its file has a fault. From here on `kept` has the bytes of the
-/// tree file if an explanation is asked for, or what else is wrong.
+/// Audits a session that starts from this tree, unless its file has a fault. From here on `kept` says
+/// where the tree can be had again if an explanation is asked for, or what else is wrong.
 fn audit_from<'a, R: System + Clock, O: Write, E: Write + IsTerminal>(
     rt: &R,
     files: &AuditOptions<'a>,
     start: Result<Tree, TreeError>,
-    kept: Option<&[u8]>,
+    kept: Option<Kept<'_>>,
     output: &mut O,
     errors: &mut E,
 ) -> Result<Ending, Failure<'a>>
@@ -122,7 +131,7 @@ fn audit_transcript<'a, F: Read + Drop, R: System + Clock, O: Write, E: Write + 
     rt: &R,
     files: &AuditOptions<'a>,
     start: Tree,
-    kept: Option<&[u8]>,
+    kept: Option<Kept<'_>>,
     transcript: F,
     output: &mut O,
     errors: &mut E,
@@ -143,7 +152,7 @@ fn audit_within<'a, F: Read + Drop, R: System + Clock, O: Write, E: Write + IsTe
     rt: &R,
     files: &AuditOptions<'a>,
     start: Tree,
-    kept: Option<&[u8]>,
+    kept: Option<Kept<'_>>,
     transcript: F,
     output: &mut O,
     errors: &mut E,
@@ -167,7 +176,7 @@ fn judge_as_asked<'a, F: Read + Drop, R: System + Clock, O: Write, E: Write + Is
     rt: &R,
     files: &AuditOptions<'a>,
     start: Tree,
-    kept: Option<&[u8]>,
+    kept: Option<Kept<'_>>,
     transcript: F,
     output: &mut O,
     errors: &mut E,
@@ -189,7 +198,7 @@ fn judge_and_report<'a, F: Read + Drop, R: System + Clock, O: Write, E: Write + 
     rt: &R,
     files: &AuditOptions<'a>,
     start: Tree,
-    kept: Option<&[u8]>,
+    kept: Option<Kept<'_>>,
     transcript: F,
     output: &mut O,
     errors: &mut E,
@@ -212,7 +221,7 @@ fn judge_and_report<'a, F: Read + Drop, R: System + Clock, O: Write, E: Write + 
 fn report<'a, R: System, O: Write, E: Write>(
     rt: &R,
     files: &AuditOptions<'a>,
-    kept: Option<&[u8]>,
+    kept: Option<Kept<'_>>,
     judged: &Result<Ended, AuditError>,
     follows: bool,
     output: &mut O,
@@ -238,7 +247,7 @@ pub(crate) struct Finding {
 pub(crate) fn report_error<'a, R: System, O: Write, E: Write>(
     rt: &R,
     files: &AuditOptions<'a>,
-    kept: Option<&[u8]>,
+    kept: Option<Kept<'_>>,
     error: AuditError,
     follows: bool,
     output: &mut O,
@@ -257,7 +266,7 @@ pub(crate) fn report_error<'a, R: System, O: Write, E: Write>(
 fn report_refusal<'a, R: System, O: Write, E: Write>(
     rt: &R,
     files: &AuditOptions<'a>,
-    kept: Option<&[u8]>,
+    kept: Option<Kept<'_>>,
     refusal: Refusal,
     follows: bool,
     output: &mut O,
@@ -285,7 +294,7 @@ fn report_refusal<'a, R: System, O: Write, E: Write>(
 pub(crate) fn report_finding<'a, R: Files + AllocGlobal, O: Write, E: Write>(
     rt: &R,
     files: &AuditOptions<'a>,
-    tree: &[u8],
+    tree: Kept<'_>,
     left_out: &mut LeftOut,
     finding: Finding,
     output: &mut O,
@@ -309,7 +318,7 @@ pub(crate) fn report_finding<'a, R: Files + AllocGlobal, O: Write, E: Write>(
 fn refuse_as_object<'a, R: Files + AllocGlobal, O: Write>(
     rt: &R,
     files: &AuditOptions<'a>,
-    tree: &[u8],
+    tree: Kept<'_>,
     left_out: &mut LeftOut,
     finding: Finding,
     output: &mut O,

@@ -8,8 +8,35 @@ use sftp_transcript::Tally;
 use sftp_tree::Tree;
 use sftp_treefile::TreeError;
 use std::alloc::Global;
+use std::fs::Files;
 use std::io::{IsTerminal, Read, Write};
 use std::time::Clock;
+
+/// From where the tree of a session's start can be read once more.
+#[derive(Clone, Copy)]
+pub(crate) enum Kept<'s> {
+    /// From the regular file of this name.
+    File(&'s str),
+    /// From the bytes of a file that cannot be read twice, such as a pipe.
+    Bytes(&'s [u8]),
+}
+
+impl Kept<'_> {
+    /// The tree, read once more.
+    ///
+    /// # Errors
+    ///
+    /// The first fault of the file; `Io` at no entry if it cannot be opened.
+    pub(crate) fn read<R: Files + AllocGlobal>(self, rt: &R) -> Result<Tree, TreeError> {
+        match self {
+            Kept::File(name) => match open(rt, name) {
+                Ok(file) => Tree::read_from(rt.alloc(), Tally::new(file)),
+                Err(_) => Err(TreeError::Io { entry: 0 }),
+            },
+            Kept::Bytes(bytes) => Tree::read(rt.alloc(), bytes),
+        }
+    }
+}
 
 /// The tree of the file `name`, or the first fault of the file. No more of it is held than the tree and a buffer.
 ///
