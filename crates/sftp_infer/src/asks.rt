@@ -82,7 +82,7 @@ impl<'a> World<'a> {
     /// Where a path leads, for what is asked of it.
     pub(crate) fn see(&mut self, path: &[u8], follows: bool) -> Result<Seen, Stop> {
         let found = self.look(path, follows)?;
-        let is_assumed = self.slot(found.parent, found.name.as_slice()).is_assumed;
+        let is_assumed = self.slot(found.spot()).is_assumed;
         let (look, steps) = (found.look, found.steps);
         drop(found);
         self.count_steps(steps);

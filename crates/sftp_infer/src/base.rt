@@ -45,7 +45,8 @@ impl<'a> World<'a> {
     }
 
     fn begin_name(&mut self, parent: usize, name: &[u8], sort: Sort) -> Result<usize, Stop> {
-        match self.held(parent, name) {
+        let spot = self.spot(parent, name);
+        match self.held(spot) {
             Some((Held::Entry(at), _)) => {
                 self.set_sort(at, sort);
                 let known = self.sort(at);
@@ -55,8 +56,8 @@ impl<'a> World<'a> {
                 }
                 Ok(at)
             }
-            Some((Held::Nothing, told)) => { Err(self.clash_name(parent, name, told, What::There)) }
-            None => Ok(self.tell(parent, name, sort)?),
+            Some((Held::Nothing, told)) => { Err(self.clash_name(spot, told, What::There)) }
+            None => Ok(self.tell(spot, sort)?),
         }
     }
 
@@ -92,10 +93,13 @@ impl<'a> World<'a> {
             return Ok(());
         };
         let parent = self.begin_at(above, Sort::Directory)?;
-        let mut slot = self.slot(parent, name);
-        slot.start = Some(Held::Entry(first));
-        slot.told = self.teller;
-        Ok(self.set_slot(parent, name, slot)?)
+        let spot = self.spot(parent, name);
+        let told = self.teller;
+        if let Some(slot) = self.slot_mut(spot)? {
+            slot.start = Some(Held::Entry(first));
+            slot.told = told;
+        }
+        Ok(())
     }
 }
 

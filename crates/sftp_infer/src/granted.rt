@@ -3,6 +3,7 @@
 use crate::asks::Asks;
 use crate::errors::Stop;
 use crate::look::{Found, Look};
+use crate::names::Spot;
 use crate::nodes::Sort;
 use crate::world::World;
 
@@ -31,19 +32,19 @@ impl<'a> World<'a> {
     }
 
     fn grant_at(&mut self, found: &Found, asks: Asks) -> Result<(), Stop> {
-        let (parent, name) = (found.parent, found.name.as_slice());
+        let spot = found.spot();
         match found.look {
             Look::Entry(at) => self.grant_of_entry(at, asks),
-            Look::Unknown if asks == Asks::Nothing => Ok(self.tell_nothing(parent, name, true)?),
+            Look::Unknown if asks == Asks::Nothing => Ok(self.tell_nothing(spot, true)?),
             Look::Unknown => {
-                let at = self.tell(parent, name, asks.sort())?;
+                let at = self.tell(spot, asks.sort())?;
                 if asks == Asks::Astray {
                     return self.lead_astray(at);
                 }
                 Ok(())
             }
             Look::Blind(at) if asks == Asks::Astray => self.lead_astray(at),
-            Look::UnknownWay => self.grant_way(parent, name, asks),
+            Look::UnknownWay => self.grant_way(spot, asks),
             Look::Unsure(at) => {
                 let sort = if asks == Asks::Blocked {
                     Sort::File
@@ -55,7 +56,7 @@ impl<'a> World<'a> {
             }
             Look::Blind(at) => self.invent_target(at),
             Look::Nothing(_) | Look::NoEntry(_) => {
-                self.retract(parent, name)?;
+                self.retract(spot)?;
                 Ok(())
             }
             _ => Ok(()),
@@ -63,15 +64,15 @@ impl<'a> World<'a> {
     }
 
     /// Nothing is known of a name on the way.
-    fn grant_way(&mut self, parent: usize, name: &[u8], asks: Asks) -> Result<(), Stop> {
+    fn grant_way(&mut self, spot: Spot<'_>, asks: Asks) -> Result<(), Stop> {
         match asks {
-            Asks::Lost | Asks::Astray => Ok(self.tell_nothing(parent, name, true)?),
+            Asks::Lost | Asks::Astray => Ok(self.tell_nothing(spot, true)?),
             Asks::Blocked => {
-                self.tell(parent, name, Sort::File)?;
+                self.tell(spot, Sort::File)?;
                 Ok(())
             }
             _ => {
-                self.tell(parent, name, Sort::Directory)?;
+                self.tell(spot, Sort::Directory)?;
                 Ok(())
             }
         }

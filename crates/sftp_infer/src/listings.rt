@@ -4,7 +4,7 @@ use crate::attributes::{PERMISSIONS, sort_of};
 use crate::clashes::What;
 use crate::errors::Stop;
 use crate::handles::Opened;
-use crate::names::Named;
+use crate::names::{Named, Spot};
 use crate::nodes::{Held, Node, Slot, Sort};
 use crate::world::World;
 use sftp_path::{is_dot, is_dot_dot, is_name};
@@ -25,28 +25,28 @@ impl<'a> World<'a> {
         if is_dot(name) || is_dot_dot(name) || !is_name(name) {
             return Ok(());
         }
-        let slot = self.slot(listing.entry, name);
-        if slot.changed > listing.asked {
-            return self.mark(listing, name);
+        let spot = self.spot(listing.entry, name);
+        if self.slot(spot).changed > listing.asked {
+            return self.mark(listing, spot);
         }
-        match self.held(listing.entry, name) {
+        match self.held(spot) {
             Some((Held::Entry(at), _)) => self.list_entry(listing, at, item)?,
-            Some((Held::Nothing, told)) => self.list_absent(listing, item, told)?,
-            None => self.list_unknown(listing, item)?,
+            Some((Held::Nothing, told)) => self.list_absent(listing, spot, item, told)?,
+            None => self.list_unknown(spot, item)?,
         }
-        self.mark(listing, name)
+        self.mark(listing, spot)
     }
 
     /// Notes that a listing gave a name.
-    fn mark(&mut self, listing: Opened, name: &[u8]) -> Result<(), Stop> {
-        let mut slot = self.slot(listing.entry, name);
-        slot.listed = slot.listed.max(listing.told);
-        Ok(self.set_slot(listing.entry, name, slot)?)
+    fn mark(&mut self, listing: Opened, spot: Spot<'_>) -> Result<(), Stop> {
+        if let Some(slot) = self.slot_mut(spot)? {
+            slot.listed = slot.listed.max(listing.told);
+        }
+        Ok(())
     }
 
-    fn list_unknown(&mut self, listing: Opened, item: &NameItem) -> Result<(), Stop> {
-        let name = item.filename.as_slice();
-        let at = self.tell(listing.entry, name, sort_of(&item.attrs))?;
+    fn list_unknown(&mut self, spot: Spot<'_>, item: &NameItem) -> Result<(), Stop> {
+        let at = self.tell(spot, sort_of(&item.attrs))?;
         self.tell_attrs(at, &item.attrs)
     }
 
@@ -105,26 +105,27 @@ impl<'a> World<'a> {
         Ok(())
     }
 
-    fn list_absent(&mut self, listing: Opened, item: &NameItem, told: u64) -> Result<(), Stop> {
-        let name = item.filename.as_slice();
-        if told > listing.told && !self.slot(listing.entry, name).is_assumed {
+    fn list_absent(
+        &mut self,
+        listing: Opened,
+        spot: Spot<'_>,
+        item: &NameItem,
+        told: u64,
+    ) -> Result<(), Stop> {
+        if told > listing.told && !self.slot(spot).is_assumed {
             return Ok(());
         }
-        if let Some(at) = self.retract(listing.entry, name)? {
+        if let Some(at) = self.retract(spot)? {
             return self.tell_attrs(at, &item.attrs);
         }
-        Err(self.clash_name(listing.entry, name, told, What::There))
+        Err(self.clash_name(spot, told, What::There))
     }
 
     /// Takes the end of a listing: no name is left that it did not give.
     pub(crate) fn list_end(&mut self, listing: Opened) -> Result<(), Stop> {
         if let Some((slot, name)) = self.left_out(listing)? {
-            let missing = self.clash_name(
-                listing.entry,
-                name.as_slice(),
-                slot.told,
-                What::Unlisted,
-            );
+            let spot = self.spot(listing.entry, name.as_slice());
+            let missing = self.clash_name(spot, slot.told, What::Unlisted);
             drop(name);
             return Err(missing);
         }

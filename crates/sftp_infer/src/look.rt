@@ -1,5 +1,6 @@
 //! Where a path leads, as far as that is known.
 
+use crate::names::{Place, Spot};
 use crate::nodes::{Held, Sort};
 use crate::world::World;
 use sftp_path::{NoMemory, good_path, is_dot, is_dot_dot};
@@ -41,14 +42,29 @@ pub(crate) struct Found {
     pub(crate) look: Look,
     pub(crate) parent: usize,
     pub(crate) name: Vec<u8>,
+    /// Where in the list of the directory the name is.
+    found: Place,
     /// How many components the walk looked at.
     pub(crate) steps: u64,
+}
+
+impl Found {
+    /// The name where the walk ended.
+    pub(crate) fn spot(&self) -> Spot<'_> {
+        Spot {
+            parent: self.parent,
+            name: self.name.as_slice(),
+            found: self.found,
+        }
+    }
 }
 
 /// A walk that has not ended.
 #[derive(Drop)]
 struct Walk<'w> {
     at: usize,
+    /// Where in the list of the directory the last name was found.
+    found: Place,
     rest: &'w [u8],
     /// What comes after the rest, the next one last.
     waiting: Vec<&'w [u8]>,
@@ -107,11 +123,13 @@ impl<'a> World<'a> {
                 look: Look::Bad,
                 parent: 0,
                 name: Vec::new(self.alloc),
+                found: Place::NotSought,
                 steps: 0,
             });
         }
         let mut walk = Walk {
             at: 0,
+            found: Place::NotSought,
             rest: path,
             waiting: Vec::new(self.alloc),
             links: 0,
@@ -129,12 +147,13 @@ impl<'a> World<'a> {
             match self.step(&mut walk, follows)? {
                 Step::On => {}
                 Step::End(look, name) => {
-                    let parent = walk.at;
+                    let (parent, found) = (walk.at, walk.found);
                     drop(walk);
                     return Ok(Found {
                         look,
                         parent,
                         name: Vec::from_slice(self.alloc, name)?,
+                        found,
                         steps,
                     });
                 }
@@ -145,6 +164,7 @@ impl<'a> World<'a> {
             look: Look::Loop,
             parent: 0,
             name: Vec::new(self.alloc),
+            found: Place::NotSought,
             steps: COMPONENT_LIMIT,
         })
     }
@@ -168,6 +188,7 @@ impl<'a> World<'a> {
     /// The walk ends in the directory that it has reached.
     fn end_in<'w>(&'w self, walk: &mut Walk<'w>) -> Step<'w> {
         let look = Look::Entry(walk.at);
+        walk.found = Place::NotSought;
         match self.entry(walk.at) {
             Some(directory) => {
                 walk.at = directory.parent;
@@ -194,7 +215,9 @@ impl<'a> World<'a> {
             return Ok(Step::On);
         }
         let is_last = walk.is_done();
-        match self.held(walk.at, name) {
+        let spot = self.spot(walk.at, name);
+        walk.found = spot.found;
+        match self.held(spot) {
             Some((Held::Entry(at), _)) => self.enter_entry(walk, name, at, is_last, follows),
             Some((Held::Nothing, told)) if is_last => Ok(Step::End(Look::Nothing(told), name)),
             Some((Held::Nothing, told)) => Ok(Step::End(Look::NoEntry(told), name)),
@@ -253,9 +276,9 @@ impl<'a> World<'a> {
     }
 
     /// What a name in a directory leads to now, and the record that told it, if that is known.
-    pub(crate) fn held(&self, parent: usize, name: &[u8]) -> Option<(Held, u64)> {
-        let directory = self.entry(parent)?;
-        let known = match directory.names.get(name) {
+    pub(crate) fn held(&self, spot: Spot<'_>) -> Option<(Held, u64)> {
+        let directory = self.entry(spot.parent)?;
+        let known = match directory.names.get(spot) {
             Some(slot) => match slot.now {
                 Some(held) => Some((held, slot.changed)),
                 None => match slot.start {

@@ -3,6 +3,7 @@
 use crate::clashes::What;
 use crate::errors::Stop;
 use crate::look::{Found, Look};
+use crate::names::Spot;
 use crate::nodes::{Held, Node, Sort};
 use crate::world::World;
 use sftp_wire::Attrs;
@@ -40,10 +41,10 @@ impl<'a> World<'a> {
     }
 
     fn open_way_at(&mut self, found: &Found) -> Result<(), Stop> {
-        let (parent, name) = (found.parent, found.name.as_slice());
+        let spot = found.spot();
         match found.look {
             Look::UnknownWay => {
-                self.tell(parent, name, Sort::Directory)?;
+                self.tell(spot, Sort::Directory)?;
                 Ok(())
             }
             Look::Unsure(at) => {
@@ -52,7 +53,7 @@ impl<'a> World<'a> {
             }
             Look::Blind(at) => self.invent_target(at),
             Look::NoEntry(told) => {
-                self.require(parent, name, told)?;
+                self.require(spot, told)?;
                 Ok(())
             }
             _ => Ok(()),
@@ -60,11 +61,11 @@ impl<'a> World<'a> {
     }
 
     /// Something is at a name of which this record told that nothing is.
-    fn require(&mut self, parent: usize, name: &[u8], told: u64) -> Result<usize, Stop> {
-        if let Some(at) = self.retract(parent, name)? {
+    fn require(&mut self, spot: Spot<'_>, told: u64) -> Result<usize, Stop> {
+        if let Some(at) = self.retract(spot)? {
             return Ok(at);
         }
-        Err(self.clash_name(parent, name, told, What::There))
+        Err(self.clash_name(spot, told, What::There))
     }
 
     /// The entry to which a path leads whose request was done and needs one. If nothing is known of it, it is of this
@@ -82,19 +83,19 @@ impl<'a> World<'a> {
     }
 
     fn entry_of(&mut self, found: &Found, sort: Sort) -> Result<usize, Stop> {
-        let (parent, name) = (found.parent, found.name.as_slice());
+        let spot = found.spot();
         match found.look {
             Look::Entry(at) => {
                 self.set_sort(at, sort);
                 Ok(at)
             }
-            Look::Unknown => Ok(self.tell(parent, name, sort)?),
+            Look::Unknown => Ok(self.tell(spot, sort)?),
             Look::Nothing(told) => {
-                let at = self.require(parent, name, told)?;
+                let at = self.require(spot, told)?;
                 self.set_sort(at, sort);
                 Ok(at)
             }
-            _ => Err(self.clash_name(parent, name, 0, What::Place)),
+            _ => Err(self.clash_name(spot, 0, What::Place)),
         }
     }
 
@@ -111,15 +112,15 @@ impl<'a> World<'a> {
     }
 
     fn require_free(&mut self, found: &Found) -> Result<(), Stop> {
-        let (parent, name) = (found.parent, found.name.as_slice());
+        let spot = found.spot();
         match found.look {
-            Look::Unknown => Ok(self.tell_nothing(parent, name, false)?),
+            Look::Unknown => Ok(self.tell_nothing(spot, false)?),
             Look::Nothing(_) => Ok(()),
             Look::Entry(at) => {
                 let told = self.told(at);
                 Err(self.clash_at(at, told, What::Gone))
             }
-            _ => Err(self.clash_name(parent, name, 0, What::Place)),
+            _ => Err(self.clash_name(spot, 0, What::Place)),
         }
     }
 
@@ -128,7 +129,7 @@ impl<'a> World<'a> {
         let found = self.reach_free(path)?;
         let mut made = Node::new(self.alloc, Sort::Directory, self.teller);
         made.rights = self.made_rights(attrs, 0o755, 0o777);
-        let done = self.make(made, found.parent, found.name.as_slice());
+        let done = self.make(made, found.spot());
         drop(found);
         done?;
         Ok(())
@@ -140,7 +141,7 @@ impl<'a> World<'a> {
         let text = Vec::from_slice(self.alloc, target)?;
         let mut made = Node::new(self.alloc, Sort::Link, self.teller);
         made.target = Some(text);
-        let done = self.make(made, found.parent, found.name.as_slice());
+        let done = self.make(made, found.spot());
         drop(found);
         done?;
         Ok(())
@@ -159,7 +160,7 @@ impl<'a> World<'a> {
         if self.sort(at) == Sort::Directory {
             self.tell_sort(at, Sort::File, None)?;
         }
-        Ok(self.change(found.parent, found.name.as_slice(), Held::Nothing)?)
+        Ok(self.change(found.spot(), Held::Nothing)?)
     }
 
     /// An empty directory was removed.
@@ -178,7 +179,7 @@ impl<'a> World<'a> {
             return Err(self.clash_at(at, told, What::Entries));
         }
         self.complete(at);
-        Ok(self.change(found.parent, found.name.as_slice(), Held::Nothing)?)
+        Ok(self.change(found.spot(), Held::Nothing)?)
     }
 
     /// Tells that a directory has no names but those that are known.
@@ -193,32 +194,43 @@ impl<'a> World<'a> {
 
     /// Something was moved to a name at which nothing was.
     pub(crate) fn rename(&mut self, old: &[u8], new: &[u8]) -> Result<(), Stop> {
-        let at = self.reach_entry(old, false, Sort::Unknown)?;
+        let from = self.reach(old, false)?;
+        let done = self.rename_from(&from, new);
+        drop(from);
+        done
+    }
+
+    fn rename_from(&mut self, from: &Found, new: &[u8]) -> Result<(), Stop> {
+        let at = self.entry_of(from, Sort::Unknown)?;
         let to = self.reach_free(new)?;
-        let done = self.move_from(old, at, &to);
+        let done = self.move_to(from, at, &to);
         drop(to);
         done
     }
 
     /// Something was moved to a name at which something may have been.
     pub(crate) fn replace(&mut self, old: &[u8], new: &[u8]) -> Result<(), Stop> {
-        let at = self.reach_entry(old, false, Sort::Unknown)?;
+        let from = self.reach(old, false)?;
+        let done = self.replace_from(&from, new);
+        drop(from);
+        done
+    }
+
+    fn replace_from(&mut self, from: &Found, new: &[u8]) -> Result<(), Stop> {
+        let at = self.entry_of(from, Sort::Unknown)?;
         let to = self.reach(new, false)?;
         let done = match to.look {
             Look::Entry(other) if other == at => Ok(()),
-            _ => self.move_from(old, at, &to),
+            _ => self.move_to(from, at, &to),
         };
         drop(to);
         done
     }
 
-    /// Moves an entry, to which this path leads, to another name.
-    fn move_from(&mut self, old: &[u8], at: usize, to: &Found) -> Result<(), Stop> {
-        let from = self.look(old, false)?;
-        let done = self.change(from.parent, from.name.as_slice(), Held::Nothing);
-        drop(from);
-        done?;
-        self.change(to.parent, to.name.as_slice(), Held::Entry(at))?;
+    /// Moves an entry from one name to another.
+    fn move_to(&mut self, from: &Found, at: usize, to: &Found) -> Result<(), Stop> {
+        self.change(from.spot(), Held::Nothing)?;
+        self.change(to.spot(), Held::Entry(at))?;
         let name = Vec::from_slice(self.alloc, to.name.as_slice())?;
         match self.entry_mut(at) {
             Some(entry) => {
@@ -237,7 +249,7 @@ impl<'a> World<'a> {
             self.tell_sort(at, Sort::File, None)?;
         }
         let to = self.reach_free(new)?;
-        let done = self.change(to.parent, to.name.as_slice(), Held::Entry(at));
+        let done = self.change(to.spot(), Held::Entry(at));
         drop(to);
         done?;
         Ok(())

@@ -61,7 +61,7 @@ impl<'a> World<'a> {
     }
 
     fn open_found(&mut self, found: &Found, makes: bool, attrs: &Attrs) -> Result<usize, Stop> {
-        let (parent, name) = (found.parent, found.name.as_slice());
+        let spot = found.spot();
         match found.look {
             Look::Entry(at) => {
                 self.set_sort(at, Sort::File);
@@ -71,22 +71,22 @@ impl<'a> World<'a> {
                 Ok(at)
             }
             Look::Nothing(_) if makes => {
-                let is_assumed = self.slot(parent, name).is_assumed;
+                let is_assumed = self.slot(spot).is_assumed;
                 self.make_file(found, attrs, is_assumed)
             }
             Look::Unknown if makes => {
-                self.tell_nothing(parent, name, true)?;
+                self.tell_nothing(spot, true)?;
                 self.make_file(found, attrs, true)
             }
-            Look::Unknown => Ok(self.tell(parent, name, Sort::File)?),
+            Look::Unknown => Ok(self.tell(spot, Sort::File)?),
             Look::Nothing(told) => {
-                if let Some(at) = self.retract(parent, name)? {
+                if let Some(at) = self.retract(spot)? {
                     self.set_sort(at, Sort::File);
                     return Ok(at);
                 }
-                Err(self.clash_name(parent, name, told, What::There))
+                Err(self.clash_name(spot, told, What::There))
             }
-            _ => Err(self.clash_name(parent, name, 0, What::Place)),
+            _ => Err(self.clash_name(spot, 0, What::Place)),
         }
     }
 
@@ -95,6 +95,6 @@ impl<'a> World<'a> {
         let mut made = Node::new(self.alloc, Sort::File, self.teller);
         made.rights = self.made_rights(attrs, 0o644, 0o666);
         made.is_chosen = is_chosen;
-        Ok(self.make(made, found.parent, found.name.as_slice())?)
+        Ok(self.make(made, found.spot())?)
     }
 }

@@ -3,6 +3,7 @@
 use crate::clashes::{Clash, What};
 use crate::errors::Stop;
 use crate::facts::{Fact, Says};
+use crate::names::Spot;
 use crate::world::World;
 use sftp_path::{DEPTH_LIMIT, NoMemory};
 
@@ -168,8 +169,8 @@ impl<'a> World<'a> {
     }
 
     /// The contradiction at a name.
-    pub(crate) fn clash_name(&mut self, parent: usize, name: &[u8], told: u64, what: What) -> Stop {
-        match self.place(parent, name, false) {
+    pub(crate) fn clash_name(&mut self, spot: Spot<'_>, told: u64, what: What) -> Stop {
+        match self.place(spot.parent, spot.name, false) {
             Ok(place) => {
                 if self.propose_targets(place.as_slice()).is_err() {
                     drop(place);

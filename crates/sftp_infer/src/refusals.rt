@@ -276,11 +276,11 @@ impl<'a> World<'a> {
             }
             Look::Nothing(told) | Look::NoEntry(told) => {
                 let what = What::Refused(None);
-                Ok(self.clash_name(found.parent, found.name.as_slice(), told, what))
+                Ok(self.clash_name(found.spot(), told, what))
             }
             _ => {
                 let what = What::Refused(None);
-                Ok(self.clash_name(found.parent, found.name.as_slice(), 0, what))
+                Ok(self.clash_name(found.spot(), 0, what))
             }
         }
     }

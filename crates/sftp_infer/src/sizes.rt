@@ -6,6 +6,7 @@ use crate::facts::Says;
 use crate::nodes::{Held, Sort};
 use crate::pieces::Piece;
 use crate::world::World;
+use sftp_path::NoMemory;
 
 impl<'a> World<'a> {
     /// Takes the size that a reply shows of a file.
@@ -188,10 +189,7 @@ impl<'a> World<'a> {
         let Some((parent, name)) = self.chosen(at)? else {
             return Ok(false);
         };
-        let mut slot = self.slot(parent, name.as_slice());
-        slot.start = Some(Held::Entry(at));
-        slot.is_assumed = false;
-        let done = self.set_slot(parent, name.as_slice(), slot);
+        let done = self.start_with(parent, name.as_slice(), at);
         let learned = self.learn(parent, name.as_slice(), Says::File);
         drop(name);
         done?;
@@ -205,6 +203,16 @@ impl<'a> World<'a> {
             return Err(Stop::Again);
         }
         Ok(true)
+    }
+
+    /// A name led to this entry at the start, which no reply says alone.
+    fn start_with(&mut self, parent: usize, name: &[u8], at: usize) -> Result<(), NoMemory> {
+        let spot = self.spot(parent, name);
+        if let Some(slot) = self.slot_mut(spot)? {
+            slot.start = Some(Held::Entry(at));
+            slot.is_assumed = false;
+        }
+        Ok(())
     }
 
     /// Whether something was written at the end of a file, wherever that was.

@@ -3,6 +3,7 @@
 use crate::errors::Stop;
 use crate::facts::{Fact, Says};
 use crate::files::File;
+use crate::names::Spot;
 use crate::nodes::{Held, Node, Sort};
 use crate::pieces::Known;
 use crate::world::World;
@@ -136,7 +137,7 @@ impl<'a> World<'a> {
     /// Whether anything told of a name in a directory.
     fn is_mentioned(&self, parent: usize, name: &[u8]) -> bool {
         match self.entry(parent) {
-            Some(directory) => directory.names.get(name).is_some(),
+            Some(directory) => directory.names.contains(name),
             None => false,
         }
     }
@@ -206,7 +207,8 @@ impl<'a> World<'a> {
     /// Puts an entry of a fresh name into a directory at the start, so that it is not empty.
     pub(crate) fn invent_entry(&mut self, parent: usize) -> Result<(), Stop> {
         let name = self.fresh_name(parent, 12)?;
-        let told = self.tell(parent, name.as_slice(), Sort::File);
+        let spot = self.spot(parent, name.as_slice());
+        let told = self.tell(spot, Sort::File);
         let place = self.place(parent, name.as_slice(), false);
         drop(name);
         told?;
@@ -231,23 +233,18 @@ impl<'a> World<'a> {
     }
 
     /// A new entry, with the place where it is made as its first one.
-    pub(crate) fn make(
-        &mut self,
-        made: Node,
-        parent: usize,
-        name: &[u8],
-    ) -> Result<usize, NoMemory> {
+    pub(crate) fn make(&mut self, made: Node, spot: Spot<'_>) -> Result<usize, NoMemory> {
         let mut made = made;
-        made.old_parent = parent;
-        match Vec::from_slice(self.alloc, name) {
+        made.old_parent = spot.parent;
+        match Vec::from_slice(self.alloc, spot.name) {
             Ok(name) => made.old_name = name,
             Err(_) => {
                 drop(made);
                 return Err(NoMemory);
             }
         }
-        let at = self.put(made, parent, name)?;
-        self.change(parent, name, Held::Entry(at))?;
+        let at = self.put(made, spot.parent, spot.name)?;
+        self.change(spot, Held::Entry(at))?;
         Ok(at)
     }
 }

@@ -3,6 +3,7 @@
 use crate::clashes::Clash;
 use crate::facts::{Fact, Says};
 use crate::handles::Opened;
+use crate::names::{Place, Spot};
 use crate::nodes::{Held, Node, Slot, Sort};
 use crate::refusals::Guess;
 use crate::search::Take;
@@ -157,28 +158,36 @@ impl<'a> World<'a> {
         }
     }
 
+    /// Looks for a name in a directory.
+    pub(crate) fn spot<'n>(&self, parent: usize, name: &'n [u8]) -> Spot<'n> {
+        let found = match self.nodes.get(parent) {
+            Some(entry) => entry.names.find(name),
+            None => Place::NotSought,
+        };
+        Spot {
+            parent,
+            name,
+            found,
+        }
+    }
+
     /// What is known of a name in a directory.
-    pub(crate) fn slot(&self, parent: usize, name: &[u8]) -> Slot {
-        match self.nodes.get(parent) {
-            Some(entry) => match entry.names.get(name) {
-                Some(slot) => slot,
+    pub(crate) fn slot(&self, spot: Spot<'_>) -> Slot {
+        match self.nodes.get(spot.parent) {
+            Some(entry) => match entry.names.get(spot) {
+                Some(slot) => *slot,
                 None => Slot::unknown(),
             },
             None => Slot::unknown(),
         }
     }
 
-    /// Changes what is known of a name in a directory.
-    pub(crate) fn set_slot(
-        &mut self,
-        parent: usize,
-        name: &[u8],
-        slot: Slot,
-    ) -> Result<(), NoMemory> {
+    /// The same, to be changed; `None` if there is no such directory.
+    pub(crate) fn slot_mut(&mut self, spot: Spot<'_>) -> Result<Option<&mut Slot>, NoMemory> {
         let alloc = self.alloc;
-        match self.nodes.get_mut(parent) {
-            Some(entry) => entry.names.put(alloc, name, slot),
-            None => Ok(()),
+        match self.nodes.get_mut(spot.parent) {
+            Some(entry) => entry.names.slot_mut(alloc, spot),
+            None => Ok(None),
         }
     }
 
@@ -216,73 +225,64 @@ impl<'a> World<'a> {
     }
 
     /// Tells that the start has something at a name of which nothing is known.
-    pub(crate) fn tell(
-        &mut self,
-        parent: usize,
-        name: &[u8],
-        sort: Sort,
-    ) -> Result<usize, NoMemory> {
+    pub(crate) fn tell(&mut self, spot: Spot<'_>, sort: Sort) -> Result<usize, NoMemory> {
         let mut entry = Node::old(self.alloc, sort, self.teller);
-        entry.old_parent = parent;
-        match Vec::from_slice(self.alloc, name) {
+        entry.old_parent = spot.parent;
+        match Vec::from_slice(self.alloc, spot.name) {
             Ok(name) => entry.old_name = name,
             Err(_) => {
                 drop(entry);
                 return Err(NoMemory);
             }
         }
-        let at = self.put(entry, parent, name)?;
-        let mut slot = self.slot(parent, name);
-        slot.start = Some(Held::Entry(at));
-        slot.told = self.teller;
-        self.set_slot(parent, name, slot)?;
+        let at = self.put(entry, spot.parent, spot.name)?;
+        let told = self.teller;
+        if let Some(slot) = self.slot_mut(spot)? {
+            slot.start = Some(Held::Entry(at));
+            slot.told = told;
+        }
         Ok(at)
     }
 
     /// Tells that the start has nothing at a name of which nothing is known.
     pub(crate) fn tell_nothing(
         &mut self,
-        parent: usize,
-        name: &[u8],
+        spot: Spot<'_>,
         is_assumed: bool,
     ) -> Result<(), NoMemory> {
-        let mut slot = self.slot(parent, name);
-        if slot.start.is_none() {
-            slot.start = Some(Held::Nothing);
-            slot.told = self.teller;
-            slot.is_assumed = is_assumed;
+        let told = self.teller;
+        if let Some(slot) = self.slot_mut(spot)? {
+            if slot.start.is_none() {
+                slot.start = Some(Held::Nothing);
+                slot.told = told;
+                slot.is_assumed = is_assumed;
+            }
         }
-        self.set_slot(parent, name, slot)
+        Ok(())
     }
 
     /// Has a name lead to something from now on.
-    pub(crate) fn change(
-        &mut self,
-        parent: usize,
-        name: &[u8],
-        held: Held,
-    ) -> Result<(), NoMemory> {
-        let mut slot = self.slot(parent, name);
-        slot.now = Some(held);
-        slot.changed = self.asked;
-        self.set_slot(parent, name, slot)
+    pub(crate) fn change(&mut self, spot: Spot<'_>, held: Held) -> Result<(), NoMemory> {
+        let changed = self.asked;
+        if let Some(slot) = self.slot_mut(spot)? {
+            slot.now = Some(held);
+            slot.changed = changed;
+        }
+        Ok(())
     }
 
     /// Takes back that nothing was at a name at the start, if it was only assumed and still matters. The pass goes on,
     /// and a further one begins with what is learned.
     /// Returns the entry that is there.
-    pub(crate) fn retract(
-        &mut self,
-        parent: usize,
-        name: &[u8],
-    ) -> Result<Option<usize>, NoMemory> {
-        let mut slot = self.slot(parent, name);
+    pub(crate) fn retract(&mut self, spot: Spot<'_>) -> Result<Option<usize>, NoMemory> {
+        let slot = self.slot(spot);
         if !slot.is_assumed || slot.now.is_some() {
             return Ok(None);
         }
-        slot.is_assumed = false;
-        self.set_slot(parent, name, slot)?;
-        self.learn(parent, name, Says::There)?;
-        Ok(Some(self.tell(parent, name, Sort::Unknown)?))
+        if let Some(slot) = self.slot_mut(spot)? {
+            slot.is_assumed = false;
+        }
+        self.learn(spot.parent, spot.name, Says::There)?;
+        Ok(Some(self.tell(spot, Sort::Unknown)?))
     }
 }
