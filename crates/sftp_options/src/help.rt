@@ -80,6 +80,8 @@ This is no proof that there is none. With --explain, standard error has both rec
 the second one answers, how many passes were tried, and how to look closer. A pass begins anew with what an earlier one
 learned. --best writes the tree that came furthest: 'audit --keep-going' with it says what else is wrong.
 
+A session that ended early is refused: 'record N: Unanswered' names the first request that has no reply.
+
 The transcript is in memory, and so are the files that the session has, which are made of its bytes: up to twice the
 transcript together, and 1 KB for each place. With --out, the tree file of the end comes on top. A file of which the
 size alone is known takes as much as it has. All files together may have as many bytes as the transcript, and 1 GiB;
