@@ -11,6 +11,7 @@ from nights.keeping import Copy
 from nights.records import Failed, NotTaken, Spool
 from paging import packets
 from probing import program
+from recording import ways
 
 TREE = os.path.join(program.CLIENTS, "tree")
 # How many lines are printed of a comparison or of what a folder has that no tree holds, and how many of a refusal.
@@ -20,7 +21,7 @@ SHARE = 3
 # The least that an address space is bounded by: the program itself has to be loaded.
 LEAST_SPACE = 1 << 28
 # What ended runs and audits may have left in the folder of a user.
-LEFT = ("tree.after", "tree.now", ".sftpv3-tree-", "record.new")
+LEFT = ("tree.after", "tree.now", ".sftpv3-", "record.new")
 # How many times it is looked again, if a session runs and ends meanwhile.
 LOOKS = 3
 # How many times records are looked for, of which each time nights.records.MOST are taken, before the rest has to wait.
@@ -52,11 +53,12 @@ class Night:
         if not any(it.partition("=")[0] == "--memory" for it in self.options):
             self.options += ["--memory", str(given.memory)]
         self.spool = Spool(given.records, given.number)
-        self.folder = os.path.join(given.state, given.user)
-        os.makedirs(self.folder, mode=0o700, exist_ok=True)
-        self.tree, self.compared = (os.path.join(self.folder, it) for it in ("tree", "compared"))
+        self.folders = [os.path.join(os.getcwd(), it) for it in given.folders]
         self.status = self.accepted = self.cut = 0
-        self.held = os.open(self.folder, os.O_RDONLY | os.O_DIRECTORY)
+        self.held = ways.own_folder(os.path.join(given.state, given.user))
+        # all that is kept is named from there, whatever becomes of the way to it
+        os.fchdir(self.held)
+        self.folder, self.tree, self.compared = "", "tree", "compared"
         try:
             fcntl.flock(self.held, fcntl.LOCK_EX | fcntl.LOCK_NB)
         except BlockingIOError:
@@ -183,7 +185,7 @@ class Night:
             words += [f"--{name}", getattr(self.given, name)] if getattr(self.given, name) else []
         words += [f"--{it.replace('_', '-')}" for it in ("chroot", "without_mounts") if getattr(self.given, it)]
         try:
-            found = told.run([*words, "--", *self.given.folders], MOST_LINES, self.given.look_seconds)
+            found = told.run([*words, "--", *self.folders], MOST_LINES, self.given.look_seconds)
         except subprocess.TimeoutExpired:
             self.tidy()
             raise Failed(f"the folders were not read within {self.given.look_seconds:g} seconds (--look-seconds)"

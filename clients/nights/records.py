@@ -12,7 +12,7 @@ import time
 from contextlib import suppress
 
 from paging import packets
-from recording import naming
+from recording import naming, ways
 
 RECORD = re.compile(r".*\.transcript(\.[0-9a-f]+)?", re.DOTALL)
 # The names that recorders give: none of them reads like a part of a line.
@@ -26,7 +26,6 @@ MOST = 10_000
 NAMED = 20
 # A record this young, in seconds, may be one whose recorder has only just made it.
 YOUNG = 1
-FOLDER = os.O_RDONLY | os.O_DIRECTORY | os.O_CLOEXEC
 
 
 class Failed(Exception):
@@ -161,7 +160,7 @@ class Spool:
 
     def __init__(self, path, number):
         self.path, self.user, self.number = path, naming.as_part(naming.user_name(number)), number
-        self.shared, self.own, self.refused, self.strange = os.open(path, FOLDER), None, None, Strange()
+        self.shared, self.own, self.refused, self.strange = ways.folder_of(path), None, None, Strange()
 
     def look(self):
         """Opens the folder of the user's name, if it is that of the daemon: nobody but the spool's owner made it."""
@@ -169,7 +168,7 @@ class Spool:
         if self.own is not None:
             return
         try:
-            own = os.open(self.user, FOLDER | os.O_NOFOLLOW, dir_fd=self.shared)
+            own = os.open(self.user, ways.FOLDER, dir_fd=self.shared)
         except FileNotFoundError:
             return
         except OSError as error:

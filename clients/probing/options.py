@@ -6,7 +6,7 @@ import textwrap
 import sftp3
 from probing import features, files, program, refusals, sessions, shrinking, verdicts
 from recording.complaints import Parser
-from recording.links import refuse_way_of_another
+from recording.ways import refuse_way_of_another
 from recording.twice import named_twice
 
 # The exit statuses: all sessions were accepted; there are differences; the command line is wrong, or plans nothing; the

@@ -6,6 +6,8 @@ plain     VERSION without extensions
 times     the file of times beside a transcript
 notices   lines to standard error, to a log, to syslog
 folders   whether others could replace a file
+ways      the way to a file by open folders, past links of others
+replacing files that are replaced whole
 naming    names of transcripts, and how they are opened
 sinks     where records go: files, pipes, a spool
 signals   the module `signal`, quickly imported
@@ -17,7 +19,6 @@ shares    what each user has of a spool
 keeping   the daemon that keeps records in a spool
 options   the commands
 complaints  about command lines
-links       links that lead where another user likes
 ending      signals that end other scripts in order
 parsers   their options, with help and complaints
 """

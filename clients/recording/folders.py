@@ -21,36 +21,32 @@ def is_writable(found, user):
     return bool(found.st_mode & stat.S_IWGRP) and found.st_gid != 0 and not is_private(found.st_gid, user)
 
 
-def steps(path):
-    """The folders on the way to a path, from the root on, each with what comes behind it; links are followed."""
+def looked_at(path):
+    """The states of the folders on the way to a path, from the root on, and of what is there, each with its name; None
+    is that of the first which is not there. Links are followed."""
     whole = os.path.join(os.path.realpath(os.path.dirname(path) or "."), os.path.basename(path))
-    places = [at for at, it in enumerate(whole) if it == "/"]
-    return [(whole[:at] or "/", whole[:end]) for at, end in zip(places, [*places[1:], len(whole)])]
+    found = []
+    for end in [1, *(at for at in range(1, len(whole)) if whole[at] == "/"), len(whole)]:
+        try:
+            found.append((whole[:end], os.lstat(whole[:end])))
+        except OSError:
+            return [*found, (whole[:end], None)]
+    return found
 
 
-def fault(path, owner=None):
-    """What is wrong with a folder on the way to the path, or None. The last folder may belong to `owner`, too.
+def fault(states, owner=None):
+    """What is wrong with a folder on a way, or None: of the states on it, each with its name, of which the last one is
+    that of what is there, or None. The last folder may belong to `owner`, too.
 
     What root and the process's user own is theirs to change. In a folder with the sticky bit, others cannot replace
     what belongs to those two.
     """
     trusted = {0, os.geteuid()}
-    way = steps(path)
-    for folder, entry in way:
-        try:
-            found = os.stat(folder)
-        except OSError:
-            return None
-        if found.st_uid not in trusted and not (found.st_uid == owner and folder == way[-1][0]):
+    for at, (folder, found) in enumerate(states[:-1]):
+        behind = states[at + 1][1]
+        if found.st_uid not in trusted and not (found.st_uid == owner and at == len(states) - 2):
             return f"the folder {folder} belongs to another user"
-        if is_writable(found, os.geteuid()) and not (found.st_mode & stat.S_ISVTX and is_of(entry, trusted)):
+        is_kept = found.st_mode & stat.S_ISVTX and (behind is None or behind.st_uid in trusted)
+        if is_writable(found, os.geteuid()) and not is_kept:
             return f"the folder {folder} is writable by others"
     return None
-
-
-def is_of(path, users):
-    """Whether a path belongs to one of the users. One that is not there is yet to be made."""
-    try:
-        return os.lstat(path).st_uid in users
-    except OSError:
-        return True

@@ -17,7 +17,7 @@ import stat
 import struct
 import time
 
-from recording import naming
+from recording import naming, ways
 from recording.shares import Accounts, Refused, Shares
 
 OPENING = b"SFTPSP01"
@@ -115,13 +115,14 @@ class Connection:
         return found
 
     def begin(self, address):
-        folder = self.shares.begin(self.user)
         date = time.strftime("%Y%m%dT%H%M%SZ", time.gmtime())
-        place = naming.as_part(address.decode(errors="replace"))
-        try:
-            self.file, self.name = naming.open_anew(f"{folder}/{date}-{place}-{self.process}.transcript")
-        except OSError as error:
-            raise Refused(f"cannot make a record: {error.strerror}") from None
+        address = naming.as_part(address.decode(errors="replace"))
+        with self.shares.begin(self.user, f"{date}-{address}-{self.process}.transcript") as place:
+            try:
+                self.file, made = naming.open_anew(place)
+            except OSError as error:
+                raise Refused(f"cannot make a record: {error.strerror}") from None
+        self.name = made.path
 
     def keep(self, batches):
         view = memoryview(b"".join(batches))
@@ -148,12 +149,29 @@ class Connection:
             os.close(self.file)
 
 
+def listening_at(place):
+    """A socket of this name, to which all can connect. It has the name only once it listens."""
+    found = place.state()
+    if found and not stat.S_ISSOCK(found.st_mode):
+        raise OSError(errno.EEXIST, "it is something else")
+    listener, new = socket.socket(socket.AF_UNIX), place.beside(".sftpv3-")
+    before = os.umask(0o111)
+    try:
+        listener.bind(new.by_descriptor())
+    finally:
+        os.umask(before)
+    listener.listen(BACKLOG)
+    new.rename_to(place)
+    return listener
+
+
 class Daemon:
     """The loop over all connections."""
 
     def __init__(self, options, notices, signals):
         self.options, self.notices, self.signals = options, notices, signals
-        self.shares, self.accounts = Shares(self.fit_spool(options.spool), options), Accounts()
+        self.shares = Shares(self.fit_spool(options.spool), os.path.abspath(options.spool), options)
+        self.accounts = Accounts()
         self.made = None
         self.listener = self.open_listener(options.socket)
         self.listener.setblocking(False)
@@ -163,15 +181,19 @@ class Daemon:
         self.said = {}
 
     def fit_spool(self, name):
+        """Opens the spool, which no other user may write to or enter."""
         try:
-            found = os.stat(name)
+            spool = ways.folder_of(name)
+        except NotADirectoryError:
+            raise Unfit(f"the spool {name} is no folder of this user that no other can write to") from None
         except OSError as error:
             raise Unfit(f"cannot use the spool {name}: {error.strerror}") from None
-        if not stat.S_ISDIR(found.st_mode) or found.st_uid != os.geteuid() or found.st_mode & 0o022:
+        found = os.fstat(spool)
+        if found.st_uid != os.geteuid() or found.st_mode & 0o022:
             raise Unfit(f"the spool {name} is no folder of this user that no other can write to")
         if found.st_mode & 0o007:
             raise Unfit(f"the spool {name} can be entered by every user: chmod o= {name}")
-        return os.path.abspath(name)
+        return spool
 
     def open_listener(self, name):
         """The socket that systemd opened, or one of this name."""
@@ -179,20 +201,11 @@ class Daemon:
             return socket.socket(fileno=3)
         if not name:
             raise Unfit("--socket is needed, unless systemd opens the socket")
-        listener = socket.socket(socket.AF_UNIX)
-        new = f"{name}.{os.getpid()}"
-        if os.path.lexists(name) and not stat.S_ISSOCK(os.lstat(name).st_mode):
-            raise Unfit(f"cannot make the socket {name}: it is something else")
         try:
-            listener.bind(new)
-            os.chmod(new, 0o666)
-            listener.listen(BACKLOG)
-            # in its place only once it can be connected to
-            os.rename(new, name)
+            self.made = ways.location_of(name)
+            return listening_at(self.made)
         except OSError as error:
             raise Unfit(f"cannot make the socket {name}: {error.strerror}") from None
-        self.made = name
-        return listener
 
     def accept(self):
         """Takes the connections that wait, as many as one round allows."""
@@ -297,7 +310,7 @@ class Daemon:
             self.step()
         self.listener.close()
         if self.made:
-            os.unlink(self.made)
+            self.made.remove()
         for it in list(self.connections.values()):
             self.finish(it)
         return 0

@@ -6,8 +6,7 @@ import pwd
 import stat
 import time
 
-from recording import folders
-from recording.links import refuse_way_of_another
+from recording import folders, ways
 
 # How long a pipe may be without a reader.
 PATIENCE = 5
@@ -89,42 +88,43 @@ def expand(name, environment=os.environ):
 
 def folder_warning(name):
     """What is wrong with the folders of this name, or None: others could rename or replace what is in them."""
-    found = folders.fault(name)
+    found = folders.fault(folders.looked_at(name))
     return f"{found}, who can replace the record" if found else None
 
 
-def is_inherited(name):
-    """Whether it names a file that the process was given open. Only such a name may be a link."""
-    return os.path.normpath(name).startswith(("/dev/fd/", "/dev/std", "/proc/self/fd/"))
+def place_of(name):
+    """Where a name is: in a folder that stays open, so that nobody puts its file elsewhere."""
+    return ways.Inherited(name) if ways.is_inherited(name) else ways.location_of(name)
 
 
-def is_trusted(name, found):
+def is_trusted(place, found):
     """Whether a pipe or a device is to be written to. Others could have put theirs where a transcript is expected."""
-    return is_inherited(name) or found.st_uid in (0, os.geteuid())
+    return place.is_inherited or found.st_uid in (0, os.geteuid())
 
 
-def is_stream(name):
-    """Whether the name is that of a pipe or a device that is there, and that the user or root made."""
-    try:
-        found = os.stat(name) if is_inherited(name) else os.lstat(name)
-    except OSError:
-        return False
-    return (stat.S_ISFIFO(found.st_mode) or stat.S_ISCHR(found.st_mode)) and is_trusted(name, found)
+def is_stream(place):
+    """Whether a pipe or a device is there, and the user or root made it."""
+    found = place.state()
+    return found is not None and is_of_stream(found) and is_trusted(place, found)
 
 
-def open_stream(name, is_wanted):
+def is_of_stream(found):
+    return stat.S_ISFIFO(found.st_mode) or stat.S_ISCHR(found.st_mode)
+
+
+def open_stream(place, is_wanted):
     """Opens a pipe or a device. Waits for a reader for some seconds, as long as the session is wanted."""
     end = time.monotonic() + PATIENCE
-    link = 0 if is_inherited(name) else os.O_NOFOLLOW
     while True:
         try:
-            file = os.open(name, os.O_WRONLY | os.O_NONBLOCK | os.O_NOCTTY | os.O_CLOEXEC | link)
+            file = place.open(os.O_WRONLY | os.O_NONBLOCK | os.O_NOCTTY)
             break
         except OSError as error:
             if error.errno != errno.ENXIO or time.monotonic() > end or not is_wanted():
                 raise
         time.sleep(0.02)
-    if not is_trusted(name, os.fstat(file)):
+    found = os.fstat(file)
+    if not (is_of_stream(found) and is_trusted(place, found)):
         os.close(file)
         raise OSError(errno.EPERM, "it belongs to another user")
     return file
@@ -143,30 +143,28 @@ def hold(file):
     return file
 
 
-def names_of(name):
+def names_of(place):
     """The names that are tried in turn: NAME, NAME.2, NAME.3, .., and then some that nobody can foresee."""
-    yield name
+    yield place
     for number in range(2, IN_TURN + 1):
-        yield f"{name}.{number}"
+        yield place.with_end(f".{number}")
     for _ in range(RANDOM):
-        yield f"{name}.{os.urandom(8).hex()}"
+        yield place.with_end(f".{os.urandom(8).hex()}")
 
 
-def open_anew(name):
-    """Makes the file, by the first of its names that is not taken. Returns it and its name."""
-    flags = os.O_WRONLY | os.O_CREAT | os.O_EXCL | os.O_NOFOLLOW | os.O_CLOEXEC
-    for tried in names_of(name):
+def open_anew(place):
+    """Makes the file, by the first of its names that is not taken. Returns it and where it is."""
+    for tried in names_of(place):
         try:
-            return hold(os.open(tried, flags, 0o600)), tried
+            return hold(tried.open(os.O_WRONLY | os.O_CREAT | os.O_EXCL)), tried
         except FileExistsError:
             pass
     raise OSError(errno.EEXIST, "all names are taken")
 
 
-def open_over(name):
+def open_over(place):
     """Opens a regular file that is to be replaced, or makes it. The old bytes stay until the session begins."""
-    flags = os.O_WRONLY | os.O_CREAT | os.O_NOFOLLOW | os.O_CLOEXEC | os.O_NONBLOCK
-    file = os.open(name, flags, 0o600)
+    file = place.open(os.O_WRONLY | os.O_CREAT | os.O_NONBLOCK)
     found = os.fstat(file)
     if not stat.S_ISREG(found.st_mode):
         why = OSError(errno.EINVAL, "not a regular file")
@@ -183,33 +181,31 @@ def reason(error):
 
 
 class Opened:
-    """A file that is open for records: its descriptor, its name, whether it is regular, whether it was made here."""
+    """A file that is open for records: its descriptor, where it is, its name, whether it is regular, whether it was
+    made here."""
 
     def __init__(self, name, overwrite, is_wanted):
-        self.name, self.is_made = name, False
+        self.is_made = False
         try:
-            if not is_inherited(name):
-                refuse_way_of_another(name)
-            self.is_regular = not is_stream(name)
+            self.place = place_of(name)
+            self.is_regular = not is_stream(self.place)
             if not self.is_regular:
-                self.file = open_stream(name, is_wanted)
+                self.file = open_stream(self.place, is_wanted)
             elif overwrite:
-                self.is_made = not os.path.lexists(name)
-                self.file = open_over(name)
+                self.is_made = self.place.state() is None
+                self.file = open_over(self.place)
             else:
-                self.file, self.name = open_anew(name)
+                self.file, self.place = open_anew(self.place)
                 self.is_made = True
         except OSError as error:
             raise NotMade(f"cannot write {name}: {reason(error)}") from None
+        self.name = self.place.path
 
     def take_back(self):
         """Removes what was made, since there is no session."""
         os.close(self.file)
         if self.is_made:
-            try:
-                os.unlink(self.name)
-            except OSError:
-                pass
+            self.place.remove()
 
     def warning(self):
         return folder_warning(self.name) if self.is_regular else None

@@ -5,7 +5,7 @@ import select
 import syslog
 import time
 
-from recording.links import refuse_way_of_another
+from recording import ways
 
 
 def printable(text):
@@ -39,9 +39,8 @@ class Notices:
     def open_log(self, path):
         """Opens the log to append to it. No link of another user is followed on the way, and none at its end, and
         nothing of another user but root is taken."""
-        refuse_way_of_another(path)
-        flags = os.O_WRONLY | os.O_CREAT | os.O_APPEND | os.O_NOFOLLOW | os.O_CLOEXEC | os.O_NONBLOCK
-        log = os.open(path, flags, 0o600)
+        with ways.location_of(path) as place:
+            log = place.open(os.O_WRONLY | os.O_CREAT | os.O_APPEND | os.O_NONBLOCK)
         if os.fstat(log).st_uid not in (0, os.geteuid()):
             os.close(log)
             raise OSError(errno.EPERM, "it belongs to another user")

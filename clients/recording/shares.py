@@ -2,7 +2,7 @@
 import os
 import time
 
-from recording import naming
+from recording import naming, ways
 
 # How many files a file system has to have left for a new record.
 FILES_LEFT = 64
@@ -34,22 +34,38 @@ class Accounts:
 
 
 class Share:
-    """The records of one user: those of ended sessions, too, until somebody takes them out of the folder."""
+    """The records of one user: those of ended sessions, too, until somebody takes them out of the folder, which has
+    this name in the spool."""
 
-    def __init__(self, folder, most):
-        self.folder, self.most = folder, most
+    def __init__(self, spool, name, most):
+        self.spool, self.name, self.most = spool, name, most
         self.look()
+
+    def open(self):
+        """Opens the folder, which is made if it is not there."""
+        try:
+            os.mkdir(self.name, 0o700, dir_fd=self.spool)
+        except FileExistsError:
+            pass
+        return os.open(self.name, ways.FOLDER, dir_fd=self.spool)
 
     def look(self):
         """Counts what is in the folder, no more than as many records as there may be."""
         self.records = self.used = 0
-        with os.scandir(self.folder) as found:
+        held = self.open()
+        try:
+            self.count_in(held)
+        finally:
+            os.close(held)
+        self.looked = time.monotonic()
+
+    def count_in(self, folder):
+        with os.scandir(folder) as found:
             for it in found:
                 self.records += 1
                 self.used += it.stat(follow_symlinks=False).st_size
                 if self.records >= self.most:
                     break
-        self.looked = time.monotonic()
 
     def allows(self, holds):
         """Whether a limit holds, by the count, or else by a new one."""
@@ -62,36 +78,30 @@ class Share:
 
 
 class Shares:
-    """The users of a spool, as far as they came since the daemon's start."""
+    """The users of a spool that is open, as far as they came since the daemon's start."""
 
-    def __init__(self, spool, options):
-        self.spool, self.options = spool, options
+    def __init__(self, spool, path, options):
+        self.spool, self.path, self.options = spool, path, options
         self.by_user = {}
 
     def share_of(self, user):
         if user not in self.by_user:
-            folder = os.path.join(self.spool, naming.as_part(naming.user_name(user)))
-            try:
-                os.mkdir(folder, 0o700)
-            except FileExistsError:
-                pass
-            except OSError as error:
-                raise Refused(f"cannot make {folder}: {error.strerror}") from None
-            self.by_user[user] = Share(folder, self.options.records_per_user)
+            name = naming.as_part(naming.user_name(user))
+            self.by_user[user] = Share(self.spool, name, self.options.records_per_user)
         return self.by_user[user]
 
-    def begin(self, user):
-        """Takes room for a record. Returns the folder."""
+    def begin(self, user, name):
+        """Takes room for a record. Returns where it is to be."""
         try:
             share = self.share_of(user)
             if not share.allows(lambda it: it.records < self.options.records_per_user):
                 raise Refused("this user has too many records")
-            os.makedirs(share.folder, 0o700, exist_ok=True)
+            self.check_free(0)
+            place = ways.Location(share.open(), name, os.path.join(self.path, share.name, name))
         except OSError as error:
             raise Refused(f"cannot look at the records: {error.strerror}") from None
-        self.check_free(0)
         share.records += 1
-        return share.folder
+        return place
 
     def take(self, user, written, count):
         """Takes room for so many bytes more of a record."""
@@ -104,7 +114,7 @@ class Shares:
         share.used += count
 
     def check_free(self, count):
-        found = os.statvfs(self.spool)
+        found = os.fstatvfs(self.spool)
         # a file system without a number of files of its own says 0 of all
         if found.f_bavail * found.f_frsize - count < self.options.keep_free or \
                 found.f_files and found.f_favail < FILES_LEFT:

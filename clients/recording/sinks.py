@@ -3,7 +3,7 @@ import os
 import select
 import struct
 
-from recording import folders, links, times
+from recording import folders, times, ways
 
 # The form of the socket of a spool: recording/keeping.py has it.
 SPOOL_OPENING = b"SFTPSP01"
@@ -115,8 +115,10 @@ class SpoolSink:
         import socket
         self.socket = socket.socket(socket.AF_UNIX)
         try:
-            self.connect(name)
-            self.look_who_listens()
+            place, _ = ways.led_to(name)
+            with place:
+                self.connect(place.by_descriptor())
+                self.look_who_listens(place)
             text = claimed.encode(errors="replace")[:255]
             self.socket.sendall(SPOOL_OPENING + bytes([len(text)]) + text)
             first = self.socket.recv(8, socket.MSG_WAITALL)
@@ -133,14 +135,12 @@ class SpoolSink:
         self.socket.connect(name)
         self.socket.settimeout(SPOOL_SECONDS)
 
-    def look_who_listens(self):
+    def look_who_listens(self, place):
         """Refuses a socket that another user could have made in place of the daemon's."""
         import socket
         _, user, _ = PEER.unpack(self.socket.getsockopt(socket.SOL_SOCKET, socket.SO_PEERCRED, PEER.size))
-        name = links.followed(os.path.join(os.getcwd(), self.name))
-        found = folders.fault(name, user)
-        owner = os.stat(os.path.dirname(name)).st_uid
-        if not found and user not in (0, os.geteuid(), owner):
+        found = folders.fault([*place.above, (place.path, place.state())], user)
+        if not found and user not in (0, os.geteuid(), place.folder_state().st_uid):
             found = "it is of a user whom its folder does not belong to"
         if found:
             raise Failed(f"the spool {self.name} may be another user's: {found}")

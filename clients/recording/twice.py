@@ -4,7 +4,7 @@ from __future__ import annotations
 import os
 import stat
 
-from recording.links import refuse_link_of_another
+from recording.ways import refuse_link_of_another
 
 
 def is_one_file(one: str, other: str) -> bool:

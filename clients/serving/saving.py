@@ -10,13 +10,11 @@ import os
 import stat
 import time
 
-from recording.links import followed
+from recording import ways
 
 # How long another session may hold the lock, and how many names are tried in turn.
 PATIENCE = 5.0
 NAMES = 10_000
-
-ANEW = os.O_RDWR | os.O_CREAT | os.O_EXCL | os.O_NOFOLLOW | os.O_CLOEXEC
 
 
 class Unfit(Exception):
@@ -30,8 +28,8 @@ def reason(error: OSError) -> str:
 class Original:
     """The file that was there at the start. It is held open, so that no other file gets its number."""
 
-    def __init__(self, name: str):
-        self.name, self.file = name, open_to_lock(name)
+    def __init__(self, place: ways.Location):
+        self.place, self.file = place, open_to_lock(place)
         found = os.fstat(self.file)
         if not stat.S_ISREG(found.st_mode):
             raise OSError(errno.EINVAL, "it is not a regular file")
@@ -40,9 +38,10 @@ class Original:
     def is_there(self) -> bool:
         """Whether the name still leads to this very file, with the bytes that it had."""
         try:
-            return identity(os.lstat(self.name)) == self.identity
+            found = self.place.state()
         except OSError:
             return False
+        return found is not None and identity(found) == self.identity
 
     def lock(self) -> bool:
         """Whether it is locked now. It stays so until the process ends."""
@@ -61,13 +60,12 @@ class Original:
             time.sleep(0.01)
 
 
-def open_to_lock(name: str) -> int:
+def open_to_lock(place: ways.Location) -> int:
     """Opens a file to lock it, which some file systems allow only for writing."""
-    flags = os.O_NOFOLLOW | os.O_NONBLOCK | os.O_NOCTTY | os.O_CLOEXEC
     try:
-        return os.open(name, os.O_RDWR | flags)
+        return place.open(os.O_RDWR | os.O_NONBLOCK | os.O_NOCTTY)
     except OSError:
-        return os.open(name, os.O_RDONLY | flags)
+        return place.open(os.O_RDONLY | os.O_NONBLOCK | os.O_NOCTTY)
 
 
 def identity(found: os.stat_result) -> tuple[int, ...]:
@@ -81,11 +79,11 @@ class Saving:
         """Tries whether the tree can be saved. Raises Unfit if not; then nothing is left."""
         self.given, self.mode, self.is_synced = name, permissions(mode), is_synced
         try:
-            self.name = real_name(name)
-            self.original = Original(self.name) if os.path.lexists(self.name) else None
-            look_at_folder(self.name, self.original)
-            self.side = f"{self.name}.serve-{os.urandom(8).hex()}"
-            self.file = os.open(self.side, ANEW, 0o600)
+            self.target = target_of(name)
+            self.original = Original(self.target) if self.target.state() else None
+            look_at_folder(self.target, self.original)
+            self.side = self.target.with_end(f".serve-{os.urandom(8).hex()}")
+            self.file = self.side.make()
         except OSError as error:
             raise Unfit(f"cannot write {name}: {reason(error)}") from None
         try:
@@ -96,18 +94,15 @@ class Saving:
 
     def discard(self):
         """Removes the file beside."""
-        try:
-            os.unlink(self.side)
-        except OSError:
-            pass
+        self.side.remove()
 
     def is_saved(self) -> bool:
         """Whether the server saved, which puts another file in the place of the empty one."""
         try:
-            found = os.lstat(self.side)
+            found = self.side.state()
         except OSError:
             return False
-        return (found.st_dev, found.st_ino) != identity(os.fstat(self.file))[:2]
+        return found is not None and identity(found)[:2] != identity(os.fstat(self.file))[:2]
 
     def place(self) -> str | None:
         """Gives the tree its name. Returns what is to be said, if anything. Raises Unfit if it stays where it is."""
@@ -117,8 +112,8 @@ class Saving:
                 return None
             name = self.link()
         except OSError as error:
-            raise Unfit(f"cannot write {self.given}: {reason(error)}; the tree is in {self.side}") from None
-        if name == self.name:
+            raise Unfit(f"cannot write {self.given}: {reason(error)}; the tree is in {self.side.path}") from None
+        if name == self.target.path:
             return None
         why = "cannot be locked" if self.original and self.original.is_there() else "is no longer that of the start"
         return f"{self.given} {why}; the tree of this session is in {name}"
@@ -126,35 +121,31 @@ class Saving:
     def replace(self):
         """Puts the tree in the place of the original, with its permissions and its owner, or else with its own."""
         found = os.fstat(self.original.file)
-        if is_planted(found, os.stat(os.path.dirname(self.name)), os.geteuid()):
+        if is_planted(found, self.target.folder_state(), os.geteuid()):
             give_mode(self.side, self.mode)
         else:
             keep_rights(self.side, found, self.mode)
-        os.rename(self.side, self.name)
+        self.side.rename_to(self.target)
         self.sync()
 
     def link(self) -> str:
         """Gives the tree the first name that is free. Returns it."""
         give_mode(self.side, self.mode)
-        for name in [self.name, *(f"{self.name}.{number}" for number in range(2, NAMES))]:
+        for end in ["", *(f".{number}" for number in range(2, NAMES))]:
+            place = self.target.with_end(end)
             try:
-                os.link(self.side, name, follow_symlinks=False)
+                self.side.link_to(place)
             except FileExistsError:
                 continue
-            os.unlink(self.side)
+            self.side.remove()
             self.sync()
-            return name
+            return place.path
         raise OSError(errno.EEXIST, "all names are taken")
 
     def sync(self):
         """Waits until the new name is on the disk, as far as the system can say."""
         if self.is_synced:
-            try:
-                folder = os.open(os.path.dirname(self.name), os.O_RDONLY | os.O_DIRECTORY | os.O_CLOEXEC)
-                os.fsync(folder)
-                os.close(folder)
-            except OSError:
-                pass
+            self.target.sync()
 
 
 def permissions(mode: str | None) -> int:
@@ -165,18 +156,18 @@ def permissions(mode: str | None) -> int:
         return 0o600
 
 
-def real_name(name: str) -> str:
+def target_of(name: str) -> ways.Location:
     """Where the tree goes: the file that a link leads to, which has to be there. The links on the way to it are those
     of this user or of root: what another one put there leads wherever that one likes."""
-    real = followed(os.path.join(os.getcwd(), name))
-    if os.path.islink(name) and not os.path.lexists(real):
+    target, is_link = ways.led_to(name)
+    if is_link and target.state() is None:
         raise OSError(errno.ENOENT, "it is a symbolic link to no file")
-    return real
+    return target
 
 
-def look_at_folder(name: str, original: Original | None):
+def look_at_folder(target: ways.Location, original: Original | None):
     """Raises OSError if a file of this name could not be replaced: in a sticky folder, another user's cannot."""
-    folder, user = os.stat(os.path.dirname(name)), os.geteuid()
+    folder, user = target.folder_state(), os.geteuid()
     if original and folder.st_mode & stat.S_ISVTX:
         if user not in (0, folder.st_uid, os.fstat(original.file).st_uid):
             raise OSError(errno.EPERM, "it belongs to another user, and its folder has the sticky bit")
@@ -193,10 +184,10 @@ def take_room(file: int, tree: str):
     os.ftruncate(file, 0)
 
 
-def keep_rights(name: str, found: os.stat_result, own_mode: int):
+def keep_rights(place: ways.Location, found: os.stat_result, own_mode: int):
     """Gives a file the owner, the group and the permissions of another, as far as the system lets it. If it stays this
     user's own, it gets permissions of its own: the other user chose those of the other file."""
-    file = os.open(name, os.O_RDONLY | os.O_NOFOLLOW | os.O_CLOEXEC)
+    file = place.open(os.O_RDONLY)
     mode = stat.S_IMODE(found.st_mode) & 0o777
     for user in (found.st_uid, -1):
         try:
@@ -217,7 +208,7 @@ def is_planted(file: os.stat_result, folder: os.stat_result, user: int) -> bool:
     return bool(is_shared) and file.st_uid not in (user, folder.st_uid)
 
 
-def give_mode(name: str, mode: int):
-    file = os.open(name, os.O_RDONLY | os.O_NOFOLLOW | os.O_CLOEXEC)
+def give_mode(place: ways.Location, mode: int):
+    file = place.open(os.O_RDONLY)
     os.fchmod(file, mode)
     os.close(file)

@@ -4,7 +4,7 @@ import select
 import time
 
 from recording import naming
-from recording.links import refuse_link_of_another
+from recording.ways import refuse_link_of_another
 from recording.notices import Notices, write_error
 from recording.standard import open_standard_files
 from serving.inputs import Filled, Given, is_local_socket, shut_output
@@ -236,7 +236,7 @@ def play(options: Options, log: Log, signs: Signals) -> int:
     if options.save is not None:
         saving = Saving(options.save, options.tree, options.mode, options.is_synced)
     try:
-        session = Session(options, log, signs, saving and saving.side)
+        session = Session(options, log, signs, saving and saving.side.path)
     except NotStarted as error:
         if saving:
             saving.discard()

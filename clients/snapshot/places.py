@@ -4,8 +4,8 @@ import os
 from contextlib import ExitStack
 from typing import Dict, Iterator, List, Tuple
 
+from recording.ways import Way
 from snapshot.looking import Entry, Look, Place, mount_points, names
-from snapshot.ways import Way
 
 
 class View:
@@ -27,7 +27,8 @@ class View:
         """Opens a folder, and takes in the directories and links from the root to it. Returns its place."""
         path = os.path.join(os.getcwd(), folder) if self.is_root else os.path.abspath(folder)
         with Way() as way:
-            self.above.update((entry.place, entry) for entry in way.lead(names(os.fsencode(path))))
+            for it in way.lead(names(os.fsencode(path))):
+                self.above[it.place] = Entry(it.place, it.state, None, it.place[-1], target=it.target)
             held = way.open()
         stack.callback(os.close, held)
         return way.place, held

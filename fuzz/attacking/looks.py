@@ -11,6 +11,9 @@ from snapshot.looking import Trouble
 from snapshot.places import View
 
 LOOKS = ("lstat", "stat", "readlink")
+# What else a script does by names.
+CALLS = (*LOOKS, "open", "fstat", "mkdir", "makedirs", "rename", "replace", "link", "unlink", "remove", "chmod",
+         "listdir", "scandir", "access")
 # More looks than a script takes.
 MOST = 200
 
@@ -71,7 +74,7 @@ def save(scene, tree):
     """What a session does with the file of --save, from its start to its end."""
     held = saving.Saving(scene.name, tree, None, False)
     try:
-        os.replace(made(os.path.join(scene.shared, "made"), b"a tree"), held.side)
+        os.replace(made(os.path.join(scene.shared, "made"), b"a tree"), held.side.path)
         if held.is_saved():
             held.place()
     finally:
@@ -84,7 +87,7 @@ def a_link_appears_between_two_looks_of_a_session(field):
     tree = field.blank()
     for number in range(1, MOST):
         scene = Scene(field, number)
-        with acting_before(number, scene.swap) as looks, suppress(saving.Unfit):
+        with acting_before(number, scene.swap, CALLS) as looks, suppress(saving.Unfit):
             save(scene, tree)
         if not scene.is_whole():
             yield f"look {number}: root's folder has {os.listdir(scene.theirs)}"

@@ -1,0 +1,350 @@
+"""The way to a file, one name at a time, each looked up in the folder before it, which is open: whatever others put
+there meanwhile, no link is followed that was not looked at, and none that another user may have put there.
+
+What is then done with the file is done by its name in the last folder, which stays open. A session waits for the start
+of the recorder, so this imports little.
+"""
+from __future__ import annotations
+
+import errno
+import os
+import stat
+
+from recording import folders
+
+# The most links that lead to each other, as the system has it.
+MOST_LINKS = 40
+
+# What is held of the way need not be readable, and may be a link.
+HELD = os.O_PATH | os.O_NOFOLLOW | os.O_CLOEXEC
+FOLDER = os.O_RDONLY | os.O_DIRECTORY | os.O_NOFOLLOW | os.O_CLOEXEC
+
+
+def is_trusted(link: int, folder: os.stat_result, user: int) -> bool:
+    """Whether a link of this owner in this folder is the user's or root's, or nobody else writes to the folder."""
+    return link in (user, 0) or folder.st_uid in (user, 0) and not folder.st_mode & 0o022
+
+
+def names(path: bytes) -> tuple[bytes, ...]:
+    return tuple(name for name in path.split(b"/") if name)
+
+
+def text_of(place: tuple[bytes, ...]) -> str:
+    """A place below the root as a path."""
+    return os.fsdecode(b"/" + b"/".join(place))
+
+
+class Step:
+    """A directory, a file or a link on a way: its place, what `fstat` says of it, and a link's target."""
+
+    def __init__(self, place: tuple[bytes, ...], state: os.stat_result, target: bytes = b""):
+        self.place, self.state, self.target = place, state, target
+
+
+class Way:
+    """A way from the root on, or from where a relative path starts: the place to which it came, and each directory on
+    it, open. `with` closes them. `given` is what errors name, by default the place where they occur; `is_led_on` says
+    whether the last name was a link that was followed."""
+
+    def __init__(self, start: bytes = b"/", given: str | None = None):
+        self.place: tuple[bytes, ...] = ()
+        self.given, self.links, self.is_led_on = given, 0, False
+        self.held: list[int] = []
+        self.begin(start)
+
+    def __enter__(self) -> "Way":
+        return self
+
+    def __exit__(self, *_):
+        self.close()
+
+    def close(self):
+        while self.held:
+            os.close(self.held.pop())
+
+    def begin(self, start: bytes):
+        """Begins anew."""
+        self.close()
+        self.place = ()
+        self.held.append(os.open(start, HELD))
+
+    def lead(self, path: tuple[bytes, ...]):
+        """Goes to where the path leads, and gives the directories and links on the way, and what is at its end."""
+        left = list(path)
+        while left:
+            name = left.pop(0)
+            if name == b"..":
+                self.go_back()
+            elif name != b".":
+                step = self.go(name)
+                yield step
+                left = [*names(step.target), *left]
+
+    def go_through(self, path: tuple[bytes, ...]):
+        """The same, of which nothing is wanted but where it comes to."""
+        for _ in self.lead(path):
+            pass
+
+    def lead_before_last(self, path: bytes, follows_last: bool) -> bytes:
+        """Goes to the folder of what the path names, and gives the name in it; with `follows_last`, where that leads
+        if it is a link."""
+        while True:
+            *above, last = names(path) or [b"."]
+            self.go_through(tuple(above))
+            if last in (b".", b".."):
+                raise self.error(errno.EISDIR, os.strerror(errno.EISDIR), self.place)
+            path = self.follow(last) if follows_last else b""
+            if not path:
+                return last
+            self.is_led_on = True
+
+    def go_back(self):
+        """Goes to the directory before."""
+        if self.place:
+            self.place = self.place[:-1]
+            os.close(self.held.pop())
+        else:
+            self.held.append(self.open_at(b"..", HELD, ()))
+            os.close(self.held.pop(0))
+
+    def go(self, name: bytes) -> Step:
+        """Goes on to a name. A link leads on from where it is, or from the root."""
+        place = (*self.place, name)
+        file = self.open_at(name, HELD, place)
+        state = os.fstat(file)
+        if not stat.S_ISLNK(state.st_mode):
+            self.place = place
+            self.held.append(file)
+            return Step(place, state)
+        try:
+            target = self.target_of(file, state, place)
+        finally:
+            os.close(file)
+        if target.startswith(b"/"):
+            self.begin(b"/")
+        return Step(place, state, target)
+
+    def follow(self, name: bytes) -> bytes:
+        """Goes to where a link of this name leads on from, and gives what it says; nothing, if there is no link."""
+        try:
+            step = self.go(name)
+        except FileNotFoundError:
+            return b""
+        if not step.target:
+            self.go_back()
+        return step.target
+
+    def open_at(self, name: bytes, flags: int, place: tuple[bytes, ...]) -> int:
+        """Opens a name in the directory to which it came."""
+        try:
+            return os.open(name, flags, dir_fd=self.held[-1])
+        except OSError as error:
+            raise self.error(error.errno, error.strerror, place) from None
+
+    def target_of(self, link: int, state: os.stat_result, place: tuple[bytes, ...]) -> bytes:
+        """What a link says that is open, unless another user may have put it there: that user chose what it says."""
+        if not is_trusted(state.st_uid, os.fstat(self.held[-1]), os.geteuid()):
+            raise self.error(errno.EPERM, "a symbolic link of another user is on the way", place)
+        self.links += 1
+        if self.links > MOST_LINKS:
+            raise self.error(errno.ELOOP, os.strerror(errno.ELOOP), place)
+        return os.readlink(b"", dir_fd=link)
+
+    def error(self, number: int, why: str, place: tuple[bytes, ...]) -> OSError:
+        return OSError(number, why, text_of(place) if self.given is None else self.given)
+
+    def open(self) -> int:
+        """Opens the directory to which it came, to read it."""
+        return self.open_at(b".", FOLDER, self.place)
+
+    def make(self, name: bytes):
+        """Makes a directory for its user alone, if there is nothing of its name."""
+        try:
+            os.mkdir(name, 0o700, dir_fd=self.held[-1])
+        except FileExistsError:
+            pass
+
+
+def way_of(path: bytes, given: str) -> Way:
+    """The beginning of the way that a path has."""
+    return Way(b"/" if path.startswith(b"/") else b".", given)
+
+
+class Location:
+    """A name in a folder that is open; and what the two are called. Of a whole path, `above` has the states of the
+    folders on the way, each with its name."""
+    is_inherited = False
+    above: list[tuple[str, os.stat_result]] = []
+
+    def __init__(self, folder: int | None, name: str, path: str):
+        self.folder, self.name, self.path = folder, name, path
+
+    def __enter__(self) -> "Location":
+        return self
+
+    def __exit__(self, *_):
+        self.close()
+
+    def close(self):
+        if self.folder is not None:
+            os.close(self.folder)
+            self.folder = None
+
+    def with_end(self, end: str) -> "Location":
+        """The name with this behind it, in the same folder, which the first one closes."""
+        return Location(self.folder, self.name + end, self.path + end)
+
+    def beside(self, prefix: str) -> "Location":
+        """A name that nobody can foresee, in the same folder, which the first one closes."""
+        name = prefix + os.urandom(8).hex()
+        return Location(self.folder, name, os.path.join(os.path.dirname(self.path), name))
+
+    def state(self) -> os.stat_result | None:
+        """What `lstat` says of what has the name, or None if nothing has."""
+        try:
+            return os.stat(self.name, dir_fd=self.folder, follow_symlinks=False)
+        except FileNotFoundError:
+            return None
+
+    def by_descriptor(self) -> str:
+        """A path of it in this process, which goes by the folder that is open."""
+        return f"/proc/self/fd/{self.folder}/{self.name}"
+
+    def open(self, flags: int, mode: int = 0o600) -> int:
+        """Opens it, and no link."""
+        return os.open(self.name, flags | os.O_NOFOLLOW | os.O_CLOEXEC, mode, dir_fd=self.folder)
+
+    def make(self) -> int:
+        """Makes a file of this name for its user alone, to be read and written. Nothing may have the name."""
+        return self.open(os.O_RDWR | os.O_CREAT | os.O_EXCL)
+
+    def remove(self):
+        """Removes what has the name, if anything has and it can be removed."""
+        try:
+            os.unlink(self.name, dir_fd=self.folder)
+        except OSError:
+            pass
+
+    def rename_to(self, other: "Location"):
+        os.rename(self.name, other.name, src_dir_fd=self.folder, dst_dir_fd=other.folder)
+
+    def link_to(self, other: "Location"):
+        os.link(self.name, other.name, src_dir_fd=self.folder, dst_dir_fd=other.folder, follow_symlinks=False)
+
+    def folder_state(self) -> os.stat_result:
+        return os.fstat(self.folder)
+
+    def sync(self):
+        """Has the names of the folder on the disk, as far as the system can say."""
+        try:
+            folder = os.open(".", FOLDER, dir_fd=self.folder)
+        except OSError:
+            return
+        try:
+            os.fsync(folder)
+        except OSError:
+            pass
+        finally:
+            os.close(folder)
+
+
+def is_inherited(name: str) -> bool:
+    """Whether it names a file that the process was given open. Only such a name may be a link."""
+    return os.path.normpath(name).startswith(("/dev/fd/", "/dev/std", "/proc/self/fd/"))
+
+
+class Inherited(Location):
+    """The name of a file that the process was given open, which may be a link."""
+    is_inherited = True
+
+    def __init__(self, name: str):
+        super().__init__(None, name, name)
+
+    def state(self) -> os.stat_result | None:
+        try:
+            return os.stat(self.name)
+        except OSError:
+            return None
+
+    def open(self, flags: int, mode: int = 0o600) -> int:
+        """Opens a pipe or a device; of another file, no link."""
+        found = self.state()
+        is_file = found is None or stat.S_ISREG(found.st_mode)
+        return os.open(self.name, flags | os.O_CLOEXEC | (os.O_NOFOLLOW if is_file else 0), mode)
+
+
+def location_of(name: str) -> Location:
+    """Where a name is, whose last part is never followed. Raises OSError if that is no name of a file, if its folder is
+    not there, or if a link of another user is on the way."""
+    with way_of(checked(name), name) as way:
+        last = way.lead_before_last(os.fsencode(name), False)
+        return Location(os.dup(way.held[-1]), os.fsdecode(last), name)
+
+
+def led_to(name: str) -> tuple[Location, bool]:
+    """So where a name leads, whose last part may be a link, too; and whether it is one. What is called so is a whole
+    path without links."""
+    path = os.path.join(os.fsencode(os.getcwd()), checked(name))
+    with Way(given=name) as way:
+        last = way.lead_before_last(path, True)
+        found = Location(os.dup(way.held[-1]), os.fsdecode(last), text_of((*way.place, last)))
+        found.above = [(text_of(way.place[:at]), os.fstat(it)) for at, it in enumerate(way.held)]
+        return found, way.is_led_on
+
+
+def checked(name: str) -> bytes:
+    """A path that has a name of a file at its end."""
+    path = os.fsencode(name)
+    if not path or path.endswith(b"/"):
+        number = errno.EISDIR if path else errno.ENOENT
+        raise OSError(number, os.strerror(number), name)
+    return path
+
+
+def refuse_link_of_another(name: str):
+    """Raises OSError if another user may have put a link on the way that this name leads, or at its end: before what it
+    names is given to a program, which looks by itself."""
+    try:
+        led_to(name)[0].close()
+    except (FileNotFoundError, NotADirectoryError):
+        pass
+
+
+def refuse_way_of_another(name: str):
+    """So for the folders of a name whose last part is never followed."""
+    path = os.fsencode(name)
+    try:
+        with way_of(path, name) as way:
+            way.go_through(names(path.rpartition(b"/")[0]))
+    except (FileNotFoundError, NotADirectoryError):
+        pass
+
+
+def folder_of(name: str) -> int:
+    """Opens the folder of this name."""
+    path = os.fsencode(name)
+    with way_of(path, name) as way:
+        way.go_through(names(path))
+        return way.open()
+
+
+def own_folder(name: str) -> int:
+    """Makes a folder for its user alone, with those above it, or takes one of this user that no other can write to, and
+    opens it. Its last name may be no link."""
+    path = os.fsencode(name)
+    with way_of(path, name) as way:
+        *above, last = names(path) or [b"."]
+        for it in above:
+            way.make(it)
+            way.go_through((it,))
+        way.make(last)
+        held = way.open_at(last, FOLDER, (*way.place, last))
+    if not is_own(os.fstat(held)):
+        os.close(held)
+        raise OSError(errno.EPERM, "it belongs to another user, or others can write to it", name)
+    return held
+
+
+def is_own(folder: os.stat_result) -> bool:
+    """Whether a folder is this user's, and no other can write to it."""
+    return folder.st_uid == os.geteuid() and not folders.is_writable(folder, os.geteuid())
