@@ -4,6 +4,7 @@ import re
 import stat
 from typing import FrozenSet, Iterator, List, NamedTuple, Optional, Tuple
 
+from recording.ways import names
 from sftp3.trees import HIGHEST
 
 # What is mounted where, in the fifth word of each line; spaces and the like are written as octal numbers.
@@ -36,10 +37,6 @@ class Entry(NamedTuple):
 def shown(place: Place) -> str:
     """A place as a line of text."""
     return ascii(os.fsdecode(b"/" + b"/".join(place)))[1:-1]
-
-
-def names(path: bytes) -> Place:
-    return tuple(name for name in path.split(b"/") if name)
 
 
 def mount_points() -> List[Place]:

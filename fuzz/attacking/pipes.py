@@ -105,7 +105,8 @@ def wrong(ran, scene):
 @attack("user", "strace")
 def a_pipe_takes_the_place_of_a_record(field):
     """At whichever look of the program another user puts a FIFO where the file of --record is or is to be, in a folder
-    of all or of that user, with or without a reader: the program ends with a line or goes on, and gives nothing away."""
+    of all or of that user, with a reader or without: the program ends with a line or goes on, and gives nothing away.
+    """
     field.blank()
     user = field.user.pw_uid
     for kind in ((user, 0o755, 0, False), (user, 0o755, 0, True), (user, 0o755, None, False),
