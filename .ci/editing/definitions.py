@@ -1,5 +1,6 @@
 """The definitions that contracts lead to, as the crates' files hold them."""
 import re
+from collections.abc import Iterable
 from functools import cache
 from pathlib import Path
 from typing import NamedTuple
@@ -8,6 +9,11 @@ from crates import Crates
 
 from editing.contracts import IMPORT, Contract, contracts_in
 
+KEYWORDS = {"abbrev", "unfoldable", "opaque", "pub", "data", "record", "ruleset", "mutual", "module", "_", "where", "|"}
+# Parts of the standard library in which a name stands for one thing.
+STANDARD = re.compile(r"std\.(?:specs\.Prelude|proofs\.Common|proofs\.lemmas\.\w+)\.(?=[^.]+$)")
+# The first line of a block of data or of a module, whose lines below it define names.
+OPENS = re.compile(r"(?:pub )?(?:data|module|mutual)\b")
 # A name, and the path of what it stands for.
 Imports = list[tuple[str, str]]
 
@@ -46,11 +52,53 @@ def words_of(text: str) -> set[str]:
     return {*re.findall(r"[^\s(){}\[\],.;:&<>]+", text)}
 
 
-def name_in(block: str) -> str:
-    """Returns the name that a block of definitions defines."""
-    line = next(it for it in [*block.splitlines(), ""] if not it.startswith("infix"))
-    words = [it for it in line.split() if it not in ("abbrev", "unfoldable", "opaque", "pub", "data", "record")]
-    return words[0] if words else ""
+class Block(NamedTuple):
+    """A block of a file of definitions or lemmas: a part between empty lines, with the indented ones behind it."""
+
+    file: Path
+    text: str
+
+
+class Links(NamedTuple):
+    """The text of a block, and the names in it, each with the blocks or the path that it leads to."""
+
+    text: str
+    led: list[tuple[str, list[Block] | str]]
+
+
+@cache
+def names_in(block: str) -> frozenset[str]:
+    """Returns the names that a block defines, those of constructors and of a module's definitions among them."""
+    found, depths = set(), [0]
+    for line in block.splitlines():
+        text = line.lstrip()
+        depth = len(line) - len(text)
+        while text and depths[-1] > depth:
+            depths.pop()
+        words = [it for it in text.split() if it not in KEYWORDS]
+        if words and depth == depths[-1] and not text.startswith(("infix", "unfolding")):
+            found.add(words[0])
+        if OPENS.match(text):
+            depths.append(depth + 2)
+    return frozenset(found)
+
+
+@cache
+def names_used(text: str) -> frozenset[str]:
+    """Returns the words of definitions or lemmas, without fields, which stand behind a dot."""
+    return frozenset(re.findall(r"[^\s(){}\[\],;:.]+", re.sub(r"\.[^\s(){}\[\],;:.]+", "", text)))
+
+
+def is_bound(name: str, text: str) -> bool:
+    """Returns whether a text has a name for a parameter, or for something of its own behind `where`."""
+    word = re.escape(name)
+    parameter, variable = rf"\((?:\S+ )*{word}(?: [^\s:]+)* :", rf"λ \(?(?:\S+ )*{word}[ .]"
+    return bool(re.search(rf"(?m){parameter}|{variable}|^ +{word} .*[:=]", text))
+
+
+def is_used(name: str, text: str) -> bool:
+    """Returns whether a text has a name, which may be an operator with places between its parts."""
+    return {it for it in name.split("◌") if it} <= names_used(text)
 
 
 class Files:
@@ -62,7 +110,9 @@ class Files:
         # The files of definitions and of proofs, by the paths that lead to them.
         self.modules = {".".join((name, *Path(path).with_suffix("").parts)): file for name, file, path in listed}
         self.read_parts: dict[Path, Parts] = {}
-        self.read_blocks: dict[Path, list[str]] = {}
+        self.read_blocks: dict[Path, list[Block]] = {}
+        self.read_names: dict[Path, dict[str, list[Block]]] = {}
+        self.read_links: dict[Block, Links] = {}
         self.read_contracts: dict[Path, list[Contract]] = {}
 
     def parts(self, file: Path) -> Parts:
@@ -75,12 +125,22 @@ class Files:
             self.read_contracts[file] = contracts_in(file.read_text())
         return self.read_contracts[file]
 
-    def blocks(self, file: Path) -> list[str]:
-        """Returns the parts between empty lines of a file of definitions."""
+    def blocks(self, file: Path) -> list[Block]:
+        """Returns the blocks of a file. The names of the files in its folder are in none."""
         if file not in self.read_blocks:
-            text = "\n".join(self.parts(file).rest)
-            self.read_blocks[file] = [it.strip("\n") for it in re.split(r"\n\s*\n", text) if it.strip()]
+            text = "\n".join(it for it in self.parts(file).rest if not re.fullmatch(r"(pub )?mod \S+", it))
+            texts = [it.strip("\n") for it in re.split(r"\n\s*\n(?=\S)", f"\n\n{text}")]
+            self.read_blocks[file] = [Block(file, it) for it in texts if it]
         return self.read_blocks[file]
+
+    def defined(self, file: Path) -> dict[str, list[Block]]:
+        """Returns the blocks of a file by the names that they define."""
+        if file not in self.read_names:
+            names = self.read_names.setdefault(file, {})
+            for block in self.blocks(file):
+                for name in names_in(block.text):
+                    names.setdefault(name, []).append(block)
+        return self.read_names[file]
 
     def file_of(self, path: str) -> Path | None:
         """Returns the file of definitions or proofs in which a path of the repository's crates ends, or None."""
@@ -88,23 +148,59 @@ class Files:
             path = path.rpartition(".")[0]
         return self.modules.get(path)
 
-    def reached(self, paths: set[str]) -> list[Path]:
-        """Returns the files of definitions that these paths lead to, and those that these files import, and so on."""
-        found: dict[Path, bool] = {}
-        left = [self.file_of(it) for it in paths]
-        while left:
-            file = left.pop()
-            if file is not None and file not in found:
-                found[file] = True
-                parts = self.parts(file)
-                left += [self.file_of(path) for _, path in parts.imports + parts.passed]
-        return [it for it in found if "specs" in it.parts]
-
-    def meaning(self, path: str) -> str:
-        """Returns the definition that a path leads to, also by way of files that only pass it on, or else the path."""
+    def led_to(self, path: str) -> list[Block]:
+        """Returns the blocks that define what a path leads to, also by way of files that only pass it on. There are
+        none if it leads elsewhere than to the crates' definitions, or to a whole file."""
         file, name = self.file_of(path), path.rpartition(".")[2]
-        if file is None:
-            return path
+        if file is None or path in self.modules:
+            return []
         passed = [other for it, other in self.parts(file).passed if it == name]
-        own = next((it for it in self.blocks(file) if name_in(it) == name), None)
-        return own or (self.meaning(passed[0]) if passed else path)
+        if name in self.defined(file) or not passed:
+            return self.defined(file).get(name) or [it for it in self.blocks(file) if name in names_used(it.text)]
+        return self.led_to(passed[0])
+
+    def end_of(self, path: str) -> str:
+        """Returns where a path leads to, beyond the files that only pass it on."""
+        file, name = self.file_of(path), path.rpartition(".")[2]
+        passed = [other for it, other in self.parts(file).passed if it == name] if file else []
+        if passed and name not in self.defined(file):
+            return self.end_of(passed[0])
+        return STANDARD.sub("std.", path)
+
+    def ends_of(self, path: str) -> list[Block] | str:
+        """Returns what a path leads to: blocks, or a path that leads elsewhere. A whole file has none of its own."""
+        end = self.end_of(path)
+        return self.led_to(path) if self.file_of(end) else end
+
+    def behind_modules(self, text: str, imports: Imports) -> tuple[str, Imports]:
+        """Returns a text without the names of files before others, and the names behind these, with their paths."""
+        found: Imports = []
+        for name, module in imports:
+            if module in self.modules and name in words_of(text):
+                form = rf"(?<![^\s(){{}}\[\],;:]){re.escape(name)}\.([^\s(){{}}\[\],.;:]+)"
+                behind = [it for it in re.findall(form, text) if it in self.defined(self.modules[module])]
+                found += [(it, f"{module}.{it}") for it in behind]
+                text = re.sub(form, lambda it: it[1] if it[1] in behind else it[0], text)
+        return text, found
+
+    def links(self, block: Block) -> Links:
+        """Returns what the names in a block lead to, and its text without the names of files before those."""
+        if block not in self.read_links:
+            imports = self.parts(block.file).imports
+            text, paths = self.behind_modules(block.text, imports)
+            paths += [it for it in imports if is_used(it[0], text) and not is_bound(it[0], text)]
+            found = [(path.rpartition(".")[2], self.ends_of(path)) for _, path in paths]
+            found += [(name, its) for name, its in self.defined(block.file).items()
+                      if block not in its and is_used(name, text) and not is_bound(name, text)]
+            self.read_links[block] = Links(text, found)
+        return self.read_links[block]
+
+    def reached(self, blocks: Iterable[Block]) -> set[Block]:
+        """Returns these blocks, and all that the names in them lead to, and so on."""
+        found, left = set(), [*blocks]
+        while left:
+            block = left.pop()
+            if block not in found:
+                found.add(block)
+                left += [it for _, led in self.links(block).led if not isinstance(led, str) for it in led]
+        return found

@@ -40,6 +40,18 @@ fn keep(one: u8) {
     drop(one)
 }
 """
+IMPORTS = "use Rattle.std.specs.Prelude.{ℕ, ◌+◌}\n\n"
+TWICE = "-- a number, and again\nabbrev pub twice : ℕ → ℕ\ntwice n = n + n\n\n"
+BOTH = "abbrev pub both : ℕ → ℕ\nboth n = sizes.twice n\n\n"
+LAW = "use Rattle.sftp_json.specs.Sums.{both, twice}\n\npub law : (n : ℕ) → both n ≡ twice n\nlaw n = refl\n"
+USER = """ghost use Rattle.sftp_json.specs.Sums.{both};
+
+pub fn a(n: u8) -> u8
+    ensures { result ≡ both n }
+{
+    n
+}
+"""
 
 
 def read(text: str):
@@ -184,6 +196,50 @@ class Hashes(unittest.TestCase):
             self.assertEqual(self.hash(RIGHT), before)
             file.write_text(file.read_text() + "const MORE: u8 = 1;\n")
             self.assertNotEqual(self.hash(RIGHT), before)
+
+    def hash_with(self, **texts: str) -> str:
+        """Returns the hash of a crate with these texts of files in specs/ and proofs/, and with one source."""
+        with tempfile.TemporaryDirectory() as room:
+            self.crates.folders["sftp_json"] = Path(room)
+            texts["src/lib.rt"] = texts.pop("source", USER)
+            for path, text in texts.items():
+                file = Path(room, path if "/" in path else f"specs/{path}.antt")
+                file.parent.mkdir(exist_ok=True)
+                file.write_text(text)
+            return self.hash(RIGHT)
+
+    def test_depends_on_definitions_and_not_on_their_places(self):
+        sums = f"use Rattle.std.proofs.Common.{{ℕ}}\nuse Rattle.sftp_json.specs.Sizes as sizes\n\n{BOTH}"
+        before = self.hash_with(Lib="pub mod Sizes\npub mod Sums\n", Sizes=IMPORTS + TWICE, Sums=sums)
+        joined = IMPORTS + TWICE + "-- ==== Sums.\n\n" + BOTH.replace("sizes.", "")
+        self.assertEqual(self.hash_with(Lib="pub mod Sums\n", Sums=joined), before)
+        turned = IMPORTS + BOTH.replace("sizes.", "") + TWICE
+        self.assertEqual(self.hash_with(Lib="pub mod Sums\n", Sums=turned), before)
+        passed = USER.replace("Sums", "Passed")
+        by_another = self.hash_with(Sums=joined, Passed="pub use Rattle.sftp_json.specs.Sums.{both}\n", source=passed)
+        self.assertEqual(by_another, before)
+        for other in (joined.replace("n + n", "n + n + n"), joined.replace("twice n\n", "twice (twice n)\n"),
+                      joined.replace("Prelude", "Other"), joined.replace("twice", "double")):
+            self.assertNotEqual(self.hash_with(Sums=other), before)
+
+    def test_depends_on_which_of_two_definitions_is_meant(self):
+        texts = {"Sizes": IMPORTS + TWICE, "Others": IMPORTS + TWICE.replace("n + n", "n")}
+        sums = IMPORTS + "use Rattle.sftp_json.specs.Sizes.{twice}\n\n" + BOTH.replace("sizes.", "")
+        before = self.hash_with(Sums=sums, **texts)
+        self.assertNotEqual(self.hash_with(Sums=sums.replace("Sizes", "Others"), **texts), before)
+        self.assertNotEqual(self.hash_with(Sums=sums, source=USER.replace("Sums.{both}", "Sizes.{twice}"), **texts),
+                            self.hash_with(Sums=sums, source=USER.replace("Sums.{both}", "Others.{twice}"), **texts))
+
+    def test_depends_on_lemmas_and_on_the_places_of_answers(self):
+        texts = {"Sums": IMPORTS + TWICE + BOTH.replace("sizes.", ""), "proofs/Laws.antt": LAW,
+                 "proofs/Answers.antt": "use Rattle.sftp_json.proofs.Laws.{law}\n\nreturns c = law c\n"}
+        before = self.hash_with(**texts)
+        moved = {it.replace("Laws", "Others"): text.replace("Laws", "Others") for it, text in texts.items()}
+        self.assertEqual(self.hash_with(**moved), before)
+        other = {"proofs/Laws.antt": LAW.replace("refl", "ap twice refl")}
+        self.assertNotEqual(self.hash_with(**texts | other), before)
+        moved = {it.replace("Answers", "Invariants"): text for it, text in texts.items()}
+        self.assertNotEqual(self.hash_with(**moved), before)
 
 
 if __name__ == "__main__":
