@@ -7,7 +7,7 @@ import subprocess
 
 import scripts
 from crates import TOP, Crates
-from editing.checks import wrong_edits
+from editing.blocks import wrong_edits
 
 COLUMNS = 120
 MANUAL = "packaging/sftpv3.1.in"

@@ -1,5 +1,7 @@
-"""The three ways to try edits in a copy of a crate: together, singly, and alone by the gate's command."""
+"""The three ways to try edits in a copy of a crate: together, by the functions that they change; singly; and alone by the
+gate's command."""
 import os
+import re
 from collections.abc import Iterable, Iterator
 from contextlib import contextmanager
 from pathlib import Path
@@ -7,7 +9,6 @@ from pathlib import Path
 from editing import verdicts
 from editing.blocks import Edit, EditsError
 from editing.commands import Commands
-from editing.functions import function_of
 
 # The edits that were refused, and why; or None if there was no time.
 Refusals = dict[Edit, str] | None
@@ -109,3 +110,39 @@ class Attempts:
                 print(line, flush=True)
         refused = verdicts.refused_alone(lines, self.name)
         return {edit: refused[edit.file_name] for edit in edits if edit.file_name in refused}
+
+
+def function_of(edit: Edit, crate: Path) -> str | None:
+    """Returns the last words of the prover's name of the function whose body has the edit, or None if none has."""
+    found = {place_of(crate, it.file, it.old) for it in edit.changes}
+    return found.pop() if len(found) == 1 else None
+
+
+def place_of(crate: Path, file: str, old: str) -> str | None:
+    function = function_with((crate / file).read_text().splitlines(), old)
+    module = file.removeprefix("src/").removesuffix(".rt").replace("/", "::")
+    return f"{module}::{function}" if function else None
+
+
+def function_with(lines: Iterable[str], old: str) -> str | None:
+    """Returns the name of the function whose body has this text, with its type for a method, or None. The prover knows
+    the methods of a trait's impl by other names, so these are none."""
+    # What stands before the name of a function here: nothing, a type, or None where its name is not known.
+    prefix: str | None = None
+    function: str | None = None
+    indent, body = "", False
+    for line in lines:
+        begins = re.match(r"( *)(?:pub(?:\([a-z]+\))? )?(?:(?:const|unsafe) )*fn (\w+)", line)
+        if line[:1].strip() and not line.startswith(("#", "}", "{", ")", "where", "/")):
+            block = re.match(r"impl(?:<[^>]*>)? (\w+)[^{]*{", line)
+            prefix = "" if begins else f"{block[1]}::" if block and " for " not in line else None
+        if begins:
+            function, indent = (None if prefix is None else f"{prefix}{begins[2]}"), begins[1]
+            body = line.endswith("{")
+        elif function and line == f"{indent}{{":
+            body = True
+        if old in line and not begins:
+            return function if body else None
+        if function and line == f"{indent}}}":
+            function, body = None, False
+    return None

@@ -8,10 +8,9 @@ from pathlib import Path
 sys.dont_write_bytecode = True
 sys.path.insert(0, str(Path(__file__).resolve().parents[1]))
 from crates import Crates
-from editing.blocks import EditsError, read_blocks, read_edit, record_in, write_record
-from editing.checks import wrong_edits
+from editing.attempts import function_of
+from editing.blocks import EditsError, read_blocks, read_edit, record_in, write_record, wrong_edits
 from editing.definitions import Files
-from editing.functions import function_of
 from editing.hashes import hash_of
 
 RIGHT = """# A comment at the head.

@@ -5,7 +5,7 @@ import time
 from probing import limits, servers
 from walking import bounds, sessions
 from walking.looking import ask, parts_of, within
-from walking.replies import DIRECTORY, kind_of
+from walking.sessions import DIRECTORY, kind_of
 
 # How many entries are looked at and removed at a time.
 BATCH = 32

@@ -6,8 +6,8 @@ import textwrap
 import sftp3
 from probing import features, files, program, refusals, sessions, shrinking, verdicts
 from recording.complaints import Parser
-from recording.ways import refuse_way_of_another
 from recording.twice import named_twice
+from recording.ways import refuse_way_of_another
 
 # The exit statuses: all sessions were accepted; there are differences; the command line is wrong, or plans nothing; the
 # server, the command of --reset or the program could not be started; no difference was found, and not all was played.

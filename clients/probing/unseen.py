@@ -8,7 +8,7 @@ import sftp3
 from probing import below, clearing, program, sessions, verdicts, workers
 from walking import bounds, inferring
 from walking.looking import ask, real
-from walking.replies import DIRECTORY, kind_of
+from walking.sessions import DIRECTORY, kind_of
 
 
 # The attributes of a directory that only its owner can enter.

@@ -13,8 +13,7 @@ sinks     where records go: files, pipes, a spool
 signals   the module `signal`, quickly imported
 server    the server's process: its start, its end, its status
 auditing  an audit that reads along
-awaiting  what the client of a session that ends still awaits
-sessions  the loop that passes packets on, and how it ends
+sessions  the loop that passes packets on, how it ends, and what the client of a session that ends still awaits
 shares    what each user has of a spool
 keeping   the daemon that keeps records in a spool
 options   the commands

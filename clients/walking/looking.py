@@ -4,7 +4,7 @@ from collections import deque
 import sftp3
 from walking import bounds
 from walking.bounds import Misbehaves, shown
-from walking.replies import DIRECTORY, FILE, LINK, kind_of
+from walking.sessions import DIRECTORY, FILE, LINK, kind_of
 
 # The bytes of a READ, and how many of one file are asked at a time.
 CHUNK, BATCH = 32768, 32

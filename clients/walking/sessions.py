@@ -1,12 +1,14 @@
-"""A session with a server: asks what tasks want, many requests at a time, and records all that passes."""
+"""A session with a server: asks what tasks want, many requests at a time, and records all that passes; and what a reply
+says."""
 import time
 from collections import deque
 
 import sftp3
+from paging import packets
 from probing import servers
 from walking import bounds
 from walking.bounds import Misbehaves
-from walking.replies import Reply
+
 
 # How many tasks there are at a time, each with at most one handle; and how many replies to nothing end the walk.
 TASKS, UNWANTED = 16, 100
@@ -172,3 +174,31 @@ class Session:
         self.streams.selector.close()
         self.running.part(servers.PARTING, lambda data: bool(data))
         return bytes(self.running.said).decode(errors="replace").splitlines()[-5:]
+
+
+# The bits of the permissions that say what an entry is, and the kinds that a tree has.
+TYPES, DIRECTORY, FILE, LINK = 0o170000, 0o040000, 0o100000, 0o120000
+
+
+class Reply:
+    """A reply: its id and its type; the code of a STATUS, the handle of a HANDLE, how many bytes DATA has, the names of
+    NAME, the attributes of ATTRS. What it does not have is None. Raises sftp3.Malformed."""
+
+    def __init__(self, packet):
+        fields = sftp3.Fields(packet[4:])
+        self.kind, self.number = fields.byte(), fields.uint32()
+        self.code = fields.uint32() if self.kind == sftp3.STATUS else None
+        self.handle = fields.string() if self.kind == sftp3.HANDLE else None
+        self.count = len(fields.string()) if self.kind == sftp3.DATA else None
+        self.attributes = fields.attributes() if self.kind == sftp3.ATTRS else None
+        self.names = [name for name, _, _ in fields.names()] if self.kind == sftp3.NAME else None
+
+    def why(self):
+        """Why it is not what was asked for, in a few words."""
+        return f"a reply of type {self.kind}" if self.code is None else packets.code_of(self.code)
+
+
+def kind_of(attributes):
+    """What an entry is by its attributes: DIRECTORY, FILE, LINK, another type, or None if they do not say it."""
+    permissions = attributes.get("permissions")
+    return permissions & TYPES or None if permissions is not None else None
