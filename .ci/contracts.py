@@ -40,6 +40,12 @@ def head_of(file):
     return sentence_of(" ".join(lines))
 
 
+def subjects_of(file):
+    """Returns the first sentence of each further part of a source, which begins with a line `-- ==== `."""
+    parts = re.findall(r"(?m)^-- ==== (.*(?:\n-- .*)*)", file.read_text())
+    return [sentence_of(it.replace("\n-- ", " ")) for it in parts]
+
+
 def functions_of(file):
     """Returns the functions of a source, with the clauses of each."""
     found, owner, is_trait, comment, said, function, end = [], "", False, [], [], None, ""

@@ -3,18 +3,19 @@ clauses in crates/promises.txt; and what is checked of these: that each function
 import re
 import textwrap
 
-from contracts import functions_of, head_of
+from contracts import functions_of, head_of, subjects_of
 from crates import Crates
 from texts import TOP
 
 INDEX, PROMISES = TOP / "crates/README.md", TOP / "crates/promises.txt"
 HEAD = """# The files of the crates
 
-Each file with the first sentence of its own comment, and its public functions that have a contract, with the names of
-their clauses; a function without names in brackets has one clause. Below a file stands what clauses say where the
-comment of the function does not, behind their names in square brackets (`crates/promises.txt`). The files of `specs`
-come in the order of `specs/Lib.antt`, and the subjects of the proofs, which are files and folders, in that of
-`proofs/Lib.antt`: each builds on those before it. `.ci/pages --write` makes this page, and `.ci/pages` compares it.
+Each file with the first sentence of its comment, and of those of its parts, and its public functions that have a
+contract, with the names of their clauses; a function without names in brackets has one clause. Below a file stands what
+clauses say where the comment of the function does not, behind their names in square brackets (`crates/promises.txt`).
+The files of `specs` come in the order of `specs/Lib.antt`, and the subjects of the proofs, which are files and folders,
+in that of `proofs/Lib.antt`: each builds on those before it. `.ci/pages --write` makes this page, and `.ci/pages`
+compares it.
 [ARCHITECTURE.md](../docs/ARCHITECTURE.md) says how the crates stand on each other, and
 [PROMISES.md](../docs/PROMISES.md) what the promises come to.
 """
@@ -47,7 +48,8 @@ def entry(file, folder, items=()):
     """Returns the lines of a file, and below it of the words on clauses of its functions."""
     functions = functions_of(file) if file.suffix == ".rt" else []
     head = head_of(file) or ", ".join(f"`{it}`" for it in modules_of(file))
-    lines = wrapped(f"`{file.relative_to(folder)}`: {head}.{shown(functions)}")
+    further = "".join(f" {it}." for it in subjects_of(file))
+    lines = wrapped(f"`{file.relative_to(folder)}`: {head}.{further}{shown(functions)}")
     for it in items:
         if it.is_in(file, functions):
             lines += wrapped(it.text, 1)

@@ -1,5 +1,5 @@
-"""The three ways to try edits in a copy of a crate: together, by the functions that they change; singly; and alone by the
-gate's command."""
+"""The three ways to try edits in a copy of a crate: together, by the functions that they change; singly; and alone by
+the gate's command."""
 import os
 import re
 from collections.abc import Iterable, Iterator

@@ -1,5 +1,5 @@
-"""The edits of a crate, which are blocks of its file edits.txt, and the record at the head of that file; and whether all
-edits can be read and apply to the sources as they are, those of the gate among them."""
+"""The edits of a crate, which are blocks of its file edits.txt, and the record at the head of that file; and whether
+all edits can be read and apply to the sources as they are, those of the gate among them."""
 import re
 from collections.abc import Callable
 from dataclasses import dataclass, field
