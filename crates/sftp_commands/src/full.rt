@@ -51,8 +51,8 @@ pub(crate) fn show_full<'a, R: Files + AllocGlobal, O: Write>(
     outcome(shown, printed)
 }
 
-/// Shows the file `name`. One that cannot be read twice, such as a pipe, is held as a whole, since what its fault is, is
-/// found by reading it again.
+/// Shows the file `name`. One that cannot be read twice, such as a pipe, is held as a whole, since what its fault is,
+/// is found by reading it again.
 fn show_named<'a, R: Files + AllocGlobal, O: Write>(
     rt: &R,
     name: &'a str,

@@ -74,8 +74,8 @@ fn audit_by<'a, R: System + Clock, O: Write, E: Write + IsTerminal>(
     audit_from(rt, files, start, kept, output, errors)
 }
 
-/// Audits a session whose tree file cannot be read twice, and keeps its bytes: what explains a refusal, and what goes on
-/// behind it, starts from the tree again.
+/// Audits a session whose tree file cannot be read twice, and keeps its bytes: what explains a refusal, and what goes
+/// on behind it, starts from the tree again.
 fn audit_keeping<'a, R: System + Clock, O: Write, E: Write + IsTerminal>(
     rt: &R,
     files: &AuditOptions<'a>,
