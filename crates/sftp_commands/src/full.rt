@@ -358,8 +358,8 @@ impl<'a, F: Read> Window<'a, F> {
             let held = rest.len();
             match part.put(&mut rest, &mut lines.text) {
                 Ok(()) => {
-                    self.pass(held.saturating_sub(rest.len()));
-                    return lines.end_line();
+                    let taken = held.saturating_sub(rest.len());
+                    return self.end_part(taken, before, lines);
                 }
                 Err(ShowFault::NoMemory) => return Err(Stop::Failed(Failure::OutOfMemory)),
                 Err(ShowFault::Unfit) => {
@@ -373,6 +373,22 @@ impl<'a, F: Read> Window<'a, F> {
             }
         }
         Err(Stop::Unfit)
+    }
+
+    /// Ends the line of a part that has so many bytes, or takes the line back if these are too many. Before it the text
+    /// had so many bytes.
+    fn end_part<O: Write>(
+        &mut self,
+        taken: usize,
+        before: usize,
+        lines: &mut Lines<'_, O>,
+    ) -> Result<(), Stop<'a>> {
+        if let Err(failure) = self.admit(taken) {
+            lines.text.truncate(before);
+            return Err(Stop::Failed(failure));
+        }
+        self.pass(taken);
+        lines.end_line()
     }
 }
 

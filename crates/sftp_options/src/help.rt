@@ -153,7 +153,8 @@ what meets them all. With --pairs, requests without a reply come last.
 With --explain, a line on standard error says where a malformed file is so: the field of the fault, and the place of its
 first byte in the file, from 0.
 
-With --full and --memory, a file of more than a thirty-second of BYTES is not shown.";
+With --full and --memory, a file is shown up to a record or an entry of more than a thirty-second of BYTES, and a pipe
+of more is not shown.";
 
 pub(crate) const ABOUT_DIFF: &str = "Prints how two tree files differ, a line for each path";
 
