@@ -322,7 +322,8 @@ impl<'a, F: Read> Window<'a, F> {
         let Some(side) = side_of(*first) else {
             return Err(without_side(number));
         };
-        self.hold(self.limited(record_length(self.front())))?;
+        let wanted = self.limited(record_length(self.front()));
+        self.hold(wanted)?;
         let length = record_length(self.front()).min(self.front().len());
         self.admit(length)?;
         put_record(side, self.front().get(1..length).unwrap_or(&[]), line)?;
