@@ -43,8 +43,8 @@ pub use Rattle.sftp_audit.specs.Auditor.{Refuses, LacksReply, IsFirstWrong, Foll
 pub use Rattle.sftp_audit.specs.Examples.{Unexplained}
 pub use Rattle.sftp_audit.specs.Exchanges.{recorded_exchanges, is_answered, AreAnswered, waits_for, reply_of, ledger_of}
 unfoldable pub use Rattle.sftp_audit.specs.Exchanges.{next_recorded, exchanges_from, unsettled, is_awaited}
-pub use Rattle.sftp_audit.specs.Ledger.{starts_answered, ordinal_at, IsIndexed, RefusesRequest, RefusesReply}
-unfoldable pub use Rattle.sftp_audit.specs.Ledger.{AreApart, place_of}
+pub use Rattle.sftp_audit.specs.Trees.{starts_answered, ordinal_at, IsIndexed, RefusesRequest, RefusesReply}
+unfoldable pub use Rattle.sftp_audit.specs.Trees.{AreApart, place_of}
 pub use Rattle.sftp_audit.specs.declared.errors.AuditError.{AuditError}
 pub use Rattle.sftp_audit.specs.declared.errors.Refusal.{Refusal}
 pub use Rattle.sftp_audit.specs.declared.exchanges.Exchange.{Exchange}

@@ -3,5 +3,4 @@ pub mod Auditor
 pub mod Cuts
 pub mod Examples
 pub mod Exchanges
-pub mod Ledger
 pub mod Trees

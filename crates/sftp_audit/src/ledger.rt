@@ -5,7 +5,7 @@ ghost use Rattle.std.specs.VecDeque.{deque_len, deque_capacity};
 ghost use Rattle.sftp_transcript.specs.Explained.{window};
 ghost use Rattle.sftp_audit.specs.Exchanges.{is_awaited, with_reply};
 ghost use Rattle.sftp_audit.specs.Cuts.{is_unanswered, unanswered_count};
-ghost use Rattle.sftp_audit.specs.Ledger.{starts_answered, ordinal_at, IsIndexed, RefusesRequest, RefusesReply};
+ghost use Rattle.sftp_audit.specs.Trees.{starts_answered, ordinal_at, IsIndexed, RefusesRequest, RefusesReply};
 
 use crate::errors::Refusal;
 use crate::exchanges::{Exchange, RecordedReply};
@@ -29,7 +29,7 @@ pub(crate) struct Ledger {
 impl Model for Ledger {
     ghost use Rattle.std.specs.Prelude.{List};
     ghost use Rattle.sftp_audit.specs.declared.exchanges.Exchange.{Exchange};
-    ghost use Rattle.sftp_audit.specs.Ledger.{IsIndexed};
+    ghost use Rattle.sftp_audit.specs.Trees.{IsIndexed};
 
     ghost Value = { List Exchange };
 

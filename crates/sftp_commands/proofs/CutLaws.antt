@@ -8,7 +8,7 @@ use Rattle.std.proofs.lemmas.Grind.{flat_map-append}
 use Rattle.std.proofs.Math.Seq.{take-append_seam, drop-append_seam}
 use Rattle.std.proofs.Math.ListN.{drop_of_length-le}
 use Rattle.sftp_text.specs.Digits.{byte_text, hex_byte, hex_digit, is_plain, hex_text}
-use Rattle.sftp_commands.specs.Cuts.{escapes_in}
+use Rattle.sftp_commands.specs.Going.{escapes_in}
 
 -- ---- how many bytes a text stands for
 

@@ -1,14 +1,21 @@
 -- Which requests an audit that goes on leaves out, with their wrong replies: those that changed nothing of the tree.
-use Rattle.std.specs.Prelude.{◌&&◌, ◌==◌, if◌then◌else◌, not, ℕ, Bool, true, false}
+use Rattle.std.specs.Prelude.{◌==◌, ℕ, suc, if◌then◌else◌, List, [], ◌∷◌, ◌&&◌, not, Bool, true, false}
 use Rattle.sftp_packets.specs.declared.requests.Ask.{Ask}
 use Rattle.sftp_packets.specs.declared.requests.Ask.TheVariants as asks
 use Rattle.sftp_packets.specs.declared.replies.Answer.{Answer}
 use Rattle.sftp_packets.specs.declared.replies.Answer.TheVariants as answers
-use Rattle.sftp_tree.specs.OpenFlags.{creates, truncates}
+use Rattle.sftp_tree.specs.Attributes.{creates, truncates}
 use Rattle.sftp_commands.specs.declared.bearings.Bearing.{Bearing}
 use Rattle.sftp_commands.specs.declared.bearings.Bearing.TheVariants.{Looks, Lists, Closes, Opens, Changes}
 use Rattle.sftp_commands.specs.declared.bearings.Outcome.{Outcome}
 use Rattle.sftp_commands.specs.declared.bearings.Outcome.TheVariants.{Refused, Done, Opened, Told}
+
+-- ==== Texts in quotes, of which `show --full` shows the first bytes.
+
+-- how many escapes characters have
+abbrev pub escapes_in : List ℕ → ℕ
+escapes_in [] = 0
+escapes_in (c ∷ text) = if c == 92 then suc (escapes_in text) else escapes_in text
 
 -- an OPEN with these flags neither makes nor empties a file
 abbrev pub only_opens : ℕ → Bool

@@ -2,7 +2,7 @@
 ghost use Rattle.std.specs.Prelude.{◌≡◌, ◌∷◌, ◌++◌, ◌≤◌, ◌<◌, ℕ, List, length, take, drop, IfSome, MatchOption};
 ghost use Rattle.std.specs.List.{flat_map};
 ghost use Rattle.sftp_text.specs.Digits.{byte_text, hex_text};
-ghost use Rattle.sftp_commands.specs.Cuts.{escapes_in};
+ghost use Rattle.sftp_commands.specs.Going.{escapes_in};
 
 use bstr::ByteSlice;
 use sftp_files::{Failure, MORE, Named, STANDARD_OUTPUT};

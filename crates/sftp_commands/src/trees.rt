@@ -3,7 +3,7 @@
 ghost use Rattle.std.specs.Prelude.{◌≡◌, IfOk, IfErr};
 ghost use Rattle.sftp_treefile.specs.TreeFile.{IsTreeFile};
 ghost use Rattle.sftp_files.specs.Failures.{IsUnwritten};
-ghost use Rattle.sftp_files.specs.Status.{failure_status};
+ghost use Rattle.sftp_files.specs.Failures.{failure_status};
 
 use sftp_files::{Content, Failure, FileSink, Keeping, System, Watched, open, write_content};
 use sftp_progress::{Console, Progress, Task, Tracked};

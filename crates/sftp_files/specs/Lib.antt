@@ -1,3 +1,1 @@
 pub mod Failures
-pub mod Links
-pub mod Status

@@ -1,7 +1,7 @@
 //! Symbolic links on the way to a file that is written. They are followed one at a time, but for those that another
 //! user may have put there.
 ghost use Rattle.std.specs.Prelude.{◌↔◌, IsTrue};
-ghost use Rattle.sftp_files.specs.Links.{IsPlanted, IsTrusted};
+ghost use Rattle.sftp_files.specs.Failures.{IsPlanted, IsTrusted};
 
 use crate::system::System;
 use std::fs::{Files, Metadata};

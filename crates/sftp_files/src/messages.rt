@@ -113,7 +113,7 @@ impl fmt::Display for Failure<'_> {
 }
 
 impl Ending {
-    ghost use Rattle.sftp_files.specs.Status.{ending_status};
+    ghost use Rattle.sftp_files.specs.Failures.{ending_status};
 
     /// The exit status.
     pub fn status(self) -> u8
@@ -131,7 +131,7 @@ impl Ending {
 }
 
 impl Failure<'_> {
-    ghost use Rattle.sftp_files.specs.Status.{failure_status};
+    ghost use Rattle.sftp_files.specs.Failures.{failure_status};
 
     /// The exit status.
     pub fn status(&self) -> u8

@@ -1,7 +1,7 @@
 //! Files that are read: opened, or whole.
 ghost use Rattle.std.specs.Prelude.{◌≡◌, IfErr};
 ghost use Rattle.sftp_files.specs.Failures.{IsUnread};
-ghost use Rattle.sftp_files.specs.Status.{failure_status};
+ghost use Rattle.sftp_files.specs.Failures.{failure_status};
 
 use crate::messages::Failure;
 use std::fs;

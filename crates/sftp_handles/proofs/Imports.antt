@@ -37,27 +37,27 @@ pub use Rattle.sftp_path.proofs.Table.Laws.{get-without_elsewhere}
 pub use Rattle.sftp_path.specs.Place.{Name, same_bytes, bytes_cmp, Place, place_cmp, name_cmp, absolute, is_name}
 pub use Rattle.sftp_path.specs.Table.{Table, InOrder, size, count}
 unfoldable pub use Rattle.sftp_path.specs.Table.{get, put, retain, from_entries}
-pub use Rattle.sftp_tree.proofs.CauseLaws.Places.{outcome-is, free-led, free-at, lost-first, exit}
-pub use Rattle.sftp_tree.proofs.CauseLaws.Sets.{none-each, each-none, fewer}
-pub use Rattle.sftp_tree.proofs.KeptTrees.Trims.{trimmed-already}
-pub use Rattle.sftp_tree.proofs.Limits.Tests.{Stands, fits-parts, fits-from}
-pub use Rattle.sftp_tree.proofs.PlaceTables.Each.{each-get, each-put, get-each, each-retain, each-all}
-pub use Rattle.sftp_tree.proofs.Requests.Outcomes.{PathsLeadWell, outcome-stands, pins-stay, limits-stay}
-pub use Rattle.sftp_tree.proofs.WellFormedTrees.Fields.{bytes-fit, bytes-dropped}
+pub use Rattle.sftp_tree.proofs.CauseLaws.{outcome-is, free-led, free-at, lost-first, exit}
+pub use Rattle.sftp_tree.proofs.CauseLaws.{none-each, each-none, fewer}
+pub use Rattle.sftp_tree.proofs.KeptTrees.{trimmed-already}
+pub use Rattle.sftp_tree.proofs.Limits.{Stands, fits-parts, fits-from}
+pub use Rattle.sftp_tree.proofs.PlaceTables.{each-get, each-put, get-each, each-retain, each-all}
+pub use Rattle.sftp_tree.proofs.Requests.Rows.{PathsLeadWell, outcome-stands, pins-stay, limits-stay}
+pub use Rattle.sftp_tree.proofs.WellFormedTrees.{bytes-fit, bytes-dropped}
 pub use Rattle.sftp_packets.specs.Layouts.{IsAsk}
 pub use Rattle.sftp_tree.specs.Attributes.{changed_content, resized, said, shown, shown_content}
-pub use Rattle.sftp_tree.specs.Causes.{CauseSet, allows, allow, is_none, every_cause, only, row}
-unfoldable pub use Rattle.sftp_tree.specs.Causes.{no_causes, when}
-pub use Rattle.sftp_tree.specs.FileChanges.{bytes_at, overwritten, written_content, after_write, after_set}
-pub use Rattle.sftp_tree.specs.FileChanges.{IsRoomRefusal, after_pin, write_fits}
+pub use Rattle.sftp_tree.specs.PlaceCauses.{CauseSet, allows, allow, is_none, every_cause, only, row}
+unfoldable pub use Rattle.sftp_tree.specs.PlaceCauses.{no_causes, when}
+pub use Rattle.sftp_tree.specs.Changes.{bytes_at, overwritten, written_content, after_write, after_set}
+pub use Rattle.sftp_tree.specs.Changes.{IsRoomRefusal, after_pin, write_fits}
 pub use Rattle.sftp_tree.specs.Items.{entry_of}
-pub use Rattle.sftp_tree.specs.Listings.{listing}
-pub use Rattle.sftp_tree.specs.OpenFlags.{truncates, excludes}
+pub use Rattle.sftp_tree.specs.Attributes.{listing}
+pub use Rattle.sftp_tree.specs.Attributes.{truncates, excludes}
 pub use Rattle.sftp_tree.specs.PlaceCauses.{opening_causes, needing_causes, link_causes}
-pub use Rattle.sftp_tree.specs.Refusals.{IsFree, stat_ask}
+pub use Rattle.sftp_tree.specs.Told.{IsFree, stat_ask}
 pub use Rattle.sftp_tree.specs.Requests.{Told, done, led_to, told_at, new_led, follows, has_step, shown_at, path_of}
 unfoldable pub use Rattle.sftp_tree.specs.Requests.{led, outcome}
-pub use Rattle.sftp_tree.specs.Room.{size_fits}
+pub use Rattle.sftp_tree.specs.Plans.{size_fits}
 pub use Rattle.sftp_tree.specs.Tree.{limits, IsContent, content_at, content_fits, with_content, Files, Tree, Pins}
 pub use Rattle.sftp_tree.specs.Tree.{IsNode, HasFile, node_at, is_pinned, times_pinned, with_pin, WellFormed, IsPin}
 pub use Rattle.sftp_tree.specs.Tree.{trim, IsKept, with_pins, without_pin, is_link, link_fits, Names, is_named}
@@ -90,20 +90,20 @@ pub use Rattle.sftp_packets.specs.declared.packets.Reply.{Reply}
 pub use Rattle.sftp_packets.specs.declared.packets.Request.{Request}
 pub use Rattle.sftp_handles.specs.Allowed.{Does, Allowed, stepped, Refuses}
 unfoldable pub use Rattle.sftp_handles.specs.Allowed.{step}
-pub use Rattle.sftp_handles.specs.Answered.{IsSpelledAnswer, IsReplyOf, status_of, only_name, IsAnswered}
+pub use Rattle.sftp_handles.specs.Payloads.{IsSpelledAnswer, IsReplyOf, status_of, only_name, IsAnswered}
 pub use Rattle.sftp_handles.specs.Clash.{Touched, untouched, everything, share, is_barrier, touched_through, touched_by}
 pub use Rattle.sftp_handles.specs.Clash.{ComesFirst, reads_file, writes_file, takes_names, may_change, bars, bars_by}
 unfoldable pub use Rattle.sftp_handles.specs.Clash.{touched, clash}
-pub use Rattle.sftp_handles.specs.FirstNames.{item_of, first_items, names_in_reply, AreFirst, AreFirstNames, AreUpTo}
-pub use Rattle.sftp_handles.specs.Found.{found_file, IsWritable, with_room, refusing, granted, read_said}
-pub use Rattle.sftp_handles.specs.Given.{named, handles_in}
-pub use Rattle.sftp_handles.specs.Giving.{IsListing, gives_names, with_struck}
-pub use Rattle.sftp_handles.specs.Handles.{Left, Handles, open_at, is_open, with_open, kept_flags, without_open}
-pub use Rattle.sftp_handles.specs.Handles.{opens_file, times_open}
-unfoldable pub use Rattle.sftp_handles.specs.Handles.{pins_of}
-pub use Rattle.sftp_handles.specs.Judged.{IsDone, IsJudged, refusal_code, IsRefusal, IsJudgedCode}
-pub use Rattle.sftp_handles.specs.Purposes.{purpose_of}
-pub use Rattle.sftp_handles.specs.Laws.{is_opening, asked_state, IsOpenedBy, IsAskable, IsAnswerable}
+pub use Rattle.sftp_handles.specs.Slots.{item_of, first_items, names_in_reply, AreFirst, AreFirstNames, AreUpTo}
+pub use Rattle.sftp_handles.specs.Slots.{found_file, IsWritable, with_room, refusing, granted, read_said}
+pub use Rattle.sftp_handles.specs.Slots.{named, handles_in}
+pub use Rattle.sftp_handles.specs.Slots.{IsListing, gives_names, with_struck}
+pub use Rattle.sftp_handles.specs.State.{Left, Handles, open_at, is_open, with_open, kept_flags, without_open}
+pub use Rattle.sftp_handles.specs.State.{opens_file, times_open}
+unfoldable pub use Rattle.sftp_handles.specs.State.{pins_of}
+pub use Rattle.sftp_handles.specs.Slots.{IsDone, IsJudged, refusal_code, IsRefusal, IsJudgedCode}
+pub use Rattle.sftp_handles.specs.Payloads.{purpose_of}
+pub use Rattle.sftp_handles.specs.Clash.{is_opening, asked_state, IsOpenedBy, IsAskable, IsAnswerable}
 pub use Rattle.sftp_handles.specs.Payloads.{FitsSaid, FitsTwice, FitsData, HasNewName, said_in, answer_of, Carries}
 pub use Rattle.sftp_handles.specs.Replies.{Said, says, names_in, names_given, refuses, is_new_handle, gives_some}
 pub use Rattle.sftp_handles.specs.Replies.{struck, is_among, are_some_left, has_code, same_attributes}
@@ -111,11 +111,11 @@ pub use Rattle.sftp_handles.specs.RequestRows.{row_of, Row, causes_of, said_of, 
 pub use Rattle.sftp_handles.specs.RequestRows.{closes, change_of, change_file, with_file_room, start_of, may_write}
 pub use Rattle.sftp_handles.specs.RequestRows.{unless_open_for, goes_to_end, read_from, with_handle_room, said_by}
 unfoldable pub use Rattle.sftp_handles.specs.RequestRows.{limits_data}
-pub use Rattle.sftp_handles.specs.Requests.{causes_by, said_to, after_by, changed, flags_of, opened_by}
-pub use Rattle.sftp_handles.specs.Requests.{with_new, path_causes, path_said, seen_by}
-unfoldable pub use Rattle.sftp_handles.specs.Requests.{causes, after, told_to, answers}
-pub use Rattle.sftp_handles.specs.Seen.{a_file, a_listing, Needed, anything, Seen, seen_file, seen_among, file}
-unfoldable pub use Rattle.sftp_handles.specs.Seen.{seen}
+pub use Rattle.sftp_handles.specs.Allowed.{causes_by, said_to, after_by, changed, flags_of, opened_by}
+pub use Rattle.sftp_handles.specs.Allowed.{with_new, path_causes, path_said, seen_by}
+unfoldable pub use Rattle.sftp_handles.specs.Allowed.{causes, after, told_to, answers}
+pub use Rattle.sftp_handles.specs.State.{a_file, a_listing, Needed, anything, Seen, seen_file, seen_among, file}
+unfoldable pub use Rattle.sftp_handles.specs.State.{seen}
 pub use Rattle.sftp_handles.specs.Slots.{handles_from, slab_handles, serial_before}
 unfoldable pub use Rattle.sftp_handles.specs.Slots.{slot_name}
 pub use Rattle.sftp_handles.specs.State.{State, Good, IsItem, is_plain, has_handle_left, settled, IsOpen, IsHandle}

@@ -1,23 +1,69 @@
 -- What replies carry: what can be said in a reply that can be encoded, and what the replies to queries say. Words of
 -- private contracts.
-use Rattle.std.specs.Prelude.{◌≡◌, ◌<◌, ◌≤◌, ℕ, List, [], ◌∷◌, length, Option, Some, None, IsTrue}
-use Rattle.sftp_packets.specs.declared.attributes.Attrs.{Attrs}
 use Rattle.sftp_packets.specs.declared.requests.Ask.{Ask}
+use Rattle.sftp_packets.specs.declared.requests.Ask.TheVariants as asks
+use Rattle.sftp_handles.specs.declared.requests.Purpose.{Purpose}
+use Rattle.sftp_handles.specs.declared.requests.Purpose.TheVariants.{Change, Open, List, Query, Unknown}
+use Rattle.std.specs.Prelude.{ℕ, ◌<◌, ◌^◌, [], ◌∷◌, IsTrue, ◌≡◌, ◌≤◌, length, Option, Some, None}
 use Rattle.sftp_packets.specs.declared.replies.Answer.{Answer}
 use Rattle.sftp_packets.specs.declared.replies.Answer.TheVariants as replies
-use Rattle.sftp_packets.specs.Spelling.{FitsString, FitsAttrs}
+use Rattle.sftp_packets.specs.declared.packets.Packet.TheVariants.{Reply as reply_packet}
+use Rattle.sftp_packets.specs.Spelling.{no_attributes, FitsString, FitsAttrs}
+use Rattle.sftp_packets.specs.Packets.{HasSpelling}
+use Rattle.sftp_handles.specs.State.{State, Good, IsLeft, is_plain}
+use Rattle.sftp_handles.specs.Replies.{Said, says, ok, shows, names, gives, ended, lists, opens, extends}
+use Rattle.sftp_handles.specs.Allowed.{Does}
+use Rattle.sftp_packets.specs.declared.attributes.Attrs.{Attrs}
 use Rattle.sftp_packets.specs.Requests.{asked_handle}
 use Rattle.sftp_path.specs.Place.{bytes_cmp}
 use Rattle.sftp_path.specs.Table.{InOrder, size}
 use Rattle.sftp_treefile.specs.TreeFile.{highest_limits}
-use Rattle.sftp_tree.specs.Causes.{is_none}
+use Rattle.sftp_tree.specs.PlaceCauses.{is_none}
 use Rattle.sftp_handles.specs.declared.payloads.Payload.{Payload}
 use Rattle.sftp_handles.specs.declared.payloads.Payload.TheVariants as payloads
-use Rattle.sftp_handles.specs.Handles.{Left, Handles}
-use Rattle.sftp_handles.specs.State.{State, Good, IsLeft, is_plain}
-use Rattle.sftp_handles.specs.Replies.{Said, ok, shows, names, gives, ended, lists, opens, extends}
-use Rattle.sftp_handles.specs.Requests.{causes, said_to}
-use Rattle.sftp_handles.specs.Answered.{status_of, only_name}
+use Rattle.sftp_handles.specs.State.{Left, Handles}
+use Rattle.sftp_handles.specs.Allowed.{causes, said_to}
+
+-- ==== What requests are for, by what their replies say where no cause refuses them. Words of private contracts.
+
+abbrev pub purpose_of : Ask → Purpose
+purpose_of (asks.Open path pflags attrs) = Open
+purpose_of (asks.Opendir path) = Open
+purpose_of (asks.Readdir handle) = List
+purpose_of (asks.Read handle offset len) = Query
+purpose_of (asks.Stat path) = Query
+purpose_of (asks.Lstat path) = Query
+purpose_of (asks.Fstat handle) = Query
+purpose_of (asks.Realpath path) = Query
+purpose_of (asks.Readlink path) = Query
+purpose_of asks.Limits = Query
+purpose_of (asks.Unknown name rest) = Unknown
+-- that all others are changes is proved from their rows
+purpose_of other = Change
+
+-- ==== What this program's own sessions answer to a request.
+
+-- the answer can be encoded, with any id
+abbrev pub IsSpelledAnswer : Answer → Type 0
+IsSpelledAnswer answer = (id : ℕ) → id < 2 ^ 32 → HasSpelling (reply_packet (record { id = id; answer = answer }))
+
+-- the answer says this, and can be encoded
+pub record IsReplyOf (said : Said) (answer : Answer) : Type 0 where
+  pub says : IsTrue (says said answer)
+  pub spelled : IsSpelledAnswer answer
+
+-- no cause refuses the request, this is its answer, which can be encoded, and the state is then that after it
+pub record IsAnswered (s : State) (ask : Ask) (answer : Answer) (end : State) : Type 0 where
+  pub does : Does s ask answer end
+  pub spelled : IsSpelledAnswer answer
+
+-- a status of this code, without texts
+abbrev pub status_of : ℕ → Answer
+status_of code = replies.Status code [] []
+
+-- a text as the only name and as its long name, without attributes
+abbrev pub only_name : List ℕ → Answer
+only_name text = replies.Name (record { filename = text; longname = text; attrs = no_attributes } ∷ [])
 
 -- ---- what can be encoded
 

@@ -5,9 +5,9 @@ use Rattle.sftp_packets.specs.declared.requests.Ask.TheVariants as asks
 use Rattle.sftp_treefile.specs.TreeFile.{usual_limits}
 use Rattle.sftp_handles.specs.declared.byte_range.ByteRange.{ByteRange}
 use Rattle.sftp_handles.specs.declared.opens.Open.TheVariants.{File}
-use Rattle.sftp_handles.specs.Handles.{kept_flags}
+use Rattle.sftp_handles.specs.State.{kept_flags}
 use Rattle.sftp_handles.specs.State.{State}
-use Rattle.sftp_handles.specs.Ranges.{range, range_clash}
+use Rattle.sftp_handles.specs.Clash.{range, range_clash}
 use Rattle.sftp_handles.specs.Examples.{with_text}
 
 -- The file 0 has ten bytes. It is open for reading, writing and appending under `a`, for reading under `r`, for writing

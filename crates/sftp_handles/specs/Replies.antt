@@ -6,10 +6,10 @@ use Rattle.sftp_packets.specs.declared.replies.Answer.{Answer}
 use Rattle.sftp_packets.specs.declared.replies.Answer.TheVariants as replies
 use Rattle.sftp_packets.specs.Spelling.{handle_limit}
 use Rattle.sftp_path.specs.Place.{Name, same_bytes}
-use Rattle.sftp_tree.specs.Causes.{CauseSet, allow}
+use Rattle.sftp_tree.specs.PlaceCauses.{CauseSet, allow}
 pub use Rattle.sftp_listing.specs.Left.{same_attributes, is_among, are_distinct, has_attributes, is_left, names_in}
 pub use Rattle.sftp_listing.specs.Left.{are_some_left, struck}
-use Rattle.sftp_handles.specs.Handles.{Left, Handles, is_open}
+use Rattle.sftp_handles.specs.State.{Left, Handles, is_open}
 
 -- ---- statuses
 

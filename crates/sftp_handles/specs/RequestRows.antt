@@ -14,14 +14,14 @@ use Rattle.sftp_tree.specs.declared.causes.Cause.TheVariants.{BadHandle, WrongKi
 use Rattle.sftp_tree.specs.declared.file_contents.Content.{Content}
 use Rattle.sftp_tree.specs.Tree.{limits, content_fits}
 use Rattle.sftp_tree.specs.Attributes.{changed_content, shown_content}
-use Rattle.sftp_tree.specs.OpenFlags.{reads, writes, appends}
-use Rattle.sftp_tree.specs.FileChanges.{bytes_at, written_content}
-use Rattle.sftp_tree.specs.Causes.{CauseSet, no_causes, when, is_none}
+use Rattle.sftp_tree.specs.Attributes.{reads, writes, appends}
+use Rattle.sftp_tree.specs.Changes.{bytes_at, written_content}
+use Rattle.sftp_tree.specs.PlaceCauses.{CauseSet, no_causes, when, is_none}
 use Rattle.sftp_tree.specs.Requests as paths
-use Rattle.sftp_handles.specs.Handles.{Left, Handles}
+use Rattle.sftp_handles.specs.State.{Left, Handles}
 use Rattle.sftp_handles.specs.State.{State, has_handle_left}
-use Rattle.sftp_handles.specs.Seen.{Needed, anything, a_file, a_listing, Seen, absent, other_kind, something, file}
-use Rattle.sftp_handles.specs.Seen.{listing}
+use Rattle.sftp_handles.specs.State.{Needed, anything, a_file, a_listing, Seen, absent, other_kind, something, file}
+use Rattle.sftp_handles.specs.State.{listing}
 use Rattle.sftp_handles.specs.Replies.{Said, ok, shows, names, gives, ended, lists, opens, extends}
 use Rattle.sftp_handles.specs.Replies.{struck, names_given}
 

@@ -10,12 +10,12 @@ use Rattle.sftp_handles.specs.declared.byte_range.ByteRange.{ByteRange}
 use Rattle.sftp_handles.specs.declared.byte_range.Span.{Span}
 use Rattle.sftp_handles.specs.declared.opens.Open.{Open}
 use Rattle.sftp_handles.specs.declared.opens.Open.TheVariants.{File}
-use Rattle.sftp_handles.specs.Handles.{open_at}
+use Rattle.sftp_handles.specs.State.{open_at}
 use Rattle.sftp_handles.specs.State.{State}
-use Rattle.sftp_handles.specs.Seen.{Needed, a_file}
+use Rattle.sftp_handles.specs.State.{Needed, a_file}
 use Rattle.sftp_handles.specs.RequestRows.{row_of}
 use Rattle.sftp_handles.specs.Clash.{Touched, reads_file, writes_file}
-use Rattle.sftp_handles.specs.Ranges.{span, range_within}
+use Rattle.sftp_handles.specs.Clash.{span, range_within}
 
 -- ---- the span of a request
 

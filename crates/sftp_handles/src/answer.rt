@@ -3,10 +3,10 @@ ghost use Rattle.std.specs.Prelude.{◌≡◌, ◌^◌, ◌<◌, false, Some, If
 ghost use Rattle.sftp_packets.specs.declared.packets.Packet.TheVariants.{Reply as reply_packet};
 ghost use Rattle.sftp_packets.specs.Packets.{HasSpelling};
 ghost use Rattle.sftp_handles.specs.declared.requests.Purpose.TheVariants.{Change};
-ghost use Rattle.sftp_handles.specs.Purposes as purposes;
+ghost use Rattle.sftp_handles.specs.Payloads as purposes;
 ghost use Rattle.sftp_handles.specs.Allowed.{Allowed, step};
-ghost use Rattle.sftp_handles.specs.Judged.{IsRefusal};
-ghost use Rattle.sftp_handles.specs.Answered.{IsSpelledAnswer, IsAnswered};
+ghost use Rattle.sftp_handles.specs.Slots.{IsRefusal};
+ghost use Rattle.sftp_handles.specs.Payloads.{IsSpelledAnswer, IsAnswered};
 
 pub(crate) mod forms;
 mod names;

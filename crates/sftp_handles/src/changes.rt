@@ -1,8 +1,8 @@
 //! Requests whose reply says OK.
 ghost use Rattle.std.specs.Prelude.{◌≡◌, None, IsTrue, IfOk, IfErr, OnOk, OnErr};
 ghost use Rattle.sftp_handles.specs.declared.requests.Purpose.TheVariants.{Change};
-ghost use Rattle.sftp_handles.specs.Purposes as purposes;
-ghost use Rattle.sftp_handles.specs.Judged.{IsJudged, IsDone, IsRefusal, changes_tree, is_done, refusal_code};
+ghost use Rattle.sftp_handles.specs.Payloads as purposes;
+ghost use Rattle.sftp_handles.specs.Slots.{IsJudged, IsDone, IsRefusal, changes_tree, is_done, refusal_code};
 
 use crate::answer::forms::has_code;
 use crate::sessions::Session;

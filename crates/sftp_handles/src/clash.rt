@@ -2,13 +2,13 @@
 ghost use Rattle.std.specs.Prelude.{◌≡◌, false, Some};
 ghost use Rattle.sftp_packets.specs.Requests.{asked_handle};
 ghost use Rattle.sftp_path.specs.Place.{same_bytes};
-ghost use Rattle.sftp_handles.specs.Handles.{open_at};
-ghost use Rattle.sftp_handles.specs.Seen.{a_file, a_listing};
+ghost use Rattle.sftp_handles.specs.State.{open_at};
+ghost use Rattle.sftp_handles.specs.State.{a_file, a_listing};
 ghost use Rattle.sftp_handles.specs.Clash as clashes;
 ghost use Rattle.sftp_handles.specs.Clash.{share, touched, touched_through};
 ghost use Rattle.sftp_handles.specs.Spans.{file_in};
-ghost use Rattle.sftp_handles.specs.Touch.{handle_in, touched_as};
-ghost use Rattle.sftp_handles.specs.Uses as uses;
+ghost use Rattle.sftp_handles.specs.Clash.{handle_in, touched_as};
+ghost use Rattle.sftp_handles.specs.Slots as uses;
 
 use crate::opens::Open;
 use crate::requests::{Use, through};

@@ -3,8 +3,8 @@ ghost use Rattle.std.specs.Prelude.{◌≡◌, ◌<◌, ◌≤◌, false, length
 ghost use Rattle.sftp_packets.specs.Spelling.{uint32, handle_limit};
 ghost use Rattle.sftp_path.specs.Table.{size};
 ghost use Rattle.sftp_treefile.specs.TreeFile.{highest_limits};
-ghost use Rattle.sftp_handles.specs.Handles.{is_open};
-ghost use Rattle.sftp_handles.specs.Given.{handles_in};
+ghost use Rattle.sftp_handles.specs.State.{is_open};
+ghost use Rattle.sftp_handles.specs.Slots.{handles_in};
 
 use crate::given_table::find_open;
 use crate::opens::Open;

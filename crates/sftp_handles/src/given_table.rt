@@ -7,8 +7,8 @@ ghost use Rattle.sftp_path.specs.Place.{bytes_cmp};
 ghost use Rattle.sftp_path.specs.Table.{from_entries, size};
 ghost use Rattle.sftp_path.proofs.Table.Laws.{InOrder-from_entries};
 ghost use Rattle.sftp_handles.specs.declared.tables.PutError.TheVariants.{Taken, NoMemory as no_memory};
-ghost use Rattle.sftp_handles.specs.Handles.{open_at, with_open, without_open, is_open};
-ghost use Rattle.sftp_handles.specs.Given.{handles_in};
+ghost use Rattle.sftp_handles.specs.State.{open_at, with_open, without_open, is_open};
+ghost use Rattle.sftp_handles.specs.Slots.{handles_in};
 
 use crate::free_names::free_name_in;
 use crate::opens::Open;
@@ -27,7 +27,7 @@ pub struct GivenTable {
 impl Model for GivenTable {
     ghost use Rattle.indexmap.specs.IndexMap.{spare};
     ghost use Rattle.sftp_packets.specs.Spelling.{AreBytes};
-    ghost use Rattle.sftp_handles.specs.Given.{Given, named};
+    ghost use Rattle.sftp_handles.specs.Slots.{Given, named};
 
     ghost Value = { Given };
 

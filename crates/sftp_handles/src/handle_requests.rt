@@ -1,12 +1,12 @@
 //! What a request through a handle needs, or why it is refused.
 ghost use Rattle.std.specs.Prelude.{◌≡◌, ◌&&◌, not, ℕ, Ok, Some, is_some, IfOk, OnOk, IsTrue, option_map};
 ghost use Rattle.sftp_packets.specs.declared.requests.Ask.TheVariants.{Close, Read, Write, Fsetstat};
-ghost use Rattle.sftp_tree.specs.Refusals.{in_set};
-ghost use Rattle.sftp_tree.specs.Room.{size_fits};
+ghost use Rattle.sftp_tree.specs.Told.{in_set};
+ghost use Rattle.sftp_tree.specs.Plans.{size_fits};
 ghost use Rattle.sftp_tree.specs.Tree.{HasFile, content_at, limits};
-ghost use Rattle.sftp_handles.specs.Found.{found_file, refusing, granted, IsWritable};
-ghost use Rattle.sftp_handles.specs.Handles.{open_at};
-ghost use Rattle.sftp_handles.specs.Requests.{causes};
+ghost use Rattle.sftp_handles.specs.Slots.{found_file, refusing, granted, IsWritable};
+ghost use Rattle.sftp_handles.specs.State.{open_at};
+ghost use Rattle.sftp_handles.specs.Allowed.{causes};
 ghost use Rattle.sftp_handles.specs.RequestRows as rows;
 ghost use Rattle.sftp_handles.specs.State.{Good};
 
@@ -18,7 +18,7 @@ use sftp_wire::{Attrs, OpenFlags};
 
 impl<T: HandleTable> Session<T> {
     /// The causes of CLOSE.
-    #[tactic(auto, unfolding(crate::specs::Requests::causes, crate::specs::Seen::seen))]
+    #[tactic(auto, unfolding(crate::specs::Allowed::causes, crate::specs::State::seen))]
     pub(crate) fn close_causes(&self, handle: &[u8]) -> Causes
         ensures { in_set result ≡ causes self.now (Close handle.now) }
     {

@@ -2,10 +2,10 @@
 ghost use Rattle.std.specs.Prelude.{◌≡◌, false, None, IsTrue, IfOk, OnErr};
 ghost use Rattle.sftp_packets.specs.declared.requests.Ask.TheVariants.{Readdir};
 ghost use Rattle.sftp_handles.specs.declared.requests.Purpose.TheVariants as variants;
-ghost use Rattle.sftp_handles.specs.Purposes as purposes;
+ghost use Rattle.sftp_handles.specs.Payloads as purposes;
 ghost use Rattle.sftp_handles.specs.State as state;
 ghost use Rattle.sftp_handles.specs.Allowed.{Allowed};
-ghost use Rattle.sftp_handles.specs.Judged.{IsJudged, refusal_code};
+ghost use Rattle.sftp_handles.specs.Slots.{IsJudged, refusal_code};
 
 use crate::answer::forms::has_code;
 use crate::given_table::GivenTable;

@@ -10,17 +10,17 @@ ghost use Rattle.sftp_packets.specs.Layouts.{IsAsk};
 ghost use Rattle.sftp_tree.specs.declared.file_contents.Content.{Content};
 ghost use Rattle.sftp_tree.specs.declared.causes.Cause.TheVariants.{NoRoom};
 ghost use Rattle.sftp_tree.specs.Tree.{Tree, IsKept, HasFile, fits, limits, content_fits, with_content};
-ghost use Rattle.sftp_tree.specs.Causes.{is_none};
+ghost use Rattle.sftp_tree.specs.PlaceCauses.{is_none};
 ghost use Rattle.sftp_tree.specs.Requests.{plain_causes};
 ghost use Rattle.sftp_path.specs.Place.{Name, name_cmp};
 ghost use Rattle.sftp_path.specs.Table.{InOrder, without};
 ghost use Rattle.sftp_handles.specs.declared.opens.Open.{Open};
-ghost use Rattle.sftp_handles.specs.Handles.{Left, open_at, with_open, times_open};
+ghost use Rattle.sftp_handles.specs.State.{Left, open_at, with_open, times_open};
 ghost use Rattle.sftp_handles.specs.Replies.{struck};
 ghost use Rattle.sftp_handles.specs.State.{State, Good, settled, has_handle_left, handles_fit, state_fits};
-ghost use Rattle.sftp_handles.specs.Requests.{causes};
+ghost use Rattle.sftp_handles.specs.Allowed.{causes};
 ghost use Rattle.sftp_handles.specs.Allowed.{Allowed, step};
-ghost use Rattle.sftp_handles.specs.Laws.{IsAskable, IsAnswerable, is_opening, asked_state, IsOpenedBy};
+ghost use Rattle.sftp_handles.specs.Clash.{IsAskable, IsAnswerable, is_opening, asked_state, IsOpenedBy};
 
 use sftp_tree::laws::walks_give_places;
 

@@ -3,10 +3,10 @@ ghost use Rattle.std.specs.Prelude.{◌≡◌, ℕ, IsTrue, IfErr, OnOk, OnErr};
 ghost use Rattle.sftp_packets.specs.declared.requests.Ask.TheVariants.{Close, Write, Fsetstat, Fsync};
 ghost use Rattle.sftp_packets.specs.declared.open_flags.OpenFlags.{OpenFlags};
 ghost use Rattle.sftp_tree.specs.Tree.{is_pinned};
-ghost use Rattle.sftp_tree.specs.FileChanges.{after_unpin};
+ghost use Rattle.sftp_tree.specs.Changes.{after_unpin};
 ghost use Rattle.sftp_handles.specs.declared.opens.Open.TheVariants.{File, Listing};
-ghost use Rattle.sftp_handles.specs.Handles.{Left};
-ghost use Rattle.sftp_handles.specs.Judged.{IsDone, IsRefusal};
+ghost use Rattle.sftp_handles.specs.State.{Left};
+ghost use Rattle.sftp_handles.specs.Slots.{IsDone, IsRefusal};
 
 use crate::opens::Open;
 use crate::sessions::Session;

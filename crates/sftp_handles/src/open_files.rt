@@ -1,11 +1,11 @@
 //! What requests read of open files (draft, sections 6.4 and 6.8).
 ghost use Rattle.std.specs.Prelude.{◌≡◌, Some, IsTrue, IfOk, IfErr, OnOk, option_map, option_copied};
 ghost use Rattle.sftp_packets.specs.declared.requests.Ask.TheVariants.{Fstat, Read};
-ghost use Rattle.sftp_tree.specs.Causes.{is_none};
-ghost use Rattle.sftp_handles.specs.Requests.{causes, said_to};
+ghost use Rattle.sftp_tree.specs.PlaceCauses.{is_none};
+ghost use Rattle.sftp_handles.specs.Allowed.{causes, said_to};
 ghost use Rattle.sftp_handles.specs.Replies.{shows};
 ghost use Rattle.sftp_handles.specs.RequestRows.{read_from};
-ghost use Rattle.sftp_handles.specs.Found.{read_said};
+ghost use Rattle.sftp_handles.specs.Slots.{read_said};
 ghost use Rattle.sftp_handles.specs.State.{Good};
 ghost use Rattle.sftp_tree.specs.Tree.{HasFile, content_at, limits};
 

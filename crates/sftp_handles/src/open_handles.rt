@@ -2,13 +2,13 @@
 ghost use Rattle.std.specs.Prelude.{◌≡◌, Some, None, IfOk, OnOk, OnErr, option_copied};
 ghost use Rattle.sftp_packets.specs.declared.requests.Ask.TheVariants.{Fstat, Fsync, Readdir};
 ghost use Rattle.sftp_tree.specs.Tree.{HasFile};
-ghost use Rattle.sftp_tree.specs.OpenFlags as flags_of;
+ghost use Rattle.sftp_tree.specs.Attributes as flags_of;
 ghost use Rattle.sftp_handles.specs.declared.opens.Open.TheVariants as opens;
 ghost use Rattle.sftp_handles.specs.State.{Good};
-ghost use Rattle.sftp_handles.specs.Handles.{open_at};
-ghost use Rattle.sftp_handles.specs.Giving.{listing_in};
-ghost use Rattle.sftp_handles.specs.Found.{found_file, refusing};
-ghost use Rattle.sftp_handles.specs.Requests.{causes};
+ghost use Rattle.sftp_handles.specs.State.{open_at};
+ghost use Rattle.sftp_handles.specs.Slots.{listing_in};
+ghost use Rattle.sftp_handles.specs.Slots.{found_file, refusing};
+ghost use Rattle.sftp_handles.specs.Allowed.{causes};
 
 use crate::opens::Open;
 use crate::sessions::Session;
@@ -39,7 +39,7 @@ impl<T: HandleTable> Session<T> {
     /// # Errors
     ///
     /// The only cause of READDIR: `BadHandle` if the handle is not open, `WrongKind` if it is a file's.
-    #[tactic(auto, unfolding(crate::specs::Requests::causes, crate::specs::Seen::seen))]
+    #[tactic(auto, unfolding(crate::specs::Allowed::causes, crate::specs::State::seen))]
     pub(crate) fn listing_at(&self, handle: &[u8]) -> Result<&Listing, Cause>
         ensures causes { causes self.now (Readdir handle.now) ≡ refusing result }
         ensures found { IfOk result (λ left. open_at self.now.handles handle.now ≡ Some (opens.Listing left.now)) }

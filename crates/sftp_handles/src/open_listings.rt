@@ -7,11 +7,11 @@ ghost use Rattle.sftp_packets.specs.declared.replies.Answer.TheVariants as repli
 ghost use Rattle.sftp_listing.specs.contracts.Listing.{the_row};
 ghost use Rattle.sftp_handles.specs.declared.opens.Open.TheVariants as opens;
 ghost use Rattle.sftp_handles.specs.contracts.opens.Open as lender;
-ghost use Rattle.sftp_handles.specs.FirstNames.{AreFirst, AreFirstNames};
-ghost use Rattle.sftp_handles.specs.Handles.{open_at};
+ghost use Rattle.sftp_handles.specs.Slots.{AreFirst, AreFirstNames};
+ghost use Rattle.sftp_handles.specs.State.{open_at};
 ghost use Rattle.sftp_handles.specs.Replies.{names_in};
-ghost use Rattle.sftp_handles.specs.Giving.{IsListing, gives_names, with_struck};
-ghost use Rattle.sftp_handles.specs.Judged.{IsJudged, IsJudgedCode};
+ghost use Rattle.sftp_handles.specs.Slots.{IsListing, gives_names, with_struck};
+ghost use Rattle.sftp_handles.specs.Slots.{IsJudged, IsJudgedCode};
 
 use crate::opens::Open;
 use crate::sessions::Session;

@@ -1,6 +1,6 @@
 //! Why a request that opens something is refused in a session.
 ghost use Rattle.std.specs.Prelude.{◌≡◌, IfOk};
-ghost use Rattle.sftp_tree.specs.Refusals.{in_set};
+ghost use Rattle.sftp_tree.specs.Told.{in_set};
 ghost use Rattle.sftp_handles.specs.State as state;
 ghost use Rattle.sftp_tree.specs.Requests as tree_requests;
 ghost use Rattle.sftp_handles.specs.RequestRows.{with_handle_room};

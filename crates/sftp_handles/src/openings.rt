@@ -7,12 +7,12 @@ ghost use Rattle.sftp_packets.specs.declared.replies.Answer.TheVariants as repli
 ghost use Rattle.sftp_handles.specs.declared.not_opened.NotOpened.TheVariants as failures;
 ghost use Rattle.sftp_handles.specs.declared.opens.Open.TheVariants as opens;
 ghost use Rattle.sftp_handles.specs.declared.requests.Purpose.TheVariants as variants;
-ghost use Rattle.sftp_handles.specs.Purposes as purposes;
-ghost use Rattle.sftp_handles.specs.Handles as handles;
+ghost use Rattle.sftp_handles.specs.Payloads as purposes;
+ghost use Rattle.sftp_handles.specs.State as handles;
 ghost use Rattle.sftp_tree.specs.Tree.{Tree as tree};
 ghost use Rattle.sftp_handles.specs.State.{Good, has_handle_left};
 ghost use Rattle.sftp_handles.specs.Allowed.{Does};
-ghost use Rattle.sftp_handles.specs.Judged.{IsJudged};
+ghost use Rattle.sftp_handles.specs.Slots.{IsJudged};
 ghost use Rattle.sftp_handles.specs.Opening.{session_of, IsNotOpened, not_opened};
 
 use crate::not_opened::NotOpened;

@@ -5,7 +5,7 @@
 ghost use Rattle.std.specs.Prelude.{◌≡◌, true, false, codes};
 ghost use Rattle.sftp_packets.specs.declared.requests.Ask.TheVariants.{Close, Write, Fstat, Readdir, Stat, Fsync};
 ghost use Rattle.sftp_packets.specs.declared.requests.Ask.TheVariants.{Opendir, Limits, Unknown};
-ghost use Rattle.sftp_handles.specs.ClashExamples.{read, write, set, make, clash_there};
+ghost use Rattle.sftp_handles.specs.Examples.{read, write, set, make, clash_there};
 
 /// A request that may change a file conflicts with every other request on it, through whichever handle.
 pub fn one_file()

@@ -7,7 +7,7 @@ ghost use Rattle.sftp_path.specs.Place.{bytes_cmp};
 ghost use Rattle.sftp_path.specs.Table.{InOrder, get};
 ghost use Rattle.sftp_tree.specs.Tree.{times_pinned, with_pin, without_pin};
 ghost use Rattle.sftp_handles.specs.declared.opens.Open.TheVariants.{File, Listing};
-ghost use Rattle.sftp_handles.specs.Handles.{Left, Handles, open_at, with_open, without_open, times_open, pins_of};
+ghost use Rattle.sftp_handles.specs.State.{Left, Handles, open_at, with_open, without_open, times_open, pins_of};
 
 /// A file is pinned as often as it is open; the files that are pinned are in order, and each is pinned at least once.
 pub fn files_are_pinned_while_open()

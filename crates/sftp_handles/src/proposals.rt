@@ -4,7 +4,7 @@ ghost use Rattle.sftp_packets.specs.declared.packets.Packet.TheVariants.{Reply a
 ghost use Rattle.sftp_packets.specs.Packets.{HasSpelling};
 ghost use Rattle.sftp_handles.specs.State as state;
 ghost use Rattle.sftp_handles.specs.Allowed.{Allowed};
-ghost use Rattle.sftp_handles.specs.Proposals as spec;
+ghost use Rattle.sftp_handles.specs.Opening as spec;
 
 use crate::given_table::GivenTable;
 use crate::sessions::Session;

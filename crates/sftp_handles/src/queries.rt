@@ -1,12 +1,12 @@
 //! Queries: the requests that change nothing (draft, sections 6.4, 6.8, 6.10 and 6.11).
 ghost use Rattle.std.specs.Prelude.{◌≡◌, IfOk, IfErr, IfSome};
 ghost use Rattle.sftp_packets.specs.declared.requests.Ask.TheVariants.{Fstat, Limits, Read, Readlink, Realpath};
-ghost use Rattle.sftp_tree.specs.Refusals.{stat_ask};
+ghost use Rattle.sftp_tree.specs.Told.{stat_ask};
 ghost use Rattle.sftp_handles.specs.declared.requests.Purpose.TheVariants.{Query};
-ghost use Rattle.sftp_handles.specs.Purposes as purposes;
-ghost use Rattle.sftp_handles.specs.Judged.{IsRefusal};
+ghost use Rattle.sftp_handles.specs.Payloads as purposes;
+ghost use Rattle.sftp_handles.specs.Slots.{IsRefusal};
 ghost use Rattle.sftp_handles.specs.Payloads.{Carries, said_in};
-ghost use Rattle.sftp_handles.specs.Answered.{IsAnswered};
+ghost use Rattle.sftp_handles.specs.Payloads.{IsAnswered};
 
 use crate::limits::limits_data;
 use crate::payloads::Payload;

@@ -1,11 +1,11 @@
 //! Worked examples: which READs and WRITEs of one file conflict with ranges compared, computed by the checker on the
 //! definitions. The file has ten bytes. The functions do nothing; each promise is in the contract.
-#![tactic(auto, unfolding(crate::specs::Ranges::range, crate::specs::Ranges::range_clash, crate::specs::Clash::touched, crate::specs::Clash::clash, crate::specs::Seen::seen, sftp_path::specs::Table::get))]
+#![tactic(auto, unfolding(crate::specs::Clash::range, crate::specs::Clash::range_clash, crate::specs::Clash::touched, crate::specs::Clash::clash, crate::specs::State::seen, sftp_path::specs::Table::get))]
 
 ghost use Rattle.std.specs.Prelude.{◌≡◌, true, false, Some, None, codes};
 ghost use Rattle.sftp_packets.specs.declared.requests.Ask.TheVariants.{Close, Read, Write, Fstat, Fsetstat};
 ghost use Rattle.sftp_wire.specs.Examples.{no_attributes};
-ghost use Rattle.sftp_handles.specs.Ranges.{range_from};
+ghost use Rattle.sftp_handles.specs.Clash.{range_from};
 ghost use Rattle.sftp_handles.specs.RangeExamples.{with_short_reads, read, write, clash_in, clash_there, range_there};
 
 /// A READ or WRITE keeps to its bytes if they end within the file, through whichever handle without APPEND, and whether

@@ -5,13 +5,13 @@ ghost use Rattle.sftp_packets.specs.declared.requests.Ask.{Ask};
 ghost use Rattle.sftp_packets.specs.declared.packets.Request.{Request};
 ghost use Rattle.sftp_packets.specs.declared.packets.Reply.{Reply};
 ghost use Rattle.sftp_packets.specs.Layouts.{IsAsk};
-ghost use Rattle.sftp_tree.specs.FileChanges.{written};
+ghost use Rattle.sftp_tree.specs.Changes.{written};
 ghost use Rattle.sftp_handles.specs.declared.byte_range.ByteRange.{ByteRange};
 ghost use Rattle.sftp_handles.specs.State.{State, Good};
 ghost use Rattle.sftp_handles.specs.Allowed.{Allowed};
 ghost use Rattle.sftp_handles.specs.Clash.{reads_file, writes_file, everything, share, touched};
 ghost use Rattle.sftp_handles.specs.Clash.{clash, ComesFirst};
-ghost use Rattle.sftp_handles.specs.Ranges.{range, may_resize, range_clash};
+ghost use Rattle.sftp_handles.specs.Clash.{range, may_resize, range_clash};
 
 use crate::laws::good_stays_good;
 

@@ -2,7 +2,7 @@
 //! section 6.1).
 ghost use Rattle.std.specs.Prelude.{◌≡◌, Some, length};
 ghost use Rattle.sftp_packets.specs.declared.requests.Ask.TheVariants.{Read, Write};
-ghost use Rattle.sftp_handles.specs.Ranges as ranges;
+ghost use Rattle.sftp_handles.specs.Clash as ranges;
 ghost use Rattle.sftp_handles.specs.Spans.{span_by, spanned, ends_of, size_in, range_now};
 
 use crate::byte_range::{ByteRange, Span};
@@ -55,7 +55,7 @@ impl Span {
 impl<T: HandleTable> Session<T> {
     /// Whether two requests have to be done in the order asked, if READs and WRITEs of one file whose ranges do not
     /// meet may change places. Does not allocate.
-    #[tactic(auto, unfolding(crate::specs::Ranges::range_clash))]
+    #[tactic(auto, unfolding(crate::specs::Clash::range_clash))]
     pub fn clash(&self, earlier: &Request, later: &Request) -> bool
         ensures { result ≡ ranges.range_clash self.now earlier.now later.now }
     {

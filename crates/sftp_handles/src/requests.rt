@@ -3,14 +3,14 @@
 ghost use Rattle.std.specs.Prelude.{◌≡◌, Some, None, IfNone, IfSome, IfOk, IfErr, OnOk, OnErr};
 ghost use Rattle.sftp_packets.specs.Requests.{asked_handle};
 ghost use Rattle.sftp_tree.specs.declared.causes.Cause.{Cause as cause};
-ghost use Rattle.sftp_tree.specs.Refusals.{in_set};
+ghost use Rattle.sftp_tree.specs.Told.{in_set};
 ghost use Rattle.sftp_handles.specs.declared.requests.Purpose.TheVariants.{Change};
-ghost use Rattle.sftp_handles.specs.Requests as requests;
-ghost use Rattle.sftp_handles.specs.Judged.{IsDone, IsRefusal};
+ghost use Rattle.sftp_handles.specs.Allowed as requests;
+ghost use Rattle.sftp_handles.specs.Slots.{IsDone, IsRefusal};
 ghost use Rattle.sftp_handles.specs.Clash.{bars, may_change};
 ghost use Rattle.sftp_handles.specs.RequestRows.{row_of};
-ghost use Rattle.sftp_handles.specs.Purposes as purposes;
-ghost use Rattle.sftp_handles.specs.Uses as uses;
+ghost use Rattle.sftp_handles.specs.Payloads as purposes;
+ghost use Rattle.sftp_handles.specs.Slots as uses;
 
 use crate::handle_requests::only;
 use crate::sessions::Session;
@@ -130,7 +130,7 @@ impl<T: HandleTable> Session<T> {
     /// # Errors
     ///
     /// `NoMemory` if memory runs out.
-    #[tactic(auto, unfolding(crate::specs::Requests::causes))]
+    #[tactic(auto, unfolding(crate::specs::Allowed::causes))]
     pub fn causes(&self, ask: &Ask) -> Result<Causes, NoMemory>
         ensures { IfOk result (λ set. (c : cause) → in_set set c ≡ requests.causes self.now ask.now c) }
     {

@@ -1,8 +1,8 @@
 //! Sessions: a tree, and what is open.
 ghost use Rattle.std.specs.Prelude.{◌≡◌, [], Ok, option_copied};
 ghost use Rattle.sftp_tree.specs.Tree.{trim};
-ghost use Rattle.sftp_handles.specs.Handles.{open_at};
-ghost use Rattle.sftp_handles.specs.Giving.{listing_in};
+ghost use Rattle.sftp_handles.specs.State.{open_at};
+ghost use Rattle.sftp_handles.specs.Slots.{listing_in};
 ghost use Rattle.sftp_handles.specs.State.{settled};
 
 use crate::opens::Open;

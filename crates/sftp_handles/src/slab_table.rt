@@ -8,7 +8,7 @@ ghost use Rattle.sftp_path.specs.Place.{bytes_cmp};
 ghost use Rattle.sftp_path.specs.Table.{size};
 ghost use Rattle.sftp_path.proofs.Table.Laws.{InOrder-from_entries};
 ghost use Rattle.sftp_handles.specs.declared.tables.PutError.TheVariants.{NoMemory as no_memory};
-ghost use Rattle.sftp_handles.specs.Handles.{open_at, with_open, without_open};
+ghost use Rattle.sftp_handles.specs.State.{open_at, with_open, without_open};
 ghost use Rattle.sftp_handles.specs.Slots.{slot_name, next_name, named_slot, slab_handles, serial_after, serial_before};
 ghost use Rattle.sftp_handles.specs.Slots.{IsNameAt, IsNext, IsNewest, IsNumbered};
 

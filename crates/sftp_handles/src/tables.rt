@@ -9,7 +9,7 @@ ghost use Rattle.sftp_path.specs.Table.{InOrder, size};
 ghost use Rattle.sftp_treefile.specs.TreeFile.{highest_limits};
 ghost use Rattle.sftp_handles.specs.declared.tables.PutError.TheVariants.{Taken, NoMemory as no_memory};
 ghost use Rattle.sftp_handles.specs.contracts.opens.Open.{the_row};
-ghost use Rattle.sftp_handles.specs.Handles.{Handles, open_at, with_open, without_open, is_open};
+ghost use Rattle.sftp_handles.specs.State.{Handles, open_at, with_open, without_open, is_open};
 
 use crate::opens::Open;
 use sftp_tree::NoMemory;

@@ -5,7 +5,7 @@ ghost use Rattle.sftp_packets.specs.declared.packets.Reply.{Reply as Replied};
 ghost use Rattle.sftp_tree.specs.Tree as values;
 ghost use Rattle.sftp_handles.specs.State.{started, closed_tree};
 ghost use Rattle.sftp_handles.specs.Allowed.{Allowed};
-ghost use Rattle.sftp_handles.proofs.Judged.Steps.{allowed-one_end};
+ghost use Rattle.sftp_handles.proofs.Judged.{allowed-one_end};
 
 use sftp_handles::{GivenTable, Session};
 use sftp_tree::{NoMemory, Tree};

@@ -21,11 +21,11 @@ pub use Rattle.sftp_path.proofs.Table.Laws.{InOrder-empty, get-empty, get-cons, 
 pub use Rattle.sftp_path.specs.Place.{Name, same_bytes, Place, place_cmp, name_cmp, is_name}
 pub use Rattle.sftp_path.specs.Table.{InOrder, kept}
 unfoldable pub use Rattle.sftp_path.specs.Table.{get, put, retain, without}
-pub use Rattle.sftp_tree.proofs.PlaceTables.Each.{each-get, get-each, each-all}
+pub use Rattle.sftp_tree.proofs.PlaceTables.{each-get, get-each, each-all}
 pub use Rattle.sftp_tree.specs.Items.{entry_of}
 pub use Rattle.sftp_tree.specs.declared.listings.Item.{Item}
 pub use Rattle.sftp_packets.specs.declared.attributes.Attrs.{Attrs}
-pub use Rattle.sftp_listing.specs.FirstNames.{item_of, first_items, name_of, first_names}
+pub use Rattle.sftp_listing.specs.Marked.{item_of, first_items, name_of, first_names}
 pub use Rattle.sftp_listing.specs.Left.{Left, names_in, are_some_left, struck, is_among, are_distinct, same_attributes}
 pub use Rattle.sftp_listing.specs.Left.{has_attributes, is_left, IsItem, is_plain, IsLeft}
 pub use Rattle.sftp_listing.specs.Marked.{unmarked, ArePaired}

@@ -1,13 +1,15 @@
 -- What a listing keeps: items in rising order of their names, and of each a mark that says whether its name is struck
 -- out. Words of private contracts.
-use Rattle.std.specs.Prelude.{◌≡◌, ℕ, zero, suc, Bool, false, List, [], ◌∷◌, length, map, Option, Some, None}
-use Rattle.std.specs.Prelude.{cond}
+use Rattle.std.specs.Prelude.{◌≡◌, ℕ, zero, suc, Bool, false, List, [], ◌∷◌, length, map, Option, Some, None, cond}
+use Rattle.std.specs.Prelude.{take}
 use Rattle.std.specs.declared.cmp.Ordering.TheVariants.{Less, Greater}
 use Rattle.sftp_packets.specs.declared.attributes.Attrs.{Attrs}
 use Rattle.sftp_path.specs.Place.{Name, name_cmp}
 use Rattle.sftp_path.specs.Table.{Table, InOrder}
 use Rattle.sftp_tree.specs.declared.listings.Item.{Item}
 use Rattle.sftp_tree.specs.Items.{entry_of}
+use Rattle.sftp_packets.specs.declared.names.NameItem.{NameItem}
+use Rattle.sftp_listing.specs.Left.{Left}
 
 -- the entries of the items that have no mark
 abbrev pub unmarked : List Item → List Bool → Table Name Attrs
@@ -54,3 +56,20 @@ IsGap [] name zero = Unit {0}
 IsGap [] name (suc place) = ⊥
 IsGap (item ∷ items) name zero = name_cmp item.name name ≡ Greater
 IsGap (item ∷ items) name (suc place) = (name_cmp item.name name ≡ Less) × IsGap items name place
+
+-- ==== The first names of a listing, as a reply to READDIR gives them.
+
+abbrev pub name_of : Name × Attrs → Name
+name_of e = e.0
+
+-- the first `most` names of a listing, or all if there are fewer
+abbrev pub first_names : ℕ → Left → List Name
+first_names most left = map name_of (take most left)
+
+-- an item with the attributes of a name, which is its long name too
+abbrev pub item_of : Name × Attrs → NameItem
+item_of e = record { filename = e.0; longname = e.0; attrs = e.1 }
+
+-- the first `most` names of a listing, as items, or all if there are fewer
+abbrev pub first_items : ℕ → Left → List NameItem
+first_items most left = map item_of (take most left)

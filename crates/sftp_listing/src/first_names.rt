@@ -3,7 +3,7 @@ ghost use Rattle.std.specs.Prelude.{◌≡◌, ◌≤◌, ◌++◌, [], drop, le
 ghost use Rattle.std.specs.Option.{option_map, option_to_list};
 ghost use Rattle.std.specs.Vec.{vec_capacity};
 ghost use Rattle.sftp_tree.specs.Items.{entry_of};
-ghost use Rattle.sftp_listing.specs.FirstNames as first;
+ghost use Rattle.sftp_listing.specs.Marked as first;
 
 use crate::listing::Listing;
 use crate::marks::item_at;

@@ -1,2 +1,1 @@
 mod OptionLaws
-mod ProfileLaws

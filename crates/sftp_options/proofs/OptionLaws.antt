@@ -1,5 +1,6 @@
 -- The values of a name among the rows of a parse.
-use Rattle.std.proofs.Common.{◌≡◌, ℕ, List, [], ◌∷◌, Option, Some, None, map, slice_get, refl, ap, ◌∙◌, inl, inr}
+use Rattle.std.proofs.Common.{◌≡◌, ℕ, List, [], ◌∷◌, Option, Some, None, map, slice_get, refl, ap, ◌∙◌, inl, inr, ◌+◌}
+use Rattle.std.proofs.Common.{◌<◌, ◌≤◌, Bool, length, get_or, drop}
 use Rattle.std.specs.Prelude.{option_map, option_and_then, find, bytes_eq, codes}
 use Rattle.std.proofs.lemmas.Bool.{cases_Bool}
 use Rattle.clap.specs.Matches.{matched_of, raw_values, first_value}
@@ -8,7 +9,10 @@ use Rattle.clap.specs.declared.parser.matches.Found.{Found}
 use Rattle.clap.specs.declared.parser.matches.MatchedArg.{MatchedArg}
 use Rattle.std.specs.Borrow.{Bor}
 use Rattle.sftp_options.specs.Options.{value_in, values_in}
-use Rattle.sftp_options.specs.Profiles.{Options, options_in, options_found}
+use Rattle.sftp_options.specs.Options.{Options, options_in, options_found, with_departure}
+use Rattle.std.proofs.lemmas.List.{at_drop_more, at_drop_all}
+use Rattle.sftp_profile.specs.declared.profiles.Profile.{Profile}
+unfoldable use Rattle.sftp_options.specs.Options.{with_names}
 
 abbrev Entry : Type 0
 Entry = Bor (List ℕ) × MatchedArg
@@ -72,3 +76,21 @@ options_given found =
     same-options (value_given found (codes "profile")) (values_given found (codes "allow"))
     (values_given found (codes "except")) (value_given found (codes "new-owner"))
     (value_given found (codes "symlink"))
+
+-- ==== The departures that options name, one after the other.
+
+-- the next name is switched
+pub names-turn : {A : Type 0} (text : A → List ℕ) (is_on : Bool) (profile : Profile) (names : List A) (i : ℕ) (d : A)
+    → i < length names
+    → with_names is_on profile (map text (drop i names))
+    ≡ with_names is_on (with_departure is_on profile (text (get_or names i d))) (map text (drop (i + 1) names))
+unfolding with_names
+names-turn text is_on profile names i d within =
+    at_drop_more (λ (l : List _). with_names is_on profile (map text l)) names i d within
+
+-- once none is left, the profile is the one
+pub names-end : {A : Type 0} (text : A → List ℕ) (is_on : Bool) (profile : Profile) (names : List A) (i : ℕ)
+    → length names ≤ i → with_names is_on profile (map text (drop i names)) ≡ profile
+unfolding with_names
+names-end text is_on profile names i within =
+    at_drop_all (λ (l : List _). with_names is_on profile (map text l)) names i within

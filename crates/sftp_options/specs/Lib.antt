@@ -1,4 +1,1 @@
 pub mod Options
-pub mod Profiles
-pub mod Requests
-pub mod Imports

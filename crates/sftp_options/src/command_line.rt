@@ -6,7 +6,7 @@ ghost use Rattle.clap.specs.Matches.{found_of};
 ghost use Rattle.clap.specs.Simple.{subcommand_rows_of};
 ghost use Rattle.clap.specs.Walk.{Row, rows_of};
 ghost use Rattle.sftp_options.specs.Options.{IsPermissions, value_in, is_given};
-ghost use Rattle.sftp_options.specs.Requests.{IsAuditAsked, IsAuditRequest, LacksFile};
+ghost use Rattle.sftp_options.specs.Options.{IsAuditAsked, IsAuditRequest, LacksFile};
 
 use crate::arguments::{
     AUDIT, Argument, BLANK, DIFF, EXPORT, Form, IMPORT, INFER, MAKE, RAISE, SERVE, SHOW,

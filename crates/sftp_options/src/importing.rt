@@ -3,7 +3,7 @@ ghost use Rattle.std.specs.Prelude.{◌≡◌, IfSome};
 ghost use Rattle.std.specs.Option.{option_map};
 ghost use Rattle.clap.specs.Matches.{found_of};
 ghost use Rattle.clap.specs.Walk.{rows_of};
-ghost use Rattle.sftp_options.specs.Imports as spec;
+ghost use Rattle.sftp_options.specs.Options as spec;
 
 use crate::arguments::{Argument, Form};
 use crate::command_line::{keeping_of, value};

@@ -5,7 +5,7 @@ ghost use Rattle.std.specs.Str.Parse.{digits_value};
 ghost use Rattle.clap.specs.Matches.{found_of};
 ghost use Rattle.clap.specs.Walk.{rows_of};
 ghost use Rattle.sftp_files.specs.Failures.{IsUsage};
-ghost use Rattle.sftp_options.specs.Profiles as spec;
+ghost use Rattle.sftp_options.specs.Options as spec;
 ghost use Rattle.sftp_options.specs.Options.{IsPermissions};
 
 use crate::arguments::{Argument, Form};

@@ -10,11 +10,11 @@ use Rattle.sftp_packets.specs.declared.names.NameItem.{NameItem}
 use Rattle.std.specs.Prelude.{List, if◌then◌else◌, ◌&&◌, not, unwrap_or}
 use Rattle.sftp_packets.specs.declared.packets.Request.{Request}
 use Rattle.sftp_packets.specs.declared.packets.Reply.{Reply}
-use Rattle.sftp_tree.specs.OpenFlags.{excludes}
-use Rattle.sftp_handles.specs.Handles.{Left}
+use Rattle.sftp_tree.specs.Attributes.{excludes}
+use Rattle.sftp_handles.specs.State.{Left}
 use Rattle.sftp_handles.specs.State as sessions
 use Rattle.sftp_handles.specs.Allowed as strictly
-use Rattle.sftp_handles.proofs.Judged.Steps.{step-is_allowed, allowed-step}
+use Rattle.sftp_handles.proofs.Judged.{step-is_allowed, allowed-step}
 use Rattle.sftp_profile.specs.declared.profiles.Profile.{Profile}
 use Rattle.sftp_profile.specs.Profiles.{strict, keeps_requests, is_stateless}
 use Rattle.sftp_profile.specs.Replaced.{put, replaced, directory_where, file_where, keeps_half, kept_attributes}
@@ -27,11 +27,11 @@ use Rattle.sftp_profile.specs.Departures.{is_forgiven}
 use Rattle.sftp_profile.specs.Interpretations.{asked, followed}
 use Rattle.sftp_profile.specs.Shown.{left_of}
 use Rattle.sftp_profile.specs.StrictAnswers.{told, mended_items, is_readdir}
-use Rattle.sftp_profile.specs.Judged.{Outcome, IsStrict, IsTaken, IsFollowed, IsTakenFor}
-use Rattle.sftp_profile.specs.Judged.{IsForgiven, IsJudged, IsStep}
+use Rattle.sftp_profile.specs.Permitted.{Outcome, IsStrict, IsTaken, IsFollowed, IsTakenFor}
+use Rattle.sftp_profile.specs.Permitted.{IsForgiven, IsJudged, IsStep}
 use Rattle.sftp_profile.specs.Permitted.{Permitted, taken, taken_for, retold, with_followed, first_of, forgiven}
 use Rattle.sftp_profile.specs.Permitted.{forgiven_by, permitted, under, met, with_note, judged, step}
-use Rattle.sftp_profile.specs.OneEnd.{same_end}
+use Rattle.sftp_profile.specs.Permitted.{same_end}
 
 abbrev pub under_same : State → sessions.State → State
 under_same s session = record s { session = session }

@@ -15,9 +15,9 @@ use Rattle.sftp_tree.specs.Tree.{Tree}
 use Rattle.sftp_tree.specs.WalkExamples.{tree_of, empty_file}
 use Rattle.sftp_handles.specs.State.{State}
 use Rattle.sftp_handles.specs.Examples.{closed, item, with_three, with_text, with_owned}
-use Rattle.sftp_handles.specs.Handles.{kept_flags}
+use Rattle.sftp_handles.specs.State.{kept_flags}
 use Rattle.sftp_handles.specs.declared.opens.Open.TheVariants.{File, Listing}
-use Rattle.sftp_tree.specs.Listings.{listing}
+use Rattle.sftp_tree.specs.Attributes.{listing}
 use Rattle.sftp_profile.specs.declared.profiles.NewOwner.TheVariants.{Given, Group, Posix}
 use Rattle.sftp_profile.specs.declared.profiles.Profile.{Profile}
 use Rattle.sftp_profile.specs.Profiles.{strict}

@@ -5,15 +5,15 @@ use Rattle.sftp_packets.specs.declared.attributes.Attrs.{Attrs}
 use Rattle.sftp_packets.specs.declared.requests.Ask.{Ask}
 use Rattle.sftp_packets.specs.declared.requests.Ask.TheVariants as asks
 use Rattle.sftp_tree.specs.Tree.{Tree}
-use Rattle.sftp_tree.specs.Causes.{is_none}
+use Rattle.sftp_tree.specs.PlaceCauses.{is_none}
 use Rattle.sftp_tree.specs.Requests.{causes}
 use Rattle.sftp_tree.specs.Told.{text_to}
 use Rattle.sftp_handles.specs.State.{State}
 use Rattle.sftp_profile.specs.declared.profiles.Profile.{Profile}
-use Rattle.sftp_profile.specs.Paths.{is_loose}
-use Rattle.sftp_profile.specs.Flags.{mended_flags, empties}
-use Rattle.sftp_profile.specs.Settings.{set_as}
-use Rattle.sftp_profile.specs.Copies.{copied_as}
+use Rattle.sftp_profile.specs.BytesRead.{is_loose}
+use Rattle.sftp_profile.specs.BytesRead.{mended_flags, empties}
+use Rattle.sftp_profile.specs.Replaced.{set_as}
+use Rattle.sftp_profile.specs.Departures.{copied_as}
 
 -- the target of the link at a path; `None` if READLINK of the path is refused
 abbrev pub link_at : Tree → List ℕ → Option (List ℕ)

@@ -7,13 +7,13 @@ use Rattle.sftp_packets.specs.declared.replies.Answer.{Answer}
 use Rattle.sftp_packets.specs.declared.replies.Answer.TheVariants as replies
 use Rattle.sftp_path.specs.Place.{Place, name_cmp, begins}
 use Rattle.sftp_path.specs.Table.{put}
-use Rattle.sftp_handles.specs.Handles.{Left}
+use Rattle.sftp_handles.specs.State.{Left}
 use Rattle.sftp_tree.specs.declared.causes.Cause.{Cause}
 use Rattle.sftp_tree.specs.Tree.{Tree}
 use Rattle.sftp_tree.specs.Walk.{reached}
-use Rattle.sftp_tree.specs.OpenFlags.{excludes}
-use Rattle.sftp_tree.specs.Causes.{is_none}
-use Rattle.sftp_tree.specs.Refusals.{stat_ask}
+use Rattle.sftp_tree.specs.Attributes.{excludes}
+use Rattle.sftp_tree.specs.PlaceCauses.{is_none}
+use Rattle.sftp_tree.specs.Told.{stat_ask}
 use Rattle.sftp_tree.specs.Requests.{causes}
 use Rattle.sftp_tree.specs.Told.{listing_to}
 use Rattle.sftp_handles.specs.Replies.{has_code, names_given}
@@ -21,7 +21,7 @@ use Rattle.sftp_profile.specs.declared.directories.Directory.{Directory}
 use Rattle.sftp_profile.specs.declared.directories.Shift.{Shift}
 use Rattle.sftp_profile.specs.declared.notes.Note.{Note}
 use Rattle.sftp_profile.specs.declared.notes.Note.TheVariants as notes
-use Rattle.sftp_profile.specs.Directories.{without_handle, given_by, shifted}
+use Rattle.sftp_profile.specs.Profiles.{without_handle, given_by, shifted}
 
 -- ---- which names a request takes away and which it brings
 

@@ -1,7 +1,6 @@
 -- Which replies a profile permits, and the state after each.
-use Rattle.std.specs.Prelude.{◌≡◌, ◌==◌, ◌&&◌, not, Bool, true, false, if◌then◌else◌, List, [], length}
-use Rattle.std.specs.Prelude.{Option, Some, None}
-use Rattle.std.specs.Prelude.{unwrap_or}
+use Rattle.std.specs.Prelude.{◌≡◌, ◌==◌, ◌&&◌, not, Bool, true, false, if◌then◌else◌, List, [], length, Option, Some}
+use Rattle.std.specs.Prelude.{None, unwrap_or}
 use Rattle.std.specs.Option.{option_map}
 use Rattle.sftp_packets.specs.declared.names.NameItem.{NameItem}
 use Rattle.sftp_packets.specs.declared.requests.Ask.{Ask}
@@ -14,7 +13,7 @@ use Rattle.sftp_handles.specs.Allowed as strictly
 use Rattle.sftp_profile.specs.declared.profiles.Profile.{Profile}
 use Rattle.sftp_profile.specs.State.{State}
 use Rattle.sftp_profile.specs.Departures.{is_forgiven, is_modelled}
-use Rattle.sftp_profile.specs.Refusals.{is_handle}
+use Rattle.sftp_profile.specs.BytesRead.{is_handle}
 use Rattle.sftp_profile.specs.Room.{is_outgrown}
 use Rattle.sftp_profile.specs.Replaced.{put}
 use Rattle.sftp_profile.specs.Interpretations.{asked, followed}
@@ -24,7 +23,7 @@ use Rattle.sftp_profile.specs.declared.notes.Note.{Note}
 use Rattle.sftp_profile.specs.Profiles.{is_stateless}
 use Rattle.sftp_profile.specs.Notes.{note_of, noted}
 use Rattle.sftp_profile.specs.DirectoryHandles.{directory_of, is_barred, refuses_kind, stands_for, passes_directory}
-use Rattle.sftp_profile.specs.Listed.{due_items}
+use Rattle.sftp_profile.specs.DirectoryHandles.{due_items}
 
 abbrev pub forgiven_by : sessions.State → Bool → Option sessions.State
 forgiven_by s true = Some s
@@ -147,3 +146,96 @@ abbrev pub follows_in : State → Ask → Answer → Bool
 follows_in s ask answer =
     is_modelled s.profile ask answer
     && not (s.profile.limits && is_outgrown s.profile s.session (put s.profile s.session ask) answer)
+
+-- ==== A state, a request and its reply fix the state after them. The lemma stands here since the judge's instance of
+-- `Judges`, in this crate, can cite definitions alone.
+
+pub same_end : {A : Type 0} → (o : Option A) (a b : A) → o ≡ Some a → o ≡ Some b → a ≡ b
+same_end o a b is_a is_b = cc
+
+pub permitted-one_end : (s : State) (request : Request) (reply : Reply) (a b : State) → Permitted s request reply a
+    → Permitted s request reply b → a ≡ b
+permitted-one_end s request reply a b to_a to_b = same_end (step s request.ask reply.answer) a b to_a.step to_b.step
+
+-- ==== What the code finds out about an answer. Words of private contracts.
+
+-- `ok` says whether a state was found, and `end` is this state; without one it is as before
+pub record Outcome (found : Option State) (s : State) (ok : Bool) (end : State) : Type 0 where
+  pub is : found ≡ (if ok then Some end else None)
+  pub kept : ok ≡ false → end ≡ s
+
+-- whether the answer is allowed strictly, and the state then
+abbrev pub IsStrict : State → Ask → Answer → Bool → State → Type 0
+IsStrict s ask answer = Outcome (under s (strictly.step s.session ask answer)) s
+
+-- the same of the answer as it would be strictly
+abbrev pub IsRetold : State → Ask → Answer → Bool → State → Type 0
+IsRetold s ask answer = Outcome (under s (retold s.session ask (told s.profile s.session ask answer))) s
+
+-- of one or the other
+abbrev pub IsRead : State → Ask → Answer → Bool → State → Type 0
+IsRead s ask answer = Outcome (under s (read_as s.profile s.session ask answer)) s
+
+-- of the request that the profile takes this one for
+abbrev pub IsTaken : State → Ask → Answer → Bool → State → Type 0
+IsTaken s ask answer = Outcome (under s (taken s.profile s.session (asked s.profile s.session ask) answer)) s
+
+-- the state after a SETSTAT that comes with an OPEN of this answer
+abbrev pub IsSet : State → Ask → Answer → State → Type 0
+IsSet s ask answer end = under s (set_after s.session ask (is_handle answer)) ≡ Some end
+
+-- the state after what comes with a request
+abbrev pub IsFollowed : State → Ask → Answer → State → Type 0
+IsFollowed s ask answer end = under s (with_followed (followed s.profile ask) answer s.session) ≡ Some end
+
+-- of the request that the profile takes this one for with the SETSTAT that comes with it
+abbrev pub IsTakenFor : State → Ask → Answer → Bool → State → Type 0
+IsTakenFor s ask answer = Outcome (under s (taken_for s.profile s.session ask answer)) s
+
+-- of an answer that is forgiven
+abbrev pub IsForgiven : State → Ask → Answer → Bool → State → Type 0
+IsForgiven s ask answer = Outcome (under s (forgiven s.profile s.session ask answer)) s
+
+-- of an answer that is permitted
+abbrev pub IsPermitted : State → Ask → Answer → Bool → State → Type 0
+IsPermitted s ask answer = Outcome (under s (permitted s.profile s.session ask answer)) s
+
+-- of the answer to the request that stands for this one
+abbrev pub IsStep : State → Ask → Answer → Bool → State → Type 0
+IsStep s ask answer = Outcome (step s ask answer) s
+
+-- of the answer to a request as it stands, with what is noted of directories
+abbrev pub IsJudged : State → Ask → Answer → Bool → State → Type 0
+IsJudged s ask answer = Outcome (judged s ask answer) s
+
+-- of an answer to a request on a directory that is open, or on anything else
+abbrev pub IsMet : State → Ask → Answer → Bool → State → Type 0
+IsMet s ask answer = Outcome (under s (met s.profile s.session (directory_of s.directories ask) ask answer)) s
+
+-- of an answer that is forgiven since it is that of a directory
+abbrev pub IsByDirectory : State → Ask → Answer → Bool → State → Type 0
+IsByDirectory s ask answer =
+    Outcome (under s (by_directory s.profile s.session (directory_of s.directories ask) ask answer)) s
+
+-- of the reply to the request that stands for one on a directory
+abbrev pub IsStanding : State → Ask → Answer → Bool → State → Type 0
+IsStanding s ask answer =
+    Outcome (under s (if s.profile.open_dir
+    then taken_as s.profile s.session
+    (standing_for s.profile s.session (directory_of s.directories ask) ask answer) answer
+    else None)) s
+
+-- of the names that a READDIR gives
+abbrev pub IsListed : State → Ask → Answer → Bool → State → Type 0
+IsListed s ask answer =
+    Outcome (under s (if s.profile.listing
+    then listed_as s.profile s.session (directory_of s.directories ask) ask answer else None)) s
+
+-- of an answer to a request on anything, which is noted so
+abbrev pub IsNoted : State → Ask → Answer → Note → Bool → State → Type 0
+IsNoted s ask answer note =
+    Outcome (with_note s note answer (met s.profile s.session (directory_of s.directories ask) ask answer)) s
+
+-- of a READDIR that gives names, by these that were left
+abbrev pub IsGiven : State → Ask → List NameItem → Bool → State → Type 0
+IsGiven s ask items = Outcome (under s (with_given s.session ask (Some items))) s

@@ -9,11 +9,11 @@ use Rattle.sftp_packets.specs.declared.replies.Answer.{Answer}
 use Rattle.sftp_packets.specs.declared.replies.Answer.TheVariants as replies
 use Rattle.sftp_path.specs.Place.{Place, parent, absolute, components, is_absolute, is_name, is_dot, is_dot_dot}
 use Rattle.sftp_tree.specs.Tree.{Tree}
-use Rattle.sftp_tree.specs.Causes.{is_none}
+use Rattle.sftp_tree.specs.PlaceCauses.{is_none}
 use Rattle.sftp_tree.specs.Requests.{causes}
 use Rattle.sftp_tree.specs.Told.{text_to}
 use Rattle.sftp_handles.specs.Replies.{has_code, is_named}
-use Rattle.sftp_profile.specs.Refusals.{is_refusal}
+use Rattle.sftp_profile.specs.BytesRead.{is_refusal}
 
 -- ---- the text of a path without a look at the tree
 

@@ -9,12 +9,12 @@ use Rattle.sftp_path.specs.Place.{is_good_path}
 use Rattle.sftp_treefile.specs.TreeFile.{is_target}
 use Rattle.sftp_tree.specs.declared.causes.Cause.{Cause}
 use Rattle.sftp_tree.specs.declared.causes.Cause.TheVariants.{NoRoom, BadPath}
-use Rattle.sftp_tree.specs.Causes.{CauseSet, every_cause}
+use Rattle.sftp_tree.specs.PlaceCauses.{CauseSet, every_cause}
 use Rattle.sftp_handles.specs.State.{State}
-use Rattle.sftp_handles.specs.Requests.{causes}
+use Rattle.sftp_handles.specs.Allowed.{causes}
 use Rattle.sftp_handles.specs.Replies.{has_code}
 use Rattle.sftp_profile.specs.declared.profiles.Profile.{Profile}
-use Rattle.sftp_profile.specs.Refusals.{is_handle}
+use Rattle.sftp_profile.specs.BytesRead.{is_handle}
 use Rattle.sftp_profile.specs.Interpretations.{asked}
 
 -- ---- what the answer says

@@ -6,14 +6,14 @@ use Rattle.sftp_packets.specs.declared.requests.Ask.TheVariants as asks
 use Rattle.sftp_path.specs.Place.{name_cmp, is_name}
 use Rattle.sftp_path.specs.Table.{get}
 use Rattle.sftp_tree.specs.Tree.{Tree}
-use Rattle.sftp_tree.specs.Causes.{is_none}
+use Rattle.sftp_tree.specs.PlaceCauses.{is_none}
 use Rattle.sftp_tree.specs.Requests as paths
 use Rattle.sftp_tree.specs.Told as told
-use Rattle.sftp_handles.specs.Handles.{Left, open_at}
+use Rattle.sftp_handles.specs.State.{Left, open_at}
 use Rattle.sftp_handles.specs.State.{State}
 use Rattle.sftp_handles.specs.Replies.{Said, shows}
-use Rattle.sftp_handles.specs.Requests.{causes, said_to}
-use Rattle.sftp_handles.specs.Giving.{listing_in}
+use Rattle.sftp_handles.specs.Allowed.{causes, said_to}
+use Rattle.sftp_handles.specs.Slots.{listing_in}
 
 -- ---- attributes
 

@@ -10,7 +10,7 @@ use Rattle.sftp_packets.specs.declared.requests.Ask.TheVariants as asks
 use Rattle.sftp_packets.specs.declared.replies.Answer.{Answer}
 use Rattle.sftp_packets.specs.declared.replies.Answer.TheVariants as replies
 use Rattle.sftp_path.specs.Place.{is_dot, is_dot_dot}
-use Rattle.sftp_handles.specs.Handles.{Left}
+use Rattle.sftp_handles.specs.State.{Left}
 use Rattle.sftp_handles.specs.State.{State}
 use Rattle.sftp_profile.specs.declared.profiles.Profile.{Profile}
 use Rattle.sftp_profile.specs.Shown.{shown_in, left_of, shown_left}

@@ -3,9 +3,9 @@ ghost use Rattle.std.specs.Prelude.{◌≡◌, ◌≤◌, ◌<◌, ◌+◌, ◌^
 ghost use Rattle.sftp_packets.specs.declared.requests.Ask.TheVariants.{Read};
 ghost use Rattle.sftp_path.specs.Place.{same_bytes};
 ghost use Rattle.sftp_tree.specs.Tree.{limits};
-ghost use Rattle.sftp_tree.specs.Causes.{is_none};
-ghost use Rattle.sftp_handles.specs.Requests.{causes};
-ghost use Rattle.sftp_handles.specs.Seen.{a_file, seen};
+ghost use Rattle.sftp_tree.specs.PlaceCauses.{is_none};
+ghost use Rattle.sftp_handles.specs.Allowed.{causes};
+ghost use Rattle.sftp_handles.specs.State.{a_file, seen};
 ghost use Rattle.sftp_profile.specs.BytesRead as spec;
 
 use crate::refusals::has_code;

@@ -2,13 +2,13 @@
 ghost use Rattle.std.specs.Prelude.{◌≡◌, ◌+◌, ◌<◌, ◌^◌, nat_lt, Some, Ok, [], IsTrue, IfOk, take};
 ghost use Rattle.sftp_packets.specs.declared.requests.Ask.TheVariants as asks;
 ghost use Rattle.sftp_packets.specs.Reading.{Reads};
-ghost use Rattle.sftp_tree.specs.Causes.{is_none};
+ghost use Rattle.sftp_tree.specs.PlaceCauses.{is_none};
 ghost use Rattle.sftp_handles.specs.Clash.{share, touched};
-ghost use Rattle.sftp_handles.specs.Requests.{causes};
-ghost use Rattle.sftp_handles.specs.Seen.{a_file, seen};
+ghost use Rattle.sftp_handles.specs.Allowed.{causes};
+ghost use Rattle.sftp_handles.specs.State.{a_file, seen};
 ghost use Rattle.sftp_profile.specs.BytesRead.{is_readable};
-ghost use Rattle.sftp_profile.specs.Data.{whole};
-ghost use Rattle.sftp_profile.specs.Copies as spec;
+ghost use Rattle.sftp_profile.specs.Replaced.{whole};
+ghost use Rattle.sftp_profile.specs.Departures as spec;
 
 use crate::bytes_read::{piece_at, size_of};
 use crate::data::{long_number, string};
@@ -124,7 +124,7 @@ fn is_copy_data(name: &[u8]) -> bool
 /// # Errors
 ///
 /// `NoMemory` if memory runs out.
-#[tactic(auto, unfolding(crate::specs::Copies::copying_in))]
+#[tactic(auto, unfolding(crate::specs::Departures::copying_in))]
 fn copying_in(alloc: Global, rest: &[u8]) -> Result<Option<Copying>, NoMemory>
     ensures { IfOk result (λ copying. copying ≡ spec.copying_in rest.now) }
 {
@@ -144,7 +144,7 @@ fn if_whole(copying: Copying, left: &[u8]) -> Option<Copying>
 }
 
 /// The fields of a copy-data in front of the data, which it moves past.
-#[tactic(auto, unfolding(crate::specs::Copies::copying_at))]
+#[tactic(auto, unfolding(crate::specs::Departures::copying_at))]
 fn copying_at(alloc: Global, rest: &mut &[u8]) -> Result<Copying, ReadError>
     ensures { Reads result rest.new.now (spec.copying_at rest.old.now) }
 {

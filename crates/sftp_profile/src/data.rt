@@ -1,8 +1,8 @@
 //! The data of extensions, as they are read (draft, sections 3 and 8).
 ghost use Rattle.std.specs.Prelude.{◌≡◌, IfOk};
 ghost use Rattle.sftp_packets.specs.Reading.{Reads, string_at, uint64_at};
-ghost use Rattle.sftp_profile.specs.Data.{ask_in};
-ghost use Rattle.sftp_profile.specs.Settings.{setstat_in};
+ghost use Rattle.sftp_profile.specs.Replaced.{ask_in};
+ghost use Rattle.sftp_profile.specs.Replaced.{setstat_in};
 
 use bytes::Buf;
 use sftp_packets::{Fault, ReadError, read_fields};

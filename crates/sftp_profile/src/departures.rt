@@ -1,7 +1,7 @@
 //! What a profile lets pass by the request and its answer alone, or by what the session has.
 ghost use Rattle.std.specs.Prelude.{◌≡◌, IfOk, is_some};
-ghost use Rattle.sftp_profile.specs.Copies.{copying_of as copying_asked};
-ghost use Rattle.sftp_profile.specs.Settings.{setstat_of as setstat_asked};
+ghost use Rattle.sftp_profile.specs.Departures.{copying_of as copying_asked};
+ghost use Rattle.sftp_profile.specs.Replaced.{setstat_of as setstat_asked};
 ghost use Rattle.sftp_profile.specs.Departures as spec;
 
 use crate::bytes_read::passes_read;

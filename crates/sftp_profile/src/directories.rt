@@ -2,7 +2,7 @@
 ghost use Rattle.std.specs.Prelude.{◌≡◌, ◌==◌, ◌+◌, ◌++◌, [], ◌∷◌, Some, map, drop, OnOk, IfOk, option_copied};
 ghost use Rattle.sftp_handles.specs.Replies.{names_in};
 ghost use Rattle.sftp_wire.specs.Examples.{no_attributes};
-ghost use Rattle.sftp_profile.specs.Directories as spec;
+ghost use Rattle.sftp_profile.specs.Profiles as spec;
 
 use sftp_handles::Listing;
 use sftp_path::{Name, Place};

@@ -4,7 +4,7 @@ ghost use Rattle.std.specs.Prelude.{◌≡◌, ◌&&◌, if◌then◌else◌, So
 ghost use Rattle.sftp_handles.specs.Replies.{has_code};
 ghost use Rattle.std.specs.Option.{option_map};
 ghost use Rattle.sftp_packets.specs.declared.requests.Ask.TheVariants as asks;
-ghost use Rattle.sftp_profile.specs.Refusals.{is_handle};
+ghost use Rattle.sftp_profile.specs.BytesRead.{is_handle};
 ghost use Rattle.sftp_profile.specs.DirectoryHandles as spec;
 
 use crate::directories::{Directory, directory_at};

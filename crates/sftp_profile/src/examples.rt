@@ -1,6 +1,6 @@
 //! Worked examples: what profiles permit, computed by the checker on the definitions that the contracts name. The
 //! functions do nothing; each promise is in the contract.
-#![tactic(auto, unfolding(crate::specs::Permitted::permitted, crate::specs::Permitted::forgiven, crate::specs::Departures::is_forgiven, crate::specs::Room::is_outgrown, crate::specs::Names::departure_of, sftp_handles::specs::Allowed::step, sftp_handles::specs::Requests::causes, sftp_handles::specs::Requests::answers, sftp_handles::specs::Requests::after, sftp_handles::specs::Requests::told_to, sftp_handles::specs::Seen::seen, sftp_handles::specs::Handles::pins_of, sftp_tree::specs::Requests::led, sftp_tree::specs::Causes::no_causes, sftp_tree::specs::Causes::when, sftp_tree::specs::Causes::joined, sftp_tree::specs::Requests::plain_causes, sftp_tree::specs::Requests::causes, sftp_tree::specs::Requests::outcome, sftp_tree::specs::Told::text_to, sftp_tree::specs::Told::shown_to, sftp_tree::specs::Listings::children, sftp_tree::specs::Listings::listing, sftp_tree::specs::Walk::meets, sftp_tree::specs::Walk::walk_parts, sftp_tree::specs::Walk::walk, sftp_tree::specs::Walk::reached, sftp_tree::specs::Tree::has_entries, sftp_tree::specs::Tree::fits, sftp_path::specs::Place::components, sftp_path::specs::Place::parts, sftp_path::specs::Place::is_good_path, sftp_path::specs::Table::get, sftp_path::specs::Table::put, sftp_path::specs::Table::without, sftp_path::specs::Table::retain, sftp_path::specs::Table::from_entries))]
+#![tactic(auto, unfolding(crate::specs::Permitted::permitted, crate::specs::Permitted::forgiven, crate::specs::Departures::is_forgiven, crate::specs::Room::is_outgrown, crate::specs::Profiles::departure_of, sftp_handles::specs::Allowed::step, sftp_handles::specs::Allowed::causes, sftp_handles::specs::Allowed::answers, sftp_handles::specs::Allowed::after, sftp_handles::specs::Allowed::told_to, sftp_handles::specs::State::seen, sftp_handles::specs::State::pins_of, sftp_tree::specs::Requests::led, sftp_tree::specs::PlaceCauses::no_causes, sftp_tree::specs::PlaceCauses::when, sftp_tree::specs::PlaceCauses::joined, sftp_tree::specs::Requests::plain_causes, sftp_tree::specs::Requests::causes, sftp_tree::specs::Requests::outcome, sftp_tree::specs::Told::text_to, sftp_tree::specs::Told::shown_to, sftp_tree::specs::Attributes::children, sftp_tree::specs::Attributes::listing, sftp_tree::specs::Walk::meets, sftp_tree::specs::Walk::walk_parts, sftp_tree::specs::Walk::walk, sftp_tree::specs::Walk::reached, sftp_tree::specs::Tree::has_entries, sftp_tree::specs::Tree::fits, sftp_path::specs::Place::components, sftp_path::specs::Place::parts, sftp_path::specs::Place::is_good_path, sftp_path::specs::Table::get, sftp_path::specs::Table::put, sftp_path::specs::Table::without, sftp_path::specs::Table::retain, sftp_path::specs::Table::from_entries))]
 
 ghost use Rattle.std.specs.Prelude.{◌≡◌, ◌∷◌, [], Some, None, true, false, codes};
 ghost use Rattle.sftp_packets.specs.declared.requests.Ask.TheVariants.{Readdir, Remove, Lstat, Stat, Setstat};
@@ -12,7 +12,7 @@ ghost use Rattle.sftp_tree.specs.Picture.{blank};
 ghost use Rattle.sftp_tree.specs.WalkExamples.{with_link, letters};
 ghost use Rattle.sftp_handles.specs.Examples.{closed, with_text, with_none, code, item, sized, of_directory};
 ghost use Rattle.sftp_profile.specs.Profiles.{strict};
-ghost use Rattle.sftp_profile.specs.Names.{with_name};
+ghost use Rattle.sftp_profile.specs.Profiles.{with_name};
 ghost use Rattle.sftp_profile.specs.Departures.{is_modelled};
 ghost use Rattle.sftp_profile.specs.Replaced.{put};
 ghost use Rattle.sftp_profile.specs.State.{bare};
@@ -28,7 +28,7 @@ ghost use Rattle.sftp_profile.specs.Examples.{free_types, of_type, listed_file, 
 ghost use Rattle.sftp_profile.specs.Examples.{with_room_for_one, with_no_room};
 ghost use Rattle.sftp_profile.specs.Examples.{owned_by_bit, with_set_group, set_group_directory};
 ghost use Rattle.sftp_profile.specs.Examples.{kept_owners, owned_by, open_of_another, denied_requests, full_disks};
-ghost use Rattle.sftp_profile.specs.Flags.{empties};
+ghost use Rattle.sftp_profile.specs.BytesRead.{empties};
 ghost use Rattle.sftp_profile.specs.BytesRead.{is_count};
 ghost use Rattle.sftp_treefile.specs.TreeFile.{usual_limits};
 

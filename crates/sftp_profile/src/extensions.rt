@@ -1,6 +1,6 @@
 //! Extensions that only look (OpenSSH's PROTOCOL, section 4): what they answer is free.
 ghost use Rattle.std.specs.Prelude.{◌≡◌};
-ghost use Rattle.sftp_profile.specs.Extensions as spec;
+ghost use Rattle.sftp_profile.specs.BytesRead as spec;
 
 use sftp_wire::{Answer, Ask};
 

@@ -1,7 +1,7 @@
 //! The flags of OPEN as a file system goes by them (POSIX, open).
 ghost use Rattle.std.specs.Prelude.{◌≡◌, ◌≤◌};
 ghost use Rattle.sftp_packets.specs.Reading.{has_flag};
-ghost use Rattle.sftp_profile.specs.Flags as spec;
+ghost use Rattle.sftp_profile.specs.BytesRead as spec;
 
 /// READ, a flag of OPEN (draft, section 6.3): the file is opened to be read.
 pub(crate) const READ: u32 = 0x01;

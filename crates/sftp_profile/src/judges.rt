@@ -7,10 +7,10 @@ ghost use Rattle.sftp_profile.specs.Replaced.{put, replaced};
 ghost use Rattle.sftp_profile.specs.Departures.{is_forgiven, passes_in, passes_codes, passes_dots};
 ghost use Rattle.sftp_profile.specs.Permitted.{Permitted, follows_in};
 ghost use Rattle.sftp_profile.specs.Room.{is_outgrown};
-ghost use Rattle.sftp_profile.specs.Settings.{passes_lsetstat};
+ghost use Rattle.sftp_profile.specs.Replaced.{passes_lsetstat};
 ghost use Rattle.sftp_profile.specs.StrictAnswers.{told};
-ghost use Rattle.sftp_profile.specs.Judged.{IsStrict, IsRetold, IsRead, IsTaken, IsSet, IsFollowed, IsTakenFor};
-ghost use Rattle.sftp_profile.specs.Judged.{IsForgiven, IsPermitted, IsStep};
+ghost use Rattle.sftp_profile.specs.Permitted.{IsStrict, IsRetold, IsRead, IsTaken, IsSet, IsFollowed, IsTakenFor};
+ghost use Rattle.sftp_profile.specs.Permitted.{IsForgiven, IsPermitted, IsStep};
 
 use crate::departures::{is_modelled, passes_alone, passes_fields, passes_looking};
 use crate::directories::Directory;

@@ -2,7 +2,7 @@
 ghost use Rattle.sftp_handles.specs.State.{closed_tree};
 ghost use Rattle.sftp_profile.specs.State.{begun};
 ghost use Rattle.sftp_profile.specs.Permitted.{Permitted, follows_in};
-ghost use Rattle.sftp_profile.specs.OneEnd.{permitted-one_end};
+ghost use Rattle.sftp_profile.specs.Permitted.{permitted-one_end};
 
 use crate::judges::Judge;
 use crate::profiles::Profile;

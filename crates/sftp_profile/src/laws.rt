@@ -7,7 +7,7 @@ ghost use Rattle.sftp_handles.specs.State as sessions;
 ghost use Rattle.sftp_handles.specs.Allowed.{Allowed};
 ghost use Rattle.sftp_profile.specs.declared.names.Departure.{Departure};
 ghost use Rattle.sftp_profile.specs.declared.profiles.Profile.{Profile};
-ghost use Rattle.sftp_profile.specs.Names.{name_of, every_departure, departure_of};
+ghost use Rattle.sftp_profile.specs.Profiles.{name_of, every_departure, departure_of};
 ghost use Rattle.sftp_profile.specs.Profiles.{strict, keeps_requests, is_stateless};
 ghost use Rattle.sftp_profile.specs.State.{State, bare};
 ghost use Rattle.sftp_profile.specs.Permitted.{Permitted};

@@ -1,6 +1,6 @@
 //! Requests at which servers with a real file system meet limits of their own.
 ghost use Rattle.std.specs.Prelude.{◌≡◌, ◌+◌, ◌^◌, nat_le, option_copied};
-ghost use Rattle.sftp_profile.specs.Limits as spec;
+ghost use Rattle.sftp_profile.specs.BytesRead as spec;
 
 use sftp_tree::{new_path_of, path_of};
 use sftp_wire::Ask;

@@ -6,7 +6,7 @@ ghost use Rattle.sftp_path.specs.Place.{absolute as text_of, same_bytes};
 ghost use Rattle.sftp_handles.specs.Replies.{are_distinct, has_attributes, is_among, names_in};
 ghost use Rattle.sftp_packets.specs.declared.requests.Ask.TheVariants.{Lstat};
 ghost use Rattle.sftp_profile.specs.Shown.{shown_at};
-ghost use Rattle.sftp_profile.specs.Listed as spec;
+ghost use Rattle.sftp_profile.specs.DirectoryHandles as spec;
 
 use crate::directories::Directory;
 use crate::profiles::Profile;
@@ -22,7 +22,7 @@ use std::alloc::Global;
 /// # Errors
 ///
 /// `NoMemory` if memory runs out.
-#[tactic(auto, unfolding(crate::specs::Listed::due_items))]
+#[tactic(auto, unfolding(crate::specs::DirectoryHandles::due_items))]
 pub(crate) fn due_items(
     alloc: Global,
     profile: Profile,

@@ -1,7 +1,6 @@
 //! The departures by their names, as the command line of the program has them.
 ghost use Rattle.std.specs.Prelude.{◌≡◌, find, bytes_eq};
-ghost use Rattle.sftp_profile.specs.Names as names;
-ghost use Rattle.sftp_profile.specs.Profiles as spec;
+ghost use Rattle.sftp_profile.specs.Profiles as names;
 
 use crate::profiles::{NewOwner, Profile};
 
@@ -35,7 +34,7 @@ impl Profile {
     /// What servers with real file systems do differently: all departures but `denied` and `full`. What is made has the
     /// tree's owner, and all permissions that are asked for.
     pub fn posix() -> Profile
-        ensures { result ≡ spec.posix }
+        ensures { result ≡ names.posix }
     {
         Profile {
             codes: true,
@@ -68,7 +67,7 @@ impl Profile {
 
     /// The same for users to whom the server denies requests, on a disk that may be full: all departures.
     pub fn posix_user() -> Profile
-        ensures { result ≡ spec.posix_user }
+        ensures { result ≡ names.posix_user }
     {
         let mut profile = Profile::posix();
         profile.denied = true;
@@ -166,7 +165,7 @@ fn first_named(departures: &[Departure], name: &[u8]) -> Option<Departure>
 }
 
 /// The departure of a name.
-#[tactic(auto, unfolding(crate::specs::Names::departure_of))]
+#[tactic(auto, unfolding(crate::specs::Profiles::departure_of))]
 fn departure_of(name: &[u8]) -> Option<Departure>
     ensures { result ≡ names.departure_of name.now }
 {

@@ -1,13 +1,13 @@
 //! What a judge notes of the directories that are open, request by request.
 ghost use Rattle.std.specs.Prelude.{◌≡◌, [], Some, None, true, false, not, if◌then◌else◌};
 ghost use Rattle.std.specs.Prelude.{map, OnOk, IfOk, option_copied};
-ghost use Rattle.sftp_tree.specs.OpenFlags.{excludes};
+ghost use Rattle.sftp_tree.specs.Attributes.{excludes};
 ghost use Rattle.sftp_path.specs.Place.{name_cmp};
 ghost use Rattle.sftp_path.specs.Table.{put};
 ghost use Rattle.sftp_tree.specs.Items.{entry_of};
 ghost use Rattle.sftp_handles.specs.Replies.{names_in, names_given};
 ghost use Rattle.sftp_profile.specs.declared.notes.Note.TheVariants as notes;
-ghost use Rattle.sftp_profile.specs.Directories.{given_by};
+ghost use Rattle.sftp_profile.specs.Profiles.{given_by};
 ghost use Rattle.sftp_profile.specs.Notes as spec;
 
 use crate::directories::{Directory, Shift, close, enter, shift_all};

@@ -8,9 +8,9 @@ ghost use Rattle.sftp_profile.specs.Permitted.{standing_for};
 ghost use Rattle.sftp_profile.specs.Replaced.{put};
 ghost use Rattle.sftp_profile.specs.StrictAnswers.{told};
 ghost use Rattle.sftp_profile.specs.DirectoryHandles as handles;
-ghost use Rattle.sftp_profile.specs.Listed.{due_items};
-ghost use Rattle.sftp_profile.specs.Judged.{IsStrict, IsJudged, IsNoted, IsMet, IsByDirectory, IsStanding, IsListed};
-ghost use Rattle.sftp_profile.specs.Judged.{IsGiven};
+ghost use Rattle.sftp_profile.specs.DirectoryHandles.{due_items};
+ghost use Rattle.sftp_profile.specs.Permitted.{IsStrict, IsJudged, IsNoted, IsMet, IsByDirectory, IsStanding, IsListed};
+ghost use Rattle.sftp_profile.specs.Permitted.{IsGiven};
 
 use crate::directory_handles::{
     directory_of, is_barred, passes_directory, refuses_kind, stands_for,

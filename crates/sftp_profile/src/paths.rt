@@ -1,6 +1,6 @@
 //! Whether a path that a request walks ends loosely (draft, section 6.2).
 ghost use Rattle.std.specs.Prelude.{◌≡◌};
-ghost use Rattle.sftp_profile.specs.Paths as spec;
+ghost use Rattle.sftp_profile.specs.BytesRead as spec;
 
 use sftp_path::{Parts, is_dot, is_dot_dot};
 use sftp_tree::{new_path_of, path_of};

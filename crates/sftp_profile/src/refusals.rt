@@ -4,7 +4,7 @@ ghost use Rattle.std.specs.List.{list_all};
 ghost use Rattle.sftp_profile.specs.StrictAnswers.{is_dots};
 ghost use Rattle.sftp_handles.specs.Replies.{has_code};
 ghost use Rattle.sftp_profile.specs.Departures as spec;
-ghost use Rattle.sftp_profile.specs.Refusals as words;
+ghost use Rattle.sftp_profile.specs.BytesRead as words;
 ghost use Rattle.sftp_profile.specs.Permitted.{done_status};
 
 use crate::strict_answers::is_dots;

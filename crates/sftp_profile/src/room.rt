@@ -1,7 +1,7 @@
 //! Requests that a server did although the tree cannot hold what they ask for.
 ghost use Rattle.std.specs.Prelude.{◌≡◌, IfOk};
 ghost use Rattle.sftp_treefile.specs.TreeFile.{is_target};
-ghost use Rattle.sftp_tree.specs.Refusals.{in_set};
+ghost use Rattle.sftp_tree.specs.Told.{in_set};
 ghost use Rattle.sftp_profile.specs.Room as spec;
 
 use crate::interpretations::asked;

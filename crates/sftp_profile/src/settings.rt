@@ -2,7 +2,7 @@
 ghost use Rattle.std.specs.Prelude.{◌≡◌, ◌&&◌, ◌||◌, IfOk, option_copied};
 ghost use Rattle.sftp_packets.specs.declared.requests.Ask.TheVariants as asks;
 ghost use Rattle.sftp_handles.specs.Replies as words;
-ghost use Rattle.sftp_profile.specs.Settings as spec;
+ghost use Rattle.sftp_profile.specs.Replaced as spec;
 
 use crate::data::setstat_in;
 use crate::paths::is_loose;

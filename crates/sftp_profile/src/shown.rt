@@ -1,6 +1,6 @@
 //! What is shown of the entries of a session (draft, sections 6.7 and 6.8).
 ghost use Rattle.std.specs.Prelude.{◌≡◌, IfOk, option_copied};
-ghost use Rattle.sftp_tree.specs.Refusals.{stat_ask};
+ghost use Rattle.sftp_tree.specs.Told.{stat_ask};
 ghost use Rattle.sftp_profile.specs.Shown as spec;
 
 use sftp_handles::{GivenTable, Listing, Session};

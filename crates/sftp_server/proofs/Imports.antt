@@ -19,17 +19,17 @@ pub use Rattle.std.proofs.lemmas.Result.{err_from_is_err_and, on_ok_weaker}
 pub use Rattle.std.specs.Io.KnownBytes.{Appends, Consumes, IsAtEnd, Keeps}
 pub use Rattle.std.specs.List.{AllByRecursion, flat_map}
 pub use Rattle.std.specs.Map.{lookup}
-pub use Rattle.sftp_handles.proofs.TotalSteps.PlaceTexts.{bytes-by}
+pub use Rattle.sftp_handles.proofs.TotalSteps.{bytes-by}
 pub use Rattle.sftp_handles.specs.Allowed.{Allowed}
 pub use Rattle.sftp_handles.specs.Clash.{Touched, share, untouched, everything, reads_file, writes_file}
 unfoldable pub use Rattle.sftp_handles.specs.Clash.{touched, clash}
-unfoldable pub use Rattle.sftp_handles.specs.Handles.{pins_of}
-pub use Rattle.sftp_handles.specs.Ranges.{are_apart, may_resize}
-unfoldable pub use Rattle.sftp_handles.specs.Ranges.{range, range_clash}
+unfoldable pub use Rattle.sftp_handles.specs.State.{pins_of}
+pub use Rattle.sftp_handles.specs.Clash.{are_apart, may_resize}
+unfoldable pub use Rattle.sftp_handles.specs.Clash.{range, range_clash}
 pub use Rattle.sftp_handles.specs.Spans.{ends_of, file_in, size_in, range_now}
 unfoldable pub use Rattle.sftp_handles.specs.Spans.{spanned}
 pub use Rattle.sftp_handles.specs.State.{State, Good, started, closed_tree, settled}
-pub use Rattle.sftp_handles.specs.Touch.{touched_as}
+pub use Rattle.sftp_handles.specs.Clash.{touched_as}
 pub use Rattle.sftp_handles.specs.declared.byte_range.ByteRange.{ByteRange}
 pub use Rattle.sftp_handles.specs.declared.byte_range.Span.{Span}
 pub use Rattle.sftp_handles.specs.declared.touch.Touch.{Touch}
@@ -64,8 +64,8 @@ pub use Rattle.sftp_transcript.specs.declared.errors.TranscriptError.{Transcript
 pub use Rattle.sftp_transcript.specs.declared.errors.TranscriptError.TheVariants.{Io}
 pub use Rattle.sftp_transcript.specs.declared.events.Event.{Event}
 pub use Rattle.sftp_transcript.specs.declared.events.Event.TheVariants.{Asked, Replied}
-pub use Rattle.sftp_tree.proofs.PlaceTables.Rising.{all_both}
-pub use Rattle.sftp_tree.proofs.Requests.Outcomes.{PathsLeadWell}
+pub use Rattle.sftp_tree.proofs.PlaceTables.{all_both}
+pub use Rattle.sftp_tree.proofs.Requests.Rows.{PathsLeadWell}
 pub use Rattle.sftp_tree.proofs.Requests.Rows.{path-bytes}
 pub use Rattle.sftp_tree.specs.Tree.{Tree}
 pub use Rattle.sftp_wire.proofs.StreamLaws.{length-spelling, none-leaves_room, front_again, spellings-apart}
@@ -75,11 +75,11 @@ pub use Rattle.sftp_wire.specs.Fronts.{place_after}
 pub use Rattle.sftp_wire.specs.Fronts.{StandsInFront}
 unfoldable pub use Rattle.sftp_wire.specs.Fronts.{front_of}
 pub use mathlib.Core.Bool.{or-true, and-false, and-true, or-false, or_assoc, or_comm}
-pub use Rattle.sftp_server.specs.Choices.{choices_at, choices_of, IsPossible, steps_left}
-unfoldable pub use Rattle.sftp_server.specs.Choices.{choices_from, owed}
-pub use Rattle.sftp_server.specs.Core.{server_clash, HasGoodReply, IsSendable, IsCore, IsValue, IsReached, IsRefusedFor}
-pub use Rattle.sftp_server.specs.Core.{AreDeliverable}
-pub use Rattle.sftp_server.specs.Fronts.{fault_of, found_refused, TakesOn}
+pub use Rattle.sftp_server.specs.Queue.{choices_at, choices_of, IsPossible, steps_left}
+unfoldable pub use Rattle.sftp_server.specs.Queue.{choices_from, owed}
+pub use Rattle.sftp_server.specs.Machine.{server_clash, HasGoodReply, IsSendable, IsCore, IsValue, IsReached, IsRefusedFor}
+pub use Rattle.sftp_server.specs.Machine.{AreDeliverable}
+pub use Rattle.sftp_server.specs.Ending.{fault_of, found_refused, TakesOn}
 pub use Rattle.sftp_server.specs.Left.{LeadsTo, Leaves, LeavesAt, IsAfterDone, IsLeftAfter}
 unfoldable pub use Rattle.sftp_server.specs.Left.{AreDone}
 pub use Rattle.sftp_server.specs.Machine.{Machine, ClashOf, is_sent, is_ready, reply_at, IsWorked, IsSent, is_pending}
@@ -88,8 +88,8 @@ pub use Rattle.sftp_server.specs.Machine.{can_take, IsIdle, IsDelivery, IsWork, 
 unfoldable pub use Rattle.sftp_server.specs.Machine.{is_free_of, from_unsent, is_unsent}
 pub use Rattle.sftp_server.specs.Queue.{request_in, pending_at, HasReply, sent_in, IsQueue}
 unfoldable pub use Rattle.sftp_server.specs.Queue.{with_progress, AreUnsentApart}
-pub use Rattle.sftp_server.specs.RangedNotes.{Aim, aim_in, Portion, portion_in, portion_of, portions_clash, resized_by}
-pub use Rattle.sftp_server.specs.RangedNotes.{resized, is_on, is_of, extent_now, is_clear}
+pub use Rattle.sftp_server.specs.Sessions.{Aim, aim_in, Portion, portion_in, portion_of, portions_clash, resized_by}
+pub use Rattle.sftp_server.specs.Sessions.{resized, is_on, is_of, extent_now, is_clear}
 pub use Rattle.sftp_server.specs.Readiness.{blank, note_at, as_count, possible_count, AreNotes, ask_in, ask_at}
 pub use Rattle.sftp_server.specs.Readiness.{touched_at, aim_at, portion_now, is_in_way, IsNoted, IsFree, IsBlocked}
 pub use Rattle.sftp_server.specs.Readiness.{IsLinked, IsLate, AreBlockedBut, AreNotReadyOn}

@@ -9,10 +9,10 @@ use Rattle.sftp_server.proofs.Imports.{is_on, is_of, is_clear, extent_now, Exten
 use Rattle.sftp_server.proofs.Imports.{◌≤◌, ◌+◌, IfSome, Span, ends_of, subst}
 use Rattle.std.specs.Prelude.{nat_le}
 use Rattle.std.proofs.lemmas.Bool.{le-leb, leb-true}
-use Rattle.sftp_handles.specs.Ranges.{range_within, range_if, range_from, meet}
+use Rattle.sftp_handles.specs.Clash.{range_within, range_if, range_from, meet}
 use Rattle.sftp_handles.specs.Spans.{range_sized}
 use Rattle.sftp_handles.proofs.RangeLaws.Spans.{range-is, HasFileFor}
-use Rattle.sftp_server.specs.RangedNotes.{extent_of, extent_sized, StartsWithin}
+use Rattle.sftp_server.specs.Sessions.{extent_of, extent_sized, StartsWithin}
 
 -- ---- the portion of a request
 

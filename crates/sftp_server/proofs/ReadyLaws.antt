@@ -1,20 +1,37 @@
 -- What the notes of a queue say of what is ready, and of what is possible.
 use Rattle.sftp_server.proofs.Imports.{◌≡◌, ◌+◌, ◌<◌, ◌≤◌, ◌++◌, ◌&&◌, ◌||◌, not, nat_lt, ℕ, zero, suc, Bool, true}
-use Rattle.sftp_server.proofs.Imports.{false, List, [], ◌∷◌, Option, Some, None, is_some, if◌then◌else◌}
-use Rattle.sftp_server.proofs.Imports.{length, take, drop, slice_get, refl, sym, ap, ap₂, ◌∙◌, ◌-◌, arith}
-use Rattle.sftp_server.proofs.Imports.{length-append, append_assoc, true≢false, ltb-true, ltb-false, and_from}
-use Rattle.sftp_server.proofs.Imports.{sum_by-cons, and-false, or-false, Request, State, Touched, touched, share, clash}
+use Rattle.sftp_server.proofs.Imports.{false, List, [], ◌∷◌, Option, Some, None, is_some, if◌then◌else◌, length, take}
+use Rattle.sftp_server.proofs.Imports.{drop, slice_get, refl, sym, ap, ap₂, ◌∙◌, ◌-◌, arith, length-append}
+use Rattle.sftp_server.proofs.Imports.{append_assoc, true≢false, ltb-true, ltb-false, and_from, sum_by-cons}
+use Rattle.sftp_server.proofs.Imports.{and-false, or-false, Request, State, Touched, touched, share, clash}
 use Rattle.sftp_server.proofs.Imports.{everything, range_clash, Choice, Entry, Progress, Pending, Done, Sent, Note}
 use Rattle.sftp_server.proofs.Imports.{Machine, ClashOf, is_pending, is_free_of, ready_in, is_ready, pending_in}
-use Rattle.sftp_server.proofs.Imports.{is_pending_at, reply_of, reply_in, reply_at, choices_at, choices_from, choices_of}
-use Rattle.sftp_server.proofs.Imports.{Aim, portion_in, portions_clash, blank, note_at, ask_at, portion_now, is_in_way}
-use Rattle.sftp_server.proofs.Imports.{as_count, possible_count, AreNotes, take_all, drop_more, get_or_past, ask_in}
-use Rattle.sftp_server.proofs.Imports.{IsMarked}
+use Rattle.sftp_server.proofs.Imports.{is_pending_at, reply_of, reply_in, reply_at, choices_at, choices_from}
+use Rattle.sftp_server.proofs.Imports.{choices_of, Aim, portion_in, portions_clash, blank, note_at, ask_at}
+use Rattle.sftp_server.proofs.Imports.{portion_now, is_in_way, as_count, possible_count, AreNotes, take_all}
+use Rattle.sftp_server.proofs.Imports.{drop_more, get_or_past, ask_in, IsMarked, ◌≢◌, ◌⊎◌, inl, inr, Ask, Reply}
+use Rattle.sftp_server.proofs.Imports.{asked_handle, Allowed, spanned, with_progress, aim_in, resized, IsSettling}
+use Rattle.sftp_server.proofs.Imports.{subst, AllByRecursion, none-some, same_Some, StepOf, is_sent, from_unsent}
+use Rattle.sftp_server.proofs.Imports.{IsWorked, IsSent, IsPossible, steps_left, owed, all_both}
 use Rattle.std.proofs.lemmas.Option.{slice_get_within}
 use Rattle.sftp_server.specs.Readiness.{IsShut, IsOpened}
 use Rattle.sftp_server.specs.declared.cores.Choice.TheVariants as choices
 use Rattle.sftp_server.proofs.RangedNotes.{clash-left, all-none}
-use Rattle.sftp_server.proofs.DoneNotes.{all-touched}
+use Rattle.sftp_server.proofs.DoneNotes.{all-touched, IsStep, done_notes, marked-done}
+use Rattle.sftp_packets.specs.declared.replies.Answer.{Answer}
+use Rattle.sftp_tree.specs.Tree.{limits}
+use Rattle.sftp_handles.specs.State.{open_at}
+use Rattle.sftp_handles.specs.Allowed.{changed, after, after_by}
+use Rattle.sftp_handles.specs.Allowed.{Refuses, Does}
+use Rattle.sftp_handles.specs.Clash.{touched_by, touched_through, may_change}
+use Rattle.sftp_handles.specs.Spans.{span_by, span_open}
+use Rattle.sftp_handles.specs.State.{seen}
+use Rattle.sftp_handles.specs.RequestRows.{row_of, Change, nothing, change_of}
+use Rattle.sftp_handles.proofs.ClashLaws.{applied, change-touches, touched-stays}
+use Rattle.sftp_handles.proofs.ClashLaws.{handle-of}
+use Rattle.sftp_handles.proofs.RangeLaws.Spans.{spanned-stays}
+use Rattle.sftp_server.proofs.NotePlaces.{ranges-still}
+use Rattle.sftp_server.proofs.Queues.{from_unsent-short}
 
 -- ---- freeness, position by position
 
@@ -248,3 +265,225 @@ module _ (machine : Machine State) {notes : List Note} {first opened writers pos
       ∙ (get-behind (choices_from range_clash machine 0 k) (choices_from range_clash machine (0 + k) (suc (length
       machine.queue - suc k))) number (count ∙ before)
       ∙ rw here (choice-here k (choices_from range_clash machine (suc k) (length machine.queue - suc k)) is))
+
+-- ==== A request that does not touch everything changes nothing of what requests touch, nor of their spans.
+
+-- ---- a step
+
+-- what a request touches and its span are seen of the handles and the limits alone
+aims-same : (s t : State) (ask : Ask) → s.handles ≡ t.handles → limits s.tree ≡ limits t.tree
+    → aim_in s ask ≡ aim_in t ask
+unfolding touched spanned
+aims-same s t ask same bounds = by (asked_handle ask)
+  where
+    by : (named : Option (List ℕ)) → ◌≡◌ {A = Aim} (touched_by s ask named, span_by s ask named)
+        (touched_by t ask named, span_by t ask named)
+    by None = refl
+    by (Some handle) = λ i. (
+      touched_through (row_of ask).needed (may_change ask) handle (open_at (same i) handle),
+      span_open (bounds i) ask (row_of ask).needed (open_at (same i) handle),
+    )
+
+changed-handles : (s : State) (handle : List ℕ) (change : Change)
+    → (changed s handle change).handles ≡ (applied s handle change).handles
+changed-handles s handle nothing = refl
+changed-handles s handle change = refl
+
+changed-limits : (s : State) (handle : List ℕ) (change : Change)
+    → limits (changed s handle change).tree ≡ limits (applied s handle change).tree
+changed-limits s handle nothing = refl
+changed-limits s handle change = refl
+
+aims-done : (s : State) (asked ask : Ask) (answer : Answer) (handle : List ℕ) → asked_handle asked ≡ Some handle
+    → touched s asked ≢ everything → aim_in (after s asked answer) ask ≡ aim_in s ask
+unfolding after
+aims-done s asked ask answer handle named part =
+    let change = change_of (row_of asked) (seen s (row_of asked).needed handle) answer in
+    let touches = change-touches s asked handle answer named in
+    ap (λ (found : Option (List ℕ)). aim_in (after_by s asked answer found) ask) named
+    ∙ (aims-same (changed s handle change) (applied s handle change) ask (changed-handles s handle change)
+    (changed-limits s handle change)
+    ∙ (λ i. (
+      touched-stays s ask handle (touched s asked) change touches part i,
+      spanned-stays s ask handle (touched s asked) change touches part i,
+    )))
+
+aims-past : (s end : State) (request : Request) (reply : Reply) (ask : Ask) → touched s request.ask ≢ everything
+    → Allowed s request reply end → aim_in end ask ≡ aim_in s ask
+aims-past s end request reply ask part allowed = by allowed.step
+  where
+    by : Refuses s request.ask reply.answer end ⊎ Does s request.ask reply.answer end → aim_in end ask ≡ aim_in s ask
+    by (inl refused) = ap (λ (e : State). aim_in e ask) refused.unchanged
+    by (inr does) =
+        let named = handle-of s request.ask part in
+        ap (λ (e : State). aim_in e ask) does.changed
+        ∙ aims-done s request.ask ask reply.answer named.0 named.1 part
+
+-- what a step leaves as it was, by what was asked
+pub step-leaves : (s end : State) (request : Request) (reply : Reply) (asked : Ask) → asked ≡ request.ask
+    → Allowed s request reply end → IsStep s end asked
+step-leaves s end request reply asked named allowed = rw named record {
+  aims = λ part ask. aims-past s end request reply ask part allowed;
+  ranges = λ part ask other.
+      ranges-still s end request reply ask part other
+      (ap (λ (aim : Aim). aim.0) (aims-past s end request reply ask part allowed)) allowed;
+}
+
+-- ---- what the notes say of it
+
+pending-within : (queue : List Entry) (k : ℕ) → is_pending_at queue k ≡ true → k < length queue
+pending-within [] k is = absurd (true≢false (sym is))
+pending-within (entry ∷ queue) zero is = omega arith
+pending-within (entry ∷ queue) (suc k) is = let rest = pending-within queue k is in omega (arith, rest)
+
+-- what is ready is open
+pub ready-open : {s : State} {queue : List Entry} {notes : List Note} {first opened writers possible : ℕ} (k : ℕ)
+    → AreNotes s queue notes first opened writers possible → (note_at notes k).pending ≡ true
+    → (note_at notes k).possible ≡ true → k < opened
+ready-open {queue = queue} {notes} {opened = opened} k are pending ready = by (nat_lt k opened) refl
+  where
+    by : (b : Bool) → nat_lt k opened ≡ b → k < opened
+    by true less = ltb-true k opened less
+    by false less =
+        absurd (true≢false (sym ready
+        ∙ (are.noted.behind k (ltb-false k opened less)
+        (pending-within queue k (sym (are.marks.asked.marked k) ∙ pending))).1))
+
+-- A request that was ready was done with this reply: what is known before the notes are looked through again.
+pub notes-worked : {s : State} {queue : List Entry} {notes : List Note} {first opened writers possible : ℕ}
+    (end : State) (k : ℕ) (request : Request) (reply : Reply) → AreNotes s queue notes first opened writers possible
+    → (note_at notes k).pending ≡ true → (note_at notes k).possible ≡ true → ask_at queue k ≡ request.ask
+    → Allowed s request reply end
+    → IsSettling end (with_progress queue k (Done reply)) (done_notes notes k) first opened writers possible k
+    (k + (note_at (done_notes notes k) k).waiter) (resized (portion_now s queue k)) (suc k)
+notes-worked {s} {queue} end k request reply are pending ready named allowed =
+    marked-done end k reply are (ready-open k are pending ready) pending ready
+    (step-leaves s end request reply (ask_at queue k) named allowed)
+
+-- ==== What a machine may do next.
+
+-- ---- acts bring a machine nearer to its end
+
+owed-append : (front back : List Entry) → owed (front ++ back) ≡ owed front + owed back
+unfolding owed
+owed-append [] back = omega arith
+owed-append (entry ∷ front) back = let rest = owed-append front back in omega (arith, rest)
+
+pub worked-falls : {S : Type 0} (step : StepOf S) (before : Machine S) (k : ℕ) (after : Machine S)
+    → IsWorked step before k after → owed after.queue < owed before.queue
+unfolding owed
+worked-falls step before k after worked =
+    let old : Entry = record { request = worked.request; progress = Pending } in
+    let new : Entry = record { request = worked.request; progress = Done worked.reply } in
+    rw (
+      worked.queue_is,
+      worked.marked,
+      owed-append worked.front (old ∷ worked.back),
+      owed-append worked.front
+          (new ∷ worked.back),
+    )
+    (omega arith)
+
+owed-unsent : (queue : List Entry) → owed (from_unsent queue) ≡ owed queue
+unfolding owed from_unsent
+owed-unsent [] = refl
+owed-unsent (entry ∷ queue) = by (owed-unsent queue) entry.progress refl
+  where
+    by : owed (from_unsent queue) ≡ owed queue → (progress : Progress) → entry.progress ≡ progress
+        → owed (if is_sent entry.progress then from_unsent queue else entry ∷ queue)
+        ≡ steps_left entry.progress + owed queue
+    by rest Pending is = rw is refl
+    by rest (Done reply) is = rw is refl
+    by rest Sent is = rw is (omega (arith, rest))
+
+pub sent-falls : {S : Type 0} (before : Machine S) (k : ℕ) (reply : Reply) (after : Machine S)
+    → IsSent before k reply after → owed after.queue < owed before.queue
+unfolding owed
+sent-falls before k reply after sent =
+    let old : Entry = record { request = sent.request; progress = Done reply } in
+    let new : Entry = record { request = sent.request; progress = Sent } in
+    rw (
+      sent.marked,
+      sent.queue_is,
+      owed-unsent (sent.front ++ new ∷ sent.back),
+      owed-append sent.front
+          (old ∷ sent.back),
+      owed-append sent.front (new ∷ sent.back),
+    )
+    (omega arith)
+
+-- ---- what is possible
+
+-- something is possible at an unsent request in front
+some-first : {S : Type 0} (clash : ClashOf S) (machine : Machine S) (entry : Entry) (queue : List Entry)
+    → machine.queue ≡ entry ∷ queue → is_sent entry.progress ≡ false → 1 ≤ length (choices_at clash machine 0)
+unfolding is_free_of
+some-first clash machine entry queue is unsent = by entry.progress refl
+  where
+    by : (progress : Progress) → entry.progress ≡ progress → 1 ≤ length (choices_at clash machine 0)
+    by Pending at = rw (is, at) (omega arith)
+    by (Done reply) at = rw (is, at) (omega arith)
+    by Sent at = absurd (true≢false (rw at at unsent))
+
+unsent-front : (entry : Entry) (queue : List Entry) → from_unsent (entry ∷ queue) ≡ entry ∷ queue
+    → is_sent entry.progress ≡ false
+unfolding from_unsent
+unsent-front entry queue front = by (is_sent entry.progress) refl
+  where
+    by : (b : Bool) → is_sent entry.progress ≡ b → is_sent entry.progress ≡ false
+    by false is = is
+    by true is =
+        absurd (let shorter = from_unsent-short queue in
+        let same : from_unsent queue ≡ entry ∷ queue = rw is at front in
+        let size = ap length same in
+        omega (arith, shorter, size))
+
+nothing-first : {S : Type 0} (clash : ClashOf S) (machine : Machine S) (entry : Entry) (queue : List Entry)
+    → machine.queue ≡ entry ∷ queue → is_sent entry.progress ≡ false
+    → length (choices_from clash machine 0 (suc (length queue))) ≡ 0 → ⊥
+unfolding choices_from
+nothing-first clash machine entry queue is unsent none =
+    let some = some-first clash machine entry queue is unsent in
+    let sum = length-append (choices_at clash machine 0) (choices_from clash machine 1 (length queue)) in
+    omega (arith, some, sum, none)
+
+pub nothing-left : {S : Type 0} (clash : ClashOf S) (machine : Machine S) → from_unsent machine.queue ≡ machine.queue
+    → length (choices_of clash machine) ≡ 0 → machine.queue ≡ []
+nothing-left clash machine front none = by machine.queue refl
+  where
+    by : (queue : List Entry) → machine.queue ≡ queue → machine.queue ≡ []
+    by [] is = is
+    by (entry ∷ queue) is =
+        absurd (nothing-first clash machine entry queue is
+        (unsent-front entry queue (subst (λ (q : List Entry). from_unsent q ≡ q) is front))
+        (subst (λ (n : ℕ). length (choices_from clash machine 0 n) ≡ 0) (ap length is) none))
+
+possible-at : {S : Type 0} (clash : ClashOf S) (machine : Machine S) (k : ℕ)
+    → AllByRecursion (IsPossible clash machine) (choices_at clash machine k)
+possible-at clash machine k = by (is_ready clash machine k) refl (is_some (reply_at machine.queue k)) refl
+  where
+    by : (b : Bool) → is_ready clash machine k ≡ b → (c : Bool) → is_some (reply_at machine.queue k) ≡ c
+        → AllByRecursion (IsPossible clash machine) (choices_at clash machine k)
+    by true ready c some = rw ready (ready, tt)
+    by false ready true some = rw (ready, some) (some, tt)
+    by false ready false some = rw (ready, some) tt
+
+possible-from : {S : Type 0} (clash : ClashOf S) (machine : Machine S) (k count : ℕ)
+    → AllByRecursion (IsPossible clash machine) (choices_from clash machine k count)
+unfolding choices_from
+possible-from clash machine k zero = tt
+possible-from clash machine k (suc count) =
+    all_both (IsPossible clash machine) (choices_at clash machine k) (choices_from clash machine (suc k) count)
+    (possible-at clash machine k) (possible-from clash machine (suc k) count)
+
+all-get : {X : Type 0} (P : X → Type 0) (xs : List X) (k : ℕ) (x : X) → AllByRecursion P xs → slice_get xs k ≡ Some x
+    → P x
+all-get P [] k x all is = absurd (none-some x is)
+all-get P (first ∷ xs) zero x all is = subst P (same_Some first x is) all.0
+all-get P (first ∷ xs) (suc k) x all is = all-get P xs k x all.1 is
+
+pub possible : {S : Type 0} (clash : ClashOf S) (machine : Machine S) (number : ℕ) (choice : Choice)
+    → slice_get (choices_of clash machine) number ≡ Some choice → IsPossible clash machine choice
+possible clash machine number choice is =
+    all-get (IsPossible clash machine) (choices_of clash machine) number choice
+    (possible-from clash machine 0 (length machine.queue)) is

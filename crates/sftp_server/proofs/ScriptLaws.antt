@@ -8,10 +8,10 @@ use Rattle.sftp_server.proofs.Imports.{started, IsRefusedFor, IsValue, AreDelive
 use Rattle.std.proofs.Math.Seq.{take-suc}
 use Rattle.sftp_path.specs.declared.errors.NoMemory.{NoMemory}
 use Rattle.sftp_server.specs.declared.refusals.Refuse.TheVariants as refuses
-use Rattle.sftp_server.specs.Scripts.{IsPerformed}
+use Rattle.sftp_server.specs.Ending.{IsPerformed}
 use Rattle.sftp_server.proofs.Machines.Acts.{acts-more}
 use Rattle.sftp_server.proofs.Machines.Laws as core_laws
-use Rattle.sftp_server.proofs.Sessions.Stops.{stays-good, each-answered, reached-begins}
+use Rattle.sftp_server.proofs.Sessions.{stays-good, each-answered, reached-begins}
 
 -- ---- values
 

@@ -1,12 +1,16 @@
 -- What a queue keeps beside its requests.
-use Rattle.std.specs.Prelude.{◌≡◌, nat_eq, ℕ, zero, suc, Bool, false, List, [], ◌∷◌}
-use Rattle.std.specs.Prelude.{is_some, if◌then◌else◌, Option, Some, None, slice_get}
+use Rattle.std.specs.Prelude.{◌≡◌, nat_eq, ℕ, zero, suc, Bool, false, List, [], ◌∷◌, is_some, if◌then◌else◌, Option}
+use Rattle.std.specs.Prelude.{Some, None, slice_get, ◌+◌, ◌++◌, IsTrue, length}
 use Rattle.std.specs.Map.{lookup}
 use Rattle.sftp_packets.specs.declared.packets.Request.{Request}
 use Rattle.sftp_packets.specs.declared.packets.Reply.{Reply}
 use Rattle.sftp_server.specs.declared.queue.Entry.{Entry}
 use Rattle.sftp_server.specs.declared.queue.Progress.{Progress}
-use Rattle.sftp_server.specs.Machine.{is_pending, is_sent, is_unsent, from_unsent, reply_of}
+use Rattle.sftp_server.specs.Machine.{is_pending, is_sent, is_unsent, from_unsent, reply_of, Machine, ClashOf}
+use Rattle.sftp_server.specs.Machine.{is_ready, reply_at}
+use Rattle.sftp_server.specs.declared.cores.Choice.{Choice}
+use Rattle.sftp_server.specs.declared.cores.Choice.TheVariants.{Work, Send}
+use Rattle.sftp_server.specs.declared.queue.Progress.TheVariants.{Pending, Done, Sent}
 
 -- the request of an entry, if it is pending
 abbrev pub request_in : Option Entry → Option Request
@@ -44,3 +48,35 @@ pub record IsQueue (queue : List Entry) (ids : List (ℕ × Unit {0})) : Type 0 
   pub front : from_unsent queue ≡ queue
   pub indexed : (id : ℕ) → is_some (lookup (nat_eq id) ids) ≡ is_unsent id queue
   pub apart : AreUnsentApart queue
+
+-- ==== What a machine may do next.
+
+-- the act that is possible at this position, if one is: to do a request that is ready, or to send a reply
+abbrev pub choices_at : {S : Type 0} → ClashOf S → Machine S → ℕ → List Choice
+choices_at clash machine k =
+    if is_ready clash machine k then Work k ∷ [] else if is_some (reply_at machine.queue k) then Send k ∷ [] else []
+
+-- those at `count` positions from `k` on
+unfoldable pub choices_from : {S : Type 0} → ClashOf S → Machine S → ℕ → ℕ → List Choice
+choices_from clash machine k zero = []
+choices_from clash machine k (suc count) = choices_at clash machine k ++ choices_from clash machine (suc k) count
+
+-- all acts that are possible, in the order of the queue
+abbrev pub choices_of : {S : Type 0} → ClashOf S → Machine S → List Choice
+choices_of clash machine = choices_from clash machine 0 (length machine.queue)
+
+-- the act is possible
+abbrev pub IsPossible : {S : Type 0} → ClashOf S → Machine S → Choice → Type 0
+IsPossible clash machine (Work k) = IsTrue (is_ready clash machine k)
+IsPossible clash machine (Send k) = IsTrue (is_some (reply_at machine.queue k))
+
+-- how many acts a request needs until it is answered
+abbrev pub steps_left : Progress → ℕ
+steps_left Pending = 2
+steps_left (Done reply) = 1
+steps_left Sent = 0
+
+-- how many acts all need
+unfoldable pub owed : List Entry → ℕ
+owed [] = 0
+owed (entry ∷ queue) = steps_left entry.progress + owed queue

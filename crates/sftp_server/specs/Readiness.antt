@@ -12,14 +12,14 @@ use Rattle.sftp_handles.specs.declared.byte_range.Span.{Span}
 use Rattle.sftp_handles.specs.declared.touch.Touch.{Touch}
 use Rattle.sftp_handles.specs.declared.touch.Touch.TheVariants.{Nothing, ReadsFile, WritesFile, TakesNames, Everything}
 use Rattle.sftp_handles.specs.Clash.{Touched, touched}
-use Rattle.sftp_handles.specs.Touch.{touched_as}
+use Rattle.sftp_handles.specs.Clash.{touched_as}
 use Rattle.sftp_handles.specs.Spans.{spanned, ends_of}
 use Rattle.sftp_handles.specs.State.{State}
 use Rattle.sftp_server.specs.declared.queue.Entry.{Entry}
 use Rattle.sftp_server.specs.declared.readiness.Note.{Note}
 use Rattle.sftp_server.specs.declared.readiness.Readiness.{Readiness}
 use Rattle.sftp_server.specs.Machine.{is_pending_at, reply_at}
-use Rattle.sftp_server.specs.RangedNotes.{Aim, aim_in, Portion, portion_in, portions_clash, resized, is_of}
+use Rattle.sftp_server.specs.Sessions.{Aim, aim_in, Portion, portion_in, portions_clash, resized, is_of}
 
 -- ---- what the notes say
 

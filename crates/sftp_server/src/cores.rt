@@ -15,8 +15,8 @@ ghost use Rattle.sftp_server.specs.declared.refusals.Refuse.TheVariants.{NoMemor
 ghost use Rattle.sftp_server.specs.Machine.{is_unsent};
 ghost use Rattle.sftp_server.specs.Machine.{at_start, taken, can_take, is_ready, is_pending_at, reply_at, IsWorked};
 ghost use Rattle.sftp_server.specs.Machine.{IsSent, from_unsent};
-ghost use Rattle.sftp_server.specs.Choices.{choices_of};
-ghost use Rattle.sftp_server.specs.Core.{server_clash, IsRefusedFor};
+ghost use Rattle.sftp_server.specs.Queue.{choices_of};
+ghost use Rattle.sftp_server.specs.Machine.{server_clash, IsRefusedFor};
 
 use crate::answerers::{Answerer, Plain};
 use crate::queue::Queue;
@@ -51,7 +51,7 @@ pub struct Core<T: HandleTable> {
 impl<T: HandleTable> Model for Core<T> {
     ghost use Rattle.sftp_handles.specs.State.{State};
     ghost use Rattle.sftp_server.specs.Machine.{Machine};
-    ghost use Rattle.sftp_server.specs.Core.{IsCore};
+    ghost use Rattle.sftp_server.specs.Machine.{IsCore};
     ghost use Rattle.sftp_server.specs.Readiness.{KeepsNotes};
 
     ghost Value = { Machine State };

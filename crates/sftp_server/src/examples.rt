@@ -9,7 +9,7 @@ ghost use Rattle.sftp_tree.specs.Tree.{Tree};
 ghost use Rattle.sftp_tree.specs.Picture.{blank};
 ghost use Rattle.sftp_handles.specs.Allowed.{Allowed};
 ghost use Rattle.sftp_server.specs.Machine.{at_start, AreActs};
-ghost use Rattle.sftp_server.specs.Core.{server_clash};
+ghost use Rattle.sftp_server.specs.Machine.{server_clash};
 ghost use Rattle.sftp_server.specs.Served.{Served};
 ghost use Rattle.sftp_server.specs.Examples.{made_and_removed, answered_backwards, init_bytes, remove_and_byte};
 ghost use Rattle.sftp_server.specs.Examples.{mkdir_beginning, stat_bytes, attrs_bytes, EndsAfterVersion};

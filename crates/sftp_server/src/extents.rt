@@ -1,8 +1,8 @@
 //! What part of its file a request keeps to, and which spans are clear of that.
 ghost use Rattle.std.specs.Prelude.{◌≡◌, ◌+◌, ◌≤◌, true, Some, IfSome};
 ghost use Rattle.sftp_handles.specs.Spans.{ends_of};
-ghost use Rattle.sftp_server.specs.RangedNotes.{extent_now};
-ghost use Rattle.sftp_server.specs.RangedNotes as portions;
+ghost use Rattle.sftp_server.specs.Sessions.{extent_now};
+ghost use Rattle.sftp_server.specs.Sessions as portions;
 
 use sftp_handles::{ByteRange, HandleTable, Session, Span};
 use sftp_tree::FileNo;

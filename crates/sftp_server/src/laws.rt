@@ -8,7 +8,7 @@ ghost use Rattle.sftp_handles.specs.Allowed.{Allowed};
 ghost use Rattle.sftp_server.specs.Machine.{Machine};
 ghost use Rattle.sftp_packets.specs.declared.packets.Packet.{Packet};
 ghost use Rattle.sftp_transcript.specs.Transcript.{IsRecord};
-ghost use Rattle.sftp_server.specs.Core.{IsReached};
+ghost use Rattle.sftp_server.specs.Machine.{IsReached};
 ghost use Rattle.sftp_server.specs.Served.{IsOpened};
 ghost use Rattle.sftp_server.specs.Left.{LeadsTo};
 

@@ -11,7 +11,7 @@ ghost use Rattle.sftp_server.specs.declared.ends.Stop.TheVariants as stops;
 ghost use Rattle.sftp_server.specs.declared.ends.Stream.TheVariants as streams;
 ghost use Rattle.sftp_server.specs.Served.{IsUnused};
 ghost use Rattle.sftp_server.specs.Sessions.{IsLogging, BeginsWithGreeting, ahead_without, CountsCall, Spares};
-ghost use Rattle.sftp_server.specs.Opening.{IsFirst, IsInFront, IsGreetingOf, OpensOn, ReadsFirst};
+ghost use Rattle.sftp_server.specs.Ending.{IsFirst, IsInFront, IsGreetingOf, OpensOn, ReadsFirst};
 
 use crate::ends::{SessionFault, Stop, Stream};
 use crate::input::Input;

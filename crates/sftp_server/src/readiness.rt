@@ -5,15 +5,15 @@ ghost use Rattle.std.specs.VecDeque.{deque_len, deque_capacity};
 ghost use Rattle.sftp_packets.specs.declared.requests.Ask.{Ask as Asked};
 ghost use Rattle.sftp_handles.specs.Clash.{touched, share, writes_file};
 ghost use Rattle.sftp_handles.specs.Spans.{spanned, ends_of, file_in, range_now};
-ghost use Rattle.sftp_handles.specs.Touch.{touched_as};
+ghost use Rattle.sftp_handles.specs.Clash.{touched_as};
 ghost use Rattle.sftp_server.specs.Readiness.{blank, note_at, touched_at, portion_now, ask_at, IsFree, IsBlockedBack};
 ghost use Rattle.sftp_server.specs.Readiness.{IsPlaced, AreAlike, possible_count, IsNoted, AreBlocked, AreBlockedBut};
 ghost use Rattle.sftp_server.specs.Readiness.{IsShut, AreNotes, IsOpened, IsTouched, IsMarked};
 ghost use Rattle.sftp_server.specs.Readiness.{CanRefresh, IsSettling, IsSettled, AreNotReadyOn};
 ghost use Rattle.sftp_server.specs.Readiness.{AreBlockedButOn};
 ghost use Rattle.sftp_server.specs.Readiness as words;
-ghost use Rattle.sftp_server.specs.RangedNotes.{resized, resized_by, extent_now};
-ghost use Rattle.sftp_server.specs.RangedNotes as portions;
+ghost use Rattle.sftp_server.specs.Sessions.{resized, resized_by, extent_now};
+ghost use Rattle.sftp_server.specs.Sessions as portions;
 
 use crate::extents::{Extent, extent_of, is_clear};
 use crate::queue::Queue;

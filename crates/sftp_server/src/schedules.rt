@@ -1,6 +1,6 @@
 //! The order in which a server does what it may do.
 ghost use Rattle.std.specs.Prelude.{◌≡◌};
-ghost use Rattle.sftp_server.specs.Schedules.{next_state, upper_bits};
+ghost use Rattle.sftp_server.specs.Machine.{next_state, upper_bits};
 
 use sftp_wire::Request;
 

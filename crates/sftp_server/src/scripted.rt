@@ -2,10 +2,10 @@
 ghost use Rattle.std.specs.Prelude.{◌≡◌, ◌<◌, ◌≤◌, [], true, IfOk, IfErr, OnOk};
 ghost use Rattle.sftp_server.specs.declared.ends.Stop.TheVariants as stops;
 ghost use Rattle.sftp_server.specs.declared.ends.Stream.TheVariants as streams;
-ghost use Rattle.sftp_server.specs.Choices.{owed};
+ghost use Rattle.sftp_server.specs.Queue.{owed};
 ghost use Rattle.sftp_server.specs.Served.{stream_bytes};
 ghost use Rattle.sftp_server.specs.Sessions.{IsLogging, CountsCall, Spares};
-ghost use Rattle.sftp_server.specs.Scripted.{FollowsOn, RepliesOn, Works, bytes_ahead};
+ghost use Rattle.sftp_server.specs.Ending.{FollowsOn, RepliesOn, Works, bytes_ahead};
 
 use crate::answerers::Answerer;
 use crate::cores::Core;

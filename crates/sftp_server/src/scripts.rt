@@ -7,8 +7,8 @@ ghost use Rattle.sftp_transcript.specs.Explained.{Explained, BeginsFrom, window}
 ghost use Rattle.sftp_server.specs.declared.acts.Act.TheVariants as acts;
 ghost use Rattle.sftp_server.specs.declared.refusals.Refuse.TheVariants.{NoMemory as no_memory};
 ghost use Rattle.sftp_server.specs.Machine.{at_start, AreActs, IsAct};
-ghost use Rattle.sftp_server.specs.Core.{server_clash, IsValue};
-ghost use Rattle.sftp_server.specs.Scripts.{IsPerformed};
+ghost use Rattle.sftp_server.specs.Machine.{server_clash, IsValue};
+ghost use Rattle.sftp_server.specs.Ending.{IsPerformed};
 
 use crate::acts::Act;
 use crate::cores::Core;

@@ -8,7 +8,7 @@ ghost use Rattle.sftp_server.specs.declared.ends.Stream.TheVariants as streams;
 ghost use Rattle.sftp_server.specs.declared.taking.Front.TheVariants as fronts;
 ghost use Rattle.sftp_server.specs.Machine.{can_take, taken};
 ghost use Rattle.sftp_server.specs.Sessions.{ahead_without, IsLogging, CountsCall, Spares};
-ghost use Rattle.sftp_server.specs.Fronts.{FallsIfTaken, TakesOn, found_refused};
+ghost use Rattle.sftp_server.specs.Ending.{FallsIfTaken, TakesOn, found_refused};
 
 use crate::cores::Core;
 use crate::ends::{SessionFault, Stop, Stream};

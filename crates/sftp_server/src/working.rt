@@ -5,8 +5,8 @@ ghost use Rattle.sftp_server.specs.declared.cores.Choice.TheVariants as choices;
 ghost use Rattle.sftp_server.specs.declared.ends.Stop.TheVariants as stops;
 ghost use Rattle.sftp_server.specs.declared.ends.Stream.TheVariants as streams;
 ghost use Rattle.sftp_server.specs.Machine.{is_ready, IsWorked};
-ghost use Rattle.sftp_server.specs.Core.{server_clash};
-ghost use Rattle.sftp_server.specs.Choices.{IsPossible, owed};
+ghost use Rattle.sftp_server.specs.Machine.{server_clash};
+ghost use Rattle.sftp_server.specs.Queue.{IsPossible, owed};
 ghost use Rattle.sftp_server.specs.Sessions.{IsLogging, SendsOn, CountsCall, Spares};
 
 use crate::answerers::Answerer;

@@ -1,7 +1,13 @@
 -- What the server logs accounts for a run, so the auditor accepts it.
-use Rattle.std.proofs.Common.{◌≡◌, ◌≢◌, ◌⊎◌, ℕ, List, [], ◌++◌, Option, Some, Result, Ok, Err, refl, sym, ap, subst}
-use Rattle.std.proofs.Common.{inl, inr, ◌∙◌}
-use Rattle.std.specs.Prelude.{IfOk, IfErr}
+use Rattle.std.proofs.Common.{◌≡◌, Bool, true, false, Result, Ok, Err, refl, sym, subst, IsTrue, ◌≢◌, ◌⊎◌, ℕ, List}
+use Rattle.std.proofs.Common.{[], ◌++◌, Option, Some, ap, inl, inr, ◌∙◌}
+use Rattle.std.specs.Prelude.{IfOk, OnOk, IfErr}
+use Rattle.sftp_packets.specs.declared.packets.Request.{Request}
+use Rattle.sftp_packets.specs.declared.packets.Reply.{Reply}
+use Rattle.sftp_path.specs.declared.errors.NoMemory.{NoMemory}
+use Rattle.sftp_handles.specs.State.{State, started, closed_tree}
+use Rattle.sftp_handles.specs.Allowed.{Allowed}
+use Rattle.sftp_handles.proofs.Judged.{allowed-one_end}
 use Rattle.std.specs.Io.KnownBytes.{Appends, IsAtEnd}
 use Rattle.sftp_transcript.specs.declared.events.Event.{Event}
 use Rattle.sftp_transcript.specs.Transcript.{IsRecord}
@@ -10,22 +16,40 @@ use Rattle.sftp_transcript.proofs.transcripts.{records_are_one_lem}
 use Rattle.sftp_tree.specs.Tree.{Tree}
 use Rattle.sftp_tree.specs.Picture.{IsStart, picture}
 use Rattle.sftp_tree.proofs.TreeFiles.Files.{one_start}
-use Rattle.sftp_handles.specs.State.{started, closed_tree}
-use Rattle.sftp_handles.specs.Allowed.{Allowed}
-use Rattle.sftp_handles.proofs.Judged.Steps.{allowed-one_end}
 use Rattle.sftp_server.specs.declared.ends.Ended.{Ended}
 use Rattle.sftp_server.specs.declared.ends.Ended.TheVariants.{Finished, Fault}
 use Rattle.sftp_server.specs.declared.ends.Ended.TheVariants as ends
 use Rattle.sftp_server.specs.declared.ends.SessionFault.{SessionFault}
 use Rattle.sftp_server.specs.Served.{IsFinished, IsFaulty, IsUnopened, IsOpened, IsServed, Served, StreamBytes}
 use Rattle.sftp_server.specs.Served.{stream_bytes, Serves}
-use Rattle.sftp_server.proofs.Sessions.Logged.{log-is-transcript}
+use Rattle.sftp_server.proofs.Sessions.Closed.{log-is-transcript}
 use Rattle.sftp_audit.specs.declared.audits.Accepted.{Accepted}
 use Rattle.sftp_audit.specs.declared.errors.AuditError.{AuditError}
 use Rattle.sftp_audit.specs.declared.errors.AuditError.TheVariants as errors
 use Rattle.sftp_audit.specs.Audit.{Accounts, request_count}
-use Rattle.sftp_audit.proofs.steps.StepLaws.{explained-one_end}
+use Rattle.sftp_audit.proofs.steps.{explained-one_end}
 use Rattle.sftp_tests.specs.Audited.{IsLogged, AcceptsWith, Agrees}
+
+-- ==== What a session answers, one in the same state accepts.
+
+moved : (s theirs end : State) (request : Request) (reply : Reply) → theirs ≡ s → Allowed s request reply end
+    → Allowed theirs request reply end
+moved s theirs end request reply same = subst (λ (t : State). Allowed t request reply end) (sym same)
+
+pub accepted : (s theirs end : State) (request : Request) (reply : Reply) (result : Result Bool NoMemory)
+    → theirs ≡ s → Allowed s request reply end
+    → IfOk result (λ ok. ok ≡ false → (e : State) → Allowed theirs request reply e → ⊥) → IfOk result IsTrue
+accepted s theirs end request reply (Ok true) same allowed refused = refl
+accepted s theirs end request reply (Ok false) same allowed refused =
+    absurd (refused refl end (moved s theirs end request reply same allowed))
+accepted s theirs end request reply (Err e) same allowed refused = tt
+
+pub one-end : (s theirs end after : State) (request : Request) (reply : Reply) (result : Result Bool NoMemory)
+    → theirs ≡ s → Allowed s request reply end → IfOk result (λ ok. IsTrue ok → Allowed theirs request reply after)
+    → IfOk result IsTrue → OnOk result (after ≡ end)
+one-end s theirs end after request reply (Ok ok) same allowed done is_true =
+    allowed-one_end theirs request reply after end (done is_true) (moved s theirs end request reply same allowed)
+one-end s theirs end after request reply (Err e) same allowed done is_true = tt
 
 logged-of : (old new : Option (List ℕ)) (log appended : List ℕ) → old ≡ Some [] → new ≡ Some log
     → Appends old new appended → log ≡ appended

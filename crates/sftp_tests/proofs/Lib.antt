@@ -1,4 +1,2 @@
-pub mod AnsweredLaws
 pub mod AuditedLaws
 pub mod StrictRuns
-pub mod StrictFaults

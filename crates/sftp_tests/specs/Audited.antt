@@ -8,6 +8,13 @@ use Rattle.sftp_server.specs.Served.{StreamBytes}
 use Rattle.sftp_audit.specs.declared.audits.Accepted.{Accepted}
 use Rattle.sftp_audit.specs.declared.errors.AuditError.{AuditError}
 use Rattle.sftp_audit.specs.declared.errors.AuditError.TheVariants.{NoMemory}
+use Rattle.sftp_tests.specs.declared.pieces.Pieces.{Pieces}
+use Rattle.sftp_handles.specs.State.{closed_tree}
+use Rattle.sftp_profile.specs.declared.profiles.Profile.{Profile}
+use Rattle.sftp_profile.specs.State.{begun}
+use Rattle.sftp_profile.specs.Permitted.{Permitted}
+use Rattle.sftp_transcript.specs.declared.events.Event.{Event}
+use Rattle.sftp_audit.specs.Audit.{AccountsBy, IsFirstFaultBy}
 
 -- what was logged between two moments, where nothing was logged before
 pub record IsLogged (past now : StreamBytes) (log : List ℕ) : Type 0 where
@@ -26,3 +33,16 @@ Agrees start log (ends.Finished end) audited = AcceptsWith end audited
 Agrees start log (ends.Fault end fault) audited = ((log ≡ []) × (end ≡ start)) ⊎ AcceptsWith end audited
 Agrees start log (ends.Io stream) audited = ⊤
 Agrees start log ends.NoMemory audited = ⊤
+
+-- ==== The bytes that a stream in given pieces has left.
+
+abbrev pub bytes_of : Pieces → List ℕ
+bytes_of pieces = pieces.rest.now
+
+-- ==== What bytes account for under a profile, and what an audit under it meets first.
+
+abbrev pub AccountsUnder : Profile → List ℕ → List ℕ → Tree → List Event → Tree → Type 0
+AccountsUnder profile = AccountsBy Permitted (begun profile) (λ s. closed_tree s.session)
+
+abbrev pub IsFirstFaultUnder : Profile → List ℕ → List ℕ → AuditError → Type 0
+IsFirstFaultUnder profile = IsFirstFaultBy Permitted (begun profile)

@@ -1,3 +1,1 @@
 pub mod Audited
-pub mod Pieces
-pub mod Strict

@@ -1,6 +1,6 @@
 //! A stream of the bytes of a slice, in given pieces.
 ghost use Rattle.std.specs.Prelude.{◌≡◌, ◌<◌, Some, false, length};
-ghost use Rattle.sftp_tests.specs.Pieces.{bytes_of};
+ghost use Rattle.sftp_tests.specs.Audited.{bytes_of};
 
 use sftp_transcript::{Failed, Source};
 

@@ -7,7 +7,7 @@ ghost use Rattle.sftp_profile.specs.declared.profiles.Profile.{Profile};
 ghost use Rattle.sftp_profile.specs.Profiles.{strict, keeps_requests, is_stateless};
 ghost use Rattle.sftp_audit.specs.declared.errors.AuditError.{AuditError};
 ghost use Rattle.sftp_audit.specs.Audit.{Accounts, IsFirstFault};
-ghost use Rattle.sftp_tests.specs.Strict.{AccountsUnder, IsFirstFaultUnder};
+ghost use Rattle.sftp_tests.specs.Audited.{AccountsUnder, IsFirstFaultUnder};
 
 /// Under the strict profile bytes account for what they account for strictly, and for no more.
 pub fn strict_accounts()

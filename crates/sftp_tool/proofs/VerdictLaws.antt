@@ -1,6 +1,6 @@
 -- From what an audit of a stream says to what the program says.
-use Rattle.std.proofs.Common.{◌≡◌, ℕ, Bool, true, false, List, [], Option, Some, None, Result, Ok, Err}
-use Rattle.std.proofs.Common.{refl, sym, subst}
+use Rattle.std.proofs.Common.{◌≡◌, ℕ, Bool, true, false, List, [], Option, Some, None, Result, Ok, Err, refl, sym}
+use Rattle.std.proofs.Common.{subst}
 use Rattle.std.specs.Result.{IfOk, IfErr}
 use Rattle.sftp_tree.specs.Tree.{Tree}
 use Rattle.sftp_tree.specs.Picture.{IsStart}
@@ -16,16 +16,15 @@ use Rattle.sftp_audit.specs.declared.errors.AuditError.TheVariants as audit_erro
 use Rattle.sftp_audit.specs.Audit.{AccountsBy, IsFirstFaultBy, IsNoJudgement, IsNew, request_count}
 use Rattle.sftp_audit.specs.Cuts.{AccountsCutBy, unanswered_count, unsettled_count}
 use Rattle.sftp_audit.specs.Trees.{AccountsFrom, AccountsCutFrom, IsFirstFaultFrom}
-use Rattle.sftp_audit.proofs.streams.Judged.{HasNoRunFrom, HasNoCutFrom}
+use Rattle.sftp_audit.proofs.streams.{HasNoRunFrom, HasNoCutFrom}
 use Rattle.sftp_audit.proofs.streams.Starts.{by_from, cut_by_from, none_by, none_cut_by, first_by}
 use Rattle.sftp_audit.specs.Exchanges.{recorded_exchanges}
 use Rattle.sftp_files.specs.declared.messages.Ending.{Ending}
 use Rattle.sftp_files.specs.declared.messages.Ending.TheVariants as endings
 use Rattle.sftp_files.specs.declared.messages.Failure.{Failure}
-use Rattle.sftp_tool.specs.Verdicts.{AccountOf, FaultOf, ResultOf, HasEnd, HasCutEnd, IsAudit, IsVerdict}
-use Rattle.sftp_tool.specs.Verdicts.{IsReportOf}
+use Rattle.sftp_tool.specs.Verdicts.{AccountOf, FaultOf, ResultOf, HasEnd, HasCutEnd, IsAudit, IsVerdict, IsReportOf}
 use Rattle.sftp_tool.specs.Verdicts.{IsStrictVerdict, IsVerdictUnder, IsStrictCutVerdict, IsCutVerdictUnder}
-use Rattle.sftp_tool.specs.Verdicts.{IsVerdictAsked}
+use Rattle.sftp_tool.specs.Verdicts.{IsVerdictAsked, HasRun}
 
 -- ---- a reader of a stream whose bytes are known
 
@@ -172,3 +171,15 @@ module _ (tree : List ℕ) (known : Option (List ℕ)) (result : Result Ending F
   asked_of_cut profile cuts is strictly under =
       subst (λ (b : Bool). IfOk result (IsVerdictAsked profile b tree known)) (sym is)
       (asked-cut profile strictly under)
+
+-- ==== What an audit of streams says of a tree that was inferred.
+
+module _ (accounts : AccountOf) (left : Option (List ℕ)) (tree session : List ℕ) (records : Reading) where
+  pub has_run : (result : Result Ended AuditError)
+      → IfOk result (λ ended. (bytes transcript : List ℕ) → left ≡ Some bytes → IsNew transcript records
+      → (start : Tree) × (events : List Event) × accounts bytes transcript start events ended.tree
+      × (ended.requests ≡ request_count events))
+      → left ≡ Some tree → IsNew session records → IfOk result (λ _. HasRun accounts tree session)
+  has_run (Ok ended) accepts is new =
+      let run = accepts tree session is new in (run.0, run.1, ended.tree, run.2)
+  has_run (Err error) accepts is new = tt

@@ -6,7 +6,7 @@ ghost use Rattle.sftp_audit.specs.Audit.{IsFirstFaultBy};
 ghost use Rattle.sftp_audit.specs.Cuts.{AccountsCutBy};
 ghost use Rattle.sftp_files.specs.declared.messages.Ending.TheVariants as endings;
 ghost use Rattle.sftp_files.specs.Failures.{IsUnwritten};
-ghost use Rattle.sftp_tool.specs.Outcomes.{IsAuditStatus};
+ghost use Rattle.sftp_tool.specs.Verdicts.{IsAuditStatus};
 ghost use Rattle.sftp_tool.specs.Verdicts.{IsAudit, IsStrictCutAudit, IsCutAuditUnder, HasCutEnd, IsReportOf};
 ghost use Rattle.sftp_tool.specs.Verdicts.{IsStrictCutVerdict, IsCutVerdictUnder};
 

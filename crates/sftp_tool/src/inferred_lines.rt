@@ -1,5 +1,5 @@
 //! The lines about an inferred tree: what it assumes, and which records contradict each other.
-ghost use Rattle.sftp_tool.specs.Outcomes.{IsAuditStatus};
+ghost use Rattle.sftp_tool.specs.Verdicts.{IsAuditStatus};
 
 use sftp_audit::Refusal;
 use sftp_files::{Ending, Failure, print, write_flushed};

@@ -1,7 +1,7 @@
 //! `infer`, and `audit --tree unknown`: audits of sessions whose tree nobody knows.
 ghost use Rattle.std.specs.Prelude.{IfErr};
 ghost use Rattle.sftp_files.specs.Failures.{IsUnwritten};
-ghost use Rattle.sftp_tool.specs.Outcomes.{IsAuditStatus};
+ghost use Rattle.sftp_tool.specs.Verdicts.{IsAuditStatus};
 
 use crate::inferences::{Found, Inferred, Judging, find};
 use crate::inferred_lines::{

@@ -5,8 +5,8 @@ ghost use Rattle.sftp_audit.specs.Audit.{AccountsBy, IsFirstFaultBy};
 ghost use Rattle.sftp_files.specs.declared.messages.Ending.TheVariants as endings;
 ghost use Rattle.sftp_profile.specs.declared.profiles.Profile.{Profile as profile};
 ghost use Rattle.sftp_files.specs.Failures.{IsUnwritten};
-ghost use Rattle.sftp_files.specs.Status.{failure_status};
-ghost use Rattle.sftp_tool.specs.Outcomes.{IsAuditStatus, IsOutcome};
+ghost use Rattle.sftp_files.specs.Failures.{failure_status};
+ghost use Rattle.sftp_tool.specs.Verdicts.{IsAuditStatus, IsOutcome};
 ghost use Rattle.sftp_tool.specs.Verdicts.{IsAudit, IsStrictAudit, IsAuditUnder, HasEnd, IsReportOf, IsReportOfError};
 ghost use Rattle.sftp_tool.specs.Verdicts.{IsStrictVerdict, IsVerdictUnder, IsVerdictAsked};
 

@@ -1,6 +1,6 @@
 //! Trees in files, from which sessions start.
 ghost use Rattle.std.specs.Prelude.{◌≡◌, IfErr};
-ghost use Rattle.sftp_files.specs.Status.{failure_status};
+ghost use Rattle.sftp_files.specs.Failures.{failure_status};
 
 use sftp_files::{Failure, System, Watched, open};
 use sftp_progress::{Progress, Task, Tracked};

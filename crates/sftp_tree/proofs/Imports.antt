@@ -82,23 +82,23 @@ pub use Rattle.sftp_packets.specs.declared.requests.Ask.{Ask}
 pub use Rattle.sftp_packets.specs.Layouts.{IsAttrs, IsAsk}
 pub use Rattle.sftp_tree.specs.Asks.{asked, has_room_for, HasNode}
 pub use Rattle.sftp_tree.specs.Attributes.{directory_owner, changed_owner, changed_content, resized, file_owner}
-pub use Rattle.sftp_tree.specs.Causes.{row, CauseSet, every_cause, is_none, only}
-unfoldable pub use Rattle.sftp_tree.specs.Causes.{no_causes, when, joined}
+pub use Rattle.sftp_tree.specs.PlaceCauses.{row, CauseSet, every_cause, is_none, only}
+unfoldable pub use Rattle.sftp_tree.specs.PlaceCauses.{no_causes, when, joined}
 pub use Rattle.sftp_tree.specs.Changes.{with_changed_file, put_in_its_stead, new_content, with_emptied_file}
 pub use Rattle.sftp_tree.specs.Changes.{with_new_file, moved, Plan, carried, no_change, put_node, remove_node, move_node}
 pub use Rattle.sftp_tree.specs.Changes.{own_directory, set_file, make_file, empty_file, plan_to_set, plan_to_open}
 pub use Rattle.sftp_tree.specs.Changes.{plan_to_name, with_entry}
-pub use Rattle.sftp_tree.specs.FileChanges.{after_pin, after_unpin, overwritten, written, write_fits, written_content}
-pub use Rattle.sftp_tree.specs.FileChanges.{with_written_file, after_write, after_set}
-pub use Rattle.sftp_tree.specs.Growth.{names_from, place_from, open_after, names_in, place_in}
+pub use Rattle.sftp_tree.specs.Changes.{after_pin, after_unpin, overwritten, written, write_fits, written_content}
+pub use Rattle.sftp_tree.specs.Changes.{with_written_file, after_write, after_set}
+pub use Rattle.sftp_tree.specs.PictureParts.{names_from, place_from, open_after, names_in, place_in}
 pub use Rattle.sftp_tree.specs.Items.{entry_of}
-pub use Rattle.sftp_tree.specs.Listings.{shown_child, name_below, child_below}
-unfoldable pub use Rattle.sftp_tree.specs.Listings.{children, listing}
+pub use Rattle.sftp_tree.specs.Attributes.{shown_child, name_below, child_below}
+unfoldable pub use Rattle.sftp_tree.specs.Attributes.{children, listing}
 pub use Rattle.sftp_tree.specs.Nesting.{Children, branch, branch_of, flat_of, IsBranch, AreBranches, AreChildren}
 pub use Rattle.sftp_tree.specs.Nesting.{IsGrafted, IsSet, IsMoved, placed, flat, IsFilled}
 unfoldable pub use Rattle.sftp_tree.specs.Nesting.{have_at_most}
-pub use Rattle.sftp_tree.specs.NodesBelow.{nodes_of}
-pub use Rattle.sftp_tree.specs.OpenFlags.{truncates, excludes}
+pub use Rattle.sftp_tree.specs.Nesting.{nodes_of}
+pub use Rattle.sftp_tree.specs.Attributes.{truncates, excludes}
 pub use Rattle.sftp_tree.specs.Picture.{IsStart, entry_naming, naming, kind_of, rows_after, is_given_or_next}
 pub use Rattle.sftp_tree.specs.Picture.{given_with, is_numbered, blank, root_owner, file_of, rows_of}
 unfoldable pub use Rattle.sftp_tree.specs.Picture.{picture}
@@ -112,18 +112,18 @@ pub use Rattle.sftp_tree.specs.PlaceCauses.{replacing_causes, exchanging_causes,
 pub use Rattle.sftp_tree.specs.PlaceCauses.{directory_causes, removing_causes, opening_causes}
 pub use Rattle.sftp_tree.specs.Plans.{CanMake, CanPut, CanTake, CanMove, CanDo, AreAny, OwnsBy, planned, changed}
 pub use Rattle.sftp_tree.specs.Plans.{IsPlanned}
-pub use Rattle.sftp_tree.specs.Refusals.{IsFree, stat_ask, IsRefusal}
-unfoldable pub use Rattle.sftp_tree.specs.Refusals.{in_set}
-pub use Rattle.sftp_tree.specs.Room.{has_room, size_fits, move_fits, has_room_for_file, reaches_at_most}
-pub use Rattle.sftp_tree.specs.Route.{left_of, is_done}
-pub use Rattle.sftp_tree.specs.Seen.{branch_seen, node_seen}
+pub use Rattle.sftp_tree.specs.Told.{IsFree, stat_ask, IsRefusal}
+unfoldable pub use Rattle.sftp_tree.specs.Told.{in_set}
+pub use Rattle.sftp_tree.specs.Plans.{has_room, size_fits, move_fits, has_room_for_file, reaches_at_most}
+pub use Rattle.sftp_tree.specs.Stepping.{left_of, is_done}
+pub use Rattle.sftp_tree.specs.Nesting.{branch_seen, node_seen}
 pub use Rattle.sftp_tree.specs.Stepping.{meeting, StaysAtLink, LendsEnd}
 pub use Rattle.sftp_tree.specs.StoredFiles.{IsChanged, is_held_still, where_held, contents, pin_count_at, pins_of}
 pub use Rattle.sftp_tree.specs.StoredFiles.{AreCounted, file_named, IsChangedWhereNamed, with_a_name, without_a_name}
 pub use Rattle.sftp_tree.specs.StoredFiles.{with_content_made, without_pins, unpinned, seen, with_attributes_set}
 pub use Rattle.sftp_tree.specs.StoredFiles.{with_a_pin, without_a_pin, with_bytes_written}
 unfoldable pub use Rattle.sftp_tree.specs.Told.{listing_to, shown_to, text_to, file_to}
-pub use Rattle.sftp_tree.specs.Trail.{IsAt, IsLentAt, Standing, root_of, AreAlong, DescendTo, IsDirAt}
+pub use Rattle.sftp_tree.specs.Nesting.{IsAt, IsLentAt, Standing, root_of, AreAlong, DescendTo, IsDirAt}
 pub use Rattle.sftp_tree.specs.Tree.{Tree, WellFormed, IsKept, limits, node_at, content_at, is_taken, is_directory}
 pub use Rattle.sftp_tree.specs.Tree.{is_link, Names, with_node, without_node, names_file, times_named, with_content}
 pub use Rattle.sftp_tree.specs.Tree.{times_pinned, is_pinned, Pins, is_named, with_pins, IsContent, trim, raised}
@@ -134,8 +134,8 @@ unfoldable pub use Rattle.sftp_tree.specs.Tree.{fits, has_entries}
 pub use Rattle.sftp_tree.specs.Walk.{Meeting, is_last, start_of, steps_of, looked_limit, link_limit, enters, ends}
 pub use Rattle.sftp_tree.specs.Walk.{fails, through, met_link, met, going_on}
 unfoldable pub use Rattle.sftp_tree.specs.Walk.{reached, meets, looked, walk, walk_parts, looked_parts}
-pub use Rattle.sftp_tree.specs.Walking.{IsPlaceOf}
-pub use Rattle.sftp_tree.specs.Written.{text_of, rows_from, firsts_from, AreWritable}
+pub use Rattle.sftp_tree.specs.Stepping.{IsPlaceOf}
+pub use Rattle.sftp_tree.specs.PictureParts.{text_of, rows_from, firsts_from, AreWritable}
 pub use Rattle.sftp_tree.specs.declared.causes.Cause.{Cause}
 pub use Rattle.sftp_tree.specs.declared.causes.Cause.TheVariants.{BadFlags, BadPath, NoEntry, Exists, IsDir, NotLink}
 pub use Rattle.sftp_tree.specs.declared.causes.Cause.TheVariants.{NotFile, NotEmpty, Root, Inside, NoRoom, NotDir, Loop}

@@ -13,7 +13,7 @@ use Rattle.sftp_tree.specs.declared.causes.Cause.{Cause}
 use Rattle.sftp_tree.specs.Tree.{Tree, limits, node_at, is_file}
 use Rattle.sftp_tree.specs.Attributes.{directory_owner, file_owner}
 use Rattle.sftp_tree.specs.PlaceCauses.{are_one}
-use Rattle.sftp_tree.specs.Room.{has_room, size_fits_at, has_room_to_open, move_fits}
+use Rattle.sftp_tree.specs.Plans.{has_room, size_fits_at, has_room_to_open, move_fits}
 use Rattle.sftp_tree.specs.Plans.{OwnsBy}
 
 -- the request

@@ -1,6 +1,7 @@
 -- Nested directories, and the table of places that each of them is seen as: the directory itself at the place with no
 -- names, and each child at its name, with all that is below it.
 use Rattle.std.specs.Prelude.{◌≡◌, ℕ, nat_le, length, Bool, false, Option, Some, None, [], ◌∷◌, ◌++◌, map, IsTrue, ⊤}
+use Rattle.std.specs.Prelude.{filter_map, List, IfSome}
 use Rattle.std.specs.List.{AllByRecursion, list_all}
 use Rattle.sftp_path.specs.Place.{Name, Place, place_cmp, name_cmp, begins}
 use Rattle.sftp_path.specs.Table.{Table, InOrder}
@@ -11,6 +12,10 @@ use Rattle.sftp_tree.specs.declared.nodes.Node.TheVariants as nodes
 use Rattle.sftp_tree.specs.declared.entries.directories.Child.{Child}
 use Rattle.sftp_tree.specs.declared.entries.directories.Child.TheVariants.{Dir, File, Link}
 use Rattle.sftp_tree.specs.Tree.{Names, node_at, is_directory, is_taken}
+use Rattle.std.specs.Option.{option_map}
+use Rattle.sftp_tree.specs.declared.entries.seen.Seen.{Seen}
+use Rattle.sftp_tree.specs.declared.entries.seen.Seen.TheVariants.{Dir, File, Link}
+use Rattle.std.specs.Borrow.{Bor}
 
 -- the children of a directory by their names
 abbrev pub Children : Type 0
@@ -84,3 +89,68 @@ pub record IsFilled (place : Place) (before after : Names) (was_taken : Bool) : 
 -- whether each place has at most `room` names
 unfoldable pub have_at_most : ℕ → Names → Bool
 have_at_most room names = list_all (λ e. nat_le (length e.0) room) names
+
+-- ==== The children of a directory as nodes.
+
+-- a child's own node, with its name
+abbrev pub named_node : Name × Child → Option (Name × Node)
+named_node c = option_map (λ node. (c.0, node)) (node_at (branch c.1) [])
+
+abbrev pub nodes_of : Children → Table Name Node
+nodes_of children = filter_map named_node children
+
+-- ==== What stands at a place, as it is lent.
+
+-- the node that is lent
+abbrev pub node_seen : Seen → Node
+node_seen (Dir owner dir) = nodes.Dir owner
+node_seen (File number) = nodes.File number
+node_seen (Link target) = nodes.Link target.now
+
+-- what is lent and what is below it, by places that start there
+abbrev pub branch_seen : Option Seen → Names
+branch_seen None = []
+branch_seen (Some (Dir owner dir)) = dir.now
+branch_seen (Some (File number)) = ([], nodes.File number) ∷ []
+branch_seen (Some (Link target)) = ([], nodes.Link target.now) ∷ []
+
+-- ==== The directories from the root to where a walk stands.
+
+-- the entries that a walk goes through, and where it stands
+pub record Standing : Type 0 where
+  pub names : Names
+  pub at : Place
+
+-- the second table has at each place what the first has below this one
+abbrev pub IsAt : Names → Place → Names → Type 0
+IsAt names place inner = (rest : Place) → node_at inner rest ≡ node_at names (place ++ rest)
+
+-- the root of a walk: the first of the directories above the one where it stands, or this one
+abbrev pub root_of : List (Bor Names) → Bor Names → Bor Names
+root_of [] here = here
+root_of (dir ∷ above) here = dir
+
+-- by the names of the place each directory above is the parent of the next, and the last the parent of the one where
+-- the walk stands
+abbrev pub AreAlong : List (Bor Names) → Place → Bor Names → Type 0
+AreAlong [] [] here = ⊤
+AreAlong [] (name ∷ names) here = ⊥
+AreAlong (dir ∷ above) [] here = ⊥
+AreAlong (dir ∷ above) (name ∷ names) here =
+    IsAt dir.now (name ∷ []) (root_of above here).now × AreAlong above names here
+
+-- by the names of the place one goes from the root through the directories between to the one where the walk stands
+abbrev pub DescendTo : Bor Names → List (Bor Names) → Place → Bor Names → Type 0
+DescendTo root between [] here = (between ≡ []) × (here ≡ root)
+DescendTo root between (name ∷ names) here = AreAlong (root ∷ between) (name ∷ names) here
+
+-- a directory that is lent is the one at this place
+abbrev pub IsDirAt : Names → Place → Seen → Type 0
+IsDirAt names place (Dir owner dir) = IsAt names place dir.now
+IsDirAt names place (File number) = ⊤
+IsDirAt names place (Link target) = ⊤
+
+-- what is lent is what stands at this place
+pub record IsLentAt (names : Names) (place : Place) (lent : Option Seen) : Type 0 where
+  pub node : option_map node_seen lent ≡ node_at names place
+  pub below : IfSome lent (IsDirAt names place)

@@ -1,9 +1,9 @@
 -- The tree that a tree file describes, and what the code keeps on its way from the one to the other.
 use Rattle.std.specs.Prelude.{◌≡◌, ℕ, suc, ◌+◌, ◌-◌, ◌≤◌, ◌<◌, ◌^◌, List, [], ◌∷◌, ◌++◌, length, take, slice_index}
-use Rattle.std.specs.Prelude.{Option, Some, None, IfSome}
+use Rattle.std.specs.Prelude.{Option, Some, None, IfSome, map}
 use Rattle.std.specs.List.{flat_map, AllByRecursion}
 use Rattle.std.specs.Ordering.{nat_cmp}
-use Rattle.sftp_path.specs.Place.{Place, absolute}
+use Rattle.sftp_path.specs.Place.{Place, absolute, parent}
 use Rattle.sftp_path.specs.Table.{Table, get, put}
 use Rattle.sftp_treefile.specs.declared.files.Owner.{Owner}
 use Rattle.sftp_treefile.specs.declared.files.Kind.{Kind}
@@ -19,6 +19,9 @@ use Rattle.sftp_tree.specs.declared.nodes.Node.TheVariants.{Dir, File, Link}
 use Rattle.sftp_tree.specs.Tree.{Names, Files, Tree, node_at, content_at}
 use Rattle.sftp_tree.specs.StoredFiles.{contents, AreCounted, IsChanged, with_a_name}
 use Rattle.sftp_tree.specs.Picture.{naming, root_owner}
+use Rattle.sftp_tree.specs.declared.entries.growing.Opened.{Opened}
+use Rattle.sftp_tree.specs.declared.entries.growing.Growth.{Growth}
+use Rattle.sftp_tree.specs.Nesting.{placed}
 
 -- the file that an entry comes with
 abbrev pub content_of : Kind → List Content
@@ -158,3 +161,52 @@ abbrev pub IsShort : Files → Node → Type 0
 IsShort files (Dir owner) = Unit {0}
 IsShort files (File number) = IfSome (content_at files number) (λ (content : Content). length content.bytes < 2 ^ 32)
 IsShort files (Link target) = length target < 2 ^ 32
+
+-- ==== How the entries of directories are written: each after those before it, with the text of the place where the
+-- writing stands, the number of the next entry, and the first name of each file that was met.
+
+-- what the names add to the text of the place from which they lead: a `/` before each
+abbrev pub text_of : Place → List ℕ
+text_of place = flat_map (λ name. 47 ∷ name) place
+
+-- the rows of entries, the first of which has this number, by places that start at the place of this text
+abbrev pub rows_from : Files → Firsts → ℕ → List ℕ → Names → List Row
+rows_from files firsts next text [] = []
+rows_from files firsts next text (e ∷ es) =
+    record { path = text ++ text_of e.0; kind = known_kind files firsts e.1 } ∷ rows_from files
+    (firsts_with firsts next e.1) (suc next) text es
+
+-- the first names with these entries
+abbrev pub firsts_from : Firsts → ℕ → Names → Firsts
+firsts_from firsts next [] = firsts
+firsts_from firsts next (e ∷ es) = firsts_from (firsts_with firsts next e.1) (suc next) es
+
+-- the lengths of the strings of each entry can be written
+abbrev pub AreWritable : Files → List ℕ → Names → Type 0
+AreWritable files text names = AllByRecursion (λ e. (length (text ++ text_of e.0) < 2 ^ 32) × IsShort files e.1) names
+
+-- ==== Directories that grow entry by entry: those from the root to the one that gets the next entries, each but the
+-- last with the name of the next.
+
+-- the entries of the first directory, if each directory is the last child of the one before it
+abbrev pub names_from : List Opened → Names → Names
+names_from [] top = top
+names_from (o ∷ os) top = o.dir ++ placed o.name (names_from os top)
+
+-- the names that lead to the last one
+abbrev pub place_from : List Opened → Place
+place_from above = map (λ (o : Opened). o.name) above
+
+-- the entries that have come
+abbrev pub names_in : Growth → Names
+names_in g = names_from g.above.items g.top
+
+-- the place of the directory that gets the next entries
+abbrev pub place_in : Growth → Place
+place_in g = place_from g.above.items
+
+-- the directory that is open after an entry: the entry itself, or where it is
+abbrev pub open_after : Place → Node → Place
+open_after place (Dir owner) = place
+open_after place (File number) = parent place
+open_after place (Link target) = parent place

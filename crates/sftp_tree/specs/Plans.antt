@@ -1,23 +1,123 @@
 -- The plans of requests, as the code has them, and when each can be carried out.
-use Rattle.std.specs.Prelude.{◌≡◌, false, Option, Some, None, IsTrue}
-use Rattle.sftp_path.specs.Place.{Place, parent, are_names}
+use Rattle.std.specs.Prelude.{◌+◌, ◌-◌, ◌^◌, ◌&&◌, ◌||◌, not, nat_lt, nat_le, Bool, true, length, ℕ, Option, Some}
+use Rattle.std.specs.Prelude.{None, Result, Ok, Err, IfOk, IfSome, ◌≡◌, false, IsTrue}
+use Rattle.std.specs.List.{list_all}
+use Rattle.sftp_path.specs.Place.{Place, begins, depth_limit, parent, are_names}
+use Rattle.sftp_treefile.specs.declared.limits.TreeLimits.{TreeLimits}
+use Rattle.sftp_tree.specs.declared.nodes.Node.{Node}
+use Rattle.sftp_tree.specs.Tree.{Tree, Names, limits, is_file, depth_fits, IsKept, IsNode, IsContent, fits, node_at}
+use Rattle.sftp_tree.specs.Tree.{is_taken, is_directory, has_entries, trim}
+use Rattle.std.specs.Option.{option_map}
+use Rattle.sftp_tree.specs.declared.causes.Cause.{Cause}
+use Rattle.sftp_tree.specs.declared.found.Found.{Found}
+use Rattle.sftp_tree.specs.Nesting.{node_seen}
+use Rattle.sftp_tree.specs.Nesting.{IsLentAt}
+use Rattle.sftp_tree.specs.Stepping.{IsPlaceOf}
+use Rattle.sftp_packets.specs.declared.requests.Ask.{Ask}
+use Rattle.sftp_tree.specs.declared.ends.Places.{Places}
+use Rattle.sftp_tree.specs.Requests.{led, new_led, after}
 use Rattle.sftp_treefile.specs.declared.files.Owner.{Owner}
 use Rattle.sftp_treefile.specs.TreeFile.{IsOwner, is_root, same_place}
 use Rattle.sftp_packets.specs.declared.attributes.Attrs.{Attrs}
-use Rattle.sftp_packets.specs.declared.requests.Ask.{Ask}
 use Rattle.sftp_tree.specs.declared.file_contents.Content.{Content}
-use Rattle.sftp_tree.specs.declared.nodes.Node.{Node}
 use Rattle.sftp_tree.specs.declared.nodes.Node.TheVariants as nodes
 use Rattle.sftp_tree.specs.declared.plans.Plan.{Plan}
 use Rattle.sftp_tree.specs.declared.plans.Plan.TheVariants.{Nothing, Put, Remove, Move, SetOwner, SetFile, Make}
 use Rattle.sftp_tree.specs.declared.plans.Plan.TheVariants.{Truncate}
-use Rattle.sftp_tree.specs.Tree.{Tree, IsKept, IsNode, IsContent, fits, node_at, is_taken, is_directory, has_entries}
-use Rattle.sftp_tree.specs.Tree.{trim}
 use Rattle.sftp_tree.specs.Attributes.{changed_owner}
 use Rattle.sftp_tree.specs.PlaceCauses.{goes_inside}
 use Rattle.sftp_tree.specs.Changes as plans
 use Rattle.sftp_tree.specs.Changes.{carried, with_entry, put_in_its_stead, with_new_file}
-use Rattle.sftp_tree.specs.Requests.{after}
+
+-- ==== Whether what requests ask for keeps to the limits, in numbers.
+
+-- whether one more entry, at a new place, keeps to the limits; the root is a place, but does not count as an entry
+abbrev pub has_room : Tree → Place → Bool
+has_room t place = nat_le (length t.names) (limits t).entries && depth_fits place
+
+-- whether a file may have the size that is given, if one is
+abbrev pub size_fits : TreeLimits → Option ℕ → Bool
+size_fits bounds None = true
+size_fits bounds (Some size) = nat_le size bounds.file_bytes
+
+-- the same, if the node is a file
+abbrev pub size_fits_at : TreeLimits → Option ℕ → Option Node → Bool
+size_fits_at bounds size standing = not (is_file standing) || size_fits bounds size
+
+-- whether one more file, at a new place, keeps to the limits: it needs a number too
+abbrev pub has_room_for_file : Tree → Place → Bool
+has_room_for_file t place = has_room t place && nat_lt (t.made + 1) (2 ^ 32)
+
+-- the same, if there is no node
+abbrev pub has_room_to_open : Tree → Place → Option Node → Bool
+has_room_to_open t place None = has_room_for_file t place
+has_room_to_open t place (Some standing) = true
+
+-- whether each place that begins with `top` has at most `room` names after it
+abbrev pub reaches_at_most : Names → Place → ℕ → Bool
+reaches_at_most names top room = list_all (λ e. not (begins top e.0) || nat_le (length e.0 - length top) room) names
+
+-- whether the node at the old place, with all below it, keeps to the limit of names in a place at the new one
+abbrev pub move_fits : Names → Place → Place → Bool
+move_fits names old new = nat_le (length new) depth_limit && reaches_at_most names old (depth_limit - length new)
+
+-- ==== What paths lead to, as the code has it.
+
+-- the node that was found
+abbrev pub node_of : Found → Option Node
+node_of found = option_map node_seen found.node
+
+-- what was found is what stands at the place
+abbrev pub IsThere : Names → Found → Type 0
+IsThere names found = IsLentAt names found.place found.node
+
+-- a place of the tree was found, and what stands there
+pub record IsFoundIn (t : Tree) (found : Found) : Type 0 where
+  pub place : IsPlaceOf t found.place
+  pub lent : IsThere t.names found
+
+-- the place that was found, or why there is none
+abbrev pub placed : Result Found Cause → Result Place Cause
+placed (Ok found) = Ok found.place
+placed (Err cause) = Err cause
+
+-- the same of a second path, if there is one
+abbrev pub new_placed : Option (Result Found Cause) → Option (Result Place Cause)
+new_placed None = None
+new_placed (Some end) = Some (placed end)
+
+-- what was found at the end of a path is there
+abbrev pub EndIsThere : Names → Result Found Cause → Type 0
+EndIsThere names end = IfOk end (IsThere names)
+
+-- and at the end of a second one
+abbrev pub NewEndIsThere : Names → Option (Result Found Cause) → Type 0
+NewEndIsThere names new = IfSome new (EndIsThere names)
+
+-- ==== Where the paths of a request lead, as the code has it.
+
+-- what a second path leads to, if there is one
+abbrev pub ok_where : Option Found → Option (Result Found Cause)
+ok_where None = None
+ok_where (Some found) = Some (Ok found)
+
+-- both ends are these places
+pub record AreLed (old : Result Found Cause) (new : Option (Result Found Cause)) (places : Places) : Type 0 where
+  pub first : old ≡ Ok places.old
+  pub second : new ≡ ok_where places.new
+
+-- the paths of a request lead to these places
+pub record LeadTo (t : Tree) (ask : Ask) (places : Places) : Type 0 where
+  pub first : led t ask ≡ Some (Ok places.old.place)
+  pub second : new_led t ask ≡ new_placed (ok_where places.new)
+
+-- what was found is in the tree
+abbrev pub AreWell : Tree → Places → Type 0
+AreWell t places = IsFoundIn t places.old × IfSome places.new (IsFoundIn t)
+
+-- the same of the ends that are places
+abbrev pub EndsAreWell : Tree → Result Found Cause → Option (Result Found Cause) → Type 0
+EndsAreWell t old new = IfOk old (IsFoundIn t) × IfSome new (λ end. IfOk end (IsFoundIn t))
 
 -- a plan of the code
 abbrev pub planned : Plan → plans.Plan

@@ -162,3 +162,13 @@ shown_short_link = record no_attributes { size = Some 1; owner = Some (0, 0); pe
 -- what is in `/d`
 abbrev pub listed_names : Table Name Attrs
 listed_names = (codes "f", shown_file) ∷ (codes "g", shown_plain_directory) ∷ (codes "l", shown_short_link) ∷ []
+
+-- ==== What the worked examples of open files name.
+
+-- the file `/f` with the text `hello`, which is pinned so often
+abbrev pub pinned : ℕ → Tree
+pinned often = record with_file { pins = (0, often) ∷ [] }
+
+-- the file without its name
+abbrev pub unnamed : ℕ → Tree
+unnamed often = record without_file { files = (0, hello) ∷ []; pins = (0, often) ∷ [] }

@@ -19,15 +19,15 @@ use Rattle.sftp_tree.specs.declared.causes.Cause.TheVariants.{NoRoom}
 use Rattle.sftp_tree.specs.Tree.{Tree, node_at, trim, fits}
 use Rattle.sftp_tree.specs.Walk.{reached}
 use Rattle.sftp_tree.specs.Attributes.{directory_owner, shown}
-use Rattle.sftp_tree.specs.Causes.{CauseSet, no_causes, when, joined, is_none}
+use Rattle.sftp_tree.specs.PlaceCauses.{CauseSet, no_causes, when, joined, is_none}
 use Rattle.sftp_tree.specs.PlaceCauses.{making_causes, needing_causes, link_causes, file_causes, setting_causes}
 use Rattle.sftp_tree.specs.PlaceCauses.{removing_causes, unlinking_causes, leaving_causes, giving_causes}
 use Rattle.sftp_tree.specs.PlaceCauses.{target_bytes_causes, moving_causes, exchanging_causes, opening_causes}
 use Rattle.sftp_tree.specs.PlaceCauses.{directory_causes, flags_causes}
 use Rattle.sftp_tree.specs.Changes.{Plan, no_change, put_node, remove_node, move_node, carried, plan_to_set}
 use Rattle.sftp_tree.specs.Changes.{plan_to_open, plan_to_exchange, plan_to_name}
-use Rattle.sftp_tree.specs.OpenFlags.{excludes}
-use Rattle.sftp_tree.specs.Listings.{listing}
+use Rattle.sftp_tree.specs.Attributes.{excludes}
+use Rattle.sftp_tree.specs.Attributes.{listing}
 
 -- ---- what a reply says
 

@@ -1,11 +1,30 @@
 -- What a step of the code's walk answers, as the definition of walks has it.
-use Rattle.std.specs.Prelude.{◌≡◌, [], ◌∷◌, ◌++◌, ⊤}
-use Rattle.sftp_path.specs.Place.{Place}
+use Rattle.std.specs.Prelude.{◌==◌, Bool, List, [], ◌∷◌, ◌++◌, length, IsTrue, ◌≡◌, ⊤}
+use Rattle.sftp_path.specs.Place.{Name, Split, Place, parent, are_names}
+use Rattle.sftp_tree.specs.Tree.{Tree, IsKept, node_at, is_directory, Names}
 use Rattle.sftp_tree.specs.declared.stepping.Met.{Met}
 use Rattle.sftp_tree.specs.declared.stepping.Met.TheVariants.{Enters, Ends, Fails, Through}
-use Rattle.sftp_tree.specs.Tree.{Names}
-use Rattle.sftp_tree.specs.Trail.{IsLentAt}
+use Rattle.sftp_tree.specs.Nesting.{IsLentAt}
 use Rattle.sftp_tree.specs.Walk.{Meeting, enters, ends, fails, through}
+
+-- ==== What is left of the targets that a walk goes over.
+
+-- the components of all targets, the last one's in front
+abbrev pub left_of : List Split → List Name
+left_of [] = []
+left_of (target ∷ targets) = left_of targets ++ target.left
+
+-- nothing of it is left
+abbrev pub is_done : Split → Bool
+is_done target = length target.left == 0
+
+-- ==== What is known of the places to which paths lead.
+
+-- a place that a path of a tree leads to: a list of names, whose parent is a directory
+pub record IsPlaceOf (t : Tree) (place : Place) : Type 0 where
+  pub kept : IsKept t
+  pub named : IsTrue (are_names place)
+  pub above : IsTrue (is_directory (node_at t.names (parent place)))
 
 -- the meeting, where the walk then stands at the place
 abbrev pub meeting : Met → Place → Meeting

@@ -13,7 +13,7 @@ use Rattle.sftp_tree.specs.declared.nodes.Node.{Node}
 use Rattle.sftp_tree.specs.declared.nodes.Node.TheVariants.{Dir, File, Link}
 use Rattle.sftp_tree.specs.Tree.{Names, Files, Pins, Tree, times_named}
 use Rattle.sftp_tree.specs.Attributes.{changed_content}
-use Rattle.sftp_tree.specs.FileChanges.{written_content}
+use Rattle.sftp_tree.specs.Changes.{written_content}
 
 -- the files
 abbrev pub contents : Table ℕ Stored → Files

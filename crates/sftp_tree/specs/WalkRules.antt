@@ -1,13 +1,16 @@
 -- Where a path leads, as the rules of a walk, one by one (draft-ietf-secsh-filexfer-02, section 6.2). The function of
 -- `Walk` leads where they lead.
-use Rattle.std.specs.Prelude.{◌≡◌, ℕ, zero, suc, Bool, false, List, [], ◌∷◌, ◌++◌, Some, None, Result, Ok, Err, IsTrue}
+use Rattle.std.specs.Prelude.{◌≡◌, ℕ, zero, suc, Bool, false, List, [], ◌∷◌, ◌++◌, Some, None, Result, Ok, Err}
+use Rattle.std.specs.Prelude.{IsTrue, ◌≤◌, if◌then◌else◌}
 use Rattle.sftp_treefile.specs.declared.files.Owner.{Owner}
-use Rattle.sftp_path.specs.Place.{Name, Place, parent, is_dot, is_dot_dot, components}
+use Rattle.sftp_path.specs.Place.{Name, Place, parent, is_dot, is_dot_dot, components, is_good_path}
 use Rattle.sftp_tree.specs.declared.nodes.Node.TheVariants.{Dir, File, Link}
 use Rattle.sftp_tree.specs.declared.causes.Cause.{Cause}
 use Rattle.sftp_tree.specs.declared.causes.Cause.TheVariants.{NoEntry, NotDir, Loop}
-use Rattle.sftp_tree.specs.Tree.{Names, node_at}
-use Rattle.sftp_tree.specs.Walk.{start_of}
+use Rattle.sftp_tree.specs.Tree.{Names, node_at, Tree}
+use Rattle.sftp_tree.specs.Walk.{start_of, looked, link_limit, steps_of}
+use Rattle.sftp_tree.specs.declared.causes.Refused.{Refused}
+use Rattle.sftp_tree.specs.declared.causes.Refused.TheVariants.{Cause as refused_by, NoMemory}
 
 -- neither `.` nor `..`
 abbrev pub IsPlain : Name → Type 0
@@ -61,3 +64,20 @@ pub data Leads (names : Names) (follow : Bool) : ℕ → Place → List Name →
   loops : (at : Place) (name : Name) (rest : List Name) (target : List ℕ) → IsPlain name →
       GoesThrough follow rest → node_at names (at ++ name ∷ []) ≡ Some (Link target) →
       Leads names follow zero at (name ∷ rest) (Err Loop)
+
+-- ==== How many components the walk of a path looks at, and what a walk has counted.
+
+-- all that the walk of a path looks at: nothing if the path is bad
+unfoldable pub looked_of : Tree → Bool → List ℕ → ℕ
+looked_of t follow path = if is_good_path path then looked t.names follow link_limit [] (steps_of t path) else 0
+
+-- a walk has counted all of these components, or some of them if memory ran out
+abbrev pub HasCounted : {A : Type 0} → Result A Refused → ℕ → ℕ → Type 0
+HasCounted (Ok end) count all = count ≡ all
+HasCounted (Err (refused_by cause)) count all = count ≡ all
+HasCounted (Err NoMemory) count all = count ≤ all
+
+-- a walk that is refused for a cause leads nowhere, and that is why
+abbrev pub IsLost : Result Place Cause → Refused → Type 0
+IsLost reached (refused_by cause) = reached ≡ Err cause
+IsLost reached NoMemory = Unit {0}

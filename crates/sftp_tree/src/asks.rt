@@ -3,8 +3,8 @@
 ghost use Rattle.std.specs.Prelude.{◌≡◌, Some, IfOk, MatchOption, option_copied};
 ghost use Rattle.sftp_treefile.specs.TreeFile.{is_target};
 ghost use Rattle.sftp_tree.specs.Requests as requests;
-ghost use Rattle.sftp_tree.specs.Refusals.{in_set};
-ghost use Rattle.sftp_tree.specs.Found.{IsThere, IsFoundIn};
+ghost use Rattle.sftp_tree.specs.Told.{in_set};
+ghost use Rattle.sftp_tree.specs.Plans.{IsThere, IsFoundIn};
 ghost use Rattle.sftp_tree.specs.Asks as spec;
 ghost use Rattle.sftp_tree.specs.Asks.{asked};
 ghost use Rattle.sftp_tree.specs.Plans.{planned, AreAny};

@@ -4,7 +4,7 @@ ghost use Rattle.std.specs.Option.{option_map};
 ghost use Rattle.sftp_treefile.specs.TreeFile.{IsOwner};
 ghost use Rattle.sftp_tree.specs.Attributes as spec;
 ghost use Rattle.sftp_tree.specs.Tree as tree;
-ghost use Rattle.sftp_tree.specs.Seen.{node_seen};
+ghost use Rattle.sftp_tree.specs.Nesting.{node_seen};
 ghost use Rattle.sftp_tree.specs.Nesting.{branch};
 ghost use Rattle.sftp_tree.specs.declared.nodes.Node.TheVariants.{Link};
 

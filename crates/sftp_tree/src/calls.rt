@@ -7,8 +7,8 @@ ghost use Rattle.sftp_tree.specs.declared.nodes.Node.TheVariants.{Link};
 ghost use Rattle.sftp_tree.specs.Tree as tree;
 ghost use Rattle.sftp_tree.specs.Requests as requests;
 ghost use Rattle.sftp_tree.specs.Told as told;
-ghost use Rattle.sftp_tree.specs.Refusals.{IsFree, IsRefusal, stat_ask};
-ghost use Rattle.sftp_tree.specs.Found.{node_of, IsThere};
+ghost use Rattle.sftp_tree.specs.Told.{IsFree, IsRefusal, stat_ask};
+ghost use Rattle.sftp_tree.specs.Plans.{node_of, IsThere};
 
 use crate::asks::{PathAsk, path_ask};
 use crate::causes::Refused;

@@ -1,8 +1,8 @@
 //! Why requests are refused, and with which status codes (draft, section 7).
 ghost use Rattle.std.specs.Prelude.{◌≡◌, ◌<◌, IfErr, IsTrue, OnOk};
 ghost use Rattle.std.specs.List.{list_any};
-ghost use Rattle.sftp_tree.specs.Causes as sets;
-ghost use Rattle.sftp_tree.specs.Refusals.{in_set};
+ghost use Rattle.sftp_tree.specs.PlaceCauses as sets;
+ghost use Rattle.sftp_tree.specs.Told.{in_set};
 
 use sftp_path::NoMemory;
 use sftp_wire::status::{BAD_MESSAGE, FAILURE, NO_SUCH_FILE, OP_UNSUPPORTED, PERMISSION_DENIED};

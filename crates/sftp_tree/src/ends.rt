@@ -5,9 +5,9 @@ ghost use Rattle.sftp_tree.specs.declared.causes.Cause.{Cause as cause};
 ghost use Rattle.sftp_tree.specs.Tree as tree;
 ghost use Rattle.sftp_tree.specs.Requests as requests;
 ghost use Rattle.sftp_tree.specs.Asks.{asked, has_room_for};
-ghost use Rattle.sftp_tree.specs.Refusals.{in_set, IsFree, IsRefusal};
-ghost use Rattle.sftp_tree.specs.Found.{placed, new_placed, EndIsThere, NewEndIsThere};
-ghost use Rattle.sftp_tree.specs.Ends as spec;
+ghost use Rattle.sftp_tree.specs.Told.{in_set, IsFree, IsRefusal};
+ghost use Rattle.sftp_tree.specs.Plans.{placed, new_placed, EndIsThere, NewEndIsThere};
+ghost use Rattle.sftp_tree.specs.Plans as spec;
 
 use crate::asks::{PathAsk, path_ask};
 use crate::causes::{Cause, Causes, Refused};

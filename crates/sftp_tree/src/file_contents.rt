@@ -2,7 +2,7 @@
 ghost use Rattle.std.specs.Prelude.{◌≡◌, ◌+◌, ◌<◌, ◌≤◌, ◌^◌, length, OnOk, OnErr};
 ghost use Rattle.sftp_treefile.specs.TreeFile.{IsOwner};
 ghost use Rattle.sftp_tree.specs.Attributes.{resized, changed_owner, changed_content};
-ghost use Rattle.sftp_tree.specs.FileChanges.{overwritten, written};
+ghost use Rattle.sftp_tree.specs.Changes.{overwritten, written};
 ghost use Rattle.sftp_tree.specs.StoredFiles.{is_held_still, IsWritable};
 
 use crate::owners::changed_owner;

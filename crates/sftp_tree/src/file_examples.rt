@@ -1,18 +1,18 @@
 //! Worked examples: what is read of open files and changed in them, computed by the checker on the definitions that the
 //! contracts name. The functions do nothing; each promise is in the contract.
-#![tactic(auto, unfolding(crate::specs::Requests::led, crate::specs::Causes::no_causes, crate::specs::Causes::when, crate::specs::Causes::joined, crate::specs::Requests::plain_causes, crate::specs::Requests::causes, crate::specs::Requests::outcome, crate::specs::Told::shown_to, crate::specs::Told::text_to, crate::specs::Walk::meets, crate::specs::Walk::walk_parts, crate::specs::Walk::walk, crate::specs::Walk::reached, crate::specs::Tree::has_entries, crate::specs::Tree::fits, sftp_path::specs::Place::components, sftp_path::specs::Place::parts, sftp_path::specs::Place::is_good_path, sftp_path::specs::Table::get, sftp_path::specs::Table::put, sftp_path::specs::Table::without, sftp_path::specs::Table::retain, sftp_path::specs::Table::from_entries, sftp_path::specs::Table::rekeyed))]
+#![tactic(auto, unfolding(crate::specs::Requests::led, crate::specs::PlaceCauses::no_causes, crate::specs::PlaceCauses::when, crate::specs::PlaceCauses::joined, crate::specs::Requests::plain_causes, crate::specs::Requests::causes, crate::specs::Requests::outcome, crate::specs::Told::shown_to, crate::specs::Told::text_to, crate::specs::Walk::meets, crate::specs::Walk::walk_parts, crate::specs::Walk::walk, crate::specs::Walk::reached, crate::specs::Tree::has_entries, crate::specs::Tree::fits, sftp_path::specs::Place::components, sftp_path::specs::Place::parts, sftp_path::specs::Place::is_good_path, sftp_path::specs::Table::get, sftp_path::specs::Table::put, sftp_path::specs::Table::without, sftp_path::specs::Table::retain, sftp_path::specs::Table::from_entries, sftp_path::specs::Table::rekeyed))]
 
 ghost use Rattle.std.specs.Prelude.{◌≡◌, ℕ, true, false, List, [], ◌∷◌, ◌++◌, Some, None, length, codes};
 ghost use Rattle.sftp_packets.specs.declared.requests.Ask.TheVariants.{Remove};
 ghost use Rattle.sftp_treefile.specs.TreeFile.{usual_limits, highest_limits};
 ghost use Rattle.sftp_tree.specs.Tree.{content_at, with_pin, without_pin, is_held};
 ghost use Rattle.sftp_tree.specs.Attributes.{shown_content};
-ghost use Rattle.sftp_tree.specs.FileChanges.{bytes_at, written, write_fits};
-ghost use Rattle.sftp_tree.specs.FileChanges.{after_write, after_set, after_pin, after_unpin};
+ghost use Rattle.sftp_tree.specs.Changes.{bytes_at, written, write_fits};
+ghost use Rattle.sftp_tree.specs.Changes.{after_write, after_set, after_pin, after_unpin};
 ghost use Rattle.sftp_tree.specs.Requests.{after};
 ghost use Rattle.sftp_tree.specs.RequestExamples.{hello, with_file, with_text, without_file, shown_file};
 ghost use Rattle.sftp_tree.specs.RequestExamples.{size_attributes, sized_attributes};
-ghost use Rattle.sftp_tree.specs.FileExamples.{pinned, unnamed};
+ghost use Rattle.sftp_tree.specs.RequestExamples.{pinned, unnamed};
 
 /// A READ gives no more than there is, than is asked for, and than the limit; at the end and past it nothing.
 pub fn read_bytes()

@@ -1,7 +1,7 @@
 //! The flags of OPEN (draft, section 6.3).
 ghost use Rattle.std.specs.Prelude.{◌≡◌};
 ghost use Rattle.sftp_packets.specs.Reading.{has_flag};
-ghost use Rattle.sftp_tree.specs.OpenFlags as spec;
+ghost use Rattle.sftp_tree.specs.Attributes as spec;
 
 use bitflags::Flags;
 use sftp_wire::OpenFlags;

@@ -16,8 +16,8 @@ ghost use Rattle.sftp_tree.specs.Tree.{trimmed, trim};
 ghost use Rattle.sftp_tree.specs.Walk.{walk, reached, looked, steps_of, looked_limit, link_limit};
 ghost use Rattle.sftp_tree.specs.WalkRules.{Leads};
 ghost use Rattle.sftp_tree.specs.Requests.{outcome, after, shown_at};
-ghost use Rattle.sftp_tree.specs.Listings.{listing};
-ghost use Rattle.sftp_tree.specs.Refusals.{IsFree};
+ghost use Rattle.sftp_tree.specs.Attributes.{listing};
+ghost use Rattle.sftp_tree.specs.Told.{IsFree};
 
 /// No request changes the limits of a tree.
 pub fn limits_stay()

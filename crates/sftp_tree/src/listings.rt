@@ -3,12 +3,12 @@ ghost use Rattle.std.specs.Prelude.{◌≡◌, [], Some, map, IfOk, IfErr, IfSom
 ghost use Rattle.sftp_packets.specs.declared.requests.Ask.TheVariants.{Opendir};
 ghost use Rattle.sftp_tree.specs.Tree as tree;
 ghost use Rattle.sftp_tree.specs.Tree.{Names as table};
-ghost use Rattle.sftp_tree.specs.Found.{node_of, IsThere};
-ghost use Rattle.sftp_tree.specs.Trail.{IsAt};
+ghost use Rattle.sftp_tree.specs.Plans.{node_of, IsThere};
+ghost use Rattle.sftp_tree.specs.Nesting.{IsAt};
 ghost use Rattle.sftp_tree.specs.Nesting.{branch};
 ghost use Rattle.sftp_tree.specs.Told as told;
-ghost use Rattle.sftp_tree.specs.Refusals.{IsFree, IsRefusal};
-ghost use Rattle.sftp_tree.specs.Listings.{listing, shown_child};
+ghost use Rattle.sftp_tree.specs.Told.{IsFree, IsRefusal};
+ghost use Rattle.sftp_tree.specs.Attributes.{listing, shown_child};
 ghost use Rattle.sftp_tree.specs.Items.{entry_of};
 
 use crate::asks::PathAsk;

@@ -3,8 +3,8 @@
 ghost use Rattle.std.specs.Prelude.{◌≡◌, Some, is_some, option_map, length, take, drop, IfErr, IsTrue, OnOk, OnErr};
 ghost use Rattle.sftp_tree.specs.Tree as tree;
 ghost use Rattle.sftp_tree.specs.Attributes as attributes;
-ghost use Rattle.sftp_tree.specs.FileChanges as changes;
-ghost use Rattle.sftp_tree.specs.Room as room;
+ghost use Rattle.sftp_tree.specs.Changes as changes;
+ghost use Rattle.sftp_tree.specs.Plans as room;
 
 use crate::causes::{Cause, Refused};
 use crate::file_numbers::FileNo;

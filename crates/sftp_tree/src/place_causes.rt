@@ -1,10 +1,10 @@
 //! Causes at the places that the paths of requests lead to.
 ghost use Rattle.std.specs.Prelude.{◌≡◌, Bool};
-ghost use Rattle.sftp_tree.specs.Refusals.{in_set};
+ghost use Rattle.sftp_tree.specs.Told.{in_set};
 ghost use Rattle.sftp_tree.specs.PlaceCauses as place_causes;
 ghost use Rattle.sftp_tree.specs.Tree as tree;
 ghost use Rattle.sftp_tree.specs.Tree.{Names as table};
-ghost use Rattle.sftp_tree.specs.Found.{node_of, IsThere};
+ghost use Rattle.sftp_tree.specs.Plans.{node_of, IsThere};
 
 use crate::causes::{Cause, Causes};
 use crate::entries::is_below;

@@ -7,10 +7,10 @@ ghost use Rattle.sftp_tree.specs.Attributes as attributes;
 ghost use Rattle.sftp_tree.specs.Changes as changes;
 ghost use Rattle.sftp_tree.specs.Requests as requests;
 ghost use Rattle.sftp_tree.specs.Asks.{asked};
-ghost use Rattle.sftp_tree.specs.Seen.{node_seen};
-ghost use Rattle.sftp_tree.specs.Found.{node_of};
-ghost use Rattle.sftp_tree.specs.Ends.{LeadTo, AreWell};
-ghost use Rattle.sftp_tree.specs.Refusals.{IsFree, IsRefusal};
+ghost use Rattle.sftp_tree.specs.Nesting.{node_seen};
+ghost use Rattle.sftp_tree.specs.Plans.{node_of};
+ghost use Rattle.sftp_tree.specs.Plans.{LeadTo, AreWell};
+ghost use Rattle.sftp_tree.specs.Told.{IsFree, IsRefusal};
 ghost use Rattle.sftp_tree.specs.Plans as spec;
 
 use crate::asks::PathAsk;

@@ -1,6 +1,6 @@
 //! Worked examples: what requests do to small trees, what they return and why they are refused, computed by the checker
 //! on the definitions that the contracts name. The functions do nothing; each promise is in the contract.
-#![tactic(auto, unfolding(crate::specs::Requests::led, crate::specs::Causes::no_causes, crate::specs::Causes::when, crate::specs::Causes::joined, crate::specs::Requests::plain_causes, crate::specs::Requests::causes, crate::specs::Requests::outcome, crate::specs::Told::shown_to, crate::specs::Told::text_to, crate::specs::Told::file_to, crate::specs::Told::listing_to, crate::specs::Listings::children, crate::specs::Listings::listing, crate::specs::Walk::meets, crate::specs::Walk::walk_parts, crate::specs::Walk::walk, crate::specs::Walk::reached, crate::specs::Tree::has_entries, crate::specs::Tree::fits, sftp_path::specs::Place::components, sftp_path::specs::Place::parts, sftp_path::specs::Place::is_good_path, sftp_path::specs::Table::get, sftp_path::specs::Table::put, sftp_path::specs::Table::without, sftp_path::specs::Table::retain, sftp_path::specs::Table::from_entries, sftp_path::specs::Table::rekeyed))]
+#![tactic(auto, unfolding(crate::specs::Requests::led, crate::specs::PlaceCauses::no_causes, crate::specs::PlaceCauses::when, crate::specs::PlaceCauses::joined, crate::specs::Requests::plain_causes, crate::specs::Requests::causes, crate::specs::Requests::outcome, crate::specs::Told::shown_to, crate::specs::Told::text_to, crate::specs::Told::file_to, crate::specs::Told::listing_to, crate::specs::Attributes::children, crate::specs::Attributes::listing, crate::specs::Walk::meets, crate::specs::Walk::walk_parts, crate::specs::Walk::walk, crate::specs::Walk::reached, crate::specs::Tree::has_entries, crate::specs::Tree::fits, sftp_path::specs::Place::components, sftp_path::specs::Place::parts, sftp_path::specs::Place::is_good_path, sftp_path::specs::Table::get, sftp_path::specs::Table::put, sftp_path::specs::Table::without, sftp_path::specs::Table::retain, sftp_path::specs::Table::from_entries, sftp_path::specs::Table::rekeyed))]
 
 ghost use Rattle.std.specs.Prelude.{◌≡◌, true, false, [], ◌∷◌, ◌++◌, Some, None, codes};
 ghost use Rattle.sftp_packets.specs.declared.requests.Ask.TheVariants.{Lstat, Setstat, Remove, Mkdir, Rmdir};
@@ -11,10 +11,10 @@ ghost use Rattle.sftp_tree.specs.declared.causes.Cause.TheVariants.{BadPath, NoE
 ghost use Rattle.sftp_tree.specs.declared.causes.Cause.TheVariants.{NotLink, NotFile, NotEmpty, Root, Inside};
 ghost use Rattle.sftp_tree.specs.declared.causes.Cause.TheVariants.{BadFlags, NoRoom};
 ghost use Rattle.sftp_tree.specs.Picture.{blank};
-ghost use Rattle.sftp_tree.specs.Causes.{allow, is_none};
+ghost use Rattle.sftp_tree.specs.PlaceCauses.{allow, is_none};
 ghost use Rattle.sftp_tree.specs.Requests.{causes, outcome, after};
 ghost use Rattle.sftp_tree.specs.Told.{shown_to, text_to, file_to, listing_to};
-ghost use Rattle.sftp_tree.specs.OpenFlags.{are_good};
+ghost use Rattle.sftp_tree.specs.Attributes.{are_good};
 ghost use Rattle.sftp_tree.specs.RequestExamples.{linked, with_directory, private_attributes, shown_link};
 ghost use Rattle.sftp_tree.specs.RequestExamples.{shown_directory, with_file, with_two_names, without_file};
 ghost use Rattle.sftp_tree.specs.RequestExamples.{shown_file, open_attributes, with_open_file, size_attributes};

@@ -1,7 +1,7 @@
 //! What a walk still goes over.
 ghost use Rattle.std.specs.Prelude.{◌≡◌, ◌++◌, [], ◌∷◌, MatchOption, OnOk};
 ghost use Rattle.std.specs.List.{list_all};
-ghost use Rattle.sftp_tree.specs.Route.{is_done};
+ghost use Rattle.sftp_tree.specs.Stepping.{is_done};
 ghost use Rattle.sftp_tree.specs.Walk.{is_last};
 
 use sftp_path::{Name, NoMemory, Parts};
@@ -21,7 +21,7 @@ struct Targets<'a> {
 impl<'a> Model for Targets<'a> {
     ghost use Rattle.std.specs.Prelude.{List, ◌++◌};
     ghost use Rattle.sftp_path.specs.Place.{Name as name};
-    ghost use Rattle.sftp_tree.specs.Route.{left_of};
+    ghost use Rattle.sftp_tree.specs.Stepping.{left_of};
 
     ghost Value = { List name };
 

@@ -53,7 +53,6 @@ impl Tree {
     ghost use Rattle.sftp_tree.specs.StoredFiles as stored;
     ghost use Rattle.sftp_tree.specs.PlaceCauses as place_causes;
     ghost use Rattle.sftp_tree.specs.Changes as changes;
-    ghost use Rattle.sftp_tree.specs.FileChanges as file_changes;
     ghost use Rattle.sftp_tree.specs.Plans.{CanMake};
 
     /// A tree of these parts. Does not allocate.
@@ -288,7 +287,7 @@ impl Tree {
         ensures ok { OnOk result
             (self.new
             ≡ tree.trim (changes.with_changed_file self.old attrs.now number (tree.content_at self.old.files number))) }
-        ensures changed { OnOk result (self.new ≡ file_changes.after_set self.old number attrs.now) }
+        ensures changed { OnOk result (self.new ≡ changes.after_set self.old number attrs.now) }
         ensures err { OnErr result (self.new ≡ self.old) }
         ensures valid { OnOk result (tree.IsKept self.new) }
     {
@@ -307,8 +306,8 @@ impl Tree {
         offset: u64,
         new: &[u8],
     ) -> Result<(), NoMemory>
-        requires { IsTrue (file_changes.write_fits (tree.limits self.old) offset new.now) }
-        ensures ok { OnOk result (self.new ≡ file_changes.after_write self.old number offset new.now) }
+        requires { IsTrue (changes.write_fits (tree.limits self.old) offset new.now) }
+        ensures ok { OnOk result (self.new ≡ changes.after_write self.old number offset new.now) }
         ensures err { OnErr result (self.new ≡ self.old) }
         ensures valid { OnOk result (tree.IsKept self.new) }
     {
@@ -328,7 +327,7 @@ impl Tree {
     pub fn pin(&mut self, number: FileNo)
         requires file { tree.HasFile self.old.files number }
         requires few { tree.times_pinned self.old.pins number < 2 ^ 32 }
-        ensures pinned { self.new ≡ file_changes.after_pin self.old number }
+        ensures pinned { self.new ≡ changes.after_pin self.old number }
         ensures valid { tree.IsKept self.new }
     {
         self.files.pin(number);
@@ -337,7 +336,7 @@ impl Tree {
     /// Takes away a pin of a file that is pinned. With its last pin a file is removed that has no name.
     pub fn unpin(&mut self, number: FileNo)
         requires { IsTrue (tree.is_pinned self.old.pins number) }
-        ensures unpinned { self.new ≡ file_changes.after_unpin self.old number }
+        ensures unpinned { self.new ≡ changes.after_unpin self.old number }
         ensures valid { tree.IsKept self.new }
     {
         self.files.unpin(number);

@@ -5,7 +5,7 @@
 ghost use Rattle.std.specs.Prelude.{◌≡◌, [], ◌∷◌, Bool, true, false, Ok, Err, codes};
 ghost use Rattle.sftp_tree.specs.declared.causes.Cause.TheVariants.{BadPath, NoEntry, NotDir, Loop};
 ghost use Rattle.sftp_tree.specs.Walk.{reached};
-ghost use Rattle.sftp_tree.specs.Ticks.{looked_of};
+ghost use Rattle.sftp_tree.specs.WalkRules.{looked_of};
 ghost use Rattle.sftp_tree.specs.WalkExamples.{tree_of, with_file, with_link, with_target, with_home};
 ghost use Rattle.sftp_tree.specs.WalkExamples.{with_linked_home, with_two_links, with_both_targets};
 ghost use Rattle.sftp_tree.specs.WalkExamples.{letters, with_chain, with_chained_file, chained};
@@ -56,7 +56,7 @@ pub fn absent_directories()
 
 /// A walk looks at the components of a path and at those of the targets of links: on `/l/x` at `l`, then at `d` and `e`,
 /// and at `x`. It looks at nothing of a bad path.
-#[tactic(auto, unfolding(crate::specs::Ticks::looked_of, crate::specs::Walk::looked, crate::specs::Walk::looked_parts, crate::specs::Walk::meets, sftp_path::specs::Place::is_good_path, sftp_path::specs::Place::components, sftp_path::specs::Place::parts, sftp_path::specs::Table::get))]
+#[tactic(auto, unfolding(crate::specs::WalkRules::looked_of, crate::specs::Walk::looked, crate::specs::Walk::looked_parts, crate::specs::Walk::meets, sftp_path::specs::Place::is_good_path, sftp_path::specs::Place::components, sftp_path::specs::Place::parts, sftp_path::specs::Table::get))]
 pub fn looks()
     ensures link { (follow : Bool) → looked_of with_link follow (codes "/l/x") ≡ 4 }
     ensures last_link { looked_of with_link false (codes "/l") ≡ 1 }

@@ -4,8 +4,8 @@ ghost use Rattle.std.specs.List.{list_all};
 ghost use Rattle.sftp_path.specs.Place.{is_step};
 ghost use Rattle.sftp_tree.specs.Tree as tree;
 ghost use Rattle.sftp_tree.specs.Walk as walks;
-ghost use Rattle.sftp_tree.specs.Ticks.{looked_of, HasCounted, IsLost};
-ghost use Rattle.sftp_tree.specs.Found.{placed, IsFoundIn};
+ghost use Rattle.sftp_tree.specs.WalkRules.{looked_of, HasCounted, IsLost};
+ghost use Rattle.sftp_tree.specs.Plans.{placed, IsFoundIn};
 
 use crate::causes::{Cause, Refused};
 use crate::entries::trail::Trail;

@@ -13,17 +13,17 @@ use Rattle.sftp_packets.specs.declared.requests.Ask.{Ask}
 use Rattle.sftp_packets.specs.Requests.{asked_handle}
 use Rattle.sftp_path.specs.Place.{name_cmp}
 use Rattle.sftp_path.specs.Table.{get}
-use Rattle.sftp_tree.specs.Causes.{CauseSet}
+use Rattle.sftp_tree.specs.PlaceCauses.{CauseSet}
 use Rattle.sftp_tree.specs.Requests as paths
 use Rattle.sftp_listing.specs.Left.{Left, has_attributes, is_left, names_in, are_distinct, are_some_left, struck}
 use Rattle.sftp_handles.specs.declared.opens.Open.{Open}
 use Rattle.sftp_handles.specs.Allowed.{Allowed, Refuses, Does}
-use Rattle.sftp_handles.specs.Handles.{Handles}
+use Rattle.sftp_handles.specs.State.{Handles}
 use Rattle.sftp_handles.specs.Replies.{Said, ok, shows, names, gives, ended, lists, opens, extends, says, refuses}
 use Rattle.sftp_handles.specs.RequestRows.{Row, row_of, change_of, leaves}
-use Rattle.sftp_handles.specs.Requests.{causes, answers, after, after_by, said_to, seen_by, changed, with_new, opened_by}
-use Rattle.sftp_handles.specs.Requests.{flags_of, told_to}
-use Rattle.sftp_handles.specs.Seen.{Seen, absent, other_kind, something, file, listing}
+use Rattle.sftp_handles.specs.Allowed.{causes, answers, after, after_by, said_to, seen_by, changed, with_new, opened_by}
+use Rattle.sftp_handles.specs.Allowed.{flags_of, told_to}
+use Rattle.sftp_handles.specs.State.{Seen, absent, other_kind, something, file, listing}
 use Rattle.sftp_handles.specs.State.{State, settled}
 use Rattle.sftp_vary.specs.Bare.{bare, bare_attrs, bare_item}
 

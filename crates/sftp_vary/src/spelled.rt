@@ -2,7 +2,7 @@
 ghost use Rattle.std.specs.Prelude.{◌≡◌, true, IfSome};
 ghost use Rattle.sftp_packets.specs.declared.packets.Packet.TheVariants.{Reply as reply_packet};
 ghost use Rattle.sftp_packets.specs.Packets.{HasSpelling};
-ghost use Rattle.sftp_handles.specs.Proposals as spec;
+ghost use Rattle.sftp_handles.specs.Opening as spec;
 
 use sftp_wire::{Packet, Reply, encode};
 use std::alloc::Global;

@@ -9,8 +9,8 @@ use Rattle.std.proofs.lemmas.Bool.{and_from, lt-ltb}
 use Rattle.sftp_streams.specs.Streams.{one_more}
 use Rattle.sftp_transcript.specs.Explained.{after_event}
 use Rattle.sftp_transcript.proofs.pairing.{cond_alike}
-use Rattle.sftp_audit.proofs.auditing.Lists.{recorded-asked, recorded-replied}
-use Rattle.sftp_audit.proofs.auditing.Lists.{unsettled-within, is_awaited-append, is_awaited-replied}
+use Rattle.sftp_audit.proofs.auditing.{recorded-asked, recorded-replied}
+use Rattle.sftp_audit.proofs.auditing.{unsettled-within, is_awaited-append, is_awaited-replied}
 
 -- ---- turns over two parts
 

@@ -1,17 +1,17 @@
 -- An audit meets one fault first.
 use Rattle.sftp_audit.proofs.Imports.{◌≡◌, ◌≢◌, ◌⊎◌, inl, inr, ℕ, List, [], ◌∷◌, ◌++◌, length, refl, sym, ap, ◌∙◌}
-use Rattle.sftp_audit.proofs.Imports.{subst, append_assoc, arith, length-append, Tree, IsStart, one_start}
-use Rattle.sftp_audit.proofs.Imports.{StepOf, TranscriptError, Event, Sound, records_are_one_lem}
-use Rattle.sftp_audit.proofs.Imports.{AuditError, Refusal, Exchange, Refuses, LacksReply, RefusedAt, RefusedAtEnd}
-use Rattle.sftp_audit.proofs.Imports.{FaultAt, IsFirstFaultBy, IsTreeError, IsPlain, begins_each, faulty_records_none}
+use Rattle.sftp_audit.proofs.Imports.{subst, append_assoc, arith, length-append, Tree, IsStart, one_start, StepOf}
+use Rattle.sftp_audit.proofs.Imports.{TranscriptError, Event, Sound, records_are_one_lem, AuditError, Refusal}
+use Rattle.sftp_audit.proofs.Imports.{Exchange, Refuses, LacksReply, RefusedAt, RefusedAtEnd, FaultAt, IsFirstFaultBy}
+use Rattle.sftp_audit.proofs.Imports.{IsTreeError, IsPlain, begins_each, faulty_records_none, Explained, AccountsBy}
 use Rattle.sftp_audit.specs.Auditor.{IsOldestOpen}
 use Rattle.sftp_transcript.specs.declared.errors.TranscriptError.TheVariants as transcript_errors
 use Rattle.sftp_transcript.proofs.transcripts.{Extends, beginnings_compared, one_fault, first_before_fault}
 use Rattle.sftp_audit.specs.declared.errors.AuditError.TheVariants as audit_errors
 use Rattle.sftp_audit.specs.declared.errors.Refusal.TheVariants as refusals
-use Rattle.sftp_audit.proofs.steps.StepLaws.{HasOneEnd}
-use Rattle.sftp_audit.proofs.auditing.Lists.{same_head, same_tail}
-use Rattle.sftp_audit.proofs.auditing.Lost.{refuses_unsound}
+use Rattle.sftp_audit.proofs.steps.{HasOneEnd, explained-one_end}
+use Rattle.sftp_audit.proofs.auditing.{same_head, same_tail}
+use Rattle.sftp_audit.proofs.auditing.Standing.{refuses_unsound}
 use Rattle.sftp_audit.proofs.auditing.Refusals.{one_refusal}
 
 -- ---- what an error is not, if it is plain
@@ -186,3 +186,33 @@ module _ {S : Type 0} (step : StepOf S) (one_end : HasOneEnd step) where
       inr (ap (λ (x : Refusal). audit_errors.Refused x)
       (one_refused (begin for_a.0) transcript e f (unlike_refusal e plain_a) (unlike_refusal f plain_b) for_a.2
       (subst (λ (t : Tree). IsRefused (begin t) transcript f) start for_b.2)))
+
+-- ==== Bytes account for one run at most.
+
+module _ {S : Type 0} (step : StepOf S) (one_end : HasOneEnd step) (begin : Tree → S) (close : S → Tree)
+    (tree transcript : List ℕ) (s u : Tree) (events others : List Event) (a b : Tree)
+  where
+    pub same_start : AccountsBy step begin close tree transcript s events a → AccountsBy step begin close tree transcript u others b
+        → s ≡ u
+    same_start one other = one_start s u tree one.start_is other.start_is
+
+    pub same_events : AccountsBy step begin close tree transcript s events a → AccountsBy step begin close tree transcript u others b
+        → events ≡ others
+    same_events one other =
+        records_are_one_lem events others transcript one.events_are other.events_are
+
+    -- the second run, with the first one's start and events
+    moved : (one : AccountsBy step begin close tree transcript s events a) (other : AccountsBy step begin close tree transcript u others b)
+        → Explained step (begin s) events other.last
+    moved one other =
+        subst (λ (t : Tree). Explained step (begin t) events other.last) (sym (same_start one other))
+        (subst (λ (l : List Event). Explained step (begin u) l other.last) (sym (same_events one other))
+        other.explained)
+
+    pub same_end : AccountsBy step begin close tree transcript s events a → AccountsBy step begin close tree transcript u others b
+        → a ≡ b
+    same_end one other =
+        let last : one.last ≡ other.last =
+        explained-one_end step one_end (begin s) events one.last other.last one.explained
+        (moved one other) in
+        one.end_is ∙ ap close last ∙ sym other.end_is

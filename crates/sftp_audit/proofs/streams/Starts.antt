@@ -14,7 +14,7 @@ use Rattle.sftp_audit.specs.Audit.{HasStart, error_of_tree}
 use Rattle.sftp_audit.specs.Cuts.{AccountsCutBy}
 use Rattle.sftp_audit.specs.Trees.{AccountsFrom, AccountsCutFrom, IsFirstFaultFrom, IsToldFrom, IsUnjudged}
 use Rattle.sftp_audit.specs.Trees.{JudgesTreeUnless, IsExcusedByBoth}
-use Rattle.sftp_audit.proofs.streams.Judged.{HasNoRunFrom, HasNoCutFrom}
+use Rattle.sftp_audit.proofs.streams.{HasNoRunFrom, HasNoCutFrom}
 
 -- the tree file and the transcript account for no run
 abbrev pub HasNoRun : {S : Type 0} → StepOf S → (Tree → S) → (S → Tree) → List ℕ → List ℕ → Type 0

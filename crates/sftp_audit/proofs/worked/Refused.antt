@@ -10,13 +10,13 @@ use Rattle.sftp_audit.specs.Examples.{first_answered, second_waits}
 use Rattle.sftp_packets.specs.declared.requests.Ask.TheVariants.{Mkdir, Rmdir}
 use Rattle.sftp_packets.specs.declared.replies.Answer.TheVariants.{Status}
 use Rattle.sftp_handles.specs.State.{State}
-use Rattle.sftp_handles.proofs.Judged.Steps.{allowed-one_end}
+use Rattle.sftp_handles.proofs.Judged.{allowed-one_end}
 use Rattle.sftp_audit.specs.declared.errors.Refusal.TheVariants as refusals
 use Rattle.sftp_audit.proofs.auditing.Refusals.{one_refusal}
-use Rattle.sftp_audit.proofs.steps.RunEnds.{run-of_run_end, no_run-of_run_end}
-use Rattle.sftp_audit.proofs.worked.Computed.{computed}
-use Rattle.sftp_audit.proofs.worked.Records.{removal_done_recorded}
-use Rattle.sftp_audit.proofs.worked.Runs.{sound_by}
+use Rattle.sftp_audit.proofs.steps.{run-of_run_end, no_run-of_run_end}
+use Rattle.sftp_audit.proofs.worked.{computed}
+use Rattle.sftp_audit.proofs.worked.{removal_done_recorded}
+use Rattle.sftp_audit.proofs.worked.{sound_by}
 
 -- ---- the replies come backwards
 

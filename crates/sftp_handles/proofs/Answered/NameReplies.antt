@@ -1,18 +1,28 @@
 -- READDIR: the reply that gives the first names of a listing, and the reply that there are no more.
-use Rattle.sftp_handles.proofs.Imports.{◌≡◌, ◌==◌, nat_lt, ℕ, zero, suc, ◌<◌, Bool, true, false, List, [], ◌∷◌, length, Option, Some}
-use Rattle.sftp_handles.proofs.Imports.{None, refl, sym, ap, subst, ◌∙◌, arith, lit<, inl, inr, both_ways, eqb-true}
-use Rattle.sftp_handles.proofs.Imports.{lt-ltb, NameItem, Ask, Answer, Name, Open, File, Listing, Handles, open_at}
-use Rattle.sftp_handles.proofs.Imports.{State, Good, names_in, refuses, causes, Does, IsJudged, IsSpelledAnswer}
-use Rattle.sftp_handles.proofs.Imports.{IsAnswered, IsListing, gives_names, with_struck, are_some_left, AreFirst, AreFirstNames, AreUpTo}
-use Rattle.sftp_handles.proofs.Imports.{IsReplyOf, Readdir}
+use Rattle.sftp_handles.proofs.Imports.{◌≡◌, ◌==◌, nat_lt, ℕ, zero, suc, ◌<◌, Bool, true, false, List, [], ◌∷◌}
+use Rattle.sftp_handles.proofs.Imports.{length, Option, Some, None, refl, sym, ap, subst, ◌∙◌, arith, lit<, inl, inr}
+use Rattle.sftp_handles.proofs.Imports.{both_ways, eqb-true, lt-ltb, NameItem, Ask, Answer, Name, Open, File, Listing}
+use Rattle.sftp_handles.proofs.Imports.{Handles, open_at, State, Good, names_in, refuses, causes, Does, IsJudged}
+use Rattle.sftp_handles.proofs.Imports.{IsSpelledAnswer, IsAnswered, IsListing, gives_names, with_struck}
+use Rattle.sftp_handles.proofs.Imports.{are_some_left, AreFirst, AreFirstNames, AreUpTo, IsReplyOf, Readdir, ◌&&◌}
+use Rattle.sftp_handles.proofs.Imports.{◌||◌, not, ◌≤◌, IsTrue, nat_le, leb-true, and_parts, AreBytes, handle_limit}
+use Rattle.sftp_handles.proofs.Imports.{NoRoom, Refused, CauseSet, is_none, when, has_handle_left, is_open}
+use Rattle.sftp_handles.proofs.Imports.{is_new_handle, with_handle_room, purpose_of, IsRefusal}
 use Rattle.sftp_packets.specs.declared.replies.Answer.TheVariants as replies
 use Rattle.sftp_listing.proofs.FirstNames.{first-again, first-some}
-use Rattle.sftp_handles.specs.Replies.{lists}
+use Rattle.sftp_handles.specs.Replies.{lists, opens}
 use Rattle.sftp_handles.proofs.Judged.GivenNames.{has_none, listing-left, given-judged, readdir-ends}
-use Rattle.sftp_handles.proofs.Judged.Judgements.{allow-one}
-use Rattle.sftp_handles.proofs.Good.NewStates.{state_of}
-use Rattle.sftp_handles.proofs.Judged.Steps.{step-is_allowed}
+use Rattle.sftp_handles.proofs.Judged.{allow-one, answers-said}
+use Rattle.sftp_handles.proofs.Good.Pins.{state_of}
+use Rattle.sftp_handles.proofs.Judged.{step-is_allowed}
 use Rattle.sftp_handles.proofs.TotalSteps.SaidReplies.{FitInPacket, few-names, status-spelled, reply-listed}
+use Rattle.sftp_handles.proofs.TotalSteps.SaidReplies.{handle-spelled}
+use Rattle.sftp_packets.specs.declared.requests.Ask.TheVariants.{Opendir}
+use Rattle.sftp_tree.specs.Requests as paths
+use Rattle.sftp_tree.specs.Told as refusals_of
+use Rattle.sftp_handles.specs.declared.requests.Purpose.TheVariants as purposes
+use Rattle.sftp_handles.proofs.Judged.GivenNames.{opens-said}
+use Rattle.sftp_handles.proofs.OpenFiles.Opened.{refused-file, refused-listing}
 
 -- ---- whether there are names, as the code finds out
 
@@ -134,3 +144,56 @@ module _ (s : State) (handle : List ℕ) (good : Good s) where
         (readdir-ends s handle true good (sym (none-in most names (open_at s.handles handle) some up.first none)) [] []);
     spelled = status-spelled 1 (lit< tt);
   }
+
+-- ==== OPEN and OPENDIR: the reply that gives a new handle, and why there is none.
+
+-- ---- no more handles
+
+no-room : (b : Bool) (set : CauseSet) → b ≡ true → when set NoRoom b NoRoom ≡ true
+unfolding when
+no-room b set is = ap (λ b. b || set NoRoom) is
+
+lacks : (none left : Bool) → none ≡ true → left ≡ false → (none && not left) ≡ true
+lacks true false is full = refl
+lacks true true is full = absurd cc
+lacks false left is full = absurd cc
+
+room-refuses : (s : State) (set : CauseSet) → is_none set ≡ true → has_handle_left s ≡ false
+    → with_handle_room s set NoRoom ≡ true
+room-refuses s set none full =
+    no-room (is_none set && not (has_handle_left s)) set (lacks (is_none set) (has_handle_left s) none full)
+
+-- a request that no other cause refuses
+pub handles-refuse : (s : State) (ask : Ask) → purpose_of ask ≡ purposes.Open → IsTrue (is_none (paths.causes s.tree ask))
+    → has_handle_left s ≡ false → IsTrue (causes s ask NoRoom)
+unfolding causes
+handles-refuse s (Open path pflags attrs) opening none full =
+    room-refuses s (paths.causes s.tree (Open path pflags attrs)) none full
+handles-refuse s (Opendir path) opening none full = room-refuses s (paths.causes s.tree (Opendir path)) none full
+handles-refuse s other opening none full = absurd cc
+
+-- one that another cause refuses
+pub path-refuses : (s : State) (ask : Ask) (refused : Refused) → purpose_of ask ≡ purposes.Open
+    → refusals_of.IsRefusal s.tree ask refused → IsRefusal s ask refused
+path-refuses s (Open path pflags attrs) refused opening holds =
+    refused-file s s.tree path pflags attrs refused refl holds
+path-refuses s (Opendir path) refused opening holds = refused-listing s s.tree path refused refl holds
+path-refuses s other refused opening holds = absurd cc
+
+-- ---- a new handle
+
+-- it is not too long
+new-short : (handles : Handles) (handle : List ℕ) → is_new_handle handles (replies.Handle handle) ≡ true
+    → length handle ≤ handle_limit
+new-short handles handle is =
+    leb-true (length handle) handle_limit
+    (and_parts (nat_le (length handle) handle_limit) (not (is_open handles handle)) is).0
+
+pub handle-answered : (s : State) (ask : Ask) (handle : List ℕ) (end : State) → purpose_of ask ≡ purposes.Open
+    → Does s ask (replies.Handle handle) end → AreBytes handle → IsAnswered s ask (replies.Handle handle) end
+handle-answered s ask handle end is does bytes =
+    let said = answers-said s ask (opens s.handles) (replies.Handle handle) (opens-said s ask is does.free) in
+    record {
+      does = does;
+      spelled = handle-spelled handle bytes (new-short s.handles handle (sym said ∙ does.answered));
+    }

@@ -1,18 +1,22 @@
 -- Good states: that requests on paths leave a good state good.
-use Rattle.sftp_handles.proofs.Imports.{◌≡◌, ◌==◌, not, nat_lt, nat_le, ℕ, ◌+◌, ◌≤◌, Bool, true, false, length}
-use Rattle.sftp_handles.proofs.Imports.{if◌then◌else◌, List, Option, Some, None, Result, Ok, Err, leb-true, refl, sym}
-use Rattle.sftp_handles.proofs.Imports.{ap, subst, ◌∙◌, IsTrue, arith, is_some, nat_list_cmp_total, and_parts, eqb-true}
-use Rattle.sftp_handles.proofs.Imports.{same_Some, Attrs, Ask, Answer, handle_limit, IsAsk, Place, bytes_cmp, place_cmp}
-use Rattle.sftp_handles.proofs.Imports.{size, bytes_cmp-same, place_cmp-same, place_cmp-total, InOrder-put, size-put}
-use Rattle.sftp_handles.proofs.Imports.{get-put_here, Cause, Unknown, listing, Content, Node, Tree, Files, Pins, IsNode}
-use Rattle.sftp_handles.proofs.Imports.{HasFile, node_at, content_at, limits, is_pinned, times_pinned, with_pin, one_if}
-use Rattle.sftp_handles.proofs.Imports.{truncates, no_causes, is_none, when, Told, done, led, led_to, told_at, outcome}
-use Rattle.sftp_handles.proofs.Imports.{IsFree, each-get, each-put, pins-stay, limits-stay, Stands, outcome-is}
-use Rattle.sftp_handles.proofs.Imports.{none-each, PathsLeadWell, outcome-stands, Opened, File, Listing, Left, open_at}
-use Rattle.sftp_handles.proofs.Imports.{with_open, is_open, pins_of, kept_flags, State, Good, settled, IsOpen, IsHandle}
-use Rattle.sftp_handles.proofs.Imports.{IsLeft, has_handle_left, is_new_handle, says, causes, answers, after}
-use Rattle.sftp_handles.proofs.Imports.{asked_handle, with_handle_room, told_to, said_by, said_to, flags_of, opened_by}
-use Rattle.sftp_handles.proofs.Imports.{with_new, after_by, causes_by, path_causes, path_said}
+use Rattle.sftp_handles.proofs.Imports.{◌≡◌, ℕ, List, [], arith, le-leb, bytes_cmp, get, InOrder-empty, Tree, IsKept}
+use Rattle.sftp_handles.proofs.Imports.{limits, pins_of, settled, Good, ◌==◌, not, nat_lt, nat_le, ◌+◌, ◌≤◌, Bool}
+use Rattle.sftp_handles.proofs.Imports.{true, false, length, if◌then◌else◌, Option, Some, None, Result, Ok, Err}
+use Rattle.sftp_handles.proofs.Imports.{leb-true, refl, sym, ap, subst, ◌∙◌, IsTrue, is_some, nat_list_cmp_total}
+use Rattle.sftp_handles.proofs.Imports.{and_parts, eqb-true, same_Some, Attrs, Ask, Answer, handle_limit, IsAsk}
+use Rattle.sftp_handles.proofs.Imports.{Place, place_cmp, size, bytes_cmp-same, place_cmp-same, place_cmp-total}
+use Rattle.sftp_handles.proofs.Imports.{InOrder-put, size-put, get-put_here, Cause, Unknown, listing, Content, Node}
+use Rattle.sftp_handles.proofs.Imports.{Files, Pins, IsNode, HasFile, node_at, content_at, is_pinned, times_pinned}
+use Rattle.sftp_handles.proofs.Imports.{with_pin, one_if, truncates, no_causes, is_none, when, Told, done, led}
+use Rattle.sftp_handles.proofs.Imports.{led_to, told_at, outcome, IsFree, each-get, each-put, pins-stay, limits-stay}
+use Rattle.sftp_handles.proofs.Imports.{Stands, outcome-is, none-each, PathsLeadWell, outcome-stands, Opened, File}
+use Rattle.sftp_handles.proofs.Imports.{Listing, Left, open_at, with_open, is_open, kept_flags, State, IsOpen}
+use Rattle.sftp_handles.proofs.Imports.{IsHandle, IsLeft, has_handle_left, is_new_handle, says, causes, answers}
+use Rattle.sftp_handles.proofs.Imports.{after, asked_handle, with_handle_room, told_to, said_by, said_to, flags_of}
+use Rattle.sftp_handles.proofs.Imports.{opened_by, with_new, after_by, causes_by, path_causes, path_said, inl, inr}
+use Rattle.sftp_handles.proofs.Imports.{Request, Reply, Allowed}
+use Rattle.sftp_handles.proofs.Good.Pins.{state_of, settled-already}
+use Rattle.sftp_handles.proofs.Good.{OpensExist, good-by, room-of, good-through, pinned-exist}
 use Rattle.sftp_packets.specs.declared.requests.Ask.TheVariants as asks
 use Rattle.sftp_packets.specs.declared.requests.Ask.TheVariants.{Open, Opendir}
 use Rattle.sftp_packets.specs.declared.replies.Answer.TheVariants as replies
@@ -21,9 +25,23 @@ use Rattle.sftp_tree.specs.Changes.{carried, no_change, empty_file, plan_to_open
 use Rattle.sftp_tree.specs.Requests.{file, number_at}
 use Rattle.sftp_tree.specs.Requests as paths
 use Rattle.sftp_handles.proofs.Good.Pins.{pin-times, pins-open_file, pins-open_listing}
-use Rattle.sftp_handles.proofs.Good.GoodSteps.{room-of, good-through}
-use Rattle.sftp_handles.proofs.Good.GoodStates.{OpensExist, pinned-exist, good-by}
 use Rattle.sftp_handles.proofs.Answered.LimitsAnswers.{limits-still}
+
+-- ==== The state in which a session starts.
+
+-- nothing is open, so nothing is pinned
+none-open : (t : Tree) → OpensExist t.files []
+unfolding pins_of get
+none-open t number pinned = absurd cc
+
+pub good-start : (t : Tree) → IsKept t → Good (settled t [])
+good-start t kept =
+    good-by t [] kept.well_formed kept.within_limits (none-open t) (InOrder-empty (List ℕ) bytes_cmp) tt
+    (le-leb 0 (limits t).open_handles (omega arith))
+
+pub same-start : (t : Tree) → IsKept t → t.pins ≡ [] → settled t [] ≡ state_of t []
+unfolding pins_of
+same-start t kept none = settled-already t [] kept none
 
 not-open : (o : Option Opened) → not (is_some o) ≡ true → o ≡ None
 not-open None is = refl
@@ -250,3 +268,14 @@ pub good-after : PathsLeadWell → (s : State) (ask : Ask) (answer : Answer)
 unfolding causes answers after
 good-after paths-lead s ask answer lists good fit free answered =
     good-by-handle paths-lead s answer lists good ask (asked_handle ask) fit free answered
+
+-- ==== Good states: that each step leads from one to another.
+
+pub allowed-good : PathsLeadWell → (s : State) (request : Request) (reply : Reply) (end : State)
+    → ListingsFit s.tree → Good s → IsAsk request.ask
+    → Allowed s request reply end → Good end
+allowed-good paths-lead s request reply end lists good fit a = elim a.step [
+  | inl r ↦ subst Good (sym r.unchanged) good
+  | inr d ↦ subst Good (sym d.changed)
+      (good-after paths-lead s request.ask reply.answer lists good fit d.free d.answered)
+]

@@ -1,14 +1,55 @@
 -- How often files are pinned by what is open.
-use Rattle.sftp_handles.proofs.Imports.{◌≡◌, ◌==◌, ℕ, ◌+◌, ◌-◌, ◌<◌, Bool, true, false, cond, nat_lt, unwrap_or, []}
-use Rattle.sftp_handles.proofs.Imports.{◌∷◌, Option, Some, None, refl, sym, ap, subst, ◌∙◌, arith, if◌then◌else◌, zero}
-use Rattle.sftp_handles.proofs.Imports.{suc, List, nat_cmp, is_eq, nat_cmp_total, nat_list_cmp_total}
-use Rattle.sftp_handles.proofs.Imports.{nat_cmp-IsAntisymmetric, lt-ltb, eqb-true, eq-eqb, ne_eqb, same_Some, OpenFlags}
-use Rattle.sftp_handles.proofs.Imports.{bytes_cmp, InOrder, get, put, count, retain, InOrder-empty, InOrder-put}
-use Rattle.sftp_handles.proofs.Imports.{InOrder-without, get-put, get-without, same_table, one_if, count-without, Pins}
-use Rattle.sftp_handles.proofs.Imports.{times_pinned, with_pins, with_pin, without_pin, File, Listing, Left, Handles}
-use Rattle.sftp_handles.proofs.Imports.{open_at, with_open, without_open, opens_file, times_open, pins_of}
+use Rattle.sftp_handles.proofs.Imports.{◌≡◌, [], List, ℕ, subst, ap, sym, arith, le-leb, bytes_cmp, InOrder-empty}
+use Rattle.sftp_handles.proofs.Imports.{Tree, ◌∙◌, Pins, trimmed-already, IsKept, trim, Handles, pins_of, State}
+use Rattle.sftp_handles.proofs.Imports.{settled, Good, ◌==◌, ◌+◌, ◌-◌, ◌<◌, Bool, true, false, cond, nat_lt}
+use Rattle.sftp_handles.proofs.Imports.{unwrap_or, ◌∷◌, Option, Some, None, refl, if◌then◌else◌, zero, suc, nat_cmp}
+use Rattle.sftp_handles.proofs.Imports.{is_eq, nat_cmp_total, nat_list_cmp_total, nat_cmp-IsAntisymmetric, lt-ltb}
+use Rattle.sftp_handles.proofs.Imports.{eqb-true, eq-eqb, ne_eqb, same_Some, OpenFlags, InOrder, get, put, count}
+use Rattle.sftp_handles.proofs.Imports.{retain, InOrder-put, InOrder-without, get-put, get-without, same_table}
+use Rattle.sftp_handles.proofs.Imports.{one_if, count-without, times_pinned, with_pins, with_pin, without_pin, File}
+use Rattle.sftp_handles.proofs.Imports.{Listing, Left, open_at, with_open, without_open, opens_file, times_open}
 use Rattle.sftp_path.proofs.Table.Entries.{count-step, count-put_new, count-put_again}
-use Rattle.sftp_tree.proofs.TreeFiles.Contents.{number_is}
+use Rattle.sftp_tree.proofs.TreeFiles.Numbers.{number_is}
+
+-- ==== States of trees with the pins of what is open, and those in which nothing is.
+
+abbrev pub state_of : Tree → Handles → State
+state_of t handles = record { tree = t; handles = handles }
+
+with_pins_of : Tree → Pins → Tree
+with_pins_of t pins = record t { pins = pins }
+
+-- a tree with the pins of what is open is settled where it is trimmed
+pub settled-pinned : (t : Tree) (handles : Handles) → t.pins ≡ pins_of handles
+    → settled t handles ≡ state_of (trim t) handles
+unfolding with_pins_of
+settled-pinned t handles same = ap (λ pins. state_of (trim (with_pins_of t pins)) handles) (sym same)
+
+-- and as it is, if it is kept
+pub settled-already : (t : Tree) (handles : Handles) → IsKept t → t.pins ≡ pins_of handles
+    → settled t handles ≡ state_of t handles
+settled-already t handles kept same =
+    settled-pinned t handles same ∙ ap (λ t. state_of t handles) (trimmed-already t kept.trimmed)
+
+pub nothing-open : (before t : Tree) (handles : Handles) → handles ≡ [] → t ≡ trim (record before { pins = [] })
+    → state_of t handles ≡ settled before []
+unfolding pins_of
+nothing-open before t handles none is = λ i. record { tree = is i; handles = none i }
+
+good-empty : (before t : Tree) → t ≡ trim (record before { pins = [] }) → IsKept t → Good (state_of t [])
+unfolding pins_of
+good-empty before t is kept = record {
+  tree = kept;
+  pinned = ap (λ (t : Tree). t.pins) is;
+  ordered = InOrder-empty (List ℕ) bytes_cmp;
+  handles = tt;
+  few = le-leb 0 t.limits.open_handles (omega arith);
+}
+
+pub good-closed_all : (before t : Tree) (handles : Handles) → handles ≡ [] → t ≡ trim (record before { pins = [] })
+    → IsKept t → Good (state_of t handles)
+good-closed_all before t handles none is kept =
+    subst (λ handles. Good (state_of t handles)) (sym none) (good-empty before t is kept)
 
 -- ---- one more pin
 

@@ -1,13 +1,15 @@
 -- Tables of handles as they are kept in slots, by the numbers of the slots.
-use Rattle.sftp_handles.proofs.Imports.{◌≡◌, ◌≢◌, ◌⊎◌, ◌+◌, ◌<◌, ◌^◌, ◌++◌, ℕ, zero, suc, Bool, true, false, cond, List}
-use Rattle.sftp_handles.proofs.Imports.{[], ◌∷◌, length, map, get_or, Option, None, Some, is_some, refl, sym, ap, subst}
-use Rattle.sftp_handles.proofs.Imports.{◌∙◌, inl, inr, zero-add, arith, ◌==◌, ◌-◌, take, drop, if◌then◌else◌, bytes_eq}
-use Rattle.sftp_handles.proofs.Imports.{IsSome, w32, w64, from_be_bytes, nat_list_cmp_total, nat_list_eq_equiv, mod-lt}
-use Rattle.sftp_handles.proofs.Imports.{cases_eq, eq-eqb, eqb-true, length-take, length-drop, take-append-drop}
-use Rattle.sftp_handles.proofs.Imports.{is_eq-slice_cmp, bytes_eq-Decides, uint32, uint64, AreBytes, bytes_cmp}
-use Rattle.sftp_handles.proofs.Imports.{from_entries, size, bytes_cmp-same, get-empty, get-put, get-without, size-put}
-use Rattle.sftp_handles.proofs.Imports.{same_table, InOrder-from_entries, InOrder-put, InOrder-without, Open, open_at}
-use Rattle.sftp_handles.proofs.Imports.{with_open, without_open, slot_name, handles_from, slab_handles, serial_before}
+use Rattle.sftp_handles.proofs.Imports.{◌≡◌, ◌≢◌, ◌⊎◌, ◌+◌, ◌<◌, ◌^◌, ◌++◌, ℕ, zero, suc, Bool, true, false, cond}
+use Rattle.sftp_handles.proofs.Imports.{List, [], ◌∷◌, length, map, get_or, Option, None, Some, is_some, refl, sym}
+use Rattle.sftp_handles.proofs.Imports.{ap, subst, ◌∙◌, inl, inr, zero-add, arith, ◌==◌, ◌-◌, take, drop}
+use Rattle.sftp_handles.proofs.Imports.{if◌then◌else◌, bytes_eq, IsSome, w32, w64, from_be_bytes, nat_list_cmp_total}
+use Rattle.sftp_handles.proofs.Imports.{nat_list_eq_equiv, mod-lt, cases_eq, eq-eqb, eqb-true, length-take}
+use Rattle.sftp_handles.proofs.Imports.{length-drop, take-append-drop, is_eq-slice_cmp, bytes_eq-Decides, uint32}
+use Rattle.sftp_handles.proofs.Imports.{uint64, AreBytes, bytes_cmp, from_entries, size, bytes_cmp-same, get-empty}
+use Rattle.sftp_handles.proofs.Imports.{get-put, get-without, size-put, same_table, InOrder-from_entries, InOrder-put}
+use Rattle.sftp_handles.proofs.Imports.{InOrder-without, Open, open_at, with_open, without_open, slot_name}
+use Rattle.sftp_handles.proofs.Imports.{handles_from, slab_handles, serial_before, nat_lt, ◌≤◌, ltb-true, ltb-false}
+use Rattle.sftp_handles.proofs.Imports.{InOrder, Handles}
 use Rattle.std.proofs.lemmas.Nat.{be_bytes_4, be_bytes_8, from_be_bytes-to_be_bytes_4}
 use Rattle.byteorder.specs.Endian.{big_number}
 use Rattle.byteorder.specs.Numbers.{big_from-take, big_number-reads_back}
@@ -16,7 +18,8 @@ use Rattle.slab.proofs.SlabLemmas.{length-entries, Updates-with_value}
 use Rattle.sftp_packets.proofs.Bytes.{IsBytes, IsBytes-take, IsBytes-drop, big_number-four}
 use Rattle.sftp_handles.specs.declared.slots.Slot.{Slot}
 use Rattle.sftp_handles.specs.Slots.{named_slot, IsNameAt, IsNewest, IsNumbered}
-use Rattle.sftp_handles.proofs.TotalSteps.PlaceTexts.{bytes-joined, number-bytes}
+use Rattle.sftp_handles.proofs.TotalSteps.{bytes-joined, number-bytes}
+use Rattle.sftp_handles.proofs.TotalSteps.{name-left}
 
 -- ---- names
 
@@ -426,3 +429,28 @@ open-count opens numbered =
     count-from 0 opens.slots (λ at number is in_use.
     numbered number (ap (λ n. is_some (get opens n)) (is ∙ zero-add at) ∙ in_use))
     ∙ length-entries opens
+
+-- ==== Numbers whose names are open.
+
+-- the names of the numbers below n are open
+abbrev pub AreOpenBelow : ℕ → Handles → Type 0
+AreOpenBelow n handles = (k : ℕ) → k < n → is_some (open_at handles (uint32 k)) ≡ true
+
+-- and that of n too
+pub open-below : (n : ℕ) (handles : Handles) → AreOpenBelow n handles → is_some (open_at handles (uint32 n)) ≡ true
+    → AreOpenBelow (suc n) handles
+open-below n handles are is k less = by (nat_lt k n) refl
+  where
+    by : (below : Bool) → nat_lt k n ≡ below → is_some (open_at handles (uint32 k)) ≡ true
+    by true e = are k (ltb-true k n e)
+    by false e =
+        let same : n ≡ k = omega (arith, less, ltb-false k n e) in
+        subst (λ m. is_some (open_at handles (uint32 m)) ≡ true) same is
+
+-- they are not more than there are handles
+pub not-below : (n : ℕ) (handles : Handles) → n ≤ 2 ^ 32 → InOrder bytes_cmp handles → size handles < n
+    → AreOpenBelow n handles → ⊥
+not-below n handles bound order few are =
+    let free = name-left n handles bound order few in
+    let both : true ≡ false = sym (are free.count free.few) ∙ ap is_some free.absent in
+    cc

@@ -14,16 +14,16 @@ use Rattle.sftp_tree.specs.declared.causes.Refused.TheVariants as refusals
 use Rattle.sftp_tree.specs.Requests as paths
 use Rattle.sftp_tree.specs.Requests.{target_of}
 use Rattle.sftp_tree.specs.Told.{shown_to, text_to}
-use Rattle.sftp_tree.specs.Refusals as of_tree
+use Rattle.sftp_tree.specs.Told as of_tree
 use Rattle.sftp_handles.specs.Replies.{shows, names}
 use Rattle.sftp_handles.specs.declared.payloads.Payload.{Payload}
 use Rattle.sftp_handles.specs.declared.requests.Purpose.TheVariants.{Query}
-use Rattle.sftp_handles.proofs.Good.GoodStates.{good-settled}
-use Rattle.sftp_handles.proofs.Judged.Judgements.{answers-said, unlike, judged-still}
+use Rattle.sftp_handles.proofs.Good.{good-settled}
+use Rattle.sftp_handles.proofs.Judged.{answers-said, unlike, judged-still}
 use Rattle.sftp_handles.proofs.Answered.LimitsAnswers.{limits-still}
 use Rattle.sftp_handles.proofs.TotalSteps.SaidReplies.{payload-reply}
 use Rattle.sftp_tree.specs.Changes.{carried, no_change}
-use Rattle.sftp_handles.proofs.TotalSteps.SeenReplies.{seen-fits}
+use Rattle.sftp_handles.proofs.TotalSteps.PathReplies.{seen-fits}
 use Rattle.sftp_handles.proofs.TotalSteps.PathReplies.{path-fits, stat-fits, lstat-fits, target-fits, place-fits}
 
 -- ---- queries of a path

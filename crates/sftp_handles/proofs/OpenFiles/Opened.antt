@@ -18,16 +18,16 @@ use Rattle.sftp_handles.proofs.Imports.{answers, after, said_by, told_to, opened
 use Rattle.sftp_packets.specs.declared.requests.Ask.TheVariants as asks
 use Rattle.sftp_packets.specs.declared.replies.Answer.TheVariants as replies
 use Rattle.sftp_tree.specs.declared.causes.Refused.TheVariants as refusals
-use Rattle.sftp_tree.specs.Refusals as refusals_of
+use Rattle.sftp_tree.specs.Told as refusals_of
 use Rattle.sftp_tree.specs.declared.nodes.Node.TheVariants as nodes
 use Rattle.sftp_tree.specs.Requests as paths
 use Rattle.sftp_tree.specs.Requests.{file, listed, outcome_led}
 use Rattle.sftp_tree.specs.Told.{number_of, names_of, file_to, listing_to}
-use Rattle.sftp_tree.proofs.KeptTrees.Trims.{named-there}
+use Rattle.sftp_tree.proofs.KeptTrees.{named-there}
 use Rattle.sftp_handles.proofs.Good.Pins.{pin-times, pins-times, pins-open_file, pins-open_listing}
-use Rattle.sftp_handles.proofs.Good.NewStates.{state_of}
+use Rattle.sftp_handles.proofs.Good.Pins.{state_of}
 use Rattle.sftp_handles.proofs.Good.GoodPaths.{opened-named}
-use Rattle.sftp_listing.proofs.FirstListings.{listing-fits}
+use Rattle.sftp_listing.proofs.FirstNames.{listing-fits}
 
 -- ---- a good state with one more handle
 

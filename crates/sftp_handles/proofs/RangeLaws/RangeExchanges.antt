@@ -5,14 +5,14 @@ use Rattle.sftp_handles.proofs.Imports.{◌∙◌, arith, nat_cmp, nat_cmp_total
 use Rattle.sftp_handles.proofs.Imports.{Ask, Answer, Request, Reply, asked_handle, InOrder, get-put_here, IsAsk}
 use Rattle.sftp_handles.proofs.Imports.{Content, content_at, limits, ByteRange, File, open_at, State, Good, a_file}
 use Rattle.sftp_handles.proofs.Imports.{file, seen_file, seen_among, seen, row_of, Allowed, step, ComesFirst}
-use Rattle.sftp_handles.specs.Ranges.{span, meet}
-use Rattle.sftp_handles.proofs.ClashLaws.Exchanges.{StaysGood}
-use Rattle.sftp_handles.proofs.Judged.Steps.{allowed-step, step-is_allowed}
-use Rattle.sftp_handles.proofs.RangeLaws.Overwrites.{over, over-length, over-nothing, over-behind, over-before}
-use Rattle.sftp_handles.proofs.RangeLaws.Overwrites.{over-over}
-use Rattle.sftp_handles.proofs.RangeLaws.RangedAsks.{Ranged}
-use Rattle.sftp_handles.proofs.RangeLaws.RangedSteps.{with_file, file-twice, judged, effect, file-step, data_of}
-use Rattle.sftp_handles.proofs.RangeLaws.RangedSteps.{with_bytes, data-within, effect-over, AreAlike, judged-alike}
+use Rattle.sftp_handles.specs.Clash.{span, meet}
+use Rattle.sftp_handles.proofs.ClashLaws.{StaysGood}
+use Rattle.sftp_handles.proofs.Judged.{allowed-step, step-is_allowed}
+use Rattle.sftp_handles.proofs.RangeLaws.Spans.{over, over-length, over-nothing, over-behind, over-before}
+use Rattle.sftp_handles.proofs.RangeLaws.Spans.{over-over}
+use Rattle.sftp_handles.proofs.RangeLaws.{Ranged}
+use Rattle.sftp_handles.proofs.RangeLaws.{with_file, file-twice, judged, effect, file-step, data_of}
+use Rattle.sftp_handles.proofs.RangeLaws.{with_bytes, data-within, effect-over, AreAlike, judged-alike}
 
 -- ---- ranges that do not meet
 

@@ -11,13 +11,13 @@ use Rattle.sftp_handles.proofs.Imports.{opens_file, State, settled, Needed, anyt
 use Rattle.sftp_handles.proofs.Imports.{seen_file, seen_among, seen, row_of, Change, nothing, rewrites, leaves, closes}
 use Rattle.sftp_handles.proofs.Imports.{change_of, change_file, changed, after, after_by, Allowed, Touched, reads_file}
 use Rattle.sftp_handles.proofs.Imports.{writes_file, everything, share, touched, may_change, touched_through}
-use Rattle.sftp_handles.specs.Ranges.{range_of, range_by, range, may_resize}
-use Rattle.sftp_handles.proofs.ClashLaws.Touches.{applied, IsChangeTo, change-touches, share-mutual, seen-stays}
-use Rattle.sftp_handles.proofs.ClashLaws.Touches.{part-taken, touched-is}
-use Rattle.sftp_handles.proofs.ClashLaws.Exchanges.{handle-of, not-everything, limits-stay}
+use Rattle.sftp_handles.specs.Clash.{range_of, range_by, range, may_resize}
+use Rattle.sftp_handles.proofs.ClashLaws.{applied, IsChangeTo, change-touches, share-mutual, seen-stays}
+use Rattle.sftp_handles.proofs.ClashLaws.{part-taken, touched-is}
+use Rattle.sftp_handles.proofs.ClashLaws.{handle-of, not-everything, limits-stay}
 use Rattle.sftp_handles.proofs.Good.Pins.{pins-times}
-use Rattle.sftp_handles.proofs.RangeLaws.RangedAsks.{Ranged, ranged-of, ranged-sees}
-use Rattle.sftp_handles.proofs.RangeLaws.RangedSteps.{effect}
+use Rattle.sftp_handles.proofs.RangeLaws.{Ranged, ranged-of, ranged-sees}
+use Rattle.sftp_handles.proofs.RangeLaws.{effect}
 use Rattle.sftp_handles.proofs.RangeLaws.RangeExchanges.{on-file, effect-size}
 use Rattle.sftp_handles.proofs.RangeLaws.SteadyRanges.{range-sized}
 

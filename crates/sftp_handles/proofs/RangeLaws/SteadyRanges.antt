@@ -9,14 +9,14 @@ use Rattle.sftp_handles.proofs.Imports.{Listing, Left, open_at, State, Good, Nee
 use Rattle.sftp_handles.proofs.Imports.{seen_file, seen_among, seen, row_of, Change, nothing, rewrites, leaves, closes}
 use Rattle.sftp_handles.proofs.Imports.{Allowed, Touched, writes_file, everything, share, may_change, touched_through}
 use Rattle.sftp_handles.proofs.Imports.{touched_by, touched, clash, ComesFirst}
-use Rattle.sftp_handles.specs.Ranges.{span, range_within, range_of, range_by, range, meet, are_apart, range_clash}
-use Rattle.sftp_handles.proofs.ClashLaws.Touches.{applied, IsChangeTo, share-mutual, content-stays, open-stays}
-use Rattle.sftp_handles.proofs.ClashLaws.Touches.{touched-is}
-use Rattle.sftp_handles.proofs.ClashLaws.Exchanges.{StaysGood, exchanged, changes-of, handle-of, not-everything}
-use Rattle.sftp_handles.proofs.ClashLaws.Exchanges.{touched-past}
-use Rattle.sftp_handles.proofs.Judged.Steps.{allowed-step}
-use Rattle.sftp_handles.proofs.RangeLaws.RangedAsks.{Ranged, ranged-of, ranged-is}
-use Rattle.sftp_handles.proofs.RangeLaws.RangedSteps.{with_file, effect}
+use Rattle.sftp_handles.specs.Clash.{span, range_within, range_of, range_by, range, meet, are_apart, range_clash}
+use Rattle.sftp_handles.proofs.ClashLaws.{applied, IsChangeTo, share-mutual, content-stays, open-stays}
+use Rattle.sftp_handles.proofs.ClashLaws.{touched-is}
+use Rattle.sftp_handles.proofs.ClashLaws.{StaysGood, exchanged, changes-of, handle-of, not-everything}
+use Rattle.sftp_handles.proofs.ClashLaws.{touched-past}
+use Rattle.sftp_handles.proofs.Judged.{allowed-step}
+use Rattle.sftp_handles.proofs.RangeLaws.{Ranged, ranged-of, ranged-is}
+use Rattle.sftp_handles.proofs.RangeLaws.{with_file, effect}
 use Rattle.sftp_handles.proofs.RangeLaws.RangeExchanges.{apart-of, on-file, on-same, did, effect-size}
 use Rattle.sftp_handles.proofs.RangeLaws.RangeExchanges.{exchanged-apart}
 

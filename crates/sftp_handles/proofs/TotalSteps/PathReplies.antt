@@ -1,19 +1,106 @@
 -- What the replies to requests on paths say fits a reply.
-use Rattle.sftp_handles.proofs.Imports.{◌≡◌, ℕ, ◌+◌, true, false, List, length, Option, Some, None, Result, Ok, Err}
-use Rattle.sftp_handles.proofs.Imports.{is_some, refl, sym, subst, arith, IsTrue, leb-true, same_Some, Attrs, Ask}
-use Rattle.sftp_handles.proofs.Imports.{Place, place_cmp, size, place_cmp-same, are_bytes, Cause, NoEntry, NotLink}
-use Rattle.sftp_handles.proofs.Imports.{Content, Node, Tree, IsKept, IsNode, node_at, content_at, link_fits, limits}
-use Rattle.sftp_handles.proofs.Imports.{reached, said, shown, shown_content, no_causes, when, needing_causes}
-use Rattle.sftp_handles.proofs.Imports.{link_causes, done, led, led_to, told_at, shown_at, IsFree, each-get, each-all}
-use Rattle.sftp_handles.proofs.Imports.{fits-parts, free-at, PathsLeadWell, State, Good, has_handle_left, FitsSaid}
-use Rattle.sftp_handles.proofs.Imports.{said_by, told_to}
+use Rattle.sftp_handles.proofs.Imports.{◌≡◌, nat_lt, ℕ, zero, suc, ◌≤◌, Bool, true, false, if◌then◌else◌, min, List}
+use Rattle.sftp_handles.proofs.Imports.{[], ◌∷◌, length, take, drop, Option, Some, None, refl, IsTrue, arith, nat_cmp}
+use Rattle.sftp_handles.proofs.Imports.{nat_cmp-IsAntisymmetric, length-take, OpenFlags, Ask, AreBytes, bytes_cmp}
+use Rattle.sftp_handles.proofs.Imports.{bytes_cmp-same, are_bytes, Content, IsContent, content_at, limits, bytes_at}
+use Rattle.sftp_handles.proofs.Imports.{each-get, bytes-dropped, Open, File, Listing, Left, open_at, State, Good}
+use Rattle.sftp_handles.proofs.Imports.{IsHandle, IsLeft, Needed, anything, a_file, a_listing, seen, seen_among}
+use Rattle.sftp_handles.proofs.Imports.{seen_file, FitsData, FitsSaid, row_of, said_of, seen_by, ◌+◌, Result, Ok, Err}
+use Rattle.sftp_handles.proofs.Imports.{is_some, sym, subst, leb-true, same_Some, Attrs, Place, place_cmp, size}
+use Rattle.sftp_handles.proofs.Imports.{place_cmp-same, Cause, NoEntry, NotLink, Node, Tree, IsKept, IsNode, node_at}
+use Rattle.sftp_handles.proofs.Imports.{link_fits, reached, said, shown, shown_content, no_causes, when}
+use Rattle.sftp_handles.proofs.Imports.{needing_causes, link_causes, done, led, led_to, told_at, shown_at, IsFree}
+use Rattle.sftp_handles.proofs.Imports.{each-all, fits-parts, free-at, PathsLeadWell, has_handle_left, said_by}
+use Rattle.sftp_handles.proofs.Imports.{told_to, IfSome, request_packet, Request, FitsAsk, HasSpelling, path_of}
+use Rattle.sftp_handles.proofs.Imports.{bytes-fit, IsAskable, ◌&&◌, ◌||◌, ◌^◌, ◌<◌, not, ap, inl, inr, lit<, list_any}
+use Rattle.sftp_handles.proofs.Imports.{asked_handle, NotDir, Loop, Unknown, CauseSet, every_cause, allows, is_none}
+use Rattle.sftp_handles.proofs.Imports.{causes, answers, after, said_to, causes_by, path_causes, path_said}
+use Rattle.sftp_handles.proofs.Imports.{IsAnswerable, status_of}
 use Rattle.sftp_packets.specs.declared.requests.Ask.TheVariants as asks
+use Rattle.sftp_treefile.specs.TreeFile.{highest_limits}
+use Rattle.sftp_handles.specs.Replies.{gives, ended, shows, names, opens}
+use Rattle.sftp_handles.specs.RequestRows.{listed}
+use Rattle.sftp_listing.proofs.FirstNames.{content-shown, node-shown, short-target}
+use Rattle.sftp_handles.proofs.TotalSteps.{bytes-by, text-fits}
 use Rattle.std.specs.Option.{option_map}
-use Rattle.sftp_tree.specs.declared.nodes.Node.TheVariants.{Dir, File, Link}
+use Rattle.sftp_tree.specs.declared.nodes.Node.TheVariants.{Dir, Link}
 use Rattle.sftp_tree.specs.Requests.{target_of}
-use Rattle.sftp_listing.proofs.FirstListings.{node-shown, short-target}
-use Rattle.sftp_handles.specs.Replies.{shows, names, opens}
-use Rattle.sftp_handles.proofs.TotalSteps.PlaceTexts.{bytes-by, text-fits}
+use Rattle.sftp_tree.specs.Requests as paths
+use Rattle.sftp_handles.proofs.Good.{room-of}
+use Rattle.sftp_handles.proofs.Answered.LimitsAnswers.{limits-fit}
+use Rattle.sftp_handles.proofs.TotalSteps.SaidReplies.{reply_of, status-spelled, fits-sayable}
+
+-- ==== What the replies to requests through handles say fits a reply.
+
+-- ---- the bytes that a READ gives
+
+pub bytes-taken : (n : ℕ) (bytes : List ℕ) → AreBytes bytes → AreBytes (take n bytes)
+bytes-taken zero [] are = tt
+bytes-taken zero (b ∷ bytes) are = tt
+bytes-taken (suc n) [] are = tt
+bytes-taken (suc n) (b ∷ bytes) are = (are.0, bytes-taken n bytes are.1)
+
+pub few-taken : (len limit : ℕ) (bytes : List ℕ) → length (take (min len limit) bytes) ≤ limit
+few-taken len limit bytes = omega (arith, length-take (min len limit) bytes)
+
+module _ (s : State) (good : Good s) where
+  read-limit : (limits s.tree).read_bytes ≤ highest_limits.read_bytes
+  read-limit = good.tree.well_formed.limits.read_bytes.1
+
+  data-fits : (offset len : ℕ) (bytes : List ℕ) → IsTrue (are_bytes bytes)
+      → FitsData (bytes_at (limits s.tree) offset len bytes)
+  data-fits offset len bytes are =
+      let few = few-taken len (limits s.tree).read_bytes (drop offset bytes) in
+      record {
+        string =
+            record {
+              bytes_fit =
+                  bytes-taken (min len (limits s.tree).read_bytes) (drop offset bytes)
+                  (bytes-by (drop offset bytes) (bytes-dropped offset bytes are));
+              length_fits = omega (arith, few, read-limit);
+            };
+        short = omega (arith, few, read-limit);
+      }
+
+  read-fits : (offset len : ℕ) (bytes : List ℕ) → IsTrue (are_bytes bytes) → (b : Bool)
+      → FitsSaid (if b then gives (bytes_at (limits s.tree) offset len bytes) else ended)
+  read-fits offset len bytes are true = data-fits offset len bytes are
+  read-fits offset len bytes are false = tt
+
+  -- what is said of a file
+  told-fits : (ask : Ask) (number : ℕ) (content : Content) → content_at s.tree.files number ≡ Some content
+      → FitsSaid ((row_of ask).said_of_file (limits s.tree) content)
+  told-fits (asks.Read handle offset len) number content there =
+      let is = each-get nat_cmp nat_cmp-IsAntisymmetric (λ e. IsContent e.1) s.tree.files number content
+      good.tree.well_formed.contents there in
+      read-fits offset len content.bytes is.1 (nat_lt offset (length content.bytes))
+  told-fits (asks.Fstat handle) number content there = content-shown s.tree number content good.tree there
+  told-fits other number content there = tt
+
+  left-fits : (left : Left) → IsLeft left → FitsSaid (listed left)
+  left-fits [] is = tt
+  left-fits (e ∷ es) is = is
+
+  module _ (ask : Ask) (handle : List ℕ) where
+    of-number : (number : ℕ) (flags : OpenFlags) (found : Option Content) → content_at s.tree.files number ≡ found
+        → FitsSaid (said_of (limits s.tree) (row_of ask) (seen_file number flags found))
+    of-number number flags None there = tt
+    of-number number flags (Some content) there = told-fits ask number content there
+
+    of-open : (needed : Needed) (found : Option Open) → open_at s.handles handle ≡ found
+        → FitsSaid (said_of (limits s.tree) (row_of ask) (seen_among s.tree.files needed found))
+    of-open needed None there = tt
+    of-open anything (Some it) there = tt
+    of-open a_file (Some (File number flags)) there = of-number number flags (content_at s.tree.files number) refl
+    of-open a_file (Some (Listing left)) there = tt
+    of-open a_listing (Some (File number flags)) there = tt
+    of-open a_listing (Some (Listing left)) there =
+        let it = each-get bytes_cmp bytes_cmp-same IsHandle s.handles handle (Listing left) good.handles there in
+        left-fits left it.1
+
+    pub seen-fits : FitsSaid (said_of (limits s.tree) (row_of ask) (seen_by s ask handle))
+    unfolding seen
+    seen-fits = of-open (row_of ask).needed (open_at s.handles handle) refl
 
 -- ---- what is at a place
 
@@ -136,3 +223,129 @@ module _ (s : State) (good : Good s) where
         ordered = good.ordered;
         few = omega (arith, less, good.tree.well_formed.limits.open_handles.1);
       }
+
+-- ==== Requests that can be encoded have an id of 32 bits and paths of bytes.
+
+path-bytes : (ask : Ask) → FitsAsk ask → IfSome (path_of ask) (λ path. IsTrue (are_bytes path))
+path-bytes (asks.Close handle) fits = tt
+path-bytes other fits = first_of (search, search bytes-fit)
+
+pub spelled-askable : (request : Request) → HasSpelling (request_packet request) → IsAskable request
+spelled-askable request spelled =
+    record { id = spelled.fields.0; path = path-bytes request.ask spelled.fields.1 }
+
+-- ==== Some reply to each request is allowed, and can be encoded.
+
+-- ---- where a cause holds
+
+-- a code of each cause
+abbrev first_code : Cause → ℕ
+first_code NoEntry = 2
+first_code NotDir = 2
+first_code Loop = 2
+first_code Unknown = 8
+first_code other = 4
+
+first-allowed : (cause : Cause) → allows cause (first_code cause) ≡ true
+first-allowed NoEntry = refl
+first-allowed NotDir = refl
+first-allowed Loop = refl
+first-allowed Unknown = refl
+first-allowed other = refl
+
+first-small : (cause : Cause) → first_code cause < 2 ^ 32
+first-small NoEntry = lit< tt
+first-small NotDir = lit< tt
+first-small Loop = lit< tt
+first-small Unknown = lit< tt
+first-small other = lit< tt
+
+-- one of the causes of a list that are in a set allows the code
+abbrev allowed_by : CauseSet → List Cause → ℕ → Bool
+allowed_by set causes code = list_any (λ cause. set cause && allows cause code) causes
+
+some-code : (set : CauseSet) (xs : List Cause) → list_any set xs ≡ true
+    → (code : ℕ) × (code < 2 ^ 32) × (allowed_by set xs code ≡ true)
+some-code set [] is = absurd cc
+some-code set (x ∷ xs) is = by (some-code set xs) (set x) refl
+  where
+    by : (list_any set xs ≡ true → (code : ℕ) × (code < 2 ^ 32) × (allowed_by set xs code ≡ true))
+        → (b : Bool) → set x ≡ b → (code : ℕ) × (code < 2 ^ 32) × (allowed_by set (x ∷ xs) code ≡ true)
+    by rest true hit = (first_code x, first-small x, rw (hit, first-allowed x) refl)
+    by rest false miss =
+        let later = rest (let e : (false || list_any set xs) ≡ true = rw miss at is in e) in
+        (later.0, later.1, rw miss later.2)
+
+abbrev request_of : ℕ → Ask → Request
+request_of id ask = record { id = id; ask = ask }
+
+refused : (s : State) (id : ℕ) (ask : Ask) → id < 2 ^ 32 → list_any (causes s ask) every_cause ≡ true
+    → IsAnswerable s (request_of id ask)
+refused s id ask small one =
+    let found = some-code (causes s ask) every_cause one in
+    record {
+      reply = reply_of id (status_of found.0);
+      end = s;
+      allowed =
+          record { same_id = refl; step = inl (record { cause = found.2; unchanged = refl }) };
+      spelled = status-spelled found.0 found.1 id small;
+    }
+
+-- ---- where none holds
+
+answered : (s : State) (id : ℕ) (ask : Ask) → id < 2 ^ 32 → is_none (causes s ask) ≡ true
+    → FitsSaid (said_to s ask (asked_handle ask)) → IsAnswerable s (request_of id ask)
+unfolding answers
+answered s id ask small free fits =
+    let said = fits-sayable (said_to s ask (asked_handle ask)) fits in
+    record {
+      reply = reply_of id said.0;
+      end = after s ask said.0;
+      allowed =
+          record {
+            same_id = refl;
+            step = inr (record { free = free; answered = said.1.says; changed = refl });
+          };
+      spelled = said.1.spelled id small;
+    }
+
+-- what the reply to a request says fits one
+module _ (paths-lead : PathsLeadWell) (s : State) (good : Good s) where
+  path-said-fits : (ask : Ask) → IfSome (path_of ask) (λ path. IsTrue (are_bytes path))
+      → is_none (path_causes s ask) ≡ true → FitsSaid (path_said s ask)
+  path-said-fits (asks.Open path pflags attrs) bytes free =
+      let left = (room-of (paths.causes s.tree (asks.Open path pflags attrs)) (has_handle_left s) free).1 in
+      path-fits s good (asks.Open path pflags attrs) (λ place leads. handles-fit s good left)
+  path-said-fits (asks.Opendir path) bytes free =
+      let left = (room-of (paths.causes s.tree (asks.Opendir path)) (has_handle_left s) free).1 in
+      path-fits s good (asks.Opendir path) (λ place leads. handles-fit s good left)
+  path-said-fits (asks.Stat path) bytes free =
+      path-fits s good (asks.Stat path) (λ place. stat-fits s good path place free)
+  path-said-fits (asks.Lstat path) bytes free =
+      path-fits s good (asks.Lstat path) (λ place. lstat-fits s good path place free)
+  path-said-fits (asks.Readlink path) bytes free =
+      path-fits s good (asks.Readlink path) (λ place. target-fits s good path place free)
+  path-said-fits (asks.Realpath path) bytes free =
+      path-fits s good (asks.Realpath path) (λ place. place-fits s good paths-lead path place bytes)
+  path-said-fits asks.Limits bytes free = limits-fit (limits s.tree)
+  path-said-fits other bytes free = path-fits s good other (λ place leads. tt)
+
+  said-fits : (ask : Ask) (named : Option (List ℕ)) → IfSome (path_of ask) (λ path. IsTrue (are_bytes path))
+      → is_none (causes_by s ask named) ≡ true → FitsSaid (said_to s ask named)
+  said-fits ask None bytes free = path-said-fits ask bytes free
+  said-fits ask (Some handle) bytes free = seen-fits s good ask handle
+
+  fits-free : (ask : Ask) → IfSome (path_of ask) (λ path. IsTrue (are_bytes path)) → is_none (causes s ask) ≡ true
+      → FitsSaid (said_to s ask (asked_handle ask))
+  unfolding causes
+  fits-free ask = said-fits ask (asked_handle ask)
+
+pub some-allowed : PathsLeadWell → (s : State) (request : Request) → Good s → IsAskable request
+    → IsAnswerable s request
+some-allowed paths-lead s request good askable = by (list_any (causes s request.ask) every_cause) refl
+  where
+    by : (b : Bool) → list_any (causes s request.ask) every_cause ≡ b → IsAnswerable s request
+    by true one = refused s request.id request.ask askable.id one
+    by false none =
+        answered s request.id request.ask askable.id (ap not none)
+        (fits-free paths-lead s good request.ask askable.path (ap not none))

@@ -10,14 +10,14 @@ use Rattle.sftp_handles.proofs.Imports.{same_attributes, FitsSaid, FitsTwice, Fi
 use Rattle.sftp_handles.proofs.Imports.{IsSpelledAnswer, IsReplyOf, status_of, only_name}
 use Rattle.sftp_packets.specs.declared.replies.Answer.TheVariants as replies
 use Rattle.sftp_treefile.specs.TreeFile.{highest_limits}
-use Rattle.sftp_handles.specs.FirstNames.{first_names}
+use Rattle.sftp_handles.specs.Slots.{first_names}
 use Rattle.sftp_listing.proofs.FirstNames.{Extended, attributes_of, same-itself, first-some}
 use Rattle.sftp_handles.specs.Replies.{ok, shows, names, gives, ended, lists, opens, extends}
 use Rattle.sftp_handles.specs.declared.payloads.Payload.{Payload}
 use Rattle.sftp_handles.specs.declared.payloads.Payload.TheVariants as payloads
 use Rattle.sftp_handles.proofs.OpenFiles.Opened.{new-handle}
-use Rattle.sftp_handles.proofs.TotalSteps.PlaceTexts.{name-parts, number-bytes}
-use Rattle.sftp_handles.proofs.TotalSteps.NewHandles.{name-left}
+use Rattle.sftp_handles.proofs.TotalSteps.{name-parts, number-bytes}
+use Rattle.sftp_handles.proofs.TotalSteps.{name-left}
 
 abbrev pub reply_of : ℕ → Answer → Reply
 reply_of id answer = record { id = id; answer = answer }

@@ -3,7 +3,7 @@ ghost use Rattle.std.specs.Prelude.{◌≡◌, ◌^◌, ◌<◌, IfOk};
 ghost use Rattle.sftp_packets.specs.declared.replies.Answer.TheVariants as replies;
 ghost use Rattle.sftp_packets.specs.Spelling.{no_attributes};
 ghost use Rattle.sftp_handles.specs.Replies as spec;
-ghost use Rattle.sftp_handles.specs.Answered.{status_of, only_name};
+ghost use Rattle.sftp_handles.specs.Payloads.{status_of, only_name};
 
 use sftp_tree::NoMemory;
 use sftp_wire::{Answer, Attrs, ByteString, NameItem, Names};

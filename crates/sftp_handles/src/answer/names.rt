@@ -2,13 +2,13 @@
 ghost use Rattle.std.specs.Prelude.{◌≡◌, ◌≤◌, false, length, IfOk, IfErr, OnOk, OnErr, IsTrue};
 ghost use Rattle.sftp_packets.specs.Spelling.{handle_limit};
 ghost use Rattle.sftp_packets.specs.declared.requests.Ask.TheVariants as asks;
-ghost use Rattle.sftp_handles.specs.Handles.{open_at, is_open};
+ghost use Rattle.sftp_handles.specs.State.{open_at, is_open};
 ghost use Rattle.sftp_handles.specs.State as state;
 ghost use Rattle.sftp_handles.specs.declared.requests.Purpose.TheVariants as variants;
-ghost use Rattle.sftp_handles.specs.Purposes as purposes;
-ghost use Rattle.sftp_handles.specs.FirstNames.{AreFirstNames, AreUpTo, names_in_reply};
-ghost use Rattle.sftp_handles.specs.Judged.{IsRefusal};
-ghost use Rattle.sftp_handles.specs.Answered.{IsAnswered};
+ghost use Rattle.sftp_handles.specs.Payloads as purposes;
+ghost use Rattle.sftp_handles.specs.Slots.{AreFirstNames, AreUpTo, names_in_reply};
+ghost use Rattle.sftp_handles.specs.Slots.{IsRefusal};
+ghost use Rattle.sftp_handles.specs.Payloads.{IsAnswered};
 
 use crate::answer::forms::{new_handle, status};
 use crate::not_opened::NotOpened;

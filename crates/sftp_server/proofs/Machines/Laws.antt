@@ -1,14 +1,16 @@
 -- The laws of the core, from those of steps that do not clash.
-use Rattle.sftp_server.proofs.Imports.{◌≡◌, ◌≤◌, ℕ, true, false, List, [], Request, Reply, IsAsk, State, Good, Allowed}
-use Rattle.sftp_server.proofs.Imports.{Event, Explained, BeginsFrom, in_window, full_window, Machine, at_start, IsSent}
-use Rattle.sftp_server.proofs.Imports.{server_clash, IsValue, IsReached, LeadsTo}
-use Rattle.sftp_handles.specs.Laws.{IsAskable, IsAnswerable}
+use Rattle.sftp_server.proofs.Imports.{◌≡◌, ◌≤◌, ℕ, true, false, List, [], Request, Reply, IsAsk, State, Good}
+use Rattle.sftp_server.proofs.Imports.{Allowed, Event, Explained, BeginsFrom, in_window, full_window, Machine}
+use Rattle.sftp_server.proofs.Imports.{at_start, IsSent, server_clash, IsValue, IsReached, LeadsTo, Bool, ◌∷◌, ◌++◌}
+use Rattle.sftp_server.proofs.Imports.{Option, Some, refl, sym, subst, append-nil, Asked, Replied, Act, Deliver, Work}
+use Rattle.sftp_server.proofs.Imports.{Send, taken, can_take, is_ready, reply_at, IsWorked, IsAct, IsDelivery, IsWork}
+use Rattle.sftp_server.proofs.Imports.{IsSend, Delivers, all_both}
+use Rattle.sftp_handles.specs.Clash.{IsAskable, IsAnswerable}
 use Rattle.sftp_handles.proofs.RangeLaws.SteadyRanges.{ranges-exchanged, still-free}
-use Rattle.sftp_server.proofs.Machines.Premises.{Premises, HasReply}
-use Rattle.sftp_server.proofs.Machines.Histories.{Follows, done, IsReplyFor}
-use Rattle.sftp_server.proofs.Machines.Acts.{follows-start, follows-acts, follows-reply}
-use Rattle.sftp_server.proofs.Machines.Endings as endings
-use Rattle.sftp_server.proofs.Machines.Kept as kept
+use Rattle.sftp_server.proofs.Machines.{Premises, HasReply}
+use Rattle.sftp_server.proofs.Machines.{Follows, done, IsReplyFor}
+use Rattle.sftp_server.proofs.Machines.Acts.{follows-start, follows-acts, follows-reply, acts-more}
+use Rattle.sftp_server.proofs.Machines.Acts as endings
 
 -- a good state stays good
 abbrev pub StaysGood : Type 0
@@ -73,7 +75,7 @@ module _ (stays : StaysGood) (total : IsTotal) where
   pub leads-to : (start : State) (window : ℕ) (events : List Event) (core : Machine State) → Good start
       → window ≤ full_window → IsReached start window events core → LeadsTo Allowed start events core.state
   leads-to start window events core good bound reached =
-      kept.leads-to Allowed Good IsValue start core events (follows start window events core good bound reached)
+      endings.leads-to Allowed Good IsValue start core events (follows start window events core good bound reached)
 
   pub windowed : (start : State) (window : ℕ) (events : List Event) (core : Machine State) → Good start
       → window ≤ full_window → IsReached start window events core → in_window events ≡ true
@@ -92,3 +94,51 @@ module _ (stays : StaysGood) (total : IsTotal) where
   reply-for start window events core k reply after good bound reached =
       follows-reply Allowed server_clash Good IsValue premises start core events k reply after
       (follows start window events core good bound reached)
+
+-- ==== What is reached from what was reached, by one act more.
+
+pub reached-start : (start : State) (window : ℕ) → IsReached start window [] (at_start start window)
+reached-start start window = record {
+  acts = [];
+  deliverable = tt;
+  steps = record { unchanged = refl; silent = refl };
+}
+
+pub reached-act : (start : State) (window : ℕ) (events : List Event) (before after : Machine State) (act : Act)
+    (more : List Event) → IsReached start window events before → Delivers IsValue act
+    → IsAct Allowed server_clash before act more after → IsReached start window (events ++ more) after
+reached-act start window events before after act more reached is acted =
+    let first = at_start start window in
+    record {
+      acts = reached.acts ++ act ∷ [];
+      deliverable = all_both (Delivers IsValue) reached.acts (act ∷ []) reached.deliverable (is, tt);
+      steps = acts-more Allowed server_clash first before after reached.acts events act more reached.steps acted;
+    }
+
+-- a request was taken
+pub reached-taken : (start : State) (window : ℕ) (events : List Event) (before : Machine State) (request : Request)
+    → IsReached start window events before → IsValue request → can_take before request ≡ true
+    → IsReached start window (events ++ Asked request ∷ []) (taken before request)
+reached-taken start window events before request reached is can =
+    let acted : IsDelivery (can_take before request) before request (Asked request ∷ []) (taken before request) =
+    rw can (refl, refl) in
+    reached-act start window events before (taken before request) (Deliver request) (Asked request ∷ []) reached is
+    acted
+
+-- a request was done
+pub reached-worked : (start : State) (window : ℕ) (events : List Event) (before after : Machine State) (k : ℕ)
+    → IsReached start window events before → is_ready server_clash before k ≡ true
+    → IsWorked Allowed before k after → IsReached start window events after
+reached-worked start window events before after k reached ready worked =
+    let acted : IsWork Allowed (is_ready server_clash before k) before k [] after =
+    subst (λ (b : Bool). IsWork Allowed b before k [] after) (sym ready) (worked, refl) in
+    subst (λ (es : List Event). IsReached start window es after) (append-nil events)
+    (reached-act start window events before after (Work k) [] reached tt acted)
+
+-- a reply was sent
+pub reached-sent : (start : State) (window : ℕ) (events : List Event) (before after : Machine State) (k : ℕ)
+    (reply : Reply) → IsReached start window events before → reply_at before.queue k ≡ Some reply
+    → IsSent before k reply after → IsReached start window (events ++ Replied reply ∷ []) after
+reached-sent start window events before after k reply reached is acted =
+    reached-act start window events before after (Send k) (Replied reply ∷ []) reached tt
+    (subst (λ (o : Option Reply). IsSend o before k (Replied reply ∷ []) after) (sym is) (acted, refl))

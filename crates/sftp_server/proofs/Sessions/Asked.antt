@@ -11,16 +11,16 @@ use Rattle.sftp_server.proofs.Imports.{fault_of, found_refused, TakesOn, session
 use Rattle.sftp_server.proofs.Imports.{IsBeginning, IsCutInLast, StreamBytes, stream_bytes, Passed, Stops, tree_left}
 use Rattle.sftp_server.proofs.Imports.{IsLogging, Ahead, IsRunning, IsFaultAhead, all_more, ahead_without}
 use Rattle.sftp_packets.proofs.PacketLaws.{encoded-ask}
-use Rattle.sftp_handles.proofs.TotalSteps.SpelledRequests.{spelled-askable}
+use Rattle.sftp_handles.proofs.TotalSteps.PathReplies.{spelled-askable}
 use Rattle.sftp_server.specs.declared.ends.SessionFault.TheVariants as faults
 use Rattle.sftp_server.specs.declared.ends.Stop.TheVariants as stops
 use Rattle.sftp_server.specs.declared.ends.Stream.TheVariants as streams
 use Rattle.sftp_server.specs.declared.taking.Front.TheVariants.{Taken, Fault}
 use Rattle.sftp_server.specs.declared.refusals.Refuse.TheVariants as refusals
-use Rattle.sftp_server.proofs.Machines.Reached.{reached-taken}
-use Rattle.sftp_server.proofs.Sessions.Lists.{asked-session, session-more}
-use Rattle.sftp_server.proofs.Sessions.Stops.{no-opening, reached-begins, reached-leaves, is-beginning}
-use Rattle.sftp_server.proofs.Sessions.Stops.{stopped-no-memory, running-on, stops-by, leaves-by}
+use Rattle.sftp_server.proofs.Machines.Laws.{reached-taken}
+use Rattle.sftp_server.proofs.Sessions.{asked-session, session-more}
+use Rattle.sftp_server.proofs.Sessions.{no-opening, reached-begins, reached-leaves, is-beginning}
+use Rattle.sftp_server.proofs.Sessions.{stopped-no-memory, running-on, stops-by, leaves-by}
 
 -- what holds of a request that can be encoded
 pub request-value : (request : Request) → HasSpelling (request_packet request) → IsValue request

@@ -2,11 +2,13 @@
 use Rattle.sftp_server.proofs.Imports.{◌≡◌, ◌≢◌, ◌==◌, ◌+◌, ◌*◌, ℕ, Bool, true, false, List, [], ◌∷◌, ◌++◌, length}
 use Rattle.sftp_server.proofs.Imports.{Option, Some, None, Ok, refl, sym, ap, ◌∙◌, subst, subst₂, append_assoc}
 use Rattle.sftp_server.proofs.Imports.{append-nil, inl, inr, true≢false, arith, eqb-true, Consumes, IsAtEnd, Keeps}
-use Rattle.sftp_server.proofs.Imports.{Consumes-trans, Unreadable, Client, Server, front_of, Event, window, Tree, State}
-use Rattle.sftp_server.proofs.Imports.{SessionFault, Stop, Entry, Machine, is_unsent, started, session_packets, sent_by}
-use Rattle.sftp_server.proofs.Imports.{recorded, EndsSession, IsUnopenedBy, IsOpened, IsServed, closed_tree}
+use Rattle.sftp_server.proofs.Imports.{Consumes-trans, Unreadable, Client, Server, front_of, Event, window, Tree}
+use Rattle.sftp_server.proofs.Imports.{State, SessionFault, Stop, Entry, Machine, is_unsent, started, session_packets}
+use Rattle.sftp_server.proofs.Imports.{sent_by, recorded, EndsSession, IsUnopenedBy, IsOpened, IsServed, closed_tree}
 use Rattle.sftp_server.proofs.Imports.{StreamBytes, stream_bytes, Passed, Serves, Leaves, LeavesAt, Ahead, IsRunning}
-use Rattle.sftp_server.proofs.Imports.{IsFaultAhead, IsUnopenedYet, Stops, tree_left, Keeps-refl, input_limit}
+use Rattle.sftp_server.proofs.Imports.{IsFaultAhead, IsUnopenedYet, Stops, tree_left, Keeps-refl, input_limit, ◌≤◌}
+use Rattle.sftp_server.proofs.Imports.{map, flat_map, Packet, Init, HasSpelling, version_spelled, server_extensions}
+use Rattle.sftp_server.proofs.Imports.{packet_of, record_text, our_version, IsGreeting, ◌<◌, Err, SendsOn}
 use Rattle.sftp_server.specs.Ending.{closed_end}
 use Rattle.std.proofs.KnownBytes.{Consumes-nil, Appends-nil}
 use Rattle.sftp_server.specs.Sessions.{IsEnding, ended_by, IsSessionEnd}
@@ -17,10 +19,13 @@ use Rattle.sftp_server.specs.declared.ends.SessionFault.TheVariants as faults
 use Rattle.sftp_server.specs.declared.ends.Stream.TheVariants as streams
 use Rattle.sftp_server.specs.declared.ends.Stop.TheVariants as stops
 use Rattle.sftp_server.proofs.Machines.Laws.{explained}
-use Rattle.sftp_server.proofs.Sessions.Stops.{stays-good, each-answered, running-on, running-kept, stopped-reader}
-use Rattle.sftp_server.proofs.Sessions.Stops.{stopped-writer, stopped-log}
+use Rattle.sftp_server.proofs.Sessions.{stays-good, each-answered, running-on, running-kept, stopped-reader}
+use Rattle.sftp_server.proofs.Sessions.{stopped-writer, stopped-log}
 use Rattle.sftp_server.proofs.Sessions.Opened.{unopened-stopped}
 use Rattle.sftp_server.specs.Served.{Served}
+use Rattle.sftp_transcript.specs.Transcript.{event_record, IsRecord}
+use Rattle.sftp_server.specs.Ending.{Works, bytes_ahead}
+use Rattle.sftp_server.proofs.Sessions.Replied.{sends-nothing}
 
 -- ---- what streams passed
 
@@ -276,3 +281,63 @@ unopened-at_start now = (passed-nothing now, refl)
 -- how much is left to take: reads that give bytes, each of at most as many as there is room for, and what is held
 abbrev pub bytes_left : ℕ → ℕ → ℕ
 bytes_left reads held = reads * (input_limit + 1) + held
+
+-- ==== The log of a session is a transcript.
+
+records-are : (events : List Event) → flat_map record_text (map packet_of events) ≡ flat_map event_record events
+records-are [] = refl
+records-are (event ∷ events) = ap (λ (bytes : List ℕ). record_text (packet_of event) ++ bytes) (records-are events)
+
+-- a greeting by its parts
+record GreetingParts (init : Packet) : Type 0 where
+  version : ℕ
+  extensions : List (List ℕ × List ℕ)
+  high_enough : 3 ≤ version
+  init_is : init ≡ Init version extensions
+
+greeting-parts : (init : Packet) → IsGreeting init → GreetingParts init
+greeting-parts (Init version extensions) greeting =
+    record { version = version; extensions = extensions; high_enough = greeting.0; init_is = refl }
+greeting-parts other greeting = absurd greeting.0
+
+pub log-is-transcript : (input output log : List ℕ) (init : Packet) (events : List Event) (rest : List ℕ)
+    → IsOpened input output log init events rest → IsRecord events log
+log-is-transcript input output log init events rest opened =
+    let parts = greeting-parts init opened.greeting in
+    let packets = our_version ∷ map packet_of events in
+    record {
+      opened = flat_map record_text (init ∷ packets);
+      records = flat_map event_record events;
+      opening = opened.logged;
+      handshake = record {
+        version = parts.version;
+        asked = parts.extensions;
+        told = server_extensions;
+        high_enough = parts.high_enough;
+        init = subst HasSpelling parts.init_is opened.greeting.1;
+        answer = version_spelled;
+        bytes_are = ap (λ (p : Packet). record_text p ++ (record_text our_version ++ flat_map record_text (map packet_of events))) parts.init_is
+            ∙ ap (λ (bytes : List ℕ). record_text (Init parts.version parts.extensions) ++ (record_text our_version ++ bytes)) (records-are events);
+      };
+      spelled = opened.spelled;
+      records_are = sym (append-nil (flat_map event_record events));
+    }
+
+-- ==== What a session does that follows a script.
+
+-- memory ran out, and nothing changed
+pub works-nothing : (core0 core1 : Machine State) → core1 ≡ core0 → Works core0 core1 (Err stops.NoMemory)
+works-nothing core0 core1 same written logged =
+    subst (λ (m : Machine State). SendsOn core0 m written written logged logged (Err stops.NoMemory)) (sym same)
+    (sends-nothing core0 written logged)
+
+-- the session goes on whatever fault was found in front
+pub running-sound : {start : Tree} {past now : StreamBytes} {ahead : Ahead} {core : Machine State}
+    {fault : Option SessionFault} → IsRunning start past now ahead core fault
+    → IsRunning start past now ahead core None
+running-sound running = running-on running running.passed refl tt
+
+-- a read that gave bytes leaves less to take
+pub ahead-falls : (reads0 reads1 : ℕ) (old new : Ahead) → reads1 < reads0 → length new.held ≤ input_limit
+    → bytes_ahead reads1 new ≤ bytes_ahead reads0 old
+ahead-falls reads0 reads1 old new fewer fits = omega (arith, fewer, fits)

@@ -12,17 +12,17 @@ use Rattle.sftp_server.proofs.Imports.{tree_left, IsLogging, Ahead, IsRunning, I
 use Rattle.sftp_server.proofs.Imports.{drop_at, input_limit, ahead_without, BeginsWithGreeting, First, Keeps-refl}
 use Rattle.sftp_server.proofs.Imports.{IsLeftAfter}
 use Rattle.sftp_packets.specs.declared.packets.Packet.TheVariants.{Version, Request, Reply}
-use Rattle.sftp_server.specs.Opening.{IsFirst, IsInFront, IsGreetingOf}
+use Rattle.sftp_server.specs.Ending.{IsFirst, IsInFront, IsGreetingOf}
 use Rattle.std.specs.Result.{IsErrAnd}
 use Rattle.sftp_transcript.specs.Transcript.{IsInit}
 use Rattle.sftp_server.specs.declared.ends.SessionFault.TheVariants as faults
 use Rattle.sftp_server.specs.declared.ends.Stop.TheVariants as stops
 use Rattle.sftp_server.specs.declared.ends.Stream.TheVariants as streams
 use Rattle.sftp_server.specs.declared.opening.First.TheVariants as firsts
-use Rattle.sftp_server.proofs.Machines.Reached.{reached-start}
-use Rattle.sftp_server.proofs.Sessions.Lists.{sent-one, recorded-more}
-use Rattle.sftp_server.proofs.Sessions.Stops.{cut-whole, is-beginning, client-silent, server-sent, stopped-sending}
-use Rattle.sftp_server.proofs.Sessions.Stops.{passed-kept, stops-by, leaves-by}
+use Rattle.sftp_server.proofs.Machines.Laws.{reached-start}
+use Rattle.sftp_server.proofs.Sessions.{sent-one, recorded-more}
+use Rattle.sftp_server.proofs.Sessions.{cut-whole, is-beginning, client-silent, server-sent, stopped-sending}
+use Rattle.sftp_server.proofs.Sessions.{passed-kept, stops-by, leaves-by}
 use Rattle.sftp_server.specs.Served.{IsWrittenSoFar}
 use Rattle.sftp_server.specs.Sessions.{ended_by}
 

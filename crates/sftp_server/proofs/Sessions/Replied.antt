@@ -14,10 +14,10 @@ use Rattle.sftp_server.specs.declared.ends.SessionFault.TheVariants as faults
 use Rattle.sftp_server.specs.declared.ends.Stop.TheVariants as stops
 use Rattle.sftp_server.proofs.Queues.{is_unsent-front}
 use Rattle.sftp_server.proofs.Machines.Laws.{reply-for}
-use Rattle.sftp_server.proofs.Machines.Reached.{reached-worked, reached-sent}
-use Rattle.sftp_server.proofs.Sessions.Lists.{session-more, replied-session}
-use Rattle.sftp_server.proofs.Sessions.Stops.{stays-good, each-answered, reached-begins, running-listed, reached-leaves}
-use Rattle.sftp_server.proofs.Sessions.Stops.{stopped-no-memory, stopped-sending}
+use Rattle.sftp_server.proofs.Machines.Laws.{reached-worked, reached-sent}
+use Rattle.sftp_server.proofs.Sessions.{session-more, replied-session}
+use Rattle.sftp_server.proofs.Sessions.{stays-good, each-answered, reached-begins, running-listed, reached-leaves}
+use Rattle.sftp_server.proofs.Sessions.{stopped-no-memory, stopped-sending}
 
 -- ---- the unsent requests
 

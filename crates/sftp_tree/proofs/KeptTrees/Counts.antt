@@ -8,12 +8,13 @@ use Rattle.sftp_tree.proofs.Imports.{with_node, names_file, times_named, trim, w
 use Rattle.sftp_tree.proofs.Imports.{TreeLimits, highest_limits, IsOwner, changed_owner, changed_content}
 use Rattle.sftp_tree.proofs.Imports.{with_changed_file, contents, pin_count_at, pins_of, seen, AreCounted, file_named}
 use Rattle.sftp_tree.proofs.Imports.{IsChanged, IsChangedWhereNamed, with_a_name, without_a_name, with_content_made}
-use Rattle.sftp_tree.proofs.Imports.{with_attributes_set}
-use Rattle.sftp_tree.proofs.Limits.Tests.{fits-parts}
-use Rattle.sftp_tree.proofs.KeptTrees.Values.{times_named-owner}
-use Rattle.sftp_tree.proofs.FileCounts.Pins.{changed-pins, pins-where_held}
-use Rattle.sftp_tree.proofs.FileCounts.Names.{at-number, count-at, one_name, named-put, raised, lowered, counted-again}
-use Rattle.sftp_tree.proofs.FileCounts.Names.{counted-changed, contents-changed, contents-unchanged}
+use Rattle.sftp_tree.proofs.Imports.{with_attributes_set, List, [], ◌∷◌, list_all, and_parts, and_from, le-leb}
+use Rattle.sftp_tree.proofs.Imports.{highest_are, Files, content_fits, IsStart, picture}
+use Rattle.sftp_tree.proofs.Limits.{fits-parts, fits-from}
+use Rattle.sftp_tree.proofs.KeptTrees.{times_named-owner}
+use Rattle.sftp_tree.proofs.FileCounts.{changed-pins, pins-where_held}
+use Rattle.sftp_tree.proofs.FileCounts.{at-number, count-at, one_name, named-put, raised, lowered}
+use Rattle.sftp_tree.proofs.FileCounts.{counted-again, counted-changed, contents-changed, contents-unchanged}
 
 -- the files are in order where their contents are
 pub files-in_order : (files : Table ℕ Stored) → InOrder nat_cmp (contents files) → InOrder nat_cmp files
@@ -137,3 +138,60 @@ owner-changed files attrs number owned content there =
     by : (o : Option Stored) → IfSome o (λ s. IsOwner (changed_owner attrs s.content.owner)) → option_map (λ (s : Stored). s.content) o ≡ Some content → IsOwner (changed_owner attrs content.owner)
     by None owned is = absurd cc
     by (Some s) owned is = subst (λ (c : Content). IsOwner (changed_owner attrs c.owner)) (same_Some s.content content is) owned
+
+-- ==== A tree with higher limits.
+
+all-wider : (low high : TreeLimits) → low.file_bytes ≤ high.file_bytes → (files : Files)
+    → list_all (λ (e : ℕ × Content). content_fits low e.1) files ≡ true
+    → list_all (λ (e : ℕ × Content). content_fits high e.1) files ≡ true
+all-wider low high le [] all = all
+all-wider low high le (e ∷ files) all =
+    let parts = and_parts (content_fits low e.1) (list_all (λ (x : ℕ × Content). content_fits low x.1) files) all in
+    and_from (content_fits high e.1) (list_all (λ (x : ℕ × Content). content_fits high x.1) files)
+    (le-leb (length e.1.bytes) high.file_bytes (omega (arith, le, leb-true (length e.1.bytes) low.file_bytes parts.0)))
+    (all-wider low high le files parts.1)
+
+pub raised-kept : (t : Tree) → IsKept t → IsKept (raised t)
+raised-kept t kept =
+    let well = kept.well_formed in
+    let parts = fits-parts t kept.within_limits in
+    record {
+      well_formed = record {
+        ordered = well.ordered;
+        named = well.named;
+        nodes = well.nodes;
+        root = well.root;
+        parents = well.parents;
+        numbered = well.numbered;
+        contents = well.contents;
+        given = well.given;
+        pins = well.pins;
+        pinned = well.pinned;
+        limits = highest_are;
+        home = well.home;
+        uid = well.uid;
+        gid = well.gid;
+      };
+      within_limits = fits-from (raised t) (record {
+        entries = le-leb (length t.names - 1) highest_limits.entries
+            (omega (arith, leb-true (length t.names - 1) t.limits.entries parts.entries, well.limits.entries.1));
+        depths = parts.depths;
+        home = parts.home;
+        links = parts.links;
+        files = all-wider t.limits highest_limits well.limits.file_bytes.1 t.files parts.files;
+        numbers = parts.numbers;
+      });
+      trimmed = kept.trimmed;
+    }
+
+pub raised-start : (t : Tree) (bytes : List ℕ) → IsStart t bytes → IsStart (raised t) (picture (raised t))
+raised-start t bytes start =
+    let kept = raised-kept t (record { well_formed = start.well_formed; within_limits = start.within_limits; trimmed = start.trimmed }) in
+    record {
+      well_formed = kept.well_formed;
+      within_limits = kept.within_limits;
+      trimmed = kept.trimmed;
+      unpinned = start.unpinned;
+      numbered = start.numbered;
+      picture_is = refl;
+    }

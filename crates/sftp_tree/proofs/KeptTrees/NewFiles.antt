@@ -14,17 +14,17 @@ use Rattle.sftp_tree.proofs.Imports.{resized, changed_content, with_changed_file
 use Rattle.sftp_tree.proofs.Imports.{CanMake, has_room_for_file}
 use Rattle.std.proofs.lemmas.Cmp.{nat_cmp_total}
 use Rattle.sftp_wire.specs.Examples.{no_attributes}
-use Rattle.sftp_tree.proofs.PlaceTables.Each.{each-weaker, each-put}
-use Rattle.sftp_tree.proofs.WellFormedTrees.Names.{names-of, names-put, well-formed-names}
-use Rattle.sftp_tree.proofs.Limits.Tests.{fits-parts}
-use Rattle.sftp_tree.proofs.Limits.Changes.{entries-with, depths-with, links-with, files-with}
-use Rattle.sftp_tree.proofs.KeptTrees.Trims.{named-there}
-use Rattle.sftp_tree.proofs.KeptTrees.Values.{well-formed-given}
-use Rattle.sftp_tree.proofs.KeptTrees.Entries.{named-put, or_weaker}
-use Rattle.sftp_tree.proofs.KeptTrees.Files.{not-given}
+use Rattle.sftp_tree.proofs.PlaceTables.{each-weaker, each-put}
+use Rattle.sftp_tree.proofs.WellFormedTrees.{names-of, names-put, well-formed-names}
+use Rattle.sftp_tree.proofs.Limits.{fits-parts}
+use Rattle.sftp_tree.proofs.Limits.{entries-with, depths-with, links-with, files-with}
+use Rattle.sftp_tree.proofs.KeptTrees.{named-there}
+use Rattle.sftp_tree.proofs.KeptTrees.{well-formed-given}
+use Rattle.sftp_tree.proofs.KeptTrees.{named-put, or_weaker}
+use Rattle.sftp_tree.proofs.KeptTrees.{not-given}
 use Rattle.sftp_tree.proofs.KeptTrees.Counts.{files-in_order}
-use Rattle.sftp_tree.proofs.FileCounts.Pins.{by-number, same-pins}
-use Rattle.sftp_tree.proofs.FileCounts.Names.{count-at, at-entries, one-here, one-elsewhere, named-put as named-more}
+use Rattle.sftp_tree.proofs.FileCounts.{by-number, same-pins}
+use Rattle.sftp_tree.proofs.FileCounts.{count-at, at-entries, one-here, one-elsewhere, named-put as named-more}
 
 -- ---- a new file
 

@@ -10,11 +10,11 @@ use Rattle.sftp_tree.proofs.Imports.{size-without, same_place, is_root, Node, Ch
 use Rattle.sftp_tree.proofs.Imports.{without_node, is_taken, is_directory, has_entries, IsAt, branch, branch_of}
 use Rattle.sftp_tree.proofs.Imports.{IsBranch, IsGrafted, IsSet, IsMoved}
 use Rattle.sftp_tree.specs.declared.entries.directories.Child.TheVariants.{Dir}
-use Rattle.sftp_tree.proofs.FileCounts.Moves.{nothing-from}
-use Rattle.sftp_tree.proofs.Nesting.Moves.{nothing, beside, branch-taken}
-use Rattle.sftp_tree.proofs.PlaceTables.Below.{has_entries-below}
-use Rattle.sftp_tree.proofs.PlaceTables.Rising.{places_tie}
-use Rattle.sftp_tree.proofs.WellFormedTrees.Places.{alone-there, below-further}
+use Rattle.sftp_tree.proofs.FileCounts.{nothing-from}
+use Rattle.sftp_tree.proofs.Nesting.Changes.{nothing, beside, branch-taken}
+use Rattle.sftp_tree.proofs.PlaceTables.{has_entries-below}
+use Rattle.sftp_tree.proofs.PlaceTables.{places_tie}
+use Rattle.sftp_tree.proofs.WellFormedTrees.{alone-there, below-further}
 
 -- ---- a node that is put
 

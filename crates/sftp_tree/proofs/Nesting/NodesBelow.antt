@@ -7,9 +7,9 @@ use Rattle.sftp_tree.proofs.Imports.{Table, InOrder, get, bytes_cmp-same, same_t
 use Rattle.sftp_tree.proofs.Imports.{Tree, IsNode, node_at, is_directory, children, shown_child, IsAt, Children, branch}
 use Rattle.sftp_tree.proofs.Imports.{branch_of, flat_of, IsBranch, AreBranches, AreChildren, nodes_of}
 use Rattle.sftp_tree.specs.declared.entries.directories.Child.TheVariants.{Dir, File, Link}
-use Rattle.sftp_tree.proofs.Nesting.Tables.{get-flat, sorted-flat_of}
-use Rattle.sftp_tree.proofs.Requests.Listings.{listed-on}
-use Rattle.sftp_tree.proofs.Requests.ListedNames.{children-rise, child-at}
+use Rattle.sftp_tree.proofs.Nesting.{get-flat, sorted-flat_of}
+use Rattle.sftp_tree.proofs.Requests.{listed-on}
+use Rattle.sftp_tree.proofs.Requests.{children-rise, child-at}
 
 -- ---- each child has a node of its own
 

@@ -5,9 +5,9 @@ use Rattle.sftp_tree.proofs.Imports.{list_any, and_from, nat_tests, and_assoc, t
 use Rattle.sftp_tree.proofs.Imports.{is_below, begins, begins-front, begins-append, place_cmp-total, get-cons, Owner}
 use Rattle.sftp_tree.proofs.Imports.{Node, Child, Names, node_at, is_taken, has_entries, reaches_at_most, IsAt}
 use Rattle.sftp_tree.proofs.Imports.{Children, branch, placed, flat, flat_of, have_at_most}
-use Rattle.sftp_tree.proofs.Limits.Entries.{both-ways}
-use Rattle.sftp_tree.proofs.Limits.Moves.{place-passes}
-use Rattle.sftp_tree.proofs.WellFormedTrees.Places.{alone-there}
+use Rattle.sftp_tree.proofs.Limits.{both-ways}
+use Rattle.sftp_tree.proofs.Limits.{place-passes}
+use Rattle.sftp_tree.proofs.WellFormedTrees.{alone-there}
 
 one-more : (a room : ℕ) → nat_le (suc a) (room + 1) ≡ nat_le a room
 one-more a room = grind (arith, nat_tests)

@@ -1,31 +1,42 @@
 -- What is proved request by request: each lemma has an equation for each request that differs from its last case.
-use Rattle.sftp_tree.proofs.Imports.{◌≡◌, ℕ, Bool, true, false, ◌&&◌, not, List, refl, sym, ◌∙◌, ap, Option, Some, None}
-use Rattle.sftp_tree.proofs.Imports.{IsTrue, Ok, not-false, or_parts, and-true, Attrs, IsAttrs, Ask, IsAsk, Place}
-use Rattle.sftp_tree.proofs.Imports.{place_cmp, place_cmp-same, is_target, Content, Node, Dir, File, Link, Cause}
-use Rattle.sftp_tree.proofs.Imports.{BadPath, NoEntry, Tree, WellFormed, IsKept, IsNode, fits, node_at, content_at}
-use Rattle.sftp_tree.proofs.Imports.{is_taken, is_directory, is_link, directory_owner, changed_content, no_causes, when}
-use Rattle.sftp_tree.proofs.Imports.{are_one, with_changed_file, with_emptied_file, has_room, subst, [], rekeyed, Names}
-use Rattle.sftp_tree.proofs.Imports.{with_node, without_node, with_content, with_new_file, absolute, are_bytes, is_file}
-use Rattle.sftp_tree.proofs.Imports.{excludes, reached, shown_to, text_to, file_to, IsFree, stat_ask, HasNode, Name}
-use Rattle.sftp_tree.proofs.Imports.{Table, listing_to, listing, Plan, carried, no_change, put_node, remove_node}
-use Rattle.sftp_tree.proofs.Imports.{move_node, own_directory, set_file, make_file, empty_file, plan_to_name, CanDo}
-use Rattle.sftp_tree.proofs.Imports.{OwnsBy}
+use Rattle.sftp_tree.proofs.Imports.{◌≡◌, ℕ, Bool, true, false, ◌&&◌, not, List, refl, sym, ◌∙◌, ap, Option, Some}
+use Rattle.sftp_tree.proofs.Imports.{None, IsTrue, Ok, not-false, or_parts, and-true, Attrs, IsAttrs, Ask, IsAsk}
+use Rattle.sftp_tree.proofs.Imports.{Place, place_cmp, place_cmp-same, is_target, Content, Node, Dir, File, Link}
+use Rattle.sftp_tree.proofs.Imports.{Cause, BadPath, NoEntry, Tree, WellFormed, IsKept, IsNode, fits, node_at}
+use Rattle.sftp_tree.proofs.Imports.{content_at, is_taken, is_directory, is_link, directory_owner, changed_content}
+use Rattle.sftp_tree.proofs.Imports.{no_causes, when, are_one, with_changed_file, with_emptied_file, has_room, subst}
+use Rattle.sftp_tree.proofs.Imports.{[], rekeyed, Names, with_node, without_node, with_content, with_new_file}
+use Rattle.sftp_tree.proofs.Imports.{absolute, are_bytes, is_file, excludes, reached, shown_to, text_to, file_to}
+use Rattle.sftp_tree.proofs.Imports.{IsFree, stat_ask, HasNode, Name, Table, listing_to, listing, Plan, carried}
+use Rattle.sftp_tree.proofs.Imports.{no_change, put_node, remove_node, move_node, own_directory, set_file, make_file}
+use Rattle.sftp_tree.proofs.Imports.{empty_file, plan_to_name, CanDo, OwnsBy, ◌||◌, arith, if◌then◌else◌, Result, Err}
+use Rattle.sftp_tree.proofs.Imports.{list_any, NoRoom, CauseSet, every_cause, is_none, has_room_for, rules, ◌≤◌}
+use Rattle.sftp_tree.proofs.Imports.{nat_lt, inl, inr, ◌⊎◌, ◌↔◌, nat_cmp, both_ways, InOrder, InOrder-put}
+use Rattle.sftp_tree.proofs.Imports.{times_named, times_pinned, is_pinned, is_held, trim, IsPlaceOf, IsPlanned}
+use Rattle.sftp_tree.proofs.Imports.{AreAny, planned}
 use Rattle.sftp_tree.specs.Asks.{has_room_at, has_room_between, IsFileAt}
 use Rattle.std.specs.Option.{is_some, IfSome}
 use Rattle.sftp_tree.specs.Requests.{led, new_led, causes_at, new_causes_at, causes_between, own_causes, plan_at}
 use Rattle.sftp_tree.specs.Requests.{plan_between, plan_led, led_to, outcome, shown_at, target_of, number_at, path_of}
-use Rattle.sftp_tree.specs.Requests.{new_path_of}
-use Rattle.sftp_tree.proofs.Limits.Entries.{fits-put, fits-without}
+use Rattle.sftp_tree.specs.Requests.{new_path_of, causes, outcome_led, plain_of, after, follows}
+use Rattle.sftp_tree.proofs.Limits.{fits-put, fits-without}
 use Rattle.sftp_packets.specs.declared.requests.Ask.TheVariants as asks
-use Rattle.sftp_tree.proofs.PlaceTables.Each.{each-get}
-use Rattle.sftp_tree.proofs.CauseLaws.Places.{FreeAt, FreeBetween, free-at}
-use Rattle.sftp_tree.proofs.CauseLaws.Limits.{free-place, file-place, link-place, directory-place, taken-place}
-use Rattle.sftp_tree.proofs.CauseLaws.Limits.{may-leave, may-rename, set-room, open-room, move-room, exchange-room}
-use Rattle.sftp_tree.proofs.Walks.Links.{reached-unlinked}
-use Rattle.sftp_tree.proofs.WellFormedTrees.Fields.{bytes-fit, owner-fits, file-owner-fits, changed-owner-fits}
-use Rattle.sftp_tree.proofs.Requests.Plans.{can-remove-directory, can-remove-name, can-put, can-set, can-open, can-move}
-use Rattle.sftp_tree.proofs.Requests.Plans.{can-exchange, can-name, opened-by}
-use Rattle.sftp_tree.proofs.Requests.Trees.{Led, not-root}
+use Rattle.sftp_tree.proofs.PlaceTables.{each-get}
+use Rattle.sftp_tree.proofs.CauseLaws.{FreeAt, FreeBetween, free-at, plain-parts, lost-first, causes-are}
+use Rattle.sftp_tree.proofs.CauseLaws.{free-led, free-between, outcome-is}
+use Rattle.sftp_tree.proofs.CauseLaws.{free-place, file-place, link-place, directory-place, taken-place}
+use Rattle.sftp_tree.proofs.CauseLaws.{may-leave, may-rename, set-room, open-room, move-room, exchange-room}
+use Rattle.sftp_tree.proofs.Walks.Counts.{reached-unlinked}
+use Rattle.sftp_tree.proofs.WellFormedTrees.{bytes-fit, owner-fits, file-owner-fits, changed-owner-fits}
+use Rattle.sftp_tree.proofs.Requests.{can-remove-directory, can-remove-name, can-put, can-set, can-open}
+use Rattle.sftp_tree.proofs.Requests.{can-move, can-exchange, can-name, opened-by}
+use Rattle.sftp_tree.proofs.Requests.{Led, not-root, LeadsWell, led-of, led-well, well-plan}
+use Rattle.sftp_tree.specs.declared.plans.Plan as code
+use Rattle.std.proofs.lemmas.Cmp.{nat_cmp_total}
+use Rattle.sftp_tree.proofs.CauseLaws.{none-each}
+use Rattle.sftp_tree.proofs.Limits.{Stands}
+use Rattle.sftp_tree.proofs.KeptTrees.{kept-trim}
+use Rattle.sftp_tree.proofs.KeptTrees.{content-left}
 
 -- ---- values
 
@@ -211,3 +222,136 @@ pub number-told : (t : Tree) (path : List ℕ) (flags : ℕ) (attrs : Attrs) (pl
 unfolding file_to
 number-told t path flags attrs place number leads is =
     ap (λ o. led_to None o (λ place. number_at t (node_at t.names place))) leads ∙ is
+
+-- ==== What follows for every request, by where its paths lead: whether there is room, its plan, and the tree after it.
+
+-- ---- room
+
+pub room-for : (t : Tree) (ask : Ask) (end : Result Place Cause) (new : Option (Result Place Cause)) → ((place : Place) → end ≡ Ok place → IsKept t) → ((c : Cause) → plain_of t ask (Some end) new c ≡ false) → has_room_for t ask end new ≡ fits (outcome_led t ask (Some end) new)
+room-for t ask (Ok place) None keeps none =
+    let parts = plain-parts t ask (Some (Ok place)) None none in
+    room-at t ask place (keeps place refl) parts.own parts.here
+room-for t ask (Ok old) (Some (Ok new)) keeps none =
+    let parts = plain-parts t ask (Some (Ok old)) (Some (Ok new)) none in
+    room-between t ask old new (keeps old refl) parts.here parts.there parts.both
+room-for t ask (Ok old) (Some (Err cause)) keeps none = sym (keeps old refl).within_limits
+room-for t ask (Err cause) new keeps none =
+    let holds = lost-first t ask cause new in
+    let not_so = none cause in
+    absurd cc
+
+-- a set with `NoRoom`, as the code finds it, is the request's
+pub judged : (t : Tree) (ask : Ask) (end : Result Place Cause) (new : Option (Result Place Cause)) (plain : CauseSet) (lacks : Bool) → led t ask ≡ Some end → new_led t ask ≡ new → ((place : Place) → end ≡ Ok place → IsKept t) → plain ≡ plain_of t ask (Some end) new → lacks ≡ (not (list_any plain every_cause) && not (has_room_for t ask end new)) → when plain NoRoom lacks ≡ causes t ask
+judged t ask end new plain lacks one two keeps same is =
+    let all = plain_of t ask (Some end) new in
+    (λ i. when (same i) NoRoom (lack (is_none all) refl i)) ∙ sym (causes-are t ask (Some end) new one two)
+  where
+    both : (b : Bool) → is_none (plain_of t ask (Some end) new) ≡ b → (b && not (has_room_for t ask end new)) ≡ (b && not (fits (outcome_led t ask (Some end) new)))
+    both true none = ap not (room-for t ask end new keeps (none-each (plain_of t ask (Some end) new) none))
+    both false none = refl
+
+    lack : (b : Bool) → is_none (plain_of t ask (Some end) new) ≡ b → lacks ≡ (is_none (plain_of t ask (Some end) new) && not (fits (outcome_led t ask (Some end) new)))
+    lack b none = is ∙ ap (λ s. is_none s && not (has_room_for t ask end new)) same ∙ both (is_none (plain_of t ask (Some end) new)) refl
+
+-- ---- plans
+
+-- a plan of the code that is the request's
+planned-by : (t : Tree) (ask : Ask) (plan : code.Plan) (end new : Option (Result Place Cause)) → led t ask ≡ end
+    → new_led t ask ≡ new → IsKept t → CanDo AreAny t (plan_led t ask end new) → planned plan ≡ plan_led t ask end new
+    → IsPlanned t ask plan
+planned-by t ask plan end new one two kept can is = record {
+  ready = (kept, subst (CanDo AreAny t) (sym is) can);
+  done = ap trim (ap (carried t) is ∙ sym (outcome-is t ask end new one two));
+}
+
+pub planned-at : (t : Tree) (ask : Ask) (place : Place) (plan : code.Plan) → IsFree t ask → led t ask ≡ Some (Ok place) → new_led t ask ≡ None → IsPlaceOf t place → HasNode AreAny t ask place → planned plan ≡ plan_at t ask place → IsPlanned t ask plan
+planned-at t ask place plan free one two is_place node =
+    planned-by t ask plan (Some (Ok place)) None one two is_place.kept
+    (can-at AreAny t ask place is_place.kept.well_formed (led-of t place is_place) (free-at t ask place free one two) node)
+
+pub planned-between : (t : Tree) (ask : Ask) (old new : Place) (plan : code.Plan) → IsFree t ask → led t ask ≡ Some (Ok old) → new_led t ask ≡ Some (Ok new) → IsPlaceOf t new → planned plan ≡ plan_between t ask old new → IsPlanned t ask plan
+planned-between t ask old new plan free one two is_place =
+    planned-by t ask plan (Some (Ok old)) (Some (Ok new)) one two is_place.kept
+    (can-between AreAny t ask old new is_place.kept.well_formed (led-of t new is_place) (free-between t ask old new free one two))
+
+-- ---- trees
+
+-- the plan of a request that no cause refuses can be carried out
+can-led : (t : Tree) (ask : Ask) (end new : Option (Result Place Cause)) → led t ask ≡ end → new_led t ask ≡ new → LeadsWell t → WellFormed t → IsAsk ask → IsFree t ask → CanDo IsAttrs t (plan_led t ask end new)
+unfolding led
+can-led t ask (Some (Ok place)) None one two leads well fits free =
+    can-at IsAttrs t ask place well (led-well t (follows ask) (path_of ask) place leads (path-bytes ask fits) one)
+    (free-at t ask place free one two) (node-values t ask place well fits)
+can-led t ask (Some (Ok old)) (Some (Ok new)) one two leads well fits free =
+    can-between IsAttrs t ask old new well (led-well t false (new_path_of ask) new leads (new-path-bytes ask fits) two)
+    (free-between t ask old new free one two)
+can-led t ask None new one two leads well fits free = tt
+can-led t ask (Some (Err cause)) new one two leads well fits free = tt
+can-led t ask (Some (Ok old)) (Some (Err cause)) one two leads well fits free = tt
+
+-- where paths of all trees within the limits lead well, the trees that requests ask for are trees
+abbrev pub PathsLeadWell : Type 0
+PathsLeadWell = (t : Tree) → IsKept t → LeadsWell t
+
+-- walks go by names and the home alone
+same-walk : (t : Tree) (follow : Bool) (path : List ℕ) → reached (trim t) follow path ≡ reached t follow path
+unfolding reached
+same-walk t follow path = refl
+
+leads-untrimmed : PathsLeadWell → (t : Tree) → Stands t → LeadsWell t
+leads-untrimmed paths t stands follow path place bytes is =
+    let leads = paths (trim t) (kept-trim t stands.well_formed stands.within_limits) follow path place bytes (same-walk t follow path ∙ is) in
+    record { named = leads.named; above = leads.above }
+
+pub outcome-stands : PathsLeadWell → (t : Tree) (ask : Ask) → WellFormed t → IsTrue (fits t) → IsAsk ask → IsFree t ask → Stands (outcome t ask)
+unfolding outcome
+outcome-stands paths t ask well within fit free =
+    let leads = leads-untrimmed paths t (record { well_formed = well; within_limits = within }) in
+    record {
+      well_formed = well-plan t (plan_led t ask (led t ask) (new_led t ask)) well
+          (can-led t ask (led t ask) (new_led t ask) refl refl leads well fit free);
+      within_limits = (free-led t ask (led t ask) (new_led t ask) free refl refl).room;
+    }
+
+pub after-kept : PathsLeadWell → (t : Tree) (ask : Ask) → IsKept t → IsAsk ask → IsFree t ask → IsKept (after t ask)
+after-kept paths t ask kept fit free =
+    let stands = outcome-stands paths t ask kept.well_formed kept.within_limits fit free in
+    kept-trim (outcome t ask) stands.well_formed stands.within_limits
+
+-- ---- files and their numbers
+
+pub made-stays : (t : Tree) (ask : Ask) → t.made ≤ (outcome t ask).made
+made-stays t = by-outcome t (λ x. t.made ≤ x.made) (omega arith) (λ names. omega arith) (λ number before content there. omega arith) (λ place content. omega arith)
+
+pub numbered-outcome : (t : Tree) (ask : Ask) → InOrder nat_cmp t.files → InOrder nat_cmp (outcome t ask).files
+numbered-outcome t ask order =
+    by-outcome t (λ x. InOrder nat_cmp x.files) order (λ names. order) (λ number before content there. InOrder-put nat_cmp nat_cmp_total t.files number content order)
+    (λ place content. InOrder-put nat_cmp nat_cmp_total t.files t.made content order) ask
+
+pub content-after : (t : Tree) (ask : Ask) (number : ℕ) → WellFormed t → content_at (after t ask).files number ≡ (if is_held (outcome t ask) number then content_at (outcome t ask).files number else None)
+content-after t ask number well = content-left (outcome t ask) (is_pinned (outcome t ask).pins) number (numbered-outcome t ask well.numbered)
+
+none-left : (n : ℕ) → nat_lt 0 n ≡ false → n ≡ 0
+none-left n none = search rules
+
+gone-by : (n p : ℕ) (b : Bool) (o : Option Content) → (nat_lt 0 n || nat_lt 0 p) ≡ b → ((if b then o else None) ≡ None) ↔ ((o ≡ None) ⊎ ((n ≡ 0) × (p ≡ 0)))
+gone-by n p true o is = (λ gone. inl gone, λ either. elim either [ inl gone ↦ gone | inr none ↦ absurd (both_ways (nat_lt 0 n || nat_lt 0 p) (λ i. nat_lt 0 (none.0 i) || nat_lt 0 (none.1 i)) is) ])
+gone-by n p false o is =
+    let parts = or_parts (nat_lt 0 n) (nat_lt 0 p) is in
+    (λ gone. inr (none-left n parts.0, none-left p parts.1), λ either. refl)
+
+-- a file is gone just where there was none, or no name of it is left and nothing pins it
+pub gone-after : (t : Tree) (ask : Ask) (number : ℕ) → WellFormed t
+    → (content_at (after t ask).files number ≡ None) ↔ ((content_at (outcome t ask).files number ≡ None) ⊎ ((times_named (outcome t ask).names number ≡ 0) × (times_pinned (outcome t ask).pins number ≡ 0)))
+gone-after t ask number well =
+    subst (λ o. (o ≡ None) ↔ ((content_at (outcome t ask).files number ≡ None) ⊎ ((times_named (outcome t ask).names number ≡ 0) × (times_pinned (outcome t ask).pins number ≡ 0)))) (sym (content-after t ask number well))
+    (gone-by (times_named (outcome t ask).names number) (times_pinned (outcome t ask).pins number) (is_held (outcome t ask) number) (content_at (outcome t ask).files number) refl)
+
+-- ---- what requests leave as it was
+
+pub pins-stay : (t : Tree) (ask : Ask) → (outcome t ask).pins ≡ t.pins
+pins-stay t = by-outcome t (λ x. x.pins ≡ t.pins) refl (λ names. refl) (λ number before content there. refl) (λ place content. refl)
+
+pub limits-stay : (t : Tree) (ask : Ask) → (outcome t ask).limits ≡ t.limits
+limits-stay t = by-outcome t (λ x. x.limits ≡ t.limits) refl (λ names. refl) (λ number before content there. refl)
+    (λ place content. refl)

@@ -15,12 +15,12 @@ use Rattle.sftp_treefile.specs.declared.files.Kind.{Kind}
 use Rattle.sftp_treefile.specs.declared.files.Kind.TheVariants as kinds
 use Rattle.sftp_tree.specs.declared.entries.directories.Child.TheVariants as children
 use Rattle.sftp_tree.specs.declared.pictures.branches.Progress.{Progress}
-use Rattle.sftp_tree.proofs.Limits.Tests.{stands-of}
-use Rattle.sftp_tree.proofs.PlaceTables.Rising.{all_left, all_right}
+use Rattle.sftp_tree.proofs.Limits.{stands-of}
+use Rattle.sftp_tree.proofs.PlaceTables.{all_left, all_right}
 use Rattle.sftp_tree.proofs.TreeFiles.Files.{split_tree}
-use Rattle.sftp_tree.proofs.TreeFiles.Named.{rows_cons, IsBelowRoot}
-use Rattle.sftp_tree.proofs.TreeFiles.Tables.{IsFitNode, root_first, root_at}
-use Rattle.sftp_tree.proofs.TreeFiles.Written.{AreFirsts, firsts_push, known, path_short, node_short, names_count}
+use Rattle.sftp_tree.proofs.TreeFiles.Numbers.{rows_cons, IsBelowRoot}
+use Rattle.sftp_tree.proofs.TreeFiles.{IsFitNode, root_first, root_at}
+use Rattle.sftp_tree.proofs.TreeFiles.Files.{AreFirsts, firsts_push, known, path_short, node_short, names_count}
 
 -- ---- one table after another
 

@@ -8,24 +8,29 @@ use Rattle.sftp_tree.proofs.Imports.{highest_limits, IsOwner, IsKind, AreRows, I
 use Rattle.sftp_tree.proofs.Imports.{usual_are, one_file, Content, Node, Dir, File, Link, Names, Files, Tree}
 use Rattle.sftp_tree.proofs.Imports.{WellFormed, IsKept, IsNode, IsContent, limits, node_at, content_at, names_file}
 use Rattle.sftp_tree.proofs.Imports.{times_named, is_named, is_pinned, fits, depths_fit, depth_fits, home_fits}
-use Rattle.sftp_tree.proofs.Imports.{links_fit, link_fits, files_fit, content_fits, rows_after, root_owner, is_numbered}
-use Rattle.sftp_tree.proofs.Imports.{file_of, picture, IsStart, blank, content_of, contents_of, node_of, only_root}
-use Rattle.sftp_tree.proofs.Imports.{names_of, numbered_from, tree_of}
+use Rattle.sftp_tree.proofs.Imports.{links_fit, link_fits, files_fit, content_fits, rows_after, root_owner}
+use Rattle.sftp_tree.proofs.Imports.{is_numbered, file_of, picture, IsStart, blank, content_of, contents_of, node_of}
+use Rattle.sftp_tree.proofs.Imports.{only_root, names_of, numbered_from, tree_of, suc, ◌==◌, Bool, true, false}
+use Rattle.sftp_tree.proofs.Imports.{if◌then◌else◌, Option, None, IfSome, flat_map, nat_cmp, is_eq, nat_cmp_total}
+use Rattle.sftp_tree.proofs.Imports.{eqb-true, eq-eqb, absolute, get, get-put, row_text, head_bytes, path_length}
+use Rattle.sftp_tree.proofs.Imports.{target_length, spelled_head, file_bytes_bound, entry_naming, naming, kind_of}
+use Rattle.sftp_tree.proofs.Imports.{Firsts, firsts_with, known_kind}
 use Rattle.sftp_treefile.specs.declared.files.Kind.TheVariants as kinds
-use Rattle.sftp_tree.specs.PictureParts.{entry_of, entries_after}
-use Rattle.sftp_tree.proofs.PlaceTables.Rising.{all_both, all_together, all_right}
-use Rattle.sftp_tree.proofs.TreeFiles.Tables.{IsPlace, IsFitNode, IsTable, bare_names, text_place, root_table}
-use Rattle.sftp_tree.proofs.TreeFiles.Tables.{table_of_rows, rows_of_table, root_first, root_at, entries_below}
-use Rattle.sftp_tree.proofs.TreeFiles.Shapes.{table_bare, table_from_bare, names_bare}
-use Rattle.sftp_tree.proofs.TreeFiles.Numbers.{made_by, made_few, first_of_number, names_split, length-entries, IsBelow}
-use Rattle.sftp_tree.proofs.TreeFiles.Numbers.{AreBelow, all_below, first_names}
-use Rattle.sftp_tree.proofs.TreeFiles.Contents.{numbered_contents, numbered_there, each_number, each_content}
-use Rattle.sftp_tree.proofs.TreeFiles.Contents.{numbered_order, numbered_again}
-use Rattle.sftp_tree.proofs.TreeFiles.Named.{IsBelowRoot, IsFitContent, length-rows, place_text, entry_texts, rows_bare}
-use Rattle.sftp_tree.proofs.TreeFiles.Named.{kinds_fit}
-use Rattle.sftp_tree.proofs.TreeFiles.Again.{rows_again, rows_numbered, entries_again}
-use Rattle.sftp_tree.proofs.PlaceTables.Each.{each-all, all-each, each-weaker}
-use Rattle.sftp_tree.proofs.Limits.Tests.{Stands, fits-parts, fits-from}
+use Rattle.sftp_tree.specs.PictureParts.{entry_of, entries_after, head_of, with_first, IsShort}
+use Rattle.sftp_tree.proofs.PlaceTables.{all_both, all_together, all_right}
+use Rattle.sftp_tree.proofs.TreeFiles.{IsPlace, IsFitNode, IsTable, bare_names, text_place, root_table}
+use Rattle.sftp_tree.proofs.TreeFiles.{table_of_rows, rows_of_table, root_first, root_at, entries_below}
+use Rattle.sftp_tree.proofs.TreeFiles.{table_bare, table_from_bare, names_bare}
+use Rattle.sftp_tree.proofs.TreeFiles.Numbers.{made_by, made_few, first_of_number, names_split, length-entries}
+use Rattle.sftp_tree.proofs.TreeFiles.Numbers.{IsBelow, AreBelow, all_below, first_names}
+use Rattle.sftp_tree.proofs.TreeFiles.Numbers.{numbered_contents, numbered_there, each_number, each_content}
+use Rattle.sftp_tree.proofs.TreeFiles.Numbers.{numbered_order, numbered_again, number_is}
+use Rattle.sftp_tree.proofs.TreeFiles.Numbers.{IsBelowRoot, IsFitContent, length-rows, place_text, entry_texts}
+use Rattle.sftp_tree.proofs.TreeFiles.Numbers.{rows_bare, kinds_fit, all_at}
+use Rattle.sftp_tree.proofs.TreeFiles.Stores.{rows_again, rows_numbered, entries_again}
+use Rattle.sftp_tree.proofs.PlaceTables.{each-all, all-each, each-weaker}
+use Rattle.sftp_tree.proofs.Limits.{Stands, fits-parts, fits-from, stands-of}
+use Rattle.std.specs.Option.{option_map}
 
 -- ---- the limits, entry by entry
 
@@ -304,3 +309,106 @@ one_start t u bytes t-start u-start =
     sym (tree_again t (stands_of_start t bytes t-start) t-start.unpinned t-start.numbered)
     ∙ ap tree_of (one_file (file_of t) (file_of u) bytes (spelled_of_start t bytes t-start) (spelled_of_start u bytes u-start))
     ∙ tree_again u (stands_of_start u bytes u-start) u-start.unpinned u-start.numbered
+
+-- ==== A tree file is written entry by entry.
+
+-- ---- lengths
+
+pub path_short : (place : Place) → IsPlace place → length (absolute place) < 2 ^ 32
+path_short place is = path_length (absolute place) (place_text place is)
+
+bytes_short : (bounds : TreeLimits) → bounds.file_bytes < 2 ^ 32 → (files : Files) (number : ℕ) (content : Option Content) → AllByRecursion (λ e. IsFitContent bounds e.1) files → content_at files number ≡ content → IfSome content (λ (c : Content). length c.bytes < 2 ^ 32)
+bytes_short bounds bound files number None fit is = tt
+bytes_short bounds bound files number (Some content) fit is = omega (arith, bound, (all_at (IsFitContent bounds) files number content fit is).1)
+
+pub node_short : (t : Tree) → IsKept t → (standing : Node) → IsFitNode standing → IsShort t.files standing
+node_short t kept (Dir owner) fits = tt
+node_short t kept (File number) fits = bytes_short t.limits (file_bytes_bound t.limits kept.well_formed.limits) t.files number (content_at t.files number) (fit_files t (stands-of t kept)) refl
+node_short t kept (Link target) fits = target_length target (fits.1, fits.0)
+
+-- ---- one entry more
+
+-- what is known of an entry below the root
+pub record Entry (t : Tree) (i : ℕ) (e : Place × Node) : Type 0 where
+  pub below : IsBelowRoot e
+  pub node : IsFitNode e.1
+  pub within : i < length t.names
+  pub few : length t.names ≤ highest_limits.entries + 1
+
+-- ---- the first names that were met
+
+abbrev pub AreFirsts : Firsts → Names → Type 0
+AreFirsts firsts names = (number : ℕ) → get nat_cmp firsts number ≡ entry_naming number names
+
+-- an entry more
+abbrev pub then_naming : Option ℕ → Bool → ℕ → Option ℕ
+then_naming (Some first) names entry = Some first
+then_naming None true entry = Some entry
+then_naming None false entry = None
+
+naming_push : (number : ℕ) (front : Names) (e : Place × Node) → entry_naming number (front ++ e ∷ []) ≡ then_naming (entry_naming number front) (names_file number e.1) (length front)
+naming_push number [] e = by (names_file number e.1)
+  where
+    by : (b : Bool) → (if b then Some 0 else option_map suc None) ≡ then_naming None b 0
+    by true = refl
+    by false = refl
+naming_push number (x ∷ front) e =
+    ap (λ (o : Option ℕ). if names_file number x.1 then Some 0 else option_map suc o) (naming_push number front e) ∙ by (names_file number x.1) (entry_naming number front) (names_file number e.1)
+  where
+    by : (b : Bool) (o : Option ℕ) (names : Bool) → (if b then Some 0 else option_map suc (then_naming o names (length front))) ≡ then_naming (if b then Some 0 else option_map suc o) names (suc (length front))
+    by true o names = refl
+    by false None true = refl
+    by false o names = refl
+
+then_same : (o : Option ℕ) (b : Bool) (entry : ℕ) → b ≡ false → o ≡ then_naming o b entry
+then_same None true entry is = absurd cc
+then_same o b entry is = refl
+
+first_met : (firsts : Firsts) (entry number k : ℕ) (o : Option ℕ) → get nat_cmp firsts number ≡ o → get nat_cmp (with_first firsts entry number o) k ≡ then_naming (get nat_cmp firsts k) (number == k) entry
+first_met firsts entry number k (Some first) is = by (number == k) refl
+  where
+    by : (b : Bool) → (number == k) ≡ b → get nat_cmp firsts k ≡ then_naming (get nat_cmp firsts k) b entry
+    by false other = then_same (get nat_cmp firsts k) false entry refl
+    by true same =
+        let found : get nat_cmp firsts k ≡ Some first = ap (get nat_cmp firsts) (sym (eqb-true number k same)) ∙ is in
+        found ∙ ap (λ (o : Option ℕ). then_naming o true entry) (sym found)
+first_met firsts entry number k None is = get-put nat_cmp nat_cmp_total firsts number entry k ∙ by (k == number) (number == k) (number_is k number) refl refl
+  where
+    by : (a b : Bool) → is_eq (nat_cmp k number) ≡ a → (k == number) ≡ a → (number == k) ≡ b → cond (is_eq (nat_cmp k number)) (Some entry) (get nat_cmp firsts k) ≡ then_naming (get nat_cmp firsts k) b entry
+    by true true at same again =
+        let none : get nat_cmp firsts k ≡ None = ap (get nat_cmp firsts) (eqb-true k number same) ∙ is in
+        (λ i. cond (at i) (Some entry) (get nat_cmp firsts k)) ∙ ap (λ (o : Option ℕ). then_naming o true entry) (sym none)
+    by false false at same again = (λ i. cond (at i) (Some entry) (get nat_cmp firsts k)) ∙ then_same (get nat_cmp firsts k) false entry refl
+    by true false at same again = absurd (let t : true ≡ false = sym (eq-eqb number k (sym (eqb-true k number same))) ∙ again in cc)
+    by false true at same again = absurd (let t : true ≡ false = sym (eq-eqb k number (sym (eqb-true number k again))) ∙ same in cc)
+
+node_met : (firsts : Firsts) (entry : ℕ) (standing : Node) (k : ℕ) → get nat_cmp (firsts_with firsts entry standing) k ≡ then_naming (get nat_cmp firsts k) (names_file k standing) entry
+node_met firsts entry (File number) k = first_met firsts entry number k (get nat_cmp firsts number) refl
+node_met firsts entry other k = then_same (get nat_cmp firsts k) false entry refl
+
+pub firsts_push : (firsts : Firsts) (front : Names) (e : Place × Node) → AreFirsts firsts front → AreFirsts (firsts_with firsts (length front) e.1) (front ++ e ∷ [])
+firsts_push firsts front e are = λ k. node_met firsts (length front) e.1 k ∙ ap (λ (o : Option ℕ). then_naming o (names_file k e.1) (length front)) (are k) ∙ sym (naming_push k front e)
+
+pub known : (files : Files) (firsts : Firsts) (front : Names) (standing : Node) → AreFirsts firsts front → known_kind files firsts standing ≡ kind_of files front standing
+known files firsts front (File number) are = ap (λ (o : Option ℕ). naming o (content_at files number)) (are number)
+known files firsts front other are = refl
+
+-- ---- the head
+
+-- the root is one of the places
+pub names_count : (t : Tree) → IsKept t → (1 ≤ length t.names) × (length t.names ≤ highest_limits.entries + 1)
+names_count t kept =
+    let s = split_tree t (stands-of t kept) in
+    (omega (arith, ap length s.names_are), omega (arith, ap length s.names_are, s.few, highest-entries t (stands-of t kept)))
+
+pub home_short : (t : Tree) → IsKept t → length (absolute t.home) < 2 ^ 32
+home_short t kept = path_short t.home (kept.well_formed.home, (limits_from t kept.within_limits).home)
+
+pub picture_written : (t : Tree) → IsKept t → picture t ≡ head_bytes (head_of t) ++ flat_map row_text (rows_after t.files [] t.names)
+unfolding picture
+picture_written t kept =
+    let s = split_tree t (stands-of t kept) in
+    let count : length (rows_after t.files [] t.names) ≡ length t.names - 1 =
+    omega (arith, ap length (ap (rows_after t.files []) s.names_are), length-rows t.files (only_root s.root) s.entries s.below, ap length s.names_are) in
+    spelled_head (file_of t)
+    ∙ ap (λ n. head_bytes (record { limits = t.limits; home = absolute t.home; uid = t.uid; gid = t.gid; count = n; root = root_owner (node_at t.names []) }) ++ flat_map row_text (rows_after t.files [] t.names)) count

@@ -6,8 +6,8 @@ ghost use Rattle.sftp_tree.specs.declared.nodes.Node.TheVariants.{Dir as dir_nod
 ghost use Rattle.sftp_tree.specs.Tree as tree;
 ghost use Rattle.sftp_tree.specs.PictureParts.{only_root};
 ghost use Rattle.sftp_tree.specs.Nesting.{branch_of, flat, IsBranch, AreChildren};
-ghost use Rattle.sftp_tree.specs.NodesBelow.{nodes_of};
-ghost use Rattle.sftp_tree.specs.Listings as listings;
+ghost use Rattle.sftp_tree.specs.Nesting.{nodes_of};
+ghost use Rattle.sftp_tree.specs.Attributes as listings;
 
 mod appending;
 

@@ -7,7 +7,7 @@ ghost use Rattle.std.specs.declared.cmp.Ordering.TheVariants.{Less};
 ghost use Rattle.sftp_path.specs.Place.{place_cmp, parent};
 ghost use Rattle.sftp_path.specs.Table.{InOrder};
 ghost use Rattle.sftp_tree.specs.declared.nodes.Node.TheVariants.{Dir as dir_node};
-ghost use Rattle.sftp_tree.specs.Growth.{names_in, place_in, open_after};
+ghost use Rattle.sftp_tree.specs.PictureParts.{names_in, place_in, open_after};
 ghost use Rattle.sftp_tree.specs.PictureParts.{only_root};
 
 use super::directories::{Child, Dir};

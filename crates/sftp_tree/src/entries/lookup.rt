@@ -3,7 +3,7 @@ ghost use Rattle.std.specs.Prelude.{◌≡◌, [], ◌∷◌, ◌++◌, Some, op
 ghost use Rattle.sftp_path.specs.Place.{Place};
 ghost use Rattle.sftp_tree.specs.Tree as tree;
 ghost use Rattle.sftp_tree.specs.Nesting.{branch};
-ghost use Rattle.sftp_tree.specs.Seen.{node_seen, branch_seen};
+ghost use Rattle.sftp_tree.specs.Nesting.{node_seen, branch_seen};
 
 use super::directories::{Child, Dir};
 use super::seen::Seen;

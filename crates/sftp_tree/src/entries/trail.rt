@@ -1,7 +1,7 @@
 //! The directories from the root to the one that a walk has reached.
 ghost use Rattle.std.specs.Prelude.{◌≡◌, ◌++◌, [], ◌∷◌, Some, OnOk, OnErr};
 ghost use Rattle.sftp_path.specs.Place.{parent};
-ghost use Rattle.sftp_tree.specs.Trail.{IsAt, IsLentAt};
+ghost use Rattle.sftp_tree.specs.Nesting.{IsAt, IsLentAt};
 
 use super::directories::{Child, Dir};
 use super::seen::Seen;
@@ -23,7 +23,7 @@ pub(crate) struct Trail<'a> {
 }
 
 impl<'a> Model for Trail<'a> {
-    ghost use Rattle.sftp_tree.specs.Trail.{Standing, DescendTo};
+    ghost use Rattle.sftp_tree.specs.Nesting.{Standing, DescendTo};
 
     ghost Value = { Standing };
 

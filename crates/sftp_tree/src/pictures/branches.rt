@@ -8,7 +8,7 @@ ghost use Rattle.sftp_treefile.specs.Streamed.{CountsSink};
 ghost use Rattle.sftp_tree.specs.Nesting.{branch};
 ghost use Rattle.sftp_tree.specs.Picture.{rows_after};
 ghost use Rattle.sftp_tree.specs.Tree.{IsKept};
-ghost use Rattle.sftp_tree.specs.Written.{rows_from, firsts_from, AreWritable};
+ghost use Rattle.sftp_tree.specs.PictureParts.{rows_from, firsts_from, AreWritable};
 
 use super::writing::send_name;
 use crate::entries::directories::{Child, Dir};

@@ -1,6 +1,6 @@
 -- The reader of bytes in memory is new, and never fails.
 use Rattle.sftp_audit.proofs.streams.Starts.{HasNoRun}
-use Rattle.sftp_audit.proofs.streams.Judged.{refused-memory}
+use Rattle.sftp_audit.proofs.streams.{refused-memory}
 use Rattle.sftp_audit.proofs.audits.audit_by.Goals as goal
 
 pub returns-clause-refused : goal.returns-clause-refused

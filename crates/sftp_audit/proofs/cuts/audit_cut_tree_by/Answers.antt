@@ -1,8 +1,8 @@
 -- The end of a session that was cut is the tree of the state that the auditor kept.
 use Rattle.sftp_audit.proofs.Imports.{ap, ◌∙◌, length, recorded_exchanges, err_from_is_err_and}
 use Rattle.sftp_audit.specs.Cuts.{unanswered_count}
-use Rattle.sftp_audit.proofs.auditing.Lists.{unanswered-unsettled}
-use Rattle.sftp_audit.proofs.streams.Judged.{feed-lost, feed-first, feed-answered, told-feed, accounts-cut}
+use Rattle.sftp_audit.proofs.auditing.{unanswered-unsettled}
+use Rattle.sftp_audit.proofs.streams.{feed-lost, feed-first, feed-answered, told-feed, accounts-cut}
 use Rattle.sftp_audit.proofs.cuts.audit_cut_tree_by.Goals as goal
 
 pub returns-in_err-auditor-clause-refused : goal.returns-in_err-auditor-clause-refused

@@ -1,4 +1,4 @@
-use Rattle.sftp_audit.proofs.worked.Reads.{in_parts}
+use Rattle.sftp_audit.proofs.worked.{in_parts}
 use Rattle.sftp_audit.proofs.examples.file_is_read.Goals as goal
 
 pub returns : goal.returns

@@ -1,5 +1,5 @@
-use Rattle.sftp_audit.proofs.worked.Told.{usual, highest, too_high, too_low}
-use Rattle.sftp_audit.proofs.worked.Records.{limits_recorded}
+use Rattle.sftp_audit.proofs.worked.{usual, highest, too_high, too_low}
+use Rattle.sftp_audit.proofs.worked.{limits_recorded}
 use Rattle.sftp_audit.proofs.examples.limits_are_told.Goals as goal
 
 pub returns : goal.returns

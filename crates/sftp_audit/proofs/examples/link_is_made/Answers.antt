@@ -1,4 +1,4 @@
-use Rattle.sftp_audit.proofs.worked.Links.{made}
+use Rattle.sftp_audit.proofs.worked.{made}
 use Rattle.sftp_audit.proofs.examples.link_is_made.Goals as goal
 
 pub returns : goal.returns

@@ -1,4 +1,4 @@
-use Rattle.sftp_audit.proofs.worked.Sessions.{taken, not_absent}
+use Rattle.sftp_audit.proofs.worked.{taken, not_absent}
 use Rattle.sftp_audit.proofs.examples.made_twice_refused.Goals as goal
 
 pub returns : goal.returns

@@ -1,4 +1,4 @@
-use Rattle.sftp_audit.proofs.worked.Sessions.{other_reply}
+use Rattle.sftp_audit.proofs.worked.{other_reply}
 use Rattle.sftp_audit.proofs.examples.other_kinds.Goals as goal
 
 pub returns : goal.returns

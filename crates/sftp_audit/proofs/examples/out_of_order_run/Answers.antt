@@ -1,5 +1,5 @@
-use Rattle.sftp_audit.proofs.worked.Sessions.{backwards, backwards_picture}
-use Rattle.sftp_audit.proofs.worked.Records.{backwards_recorded}
+use Rattle.sftp_audit.proofs.worked.{backwards, backwards_picture}
+use Rattle.sftp_audit.proofs.worked.{backwards_recorded}
 use Rattle.sftp_audit.proofs.examples.out_of_order_run.Goals as goal
 
 pub returns : goal.returns

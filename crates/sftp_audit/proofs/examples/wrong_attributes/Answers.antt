@@ -1,4 +1,4 @@
-use Rattle.sftp_audit.proofs.worked.Links.{other_size, no_permissions}
+use Rattle.sftp_audit.proofs.worked.{other_size, no_permissions}
 use Rattle.sftp_audit.proofs.examples.wrong_attributes.Goals as goal
 
 pub returns : goal.returns

@@ -1,4 +1,4 @@
-use Rattle.sftp_audit.proofs.worked.Links.{other_text, two_names}
+use Rattle.sftp_audit.proofs.worked.{other_text, two_names}
 use Rattle.sftp_audit.proofs.examples.wrong_names.Goals as goal
 
 pub returns : goal.returns

@@ -1,4 +1,4 @@
-use Rattle.sftp_audit.proofs.worked.Sessions.{unanswered, answered_twice}
+use Rattle.sftp_audit.proofs.worked.{unanswered, answered_twice}
 use Rattle.sftp_audit.proofs.examples.wrong_turns.Goals as goal
 
 pub returns : goal.returns

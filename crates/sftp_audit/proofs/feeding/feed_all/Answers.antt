@@ -1,9 +1,9 @@
 -- Each turn of the loop gives an event and feeds it; the feed ends where no event is left, or at an error.
 use Rattle.sftp_audit.proofs.Imports.{◌≡◌, ℕ, None, Some, Event, refl, sym, subst, ◌∙◌, arith, err_from_is_err_and}
 use Rattle.std.proofs.lemmas.Grind.{common_steps}
-use Rattle.sftp_audit.proofs.streams.Given.{gave_event, IsFeeding, feeding-start, feeding-next, all-fed, stops-fault}
-use Rattle.sftp_audit.proofs.streams.Given.{stops-refused, fault-refuses_nothing, refused-for_good, told-fault}
-use Rattle.sftp_audit.proofs.streams.Given.{told-refused}
+use Rattle.sftp_audit.proofs.streams.{gave_event, IsFeeding, feeding-start, feeding-next, all-fed, stops-fault}
+use Rattle.sftp_audit.proofs.streams.{stops-refused, fault-refuses_nothing, refused-for_good, told-fault}
+use Rattle.sftp_audit.proofs.streams.{told-refused}
 use Rattle.sftp_audit.proofs.feeding.feed_all.Goals as goal
 
 pub events-init : goal.events-init

@@ -1,7 +1,7 @@
 -- The reader has given the events so far, and the auditor stands for them.
 use Rattle.sftp_audit.proofs.Imports.{◌≡◌, None}
 use Rattle.sftp_transcript.specs.Recorded.{size_of}
-use Rattle.sftp_audit.proofs.streams.Given.{KeepsFeeding}
+use Rattle.sftp_audit.proofs.streams.{KeepsFeeding}
 use Rattle.sftp_audit.proofs.feeding.feed_all.Given as goal
 
 abbrev pub invariant-events : goal.invariant-events

@@ -1,5 +1,5 @@
-use Rattle.sftp_audit.proofs.auditing.Complete.{cut-of_complete, answered-of_complete, complete-of_cut}
-use Rattle.sftp_audit.proofs.auditing.Complete.{judged-if_answered}
+use Rattle.sftp_audit.proofs.auditing.Refusals.{cut-of_complete, answered-of_complete, complete-of_cut}
+use Rattle.sftp_audit.proofs.auditing.Refusals.{judged-if_answered}
 use Rattle.sftp_audit.proofs.laws.complete_if_none_is_unanswered.Goals as goal
 
 pub returns-clause-cut : goal.returns-clause-cut

@@ -1,4 +1,4 @@
-use Rattle.sftp_audit.proofs.auditing.Lists.{ledger_of-recorded}
+use Rattle.sftp_audit.proofs.auditing.{ledger_of-recorded}
 use Rattle.sftp_audit.proofs.laws.exchanges_are_recorded.Goals as goal
 
 pub returns : goal.returns

@@ -1,6 +1,6 @@
 use Rattle.sftp_audit.proofs.Imports.{Allowed, started, closed_tree}
-use Rattle.sftp_handles.proofs.Judged.Steps.{allowed-one_end}
-use Rattle.sftp_audit.proofs.streams.OneAccount.{same_start, same_events, same_end}
+use Rattle.sftp_handles.proofs.Judged.{allowed-one_end}
+use Rattle.sftp_audit.proofs.streams.FirstFaults.{same_start, same_events, same_end}
 use Rattle.sftp_audit.proofs.laws.one_account.Goals as goal
 
 pub returns-clause-start : goal.returns-clause-start

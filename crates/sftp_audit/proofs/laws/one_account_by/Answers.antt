@@ -1,4 +1,4 @@
-use Rattle.sftp_audit.proofs.streams.OneAccount.{same_start, same_events, same_end}
+use Rattle.sftp_audit.proofs.streams.FirstFaults.{same_start, same_events, same_end}
 use Rattle.sftp_audit.proofs.laws.one_account_by.Goals as goal
 
 pub returns-clause-start : goal.returns-clause-start

@@ -1,4 +1,4 @@
-use Rattle.sftp_audit.proofs.steps.StepLaws.{explained-one_end}
+use Rattle.sftp_audit.proofs.steps.{explained-one_end}
 use Rattle.sftp_audit.proofs.laws.one_end_by.Goals as goal
 
 pub returns : goal.returns

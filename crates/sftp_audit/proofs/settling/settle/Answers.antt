@@ -1,6 +1,6 @@
 use Rattle.sftp_audit.proofs.Imports.{refl, arith, length-drop}
-use Rattle.sftp_audit.proofs.auditing.Settled.{done-start, done-more, done-wrong, done-wrong_in, done-told, done-kept}
-use Rattle.sftp_audit.proofs.auditing.Settled.{done-ran, unsettled-waits, unsettled-none}
+use Rattle.sftp_audit.proofs.auditing.Places.{done-start, done-more, done-wrong, done-wrong_in, done-told, done-kept}
+use Rattle.sftp_audit.proofs.auditing.Places.{done-ran, unsettled-waits, unsettled-none}
 use Rattle.sftp_audit.proofs.settling.settle.Goals as goal
 
 pub settle-init : goal.settle-init

@@ -1,5 +1,5 @@
 use Rattle.sftp_audit.proofs.Imports.{◌≡◌, ◌≤◌, length}
-use Rattle.sftp_audit.proofs.auditing.Settled.{IsDoneTo}
+use Rattle.sftp_audit.proofs.auditing.Places.{IsDoneTo}
 use Rattle.sftp_audit.proofs.settling.settle.Given as goal
 
 abbrev pub invariant-settle : goal.invariant-settle

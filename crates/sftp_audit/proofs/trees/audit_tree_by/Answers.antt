@@ -1,7 +1,7 @@
 -- What is lost while events are fed is lost to every run, and so is a session that lacks a reply at its end.
 use Rattle.sftp_audit.proofs.Imports.{err_from_is_err_and}
-use Rattle.sftp_audit.proofs.streams.Judged.{no_run, feed-lost, feed-first, end-lost, end-first, accounts-fed}
-use Rattle.sftp_audit.proofs.streams.Judged.{told-feed, told-end, end-treeless}
+use Rattle.sftp_audit.proofs.streams.{no_run, feed-lost, feed-first, end-lost, end-first, accounts-fed}
+use Rattle.sftp_audit.proofs.streams.{told-feed, told-end, end-treeless}
 use Rattle.sftp_audit.proofs.trees.audit_tree_by.Goals as goal
 
 pub returns-in_err-auditor-clause-refused : goal.returns-in_err-auditor-clause-refused

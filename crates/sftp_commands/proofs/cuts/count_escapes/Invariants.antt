@@ -1,5 +1,5 @@
 use Rattle.std.proofs.Common.{◌≡◌, ◌+◌, ◌≤◌, length}
-use Rattle.sftp_commands.specs.Cuts.{escapes_in}
+use Rattle.sftp_commands.specs.Going.{escapes_in}
 use Rattle.sftp_commands.proofs.cuts.count_escapes.Given as goal
 
 abbrev pub invariant-characters : goal.invariant-characters

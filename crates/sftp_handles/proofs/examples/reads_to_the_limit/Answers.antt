@@ -1,6 +1,6 @@
 use Rattle.sftp_handles.proofs.Imports.{◌≡◌, ◌≢◌, ℕ, List, length, take, min, arith, length-take}
 use Rattle.sftp_treefile.specs.TreeFile.{usual_limits, highest_limits}
-use Rattle.sftp_handles.proofs.Answered.ReadLimits.{read-given, read-other}
+use Rattle.sftp_handles.proofs.Answered.LimitsAnswers.{read-given, read-other}
 use Rattle.sftp_handles.proofs.examples.reads_to_the_limit.Goals as goal
 
 -- so many bytes of a file

@@ -1,5 +1,5 @@
 use Rattle.sftp_handles.proofs.Imports.{arith, nat_list_cmp_total, bytes_cmp, named, handles_in, InOrder-from_entries}
-use Rattle.sftp_handles.proofs.HandleTables.FreeNumbers.{not-below}
+use Rattle.sftp_handles.proofs.HandleTables.SlotTables.{not-below}
 use Rattle.sftp_handles.proofs.free_names.free_number.Goals as goal
 
 pub unreachable-requires : goal.unreachable-requires

@@ -1,5 +1,5 @@
 use Rattle.sftp_handles.proofs.Imports.{◌≤◌, ◌-◌, handles_in}
-use Rattle.sftp_handles.proofs.HandleTables.FreeNumbers.{AreOpenBelow}
+use Rattle.sftp_handles.proofs.HandleTables.SlotTables.{AreOpenBelow}
 use Rattle.sftp_handles.proofs.free_names.free_number.Given as goal
 
 abbrev pub invariant-taken : goal.invariant-taken

@@ -1,5 +1,5 @@
 use Rattle.sftp_handles.proofs.Imports.{◌∙◌, sym}
-use Rattle.sftp_handles.proofs.HandleTables.GivenTables.{open-count}
+use Rattle.sftp_handles.proofs.HandleTables.{open-count}
 use Rattle.sftp_handles.proofs.given_table.count_open.Goals as goal
 
 pub returns : goal.returns

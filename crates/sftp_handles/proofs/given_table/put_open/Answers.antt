@@ -1,4 +1,4 @@
-use Rattle.sftp_handles.proofs.HandleTables.GivenTables.{changed-put}
+use Rattle.sftp_handles.proofs.HandleTables.{changed-put}
 use Rattle.sftp_handles.proofs.given_table.put_open.Goals as goal
 
 pub returns : goal.returns

@@ -1,5 +1,5 @@
 use Rattle.sftp_handles.proofs.Imports.{◌∙◌, sym}
-use Rattle.sftp_handles.proofs.HandleTables.GivenTables.{open-found, changed-without}
+use Rattle.sftp_handles.proofs.HandleTables.{open-found, changed-without}
 use Rattle.sftp_handles.proofs.given_table.take_open.Goals as goal
 
 pub returns-clause-before : goal.returns-clause-before

@@ -1,4 +1,4 @@
-use Rattle.sftp_handles.proofs.TotalSteps.SpelledRequests.{spelled-askable}
+use Rattle.sftp_handles.proofs.TotalSteps.PathReplies.{spelled-askable}
 use Rattle.sftp_handles.proofs.laws.encoded_requests_are_askable.Goals as goal
 
 pub returns : goal.returns

@@ -1,6 +1,6 @@
 use Rattle.sftp_handles.proofs.Imports.{ap, ◌∙◌, nat_lt, lt-ltb, times_open}
 use Rattle.sftp_handles.proofs.Good.Pins.{pins-times}
-use Rattle.sftp_handles.proofs.Good.GoodStates.{good-settled, good-opens}
+use Rattle.sftp_handles.proofs.Good.{good-settled, good-opens}
 use Rattle.sftp_handles.proofs.laws.good_states_are_settled.Goals as goal
 
 pub returns : goal.returns

@@ -1,5 +1,5 @@
-use Rattle.sftp_handles.proofs.Good.GoodLaws.{allowed-good}
-use Rattle.sftp_listing.proofs.FirstListings.{listing-fits}
+use Rattle.sftp_handles.proofs.Good.GoodPaths.{allowed-good}
+use Rattle.sftp_listing.proofs.FirstNames.{listing-fits}
 use Rattle.sftp_handles.proofs.laws.good_stays_good.Goals as goal
 
 pub returns : goal.returns

@@ -1,4 +1,4 @@
-use Rattle.sftp_handles.proofs.HandleTables.HandleRoom.{left-fits, asked-room}
+use Rattle.sftp_handles.proofs.HandleTables.NewHandles.{left-fits, asked-room}
 use Rattle.sftp_handles.proofs.laws.handles_have_room.Goals as goal
 
 pub returns : goal.returns

@@ -1,4 +1,4 @@
-use Rattle.sftp_handles.proofs.Judged.Steps.{allowed-one_end}
+use Rattle.sftp_handles.proofs.Judged.{allowed-one_end}
 use Rattle.sftp_handles.proofs.laws.one_end.Goals as goal
 
 pub returns : goal.returns

@@ -1,4 +1,4 @@
-use Rattle.sftp_handles.proofs.Good.Starts.{good-start, same-start}
+use Rattle.sftp_handles.proofs.Good.GoodPaths.{good-start, same-start}
 use Rattle.sftp_handles.proofs.laws.sessions_start_good.Goals as goal
 
 pub returns : goal.returns

@@ -1,4 +1,4 @@
-use Rattle.sftp_handles.proofs.TotalSteps.SomeReplies.{some-allowed}
+use Rattle.sftp_handles.proofs.TotalSteps.PathReplies.{some-allowed}
 use Rattle.sftp_handles.proofs.laws.some_reply.Goals as goal
 
 pub returns : goal.returns

@@ -1,4 +1,4 @@
-use Rattle.sftp_handles.proofs.Judged.Steps.{step-is_allowed, allowed-step}
+use Rattle.sftp_handles.proofs.Judged.{step-is_allowed, allowed-step}
 use Rattle.sftp_handles.proofs.laws.steps_decide.Goals as goal
 
 pub returns : goal.returns

@@ -1,6 +1,6 @@
 use Rattle.sftp_handles.proofs.Imports.{sym, ap, subst, ◌∙◌, Some, Listing, open_at, names_in, length}
 use Rattle.sftp_handles.proofs.Imports.{AreFirstNames}
-use Rattle.sftp_handles.proofs.HandleTables.LentListings.{struck-lent, first-taken, first-counted, first-struck}
+use Rattle.sftp_handles.proofs.HandleTables.NewHandles.{struck-lent, first-taken, first-counted, first-struck}
 use Rattle.sftp_handles.proofs.open_listings.give_first.Goals as goal
 
 pub take_first-requires-clause-names : goal.take_first-requires-clause-names

@@ -1,5 +1,5 @@
 use Rattle.sftp_handles.proofs.Imports.{ap, ◌∙◌, Some, sym, Listing, Left, struck}
-use Rattle.sftp_handles.proofs.HandleTables.LentListings.{struck-lent}
+use Rattle.sftp_handles.proofs.HandleTables.NewHandles.{struck-lent}
 use Rattle.sftp_handles.proofs.open_listings.strike_names.Goals as goal
 
 pub returns : goal.returns

@@ -2,7 +2,7 @@ use Rattle.sftp_handles.proofs.Imports.{◌<◌, ◌^◌, refl, sym, ap, subst, 
 use Rattle.sftp_handles.proofs.Imports.{pins-stay, Does, Good}
 use Rattle.sftp_packets.specs.declared.requests.Ask.TheVariants as asks
 use Rattle.sftp_packets.specs.declared.replies.Answer.TheVariants as replies
-use Rattle.sftp_handles.proofs.Good.NewStates.{state_of}
+use Rattle.sftp_handles.proofs.Good.Pins.{state_of}
 use Rattle.sftp_handles.proofs.OpenFiles.Opened as opened
 use Rattle.sftp_handles.proofs.openings.open_file.Given as given
 use Rattle.sftp_handles.proofs.openings.open_file.Goals as goal

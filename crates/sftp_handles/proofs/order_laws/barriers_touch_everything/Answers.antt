@@ -1,6 +1,6 @@
 use Rattle.sftp_handles.proofs.Imports.{ap, ◌∙◌, clash, share, touched}
-use Rattle.sftp_handles.proofs.ClashLaws.Touches.{share-everything}
-use Rattle.sftp_handles.proofs.ClashLaws.Barriers.{barrier-touches, other-touches}
+use Rattle.sftp_handles.proofs.ClashLaws.{share-everything}
+use Rattle.sftp_handles.proofs.ClashLaws.{barrier-touches, other-touches}
 use Rattle.sftp_handles.proofs.order_laws.barriers_touch_everything.Goals as goal
 
 pub returns-clause-touched : goal.returns-clause-touched

@@ -1,5 +1,5 @@
 use Rattle.sftp_handles.proofs.Imports.{clash, touched}
-use Rattle.sftp_handles.proofs.ClashLaws.Touches.{share-mutual}
+use Rattle.sftp_handles.proofs.ClashLaws.{share-mutual}
 use Rattle.sftp_handles.proofs.order_laws.clash_is_mutual.Goals as goal
 
 pub returns : goal.returns

@@ -1,5 +1,5 @@
 use Rattle.sftp_handles.proofs.Imports.{◌∙◌, clash, share}
-use Rattle.sftp_handles.proofs.ClashLaws.Exchanges.{touched-after}
+use Rattle.sftp_handles.proofs.ClashLaws.{touched-after}
 use Rattle.sftp_handles.proofs.order_laws.no_clash_arises.Goals as goal
 
 pub returns : goal.returns

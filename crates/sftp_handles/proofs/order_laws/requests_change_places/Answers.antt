@@ -1,5 +1,5 @@
 use Rattle.sftp_handles.proofs.Imports.{clash}
-use Rattle.sftp_handles.proofs.ClashLaws.Exchanges.{exchanged}
+use Rattle.sftp_handles.proofs.ClashLaws.{exchanged}
 use Rattle.sftp_handles.proofs.order_laws.requests_change_places.Goals as goal
 
 pub returns : goal.returns

@@ -1,5 +1,5 @@
-use Rattle.sftp_handles.proofs.ClashLaws.Barriers.{other-touches}
-use Rattle.sftp_handles.proofs.ClashLaws.Exchanges.{touched-past}
+use Rattle.sftp_handles.proofs.ClashLaws.{other-touches}
+use Rattle.sftp_handles.proofs.ClashLaws.{touched-past}
 use Rattle.sftp_handles.proofs.order_laws.touched_stays.Goals as goal
 
 pub returns : goal.returns

@@ -1,4 +1,4 @@
-use Rattle.sftp_handles.proofs.RangeLaws.Overwrites.{written-sized, written-before, written-behind, written-twice}
+use Rattle.sftp_handles.proofs.RangeLaws.Spans.{written-sized, written-before, written-behind, written-twice}
 use Rattle.sftp_handles.proofs.range_laws.writes_within_a_file.Goals as goal
 
 pub returns-clause-sized : goal.returns-clause-sized

@@ -1,5 +1,5 @@
 use Rattle.sftp_listing.proofs.Imports.{◌+◌, true, cond, sym, ap, ◌∙◌, not, is_eq, name_cmp}
-use Rattle.sftp_listing.proofs.DistinctNames.{next-seen, next-distinct, not-distinct}
+use Rattle.sftp_listing.proofs.FirstNames.{next-seen, next-distinct, not-distinct}
 use Rattle.sftp_listing.proofs.strike.are_distinct.Goals as goal
 
 pub returns-then-not-branch : goal.returns-then-not-branch

@@ -1,7 +1,7 @@
 -- What the parser found for the options are their rows.
 use Rattle.std.proofs.Common.{sym, ap, ◌∙◌}
 use Rattle.clap.specs.Matches.{found_of}
-use Rattle.sftp_options.specs.Profiles.{profile_asked}
+use Rattle.sftp_options.specs.Options.{profile_asked}
 use Rattle.sftp_options.proofs.OptionLaws.{options_given}
 use Rattle.sftp_options.proofs.profiles.profile_of.Goals as goal
 

@@ -1,6 +1,6 @@
 -- Each turn of the loop switches the next departure.
 use Rattle.std.proofs.Common.{refl, sym, ◌∙◌, arith}
-use Rattle.sftp_options.proofs.ProfileLaws.{names-turn, names-end}
+use Rattle.sftp_options.proofs.OptionLaws.{names-turn, names-end}
 use Rattle.sftp_options.proofs.profiles.switched.Goals as goal
 
 pub names-init : goal.names-init

@@ -1,6 +1,6 @@
 -- The names that are left lead from the profile so far to the one that all lead to.
 use Rattle.std.proofs.Common.{◌≡◌, ◌≤◌, map, length, drop}
-use Rattle.sftp_options.specs.Profiles.{with_names}
+use Rattle.sftp_options.specs.Options.{with_names}
 use Rattle.sftp_options.proofs.profiles.switched.Given as goal
 
 abbrev pub invariant-names : goal.invariant-names

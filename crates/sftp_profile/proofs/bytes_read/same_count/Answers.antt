@@ -1,6 +1,6 @@
 use Rattle.std.proofs.Common.{sym, ◌∙◌, length}
 use Rattle.sftp_tree.specs.Tree.{limits}
-use Rattle.sftp_handles.specs.Seen.{a_file, seen}
+use Rattle.sftp_handles.specs.State.{a_file, seen}
 use Rattle.sftp_profile.proofs.Pieces.{readable-fewer, piece-goes, pieces-wrong}
 use Rattle.sftp_profile.proofs.bytes_read.same_count.Goals as goal
 

@@ -1,5 +1,5 @@
 use Rattle.std.proofs.Common.{◌≡◌, ◌+◌, length, IsTrue}
-use Rattle.sftp_handles.specs.Seen.{a_file, seen}
+use Rattle.sftp_handles.specs.State.{a_file, seen}
 use Rattle.sftp_profile.specs.BytesRead.{is_readable, stand_in}
 use Rattle.sftp_profile.proofs.bytes_read.stand_in.Given as goal
 

@@ -1,5 +1,5 @@
 use Rattle.std.proofs.Common.{◌+◌, ◌∙◌, sym}
-use Rattle.sftp_profile.proofs.Copied.{readable-up_to, copied-within, some-count}
+use Rattle.sftp_profile.proofs.Pieces.{readable-up_to, copied-within, some-count}
 use Rattle.sftp_profile.proofs.copies.bytes_from.Goals as goal
 
 pub bytes_of-requires-clause-there : goal.bytes_of-requires-clause-there

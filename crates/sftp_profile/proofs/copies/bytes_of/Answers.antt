@@ -1,8 +1,8 @@
 use Rattle.std.proofs.Common.{◌+◌, ◌-◌, ◌<◌, ◌++◌, ◌∙◌, length, refl, ap}
 use Rattle.sftp_tree.specs.Tree.{limits}
-use Rattle.sftp_handles.specs.Seen.{a_file, seen}
-use Rattle.sftp_profile.specs.Copies.{bytes_within}
-use Rattle.sftp_profile.proofs.Copied.{next-bytes, front-counts, joined}
+use Rattle.sftp_handles.specs.State.{a_file, seen}
+use Rattle.sftp_profile.specs.Departures.{bytes_within}
+use Rattle.sftp_profile.proofs.Pieces.{next-bytes, front-counts, joined}
 use Rattle.sftp_profile.proofs.copies.bytes_of.Goals as goal
 
 pub pieces-preserved : goal.pieces-preserved

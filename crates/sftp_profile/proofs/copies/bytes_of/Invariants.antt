@@ -1,7 +1,7 @@
 -- What was copied and what is left within the end make up what is to be copied.
 use Rattle.std.proofs.Common.{◌≡◌, ◌≤◌, ◌+◌, ◌-◌, ◌++◌}
-use Rattle.sftp_handles.specs.Seen.{a_file, seen}
-use Rattle.sftp_profile.specs.Copies.{bytes_within}
+use Rattle.sftp_handles.specs.State.{a_file, seen}
+use Rattle.sftp_profile.specs.Departures.{bytes_within}
 use Rattle.sftp_profile.proofs.copies.bytes_of.Given as goal
 
 abbrev pub invariant-pieces : goal.invariant-pieces

@@ -1,8 +1,8 @@
 use Rattle.std.proofs.Common.{◌≡◌, ◌++◌, ◌∙◌, [], ◌∷◌, Err, ap, subst}
 use Rattle.sftp_packets.specs.Packets.{client_packet_at}
 use Rattle.sftp_packets.specs.Reading.{Reads}
-use Rattle.sftp_profile.specs.Data.{ask_in}
-use Rattle.sftp_profile.proofs.Fields.{setstat-read}
+use Rattle.sftp_profile.specs.Replaced.{ask_in}
+use Rattle.sftp_profile.proofs.Pieces.{setstat-read}
 use Rattle.sftp_profile.proofs.data.setstat_in.Goals as goal
 
 pub returns-in-Ok : goal.returns-in-Ok

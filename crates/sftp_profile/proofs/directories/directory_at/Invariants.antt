@@ -1,6 +1,6 @@
 -- None of those so far is under the handle.
 use Rattle.std.proofs.Common.{◌≡◌, drop}
-use Rattle.sftp_profile.specs.Directories.{directory_at}
+use Rattle.sftp_profile.specs.Profiles.{directory_at}
 use Rattle.sftp_profile.proofs.directories.directory_at.Given as goal
 
 abbrev pub invariant-loop-directory : goal.invariant-loop-directory

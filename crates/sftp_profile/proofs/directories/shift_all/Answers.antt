@@ -1,6 +1,6 @@
 use Rattle.std.proofs.Common.{ap, map, length, sym, ◌∙◌}
 use Rattle.std.proofs.lemmas.List.{with_items_is}
-use Rattle.sftp_profile.specs.Directories.{shifted}
+use Rattle.sftp_profile.specs.Profiles.{shifted}
 use Rattle.sftp_profile.proofs.DirectoryLists.{change-taken, change-rest, change-all, change-length}
 use Rattle.sftp_profile.proofs.directories.shift_all.Goals as goal
 

@@ -1,6 +1,6 @@
 -- Those so far are changed, and the others stand as they were.
 use Rattle.std.proofs.Common.{◌≡◌, map, take, drop}
-use Rattle.sftp_profile.specs.Directories.{shifted}
+use Rattle.sftp_profile.specs.Profiles.{shifted}
 use Rattle.sftp_profile.proofs.directories.shift_all.Given as goal
 
 abbrev pub invariant-loop-directory : goal.invariant-loop-directory

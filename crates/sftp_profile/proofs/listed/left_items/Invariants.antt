@@ -1,7 +1,7 @@
 -- Those so far that were left.
 use Rattle.std.proofs.Common.{◌≡◌, take}
 use Rattle.std.specs.List.{flat_map}
-use Rattle.sftp_profile.specs.Listed.{left_item}
+use Rattle.sftp_profile.specs.DirectoryHandles.{left_item}
 use Rattle.sftp_profile.proofs.listed.left_items.Given as goal
 
 abbrev pub invariant-loop-item : goal.invariant-loop-item

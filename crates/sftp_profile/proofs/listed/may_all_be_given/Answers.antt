@@ -1,5 +1,5 @@
 use Rattle.std.proofs.Common.{sym, ◌∙◌}
-use Rattle.sftp_profile.specs.Listed.{may_be_given}
+use Rattle.sftp_profile.specs.DirectoryHandles.{may_be_given}
 use Rattle.sftp_profile.proofs.DirectoryLists.{all-next, all-not, all-end}
 use Rattle.sftp_profile.proofs.listed.may_all_be_given.Goals as goal
 

@@ -1,6 +1,6 @@
 use Rattle.std.proofs.Common.{◌≡◌, length}
 use Rattle.std.specs.Prelude.{find, bytes_eq}
-use Rattle.sftp_profile.specs.Names.{name_of}
+use Rattle.sftp_profile.specs.Profiles.{name_of}
 use Rattle.sftp_profile.proofs.names.first_named.Given as goal
 
 abbrev pub invariant-departures : goal.invariant-departures

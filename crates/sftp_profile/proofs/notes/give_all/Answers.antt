@@ -1,7 +1,7 @@
 use Rattle.std.proofs.Common.{ap, map, length, sym, ◌∙◌}
 use Rattle.std.proofs.lemmas.List.{with_items_is}
 use Rattle.sftp_handles.specs.Replies.{names_in}
-use Rattle.sftp_profile.specs.Directories.{given_by}
+use Rattle.sftp_profile.specs.Profiles.{given_by}
 use Rattle.sftp_profile.proofs.DirectoryLists.{change-taken, change-rest, change-all, change-length}
 use Rattle.sftp_profile.proofs.notes.give_all.Goals as goal
 

@@ -1,7 +1,7 @@
 -- Those so far are changed, and the others stand as they were.
 use Rattle.std.proofs.Common.{◌≡◌, map, take, drop}
 use Rattle.sftp_handles.specs.Replies.{names_in}
-use Rattle.sftp_profile.specs.Directories.{given_by}
+use Rattle.sftp_profile.specs.Profiles.{given_by}
 use Rattle.sftp_profile.proofs.notes.give_all.Given as goal
 
 abbrev pub invariant-loop-directory : goal.invariant-loop-directory

@@ -1,4 +1,4 @@
-use Rattle.sftp_profile.proofs.NotesByAsk.{opendir-note, open-note, readdir-note, close-note, other-note}
+use Rattle.sftp_profile.proofs.DirectoryLists.{opendir-note, open-note, readdir-note, close-note, other-note}
 use Rattle.sftp_profile.proofs.notes.note_of.Goals as goal
 
 pub returns-in-Opendir : goal.returns-in-Opendir

@@ -9,7 +9,7 @@ use Rattle.sftp_packets.specs.declared.errors.Fault.TheVariants.{Trailing, Short
 use Rattle.sftp_tree.specs.Picture.{blank}
 use Rattle.sftp_server.specs.declared.ends.Ended.TheVariants as ends
 use Rattle.sftp_server.specs.declared.ends.SessionFault.TheVariants as faults
-use Rattle.sftp_server.proofs.Worked.Openings.{opened, unchanged, only_opens, version_written, place_is}
+use Rattle.sftp_server.proofs.Worked.{opened, unchanged, only_opens, version_written, place_is}
 use Rattle.sftp_server.proofs.examples.byte_after_a_request.Goals as goal
 
 read : front_of Client remove_and_byte ≡ Err Trailing

@@ -6,7 +6,7 @@ use Rattle.sftp_packets.specs.Packets.{client_packet_at, packet_of}
 use Rattle.sftp_server.specs.Examples.{mkdir_beginning, EndsAfterVersion}
 use Rattle.sftp_server.specs.declared.ends.Ended.TheVariants as ends
 use Rattle.sftp_server.specs.declared.ends.SessionFault.TheVariants as faults
-use Rattle.sftp_server.proofs.Worked.Openings.{opened, unchanged, only_opens, version_written, place_is}
+use Rattle.sftp_server.proofs.Worked.{opened, unchanged, only_opens, version_written, place_is}
 use Rattle.sftp_server.proofs.examples.cut_in_a_request.Goals as goal
 
 read : front_of Client mkdir_beginning ≡ Ok None

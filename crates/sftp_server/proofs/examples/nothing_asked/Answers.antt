@@ -1,5 +1,5 @@
 use Rattle.sftp_server.proofs.Imports.{[], refl, hex, Init}
-use Rattle.sftp_server.proofs.Worked.Openings.{opened, unchanged}
+use Rattle.sftp_server.proofs.Worked.{opened, unchanged}
 use Rattle.sftp_server.proofs.examples.nothing_asked.Goals as goal
 
 pub returns-clause-served : goal.returns-clause-served

@@ -3,8 +3,8 @@ use Rattle.sftp_server.proofs.Imports.{[], refl, inr, Init, hex, spelling, get, 
 use Rattle.sftp_server.proofs.Imports.{answered_last}
 use Rattle.sftp_server.specs.Examples.{stat_bytes, stat_answered}
 use Rattle.sftp_tree.specs.Picture.{blank}
-use Rattle.sftp_server.proofs.Worked.Openings.{greeting}
-use Rattle.sftp_server.proofs.Worked.Scripts.{stat_root, stat_spelled, root_spelled, looked}
+use Rattle.sftp_server.proofs.Worked.{greeting}
+use Rattle.sftp_server.proofs.Worked.{stat_root, stat_spelled, root_spelled, looked}
 use Rattle.sftp_server.proofs.examples.same_id_twice.Goals as goal
 
 pub returns : goal.returns

@@ -1,4 +1,4 @@
-use Rattle.sftp_server.proofs.Sessions.Logged.{log-is-transcript}
+use Rattle.sftp_server.proofs.Sessions.Closed.{log-is-transcript}
 use Rattle.sftp_server.proofs.laws.logs_are_transcripts.Goals as goal
 
 pub returns : goal.returns

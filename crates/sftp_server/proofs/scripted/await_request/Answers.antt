@@ -1,7 +1,7 @@
 -- While no packet is complete the session passes on what it wrote, and reads.
 use Rattle.sftp_server.proofs.Imports.{◌<◌, ◌∙◌, arith, err_from_is_err_and, Client, none-leaves_room}
 use Rattle.sftp_server.proofs.Sessions.Closed.{running-more, running-written, reader-stops, writer-stops}
-use Rattle.sftp_server.proofs.Sessions.Scripted.{ahead-falls, running-sound}
+use Rattle.sftp_server.proofs.Sessions.Closed.{ahead-falls, running-sound}
 use Rattle.sftp_server.proofs.scripted.await_request.Goals as goal
 
 pub returns-in-Fault-clause-running : goal.returns-in-Fault-clause-running

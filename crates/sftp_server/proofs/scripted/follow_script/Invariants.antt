@@ -1,6 +1,6 @@
 -- The session runs on since the first step, and no stream failed.
 use Rattle.sftp_server.proofs.Imports.{◌≡◌, None, Tree, StreamBytes, stream_bytes, IsLogging, IsRunning}
-use Rattle.sftp_server.specs.Scripted.{bytes_ahead}
+use Rattle.sftp_server.specs.Ending.{bytes_ahead}
 use Rattle.sftp_server.proofs.scripted.follow_script.Given as goal
 
 abbrev pub invariant-script : goal.invariant-script

@@ -1,8 +1,8 @@
 -- A request that is ready is done; without memory nothing changes.
 use Rattle.sftp_server.proofs.Imports.{arith, err_from_is_err_and, Allowed}
-use Rattle.sftp_server.proofs.ChoiceLaws.{worked-falls}
+use Rattle.sftp_server.proofs.ReadyLaws.{worked-falls}
 use Rattle.sftp_server.proofs.Sessions.Replied.{sends-worked}
-use Rattle.sftp_server.proofs.Sessions.Scripted.{works-nothing}
+use Rattle.sftp_server.proofs.Sessions.Closed.{works-nothing}
 use Rattle.sftp_server.proofs.scripted.try_work.Goals as goal
 
 pub returns-in_err-work_by-clause-works : goal.returns-in_err-work_by-clause-works

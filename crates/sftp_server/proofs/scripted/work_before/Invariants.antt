@@ -1,6 +1,6 @@
 -- The requests done so far leave no more to do.
 use Rattle.sftp_server.proofs.Imports.{◌≤◌, Ok, owed}
-use Rattle.sftp_server.specs.Scripted.{Works}
+use Rattle.sftp_server.specs.Ending.{Works}
 use Rattle.sftp_server.proofs.scripted.work_before.Given as goal
 
 abbrev pub invariant-each : goal.invariant-each

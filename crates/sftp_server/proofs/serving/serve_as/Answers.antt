@@ -1,6 +1,6 @@
 -- The session begins with nothing read; it is opened, or its first packet ends it.
 use Rattle.sftp_server.proofs.Imports.{subst, sym, IsAtEnd, stream_bytes, IsUnopenedYet}
-use Rattle.sftp_server.specs.Opening.{IsFirst}
+use Rattle.sftp_server.specs.Ending.{IsFirst}
 use Rattle.sftp_server.proofs.Sessions.Closed.{unopened-at_start, unopened-stops, unopened, stopped-end}
 use Rattle.sftp_server.proofs.serving.serve_as.Goals as goal
 

@@ -1,6 +1,6 @@
 -- Once nothing is possible, nothing is left; and each choice is possible.
 use Rattle.sftp_server.proofs.Imports.{sym, ◌∙◌, server_clash}
-use Rattle.sftp_server.proofs.ChoiceLaws.{nothing-left, possible}
+use Rattle.sftp_server.proofs.ReadyLaws.{nothing-left, possible}
 use Rattle.sftp_server.proofs.working.work_off.Goals as goal
 
 pub returns-then-count-eq0-clause-answered : goal.returns-then-count-eq0-clause-answered

@@ -1,4 +1,4 @@
-use Rattle.sftp_tests.proofs.AnsweredLaws.{accepted, one-end}
+use Rattle.sftp_tests.proofs.AuditedLaws.{accepted, one-end}
 use Rattle.sftp_tests.proofs.answered.answer_and_accept.Goals as goal
 
 -- src/answered.rt:14:1

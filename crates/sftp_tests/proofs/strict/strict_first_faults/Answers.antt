@@ -1,4 +1,4 @@
-use Rattle.sftp_tests.proofs.StrictFaults.{fault-strict, fault-permitted}
+use Rattle.sftp_tests.proofs.StrictRuns.{fault-strict, fault-permitted}
 use Rattle.sftp_tests.proofs.strict.strict_first_faults.Goals as goal
 
 pub returns : goal.returns

@@ -2,7 +2,7 @@
 use Rattle.std.proofs.Common.{Some, refl, ap}
 use Rattle.sftp_audit.specs.Audit.{AccountsBy}
 use Rattle.sftp_tool.proofs.VerdictLaws.{is_new}
-use Rattle.sftp_tool.proofs.InferenceLaws.{has_run}
+use Rattle.sftp_tool.proofs.VerdictLaws.{has_run}
 use Rattle.sftp_tool.proofs.inferences.audit_text.Goals as goal
 
 pub returns-in-Ok : goal.returns-in-Ok

@@ -1,5 +1,5 @@
-use Rattle.sftp_tree.proofs.OpenFiles.Written.{kept-write, kept-set}
-use Rattle.sftp_tree.proofs.OpenFiles.Pinned.{kept-pin, kept-unpin}
+use Rattle.sftp_tree.proofs.OpenFiles.{kept-write, kept-set}
+use Rattle.sftp_tree.proofs.OpenFiles.{kept-pin, kept-unpin}
 use Rattle.sftp_tree.proofs.file_laws.open_files_keep.Goals as goal
 
 pub returns : goal.returns

@@ -1,5 +1,5 @@
 use Rattle.sftp_tree.proofs.Imports.{◌+◌, ◌-◌, times_pinned}
-use Rattle.sftp_tree.proofs.FileCounts.Pins.{times_pinned-here, times_pinned-elsewhere}
+use Rattle.sftp_tree.proofs.FileCounts.{times_pinned-here, times_pinned-elsewhere}
 use Rattle.sftp_tree.proofs.file_laws.pins_are_counted.Goals as goal
 
 pub returns : goal.returns

@@ -1,5 +1,5 @@
 use Rattle.sftp_tree.proofs.Imports.{refl}
-use Rattle.sftp_tree.proofs.OpenFiles.Written.{before-written, there-written, behind-written}
+use Rattle.sftp_tree.proofs.OpenFiles.{before-written, there-written, behind-written}
 use Rattle.sftp_tree.proofs.file_laws.writes_are_read.Goals as goal
 
 pub returns : goal.returns

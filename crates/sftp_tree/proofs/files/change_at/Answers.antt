@@ -1,6 +1,6 @@
 use Rattle.sftp_tree.proofs.Imports.{rules, ◌≡◌, sym, ap, ◌∙◌, Some, option_copied_mut, nat_cmp, is_at, set_value}
 use Rattle.sftp_tree.proofs.Imports.{set_value_same, err_from_is_err_and, get, Stored, with_attributes_set}
-use Rattle.sftp_tree.proofs.FileCounts.Changes.{changed-nowhere, changed-written}
+use Rattle.sftp_tree.proofs.FileCounts.{changed-nowhere, changed-written}
 use Rattle.sftp_tree.proofs.files.change_at.Goals as goal
 
 pub change-requires : goal.change-requires

@@ -1,6 +1,6 @@
 use Rattle.sftp_tree.proofs.Imports.{rules, ◌-◌, sym, ap, ◌∙◌, option_copied_mut, get, Stored, without_a_name}
-use Rattle.sftp_tree.proofs.FileCounts.Changes.{changed-nowhere, changed-written, changed-removed, where_held-gone}
-use Rattle.sftp_tree.proofs.FileCounts.Changes.{where_held-left}
+use Rattle.sftp_tree.proofs.FileCounts.{changed-nowhere, changed-written, changed-removed, where_held-gone}
+use Rattle.sftp_tree.proofs.FileCounts.{where_held-left}
 use Rattle.sftp_tree.proofs.files.lower.Goals as goal
 
 pub returns-in_default : goal.returns-in_default

@@ -1,6 +1,6 @@
 use Rattle.sftp_tree.proofs.Imports.{sym, refl, ap, ◌∙◌, arith, ◌+◌, ◌<◌, ◌^◌, option_copied_mut, MatchOption-at_some}
 use Rattle.sftp_tree.proofs.Imports.{get, Stored, with_a_pin}
-use Rattle.sftp_tree.proofs.FileCounts.Changes.{changed-nowhere, changed-written}
+use Rattle.sftp_tree.proofs.FileCounts.{changed-nowhere, changed-written}
 use Rattle.sftp_tree.proofs.files.pin.Goals as goal
 
 pub overflow_add-stored : goal.overflow_add-stored

@@ -1,5 +1,5 @@
 use Rattle.sftp_tree.proofs.Imports.{rules, sym, refl, ap, ◌∙◌, ◌+◌, option_copied_mut, get, Stored, with_a_name}
-use Rattle.sftp_tree.proofs.FileCounts.Changes.{changed-nowhere, changed-written}
+use Rattle.sftp_tree.proofs.FileCounts.{changed-nowhere, changed-written}
 use Rattle.sftp_tree.proofs.files.raise.Goals as goal
 
 pub overflow_add-stored : goal.overflow_add-stored

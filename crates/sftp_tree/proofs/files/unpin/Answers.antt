@@ -1,7 +1,7 @@
 use Rattle.sftp_tree.proofs.Imports.{◌-◌, ◌<◌, sym, ap, ◌∙◌, arith, option_copied_mut, MatchOption-at_some, get, Stored}
 use Rattle.sftp_tree.proofs.Imports.{without_a_pin}
-use Rattle.sftp_tree.proofs.FileCounts.Changes.{changed-nowhere, changed-written, changed-removed, where_held-gone}
-use Rattle.sftp_tree.proofs.FileCounts.Changes.{where_held-left}
+use Rattle.sftp_tree.proofs.FileCounts.{changed-nowhere, changed-written, changed-removed, where_held-gone}
+use Rattle.sftp_tree.proofs.FileCounts.{where_held-left}
 use Rattle.sftp_tree.proofs.files.unpin.Goals as goal
 
 pub returns-in_default : goal.returns-in_default

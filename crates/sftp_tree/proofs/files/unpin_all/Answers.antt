@@ -1,5 +1,5 @@
 use Rattle.sftp_tree.proofs.Imports.{ap, sym, ◌∙◌, nat_lt, Stored, without_pins}
-use Rattle.sftp_tree.proofs.FileCounts.Unpinned.{retained}
+use Rattle.sftp_tree.proofs.FileCounts.{retained}
 use Rattle.sftp_tree.proofs.files.unpin_all.Goals as goal
 
 pub returns : goal.returns

@@ -1,6 +1,6 @@
 use Rattle.sftp_tree.proofs.Imports.{◌≡◌, sym, ap, ◌∙◌, Some, option_copied_mut, nat_cmp, is_at, set_value}
 use Rattle.sftp_tree.proofs.Imports.{set_value_same, err_from_is_err_and, Stored, with_bytes_written}
-use Rattle.sftp_tree.proofs.FileCounts.Changes.{changed-nowhere, changed-written}
+use Rattle.sftp_tree.proofs.FileCounts.{changed-nowhere, changed-written}
 use Rattle.sftp_tree.proofs.files.write_at.Goals as goal
 
 pub returns-in_err-write_at-clause-err : goal.returns-in_err-write_at-clause-err

@@ -1,4 +1,4 @@
-use Rattle.sftp_tree.proofs.Requests.Outcomes.{gone-after, content-after, pins-stay}
+use Rattle.sftp_tree.proofs.Requests.Rows.{gone-after, content-after, pins-stay}
 use Rattle.sftp_tree.proofs.laws.files_live_while_held.Goals as goal
 
 pub returns : goal.returns

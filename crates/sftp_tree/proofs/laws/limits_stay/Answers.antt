@@ -1,4 +1,4 @@
-use Rattle.sftp_tree.proofs.Requests.Outcomes.{limits-stay}
+use Rattle.sftp_tree.proofs.Requests.Rows.{limits-stay}
 use Rattle.sftp_tree.proofs.laws.limits_stay.Goals as goal
 
 pub returns : goal.returns

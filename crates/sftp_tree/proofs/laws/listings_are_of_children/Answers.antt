@@ -1,4 +1,4 @@
-use Rattle.sftp_tree.proofs.Requests.ListedNames.{listing-rises, listed-at}
+use Rattle.sftp_tree.proofs.Requests.{listing-rises, listed-at}
 use Rattle.sftp_tree.proofs.laws.listings_are_of_children.Goals as goal
 
 pub returns : goal.returns

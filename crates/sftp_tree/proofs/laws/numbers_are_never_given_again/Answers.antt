@@ -1,5 +1,5 @@
-use Rattle.sftp_tree.proofs.KeptTrees.Files.{not-given, named-given}
-use Rattle.sftp_tree.proofs.Requests.Outcomes.{made-stays}
+use Rattle.sftp_tree.proofs.KeptTrees.{not-given, named-given}
+use Rattle.sftp_tree.proofs.Requests.Rows.{made-stays}
 use Rattle.sftp_tree.proofs.laws.numbers_are_never_given_again.Goals as goal
 
 pub returns : goal.returns

@@ -1,4 +1,4 @@
-use Rattle.sftp_tree.proofs.Requests.Outcomes.{outcome-stands}
+use Rattle.sftp_tree.proofs.Requests.Rows.{outcome-stands}
 use Rattle.sftp_tree.proofs.laws.outcomes_are_trees.Goals as goal
 
 pub returns : goal.returns

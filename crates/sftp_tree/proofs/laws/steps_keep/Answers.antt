@@ -1,5 +1,5 @@
 -- A path leads to a list of names, whose parent is a directory: what comes there keeps the tree one.
-use Rattle.sftp_tree.proofs.Requests.Outcomes.{after-kept}
+use Rattle.sftp_tree.proofs.Requests.Rows.{after-kept}
 use Rattle.sftp_tree.proofs.laws.steps_keep.Goals as goal
 
 pub returns : goal.returns

@@ -1,5 +1,5 @@
-use Rattle.sftp_tree.proofs.KeptTrees.Trims.{well-formed-trimmed, fits-trimmed, kept-trim, trimmed-already}
-use Rattle.sftp_tree.proofs.KeptTrees.Files.{content-left}
+use Rattle.sftp_tree.proofs.KeptTrees.{well-formed-trimmed, fits-trimmed, kept-trim, trimmed-already}
+use Rattle.sftp_tree.proofs.KeptTrees.{content-left}
 use Rattle.sftp_tree.proofs.laws.trees_are_trimmed.Goals as goal
 
 pub returns : goal.returns

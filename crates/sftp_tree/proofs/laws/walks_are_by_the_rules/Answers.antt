@@ -1,4 +1,4 @@
-use Rattle.sftp_tree.proofs.Walks.Rules.{by_the_rules}
+use Rattle.sftp_tree.proofs.Walks.Counts.{by_the_rules}
 use Rattle.sftp_tree.proofs.laws.walks_are_by_the_rules.Goals as goal
 
 pub returns : goal.returns

@@ -1,5 +1,5 @@
-use Rattle.sftp_tree.proofs.Walks.Places.{path-found}
-use Rattle.sftp_tree.proofs.Walks.Links.{reached-unlinked}
+use Rattle.sftp_tree.proofs.Walks.{path-found}
+use Rattle.sftp_tree.proofs.Walks.Counts.{reached-unlinked}
 use Rattle.sftp_tree.proofs.laws.walks_give_places.Goals as goal
 
 pub returns : goal.returns

@@ -1,4 +1,4 @@
-use Rattle.sftp_tree.proofs.Limits.Tests.{fits-parts, fits-from}
+use Rattle.sftp_tree.proofs.Limits.{fits-parts, fits-from}
 use Rattle.sftp_tree.proofs.limit_laws.limits_are_six.Goals as goal
 
 pub returns : goal.returns

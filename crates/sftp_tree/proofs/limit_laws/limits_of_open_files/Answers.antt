@@ -1,6 +1,6 @@
 use Rattle.sftp_tree.proofs.Imports.{refl, content_at}
-use Rattle.sftp_tree.proofs.CauseLaws.Limits.{changed-room}
-use Rattle.sftp_tree.proofs.OpenFiles.Written.{write-room}
+use Rattle.sftp_tree.proofs.CauseLaws.{changed-room}
+use Rattle.sftp_tree.proofs.OpenFiles.{write-room}
 use Rattle.sftp_tree.proofs.limit_laws.limits_of_open_files.Goals as goal
 
 pub returns : goal.returns

@@ -1,4 +1,4 @@
-use Rattle.sftp_tree.proofs.Limits.Changes.{entries-with, depths-with, links-with}
+use Rattle.sftp_tree.proofs.Limits.{entries-with, depths-with, links-with}
 use Rattle.sftp_tree.proofs.limit_laws.limits_with_an_entry.Goals as goal
 
 pub returns : goal.returns

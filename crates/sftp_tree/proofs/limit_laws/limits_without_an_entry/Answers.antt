@@ -1,4 +1,4 @@
-use Rattle.sftp_tree.proofs.Limits.Changes.{entries-without, depths-without, links-without}
+use Rattle.sftp_tree.proofs.Limits.{entries-without, depths-without, links-without}
 use Rattle.sftp_tree.proofs.limit_laws.limits_without_an_entry.Goals as goal
 
 pub returns : goal.returns

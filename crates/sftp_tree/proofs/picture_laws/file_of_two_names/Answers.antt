@@ -1,5 +1,5 @@
 use Rattle.sftp_tree.proofs.Imports.{refl, hex}
-use Rattle.sftp_tree.proofs.TreeFiles.Examples.{two_names_start}
+use Rattle.sftp_tree.proofs.TreeFiles.Growing.{two_names_start}
 use Rattle.sftp_tree.proofs.picture_laws.file_of_two_names.Goals as goal
 
 pub returns-clause-length : goal.returns-clause-length

@@ -1,6 +1,6 @@
 -- A tree with higher limits, and an example.
-use Rattle.sftp_tree.proofs.KeptTrees.Raised.{raised-kept, raised-start}
-use Rattle.sftp_tree.proofs.TreeFiles.Examples.{raised_length, raised_picture, raised_blank}
+use Rattle.sftp_tree.proofs.KeptTrees.Counts.{raised-kept, raised-start}
+use Rattle.sftp_tree.proofs.TreeFiles.Growing.{raised_length, raised_picture, raised_blank}
 use Rattle.sftp_tree.proofs.picture_laws.raised_trees.Goals as goal
 
 pub returns-clause-kept : goal.returns-clause-kept

@@ -1,5 +1,5 @@
 use Rattle.sftp_tree.proofs.Imports.{sym, ◌∙◌, arith, le-leb}
-use Rattle.sftp_tree.proofs.Limits.Moves.{shallow-fits}
+use Rattle.sftp_tree.proofs.Limits.{shallow-fits}
 use Rattle.sftp_tree.proofs.room.move_fits.Goals as goal
 
 pub returns-then-depth : goal.returns-then-depth

@@ -1,7 +1,7 @@
 use Rattle.sftp_handles.proofs.Imports.{◌∙◌, sym, ap, refl, lookup, open_at, with_open, handles_in, from_entries}
 use Rattle.sftp_handles.proofs.Imports.{bytes_cmp}
-use Rattle.sftp_handles.proofs.HandleTables.GivenTables.{has_bytes, open-found, lent-found, changed-put}
-use Rattle.sftp_handles.specs.Given.{Given}
+use Rattle.sftp_handles.proofs.HandleTables.{has_bytes, open-found, lent-found, changed-put}
+use Rattle.sftp_handles.specs.Slots.{Given}
 use Rattle.sftp_handles.proofs.given_table.GivenTableHandleTable.find_mut.Goals as goal
 
 pub returns : goal.returns

@@ -1,5 +1,5 @@
 use Rattle.sftp_handles.proofs.Imports.{◌≡◌, IsTrue, false, IfOk-weaker, State, Allowed, IsJudged}
-use Rattle.sftp_handles.proofs.Judged.Judgements.{allowed-reply, refused-reply}
+use Rattle.sftp_handles.proofs.Judged.{allowed-reply, refused-reply}
 use Rattle.sftp_handles.proofs.judge.«Session+GivenTable».accept.Goals as goal
 
 pub returns-clause-allowed : goal.returns-clause-allowed

@@ -1,5 +1,5 @@
 use Rattle.sftp_handles.proofs.Imports.{refl, sym, subst, reply_packet, HasSpelling, Allowed}
-use Rattle.sftp_handles.proofs.Judged.Steps.{step-is_allowed}
+use Rattle.sftp_handles.proofs.Judged.{step-is_allowed}
 use Rattle.sftp_handles.proofs.sessions.Session.answer.Goals as goal
 
 pub returns-clause-allowed : goal.returns-clause-allowed

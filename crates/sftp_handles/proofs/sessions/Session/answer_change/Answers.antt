@@ -1,5 +1,5 @@
 use Rattle.sftp_handles.proofs.Imports.{sym, subst, IsAnswered}
-use Rattle.sftp_handles.proofs.Answered.AnswersSteps.{answered-ok}
+use Rattle.sftp_handles.proofs.Answered.{answered-ok}
 use Rattle.sftp_handles.proofs.sessions.Session.answer_change.Goals as goal
 
 pub returns-in-Ok-clause-done : goal.returns-in-Ok-clause-done

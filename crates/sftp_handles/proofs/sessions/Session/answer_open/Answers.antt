@@ -1,5 +1,5 @@
 use Rattle.sftp_handles.proofs.Imports.{sym, subst, Answer, IsAnswered}
-use Rattle.sftp_handles.proofs.Answered.OpenReplies.{handle-answered}
+use Rattle.sftp_handles.proofs.Answered.NameReplies.{handle-answered}
 use Rattle.sftp_handles.proofs.sessions.Session.answer_open.Goals as goal
 
 pub returns-in-Ok-clause-done : goal.returns-in-Ok-clause-done

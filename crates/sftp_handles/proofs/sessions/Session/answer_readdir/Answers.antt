@@ -4,7 +4,7 @@ use Rattle.sftp_packets.specs.declared.replies.Answer.TheVariants.{Name}
 use Rattle.sftp_handles.proofs.Judged.GivenNames.{good-given}
 use Rattle.sftp_handles.proofs.Answered.NameReplies.{some-items, no-items, counted-names, names-fit, first-listing}
 use Rattle.sftp_handles.proofs.Answered.NameReplies.{first-given, readdir-answered, readdir-ended}
-use Rattle.sftp_handles.proofs.Good.NewStates.{state_of}
+use Rattle.sftp_handles.proofs.Good.Pins.{state_of}
 use Rattle.sftp_handles.proofs.sessions.Session.answer_readdir.Goals as goal
 
 pub returns-then-is_empty-clause-done : goal.returns-then-is_empty-clause-done

@@ -1,5 +1,5 @@
 use Rattle.sftp_handles.proofs.Imports.{◌≡◌, Some, sym, ap, subst, ◌∙◌, State, step, IsSpelledAnswer}
-use Rattle.sftp_handles.proofs.Answered.AnswersSteps.{answered-step, refusal-step}
+use Rattle.sftp_handles.proofs.Answered.{answered-step, refusal-step}
 use Rattle.sftp_handles.proofs.TotalSteps.SaidReplies.{status-spelled}
 use Rattle.sftp_handles.proofs.sessions.Session.answer_to.Goals as goal
 

@@ -1,6 +1,6 @@
 use Rattle.sftp_handles.proofs.Imports.{subst, exit, State, IsDone, IsRefusal}
-use Rattle.sftp_handles.proofs.Good.NewStates.{state_of}
-use Rattle.sftp_handles.proofs.Judged.OkReplies.{change-refused, change-done, change-good}
+use Rattle.sftp_handles.proofs.Good.Pins.{state_of}
+use Rattle.sftp_handles.proofs.Judged.{change-refused, change-done, change-good}
 use Rattle.sftp_handles.proofs.sessions.Session.change_tree.Goals as goal
 
 pub returns-in_err-carry_out-clause-refused : goal.returns-in_err-carry_out-clause-refused

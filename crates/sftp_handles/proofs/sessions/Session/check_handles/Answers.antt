@@ -1,6 +1,6 @@
 use Rattle.sftp_handles.proofs.Imports.{sym, subst, ◌∙◌, err_from_is_err_and, IsFree, State}
-use Rattle.sftp_tree.specs.Refusals.{IsRefusal}
-use Rattle.sftp_handles.proofs.Answered.OpenReplies.{handles-refuse, path-refuses}
+use Rattle.sftp_tree.specs.Told.{IsRefusal}
+use Rattle.sftp_handles.proofs.Answered.NameReplies.{handles-refuse, path-refuses}
 use Rattle.sftp_handles.proofs.sessions.Session.check_handles.Goals as goal
 
 pub returns-in_err-check-clause-refused : goal.returns-in_err-check-clause-refused

@@ -1,9 +1,9 @@
 use Rattle.sftp_handles.proofs.Imports.{IsTrue, Some, sym, ap, subst, ◌∙◌, BadHandle, is_pinned, Open, State}
 use Rattle.sftp_handles.proofs.Imports.{Good, IsDone, causes}
 use Rattle.sftp_packets.specs.declared.requests.Ask.TheVariants as asks
-use Rattle.sftp_handles.proofs.Good.NewStates.{state_of}
-use Rattle.sftp_handles.proofs.OpenFiles.SeenCauses.{open-pinned}
-use Rattle.sftp_handles.proofs.OpenFiles.OpenChanges.{it-closed, good-it_closed, nothing-closed, close-lost, close-done}
+use Rattle.sftp_handles.proofs.Good.Pins.{state_of}
+use Rattle.sftp_handles.proofs.OpenFiles.{open-pinned}
+use Rattle.sftp_handles.proofs.OpenFiles.{it-closed, good-it_closed, nothing-closed, close-lost, close-done}
 use Rattle.sftp_handles.proofs.sessions.Session.close.Goals as goal
 
 pub unpin_closed-requires : goal.unpin_closed-requires

@@ -1,5 +1,5 @@
 use Rattle.sftp_handles.proofs.Imports.{sym, ◌∙◌}
-use Rattle.sftp_handles.proofs.Answered.AnswersSteps.{unknown-refused}
+use Rattle.sftp_handles.proofs.Answered.{unknown-refused}
 use Rattle.sftp_handles.proofs.sessions.Session.do_free.Goals as goal
 
 pub returns-in-Unknown-clause-refused : goal.returns-in-Unknown-clause-refused

@@ -1,8 +1,8 @@
 use Rattle.sftp_handles.proofs.Imports.{◌≡◌, refl, subst, ap, ◌∙◌, IfOk, HasFile, State, found_file}
 use Rattle.sftp_handles.proofs.Imports.{refusing, causes}
 use Rattle.sftp_packets.specs.declared.requests.Ask.TheVariants as asks
-use Rattle.sftp_handles.proofs.OpenFiles.SeenCauses.{file-there, file-causes}
-use Rattle.sftp_handles.proofs.Good.NewStates.{state_of}
+use Rattle.sftp_handles.proofs.OpenFiles.{file-there, file-causes}
+use Rattle.sftp_handles.proofs.Good.Pins.{state_of}
 use Rattle.sftp_handles.proofs.sessions.Session.file_at.Goals as goal
 
 pub returns-clause-shown : goal.returns-clause-shown

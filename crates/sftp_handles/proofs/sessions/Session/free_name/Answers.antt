@@ -1,6 +1,6 @@
 use Rattle.sftp_handles.proofs.Imports.{sym, subst, IsTrue, State, has_handle_left}
-use Rattle.sftp_handles.proofs.Good.NewStates.{state_of}
-use Rattle.sftp_handles.proofs.HandleTables.HandleRoom.{few-handles}
+use Rattle.sftp_handles.proofs.Good.Pins.{state_of}
+use Rattle.sftp_handles.proofs.HandleTables.NewHandles.{few-handles}
 use Rattle.sftp_handles.proofs.sessions.Session.free_name.Goals as goal
 
 pub free_name-requires : goal.free_name-requires

@@ -1,7 +1,7 @@
 use Rattle.sftp_handles.proofs.Imports.{◌≡◌, subst, sym, ◌∙◌, true, Readdir, State, open_at, gives_names, IsJudged}
 use Rattle.sftp_packets.specs.declared.replies.Answer.TheVariants.{Name}
 use Rattle.sftp_handles.proofs.Judged.GivenNames.{listing-found, good-given, given-judged, judged-not_given}
-use Rattle.sftp_handles.proofs.Good.NewStates.{state_of}
+use Rattle.sftp_handles.proofs.Good.Pins.{state_of}
 use Rattle.sftp_handles.proofs.sessions.Session.give_names.Goals as goal
 
 pub strike_names-requires : goal.strike_names-requires

@@ -1,5 +1,5 @@
 use Rattle.sftp_handles.proofs.Imports.{sym, ◌∙◌, allow}
-use Rattle.sftp_handles.proofs.Judged.Judgements.{judged-refusal}
+use Rattle.sftp_handles.proofs.Judged.{judged-refusal}
 use Rattle.sftp_handles.proofs.sessions.Session.judge.Goals as goal
 
 pub returns-in_ok-causes-in-Some-clause-ok : goal.returns-in_ok-causes-in-Some-clause-ok

@@ -1,5 +1,5 @@
 use Rattle.sftp_handles.proofs.Imports.{sym, ◌∙◌}
-use Rattle.sftp_handles.proofs.Judged.OkReplies.{judged-call, judged-other_answer}
+use Rattle.sftp_handles.proofs.Judged.{judged-call, judged-other_answer}
 use Rattle.sftp_handles.proofs.sessions.Session.judge_change.Goals as goal
 
 pub returns-then-not-has_code-clause-ok : goal.returns-then-not-has_code-clause-ok

@@ -1,5 +1,5 @@
 use Rattle.sftp_handles.proofs.Imports.{sym, ◌∙◌}
-use Rattle.sftp_handles.proofs.Answered.AnswersSteps.{judged-unknown}
+use Rattle.sftp_handles.proofs.Answered.{judged-unknown}
 use Rattle.sftp_handles.proofs.sessions.Session.judge_done.Goals as goal
 
 pub returns-in-Unknown-clause-ok : goal.returns-in-Unknown-clause-ok

@@ -1,5 +1,5 @@
 use Rattle.sftp_handles.proofs.Imports.{sym, subst, ◌∙◌, IfOk, Handle, IsJudged}
-use Rattle.sftp_handles.proofs.Judged.HandleReplies.{judged-lacking, judged-opened, judged-failed, held}
+use Rattle.sftp_handles.proofs.Judged.GivenNames.{judged-lacking, judged-opened, judged-failed, held}
 use Rattle.sftp_handles.proofs.sessions.Session.judge_handle.Goals as goal
 
 pub returns-then-not-has_place_for-clause-ok : goal.returns-then-not-has_place_for-clause-ok

@@ -1,6 +1,6 @@
 use Rattle.sftp_handles.proofs.Imports.{sym, ◌∙◌, Readdir}
 use Rattle.sftp_handles.proofs.Judged.GivenNames.{judged-unlisted}
-use Rattle.sftp_handles.proofs.Judged.Judgements.{judged-coded}
+use Rattle.sftp_handles.proofs.Judged.{judged-coded}
 use Rattle.sftp_handles.proofs.sessions.Session.judge_listing.Goals as goal
 
 pub returns-then-has_code-clause-ok : goal.returns-then-has_code-clause-ok

@@ -1,4 +1,4 @@
-use Rattle.sftp_handles.proofs.Judged.HandleReplies.{judged-no_handle}
+use Rattle.sftp_handles.proofs.Judged.GivenNames.{judged-no_handle}
 use Rattle.sftp_handles.proofs.sessions.Session.judge_open.Goals as goal
 
 pub returns-in_default-clause-ok : goal.returns-in_default-clause-ok

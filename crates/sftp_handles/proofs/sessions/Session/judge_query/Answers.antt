@@ -1,5 +1,5 @@
 use Rattle.sftp_handles.proofs.Imports.{subst, IsRefusal, said_in}
-use Rattle.sftp_handles.proofs.Judged.Judgements.{judged-refused, unlike}
+use Rattle.sftp_handles.proofs.Judged.{judged-refused, unlike}
 use Rattle.sftp_handles.proofs.Judged.QueryReplies.{judged-query}
 use Rattle.sftp_handles.proofs.sessions.Session.judge_query.Goals as goal
 

@@ -1,5 +1,5 @@
 use Rattle.sftp_handles.proofs.Imports.{Readdir}
-use Rattle.sftp_handles.proofs.OpenFiles.SeenAnswers.{only-holds}
+use Rattle.sftp_handles.proofs.OpenFiles.{only-holds}
 use Rattle.sftp_handles.proofs.sessions.Session.names_up_to.Goals as goal
 
 pub returns-in-Err-clause-refused : goal.returns-in-Err-clause-refused

@@ -1,5 +1,5 @@
 use Rattle.sftp_handles.proofs.Imports.{ap, Ok}
-use Rattle.sftp_handles.proofs.Good.NewStates.{nothing-open, good-closed_all}
+use Rattle.sftp_handles.proofs.Good.Pins.{nothing-open, good-closed_all}
 use Rattle.sftp_handles.proofs.sessions.Session.new.Goals as goal
 
 pub invariant_of-result : goal.invariant_of-result

@@ -1,7 +1,7 @@
 use Rattle.sftp_handles.proofs.Imports.{ap, subst, ◌∙◌, IfOk, IfErr, has_handle_left, Does}
 use Rattle.sftp_packets.specs.declared.replies.Answer.TheVariants as replies
 use Rattle.sftp_handles.specs.Opening.{IsNotOpened}
-use Rattle.sftp_handles.proofs.Good.NewStates.{state_of}
+use Rattle.sftp_handles.proofs.Good.Pins.{state_of}
 use Rattle.sftp_handles.proofs.OpenFiles.Opened.{unchanged-parts}
 use Rattle.sftp_handles.proofs.sessions.Session.open_for.Goals as goal
 

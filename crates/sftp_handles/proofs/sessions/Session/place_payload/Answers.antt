@@ -2,8 +2,7 @@ use Rattle.sftp_handles.proofs.Imports.{◌≡◌, ℕ, List, Some, sym, subst, 
 use Rattle.sftp_packets.specs.declared.requests.Ask.TheVariants as asks
 use Rattle.sftp_path.proofs.PathTexts.{list_all-octets}
 use Rattle.sftp_tree.specs.Told as told
-use Rattle.sftp_tree.proofs.Walks.Places.{path-found}
-use Rattle.sftp_tree.specs.Refusals as of_tree
+use Rattle.sftp_tree.proofs.Walks.{path-found}
 use Rattle.sftp_handles.specs.Replies.{names}
 use Rattle.sftp_handles.proofs.Judged.QueryReplies.{carries-place, path-refusal}
 use Rattle.sftp_handles.proofs.sessions.Session.place_payload.Goals as goal
@@ -26,4 +25,4 @@ pub returns-in-Err-clause-refused : goal.returns-in-Err-clause-refused
 returns-in-Err-clause-refused g c =
     let ask = asks.Realpath c.args.path.now in
     path-refusal c.args.self.now ask refl refl refl c.in-Err.refused
-    (subst (λ (s : State). of_tree.IsRefusal s.tree ask c.in-Err.refused) c.self.view_is c.in-Err.ensures.refused)
+    (subst (λ (s : State). told.IsRefusal s.tree ask c.in-Err.refused) c.self.view_is c.in-Err.ensures.refused)

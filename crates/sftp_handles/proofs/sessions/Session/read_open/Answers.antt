@@ -1,6 +1,6 @@
 use Rattle.sftp_handles.proofs.Imports.{refl, option_copied, read_said}
 use Rattle.sftp_packets.specs.declared.requests.Ask.TheVariants as asks
-use Rattle.sftp_handles.proofs.OpenFiles.SeenAnswers.{none-holds, only-holds, said-found}
+use Rattle.sftp_handles.proofs.OpenFiles.{none-holds, only-holds, said-found}
 use Rattle.sftp_handles.proofs.sessions.Session.read_open.Goals as goal
 
 pub returns-in-Ok-clause-free : goal.returns-in-Ok-clause-free

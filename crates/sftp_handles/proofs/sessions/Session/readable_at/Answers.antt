@@ -1,7 +1,7 @@
 use Rattle.sftp_handles.proofs.Imports.{Ok, refl, sym, ap, ◌≡◌, ◌∙◌, true, not, NotOpenFor, no_causes, when}
 use Rattle.sftp_handles.proofs.Imports.{HasFile, open_at, Good, found_file, refusing}
 use Rattle.sftp_packets.specs.declared.requests.Ask.TheVariants as asks
-use Rattle.sftp_handles.proofs.OpenFiles.SeenCauses.{plain-found, lost, granted-read, granted-has}
+use Rattle.sftp_handles.proofs.OpenFiles.{plain-found, lost, granted-read, granted-has}
 use Rattle.sftp_handles.proofs.sessions.Session.readable_at.Goals as goal
 
 pub returns-in-Ok-clause-causes : goal.returns-in-Ok-clause-causes

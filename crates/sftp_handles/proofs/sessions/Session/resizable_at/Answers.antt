@@ -2,7 +2,7 @@ use Rattle.sftp_handles.proofs.Imports.{◌≡◌, Ok, refl, subst, sym, ap, ◌
 use Rattle.sftp_handles.proofs.Imports.{when, size_fits, IsKept, HasFile, content_at, limits, open_at, State}
 use Rattle.sftp_handles.proofs.Imports.{found_file, with_room, refusing}
 use Rattle.sftp_packets.specs.declared.requests.Ask.TheVariants as asks
-use Rattle.sftp_handles.proofs.OpenFiles.SeenCauses.{set-found, set-room, lost, granted-room, granted-has}
+use Rattle.sftp_handles.proofs.OpenFiles.{set-found, set-room, lost, granted-room, granted-has}
 use Rattle.sftp_handles.proofs.sessions.Session.resizable_at.Goals as goal
 
 pub returns-in-Ok-clause-causes : goal.returns-in-Ok-clause-causes

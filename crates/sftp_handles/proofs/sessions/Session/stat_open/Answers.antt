@@ -1,7 +1,7 @@
 use Rattle.sftp_handles.proofs.Imports.{◌≡◌, refl, sym, subst, Some, option_map, content_at, shown_content, State}
 use Rattle.sftp_packets.specs.declared.requests.Ask.TheVariants as asks
 use Rattle.sftp_handles.specs.Replies.{shows}
-use Rattle.sftp_handles.proofs.OpenFiles.SeenAnswers.{none-holds, only-holds, said-found, shown-found}
+use Rattle.sftp_handles.proofs.OpenFiles.{none-holds, only-holds, said-found, shown-found}
 use Rattle.sftp_handles.proofs.sessions.Session.stat_open.Goals as goal
 
 pub returns-in-Ok-clause-free : goal.returns-in-Ok-clause-free

@@ -1,6 +1,5 @@
 use Rattle.sftp_handles.proofs.Imports.{◌≡◌, Some, subst, IsFree, stat_ask, State, Good}
 use Rattle.sftp_tree.specs.Told as told
-use Rattle.sftp_tree.specs.Refusals as of_tree
 use Rattle.sftp_handles.proofs.Judged.QueryReplies.{carries-stat, stat-refusal}
 use Rattle.sftp_handles.proofs.sessions.Session.stat_payload.Goals as goal
 
@@ -16,4 +15,4 @@ pub returns-in-Err-clause-refused : goal.returns-in-Err-clause-refused
 returns-in-Err-clause-refused g c =
     let ask = stat_ask c.args.follow c.args.path.now in
     stat-refusal c.args.self.now c.args.follow c.args.path.now c.in-Err.refused
-    (subst (λ (s : State). of_tree.IsRefusal s.tree ask c.in-Err.refused) c.self.view_is c.in-Err.ensures.refused)
+    (subst (λ (s : State). told.IsRefusal s.tree ask c.in-Err.refused) c.self.view_is c.in-Err.ensures.refused)

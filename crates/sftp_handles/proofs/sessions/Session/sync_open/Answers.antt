@@ -2,9 +2,9 @@ use Rattle.sftp_handles.proofs.Imports.{◌≡◌, ℕ, List, Option, Some, None
 use Rattle.sftp_handles.proofs.Imports.{Content, content_at, no_causes, State, Good, open_at, causes, found_file}
 use Rattle.sftp_handles.proofs.Imports.{IsDone}
 use Rattle.sftp_packets.specs.declared.requests.Ask.TheVariants as asks
-use Rattle.sftp_handles.proofs.Good.GoodStates.{good-settled}
-use Rattle.sftp_handles.proofs.OpenFiles.SeenAnswers.{only-holds}
-use Rattle.sftp_handles.proofs.OpenFiles.OpenChanges.{done-file}
+use Rattle.sftp_handles.proofs.Good.{good-settled}
+use Rattle.sftp_handles.proofs.OpenFiles.{only-holds}
+use Rattle.sftp_handles.proofs.OpenFiles.{done-file}
 use Rattle.sftp_handles.proofs.sessions.Session.sync_open.Goals as goal
 
 synced : (s : State) (handle : List ℕ) (f : ℕ × OpenFlags) (content : Option Content) → Good s

@@ -1,5 +1,5 @@
 use Rattle.sftp_handles.proofs.Imports.{sym, ◌∙◌, open_at, touched_through}
-use Rattle.sftp_handles.proofs.ClashLaws.Touches.{touched-is, touched-unnamed}
+use Rattle.sftp_handles.proofs.ClashLaws.{touched-is, touched-unnamed}
 use Rattle.sftp_handles.proofs.sessions.Session.touch.Goals as goal
 
 pub returns-in-Some : goal.returns-in-Some

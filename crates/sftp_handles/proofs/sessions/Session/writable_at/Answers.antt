@@ -1,7 +1,7 @@
 use Rattle.sftp_handles.proofs.Imports.{refl, subst, sym, ap, ◌∙◌, not, NotOpenFor, no_causes, when, write_fits}
 use Rattle.sftp_handles.proofs.Imports.{IsKept, HasFile, content_at, limits, State, with_room, refusing, IsWritable}
 use Rattle.sftp_packets.specs.declared.requests.Ask.TheVariants as asks
-use Rattle.sftp_handles.proofs.OpenFiles.SeenCauses.{write-found, write-room, lost, granted-room, granted-has}
+use Rattle.sftp_handles.proofs.OpenFiles.{write-found, write-room, lost, granted-room, granted-has}
 use Rattle.sftp_handles.proofs.sessions.Session.writable_at.Goals as goal
 
 pub returns-in-Ok-clause-causes : goal.returns-in-Ok-clause-causes

@@ -1,9 +1,9 @@
 use Rattle.sftp_handles.proofs.Imports.{◌≡◌, subst, ap, IfErr, OnOk, limits, write_fits, after_write}
 use Rattle.sftp_handles.proofs.Imports.{IsRoomRefusal, State, Good}
 use Rattle.sftp_packets.specs.declared.requests.Ask.TheVariants as asks
-use Rattle.sftp_handles.proofs.Good.NewStates.{state_of}
-use Rattle.sftp_handles.proofs.OpenFiles.SeenAnswers.{only-holds}
-use Rattle.sftp_handles.proofs.OpenFiles.OpenChanges.{write-ends, call-refused}
+use Rattle.sftp_handles.proofs.Good.Pins.{state_of}
+use Rattle.sftp_handles.proofs.OpenFiles.{only-holds}
+use Rattle.sftp_handles.proofs.OpenFiles.{write-ends, call-refused}
 use Rattle.sftp_handles.proofs.sessions.Session.write_open.Goals as goal
 
 pub returns-in-Ok-clause-done : goal.returns-in-Ok-clause-done

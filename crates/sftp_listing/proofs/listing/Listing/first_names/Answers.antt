@@ -1,7 +1,7 @@
 use Rattle.sftp_listing.proofs.Imports.{◌≤◌, ◌<◌, length, subst, ◌∙◌, arith, drop, unmarked}
 use Rattle.sftp_listing.proofs.FirstNames.{first-all, first-front}
 use Rattle.sftp_listing.proofs.MarkedItems.{left-none}
-use Rattle.sftp_listing.proofs.ListedItems.{listed-next, few-next}
+use Rattle.sftp_listing.proofs.FirstNames.{listed-next, few-next}
 use Rattle.sftp_listing.proofs.listing.Listing.first_names.Goals as goal
 use Rattle.sftp_listing.proofs.listing.Listing.first_names.Goals.{else-loop-place-test, then-loop-place-test+then-len-most}
 

@@ -1,5 +1,5 @@
 use Rattle.sftp_listing.proofs.Imports.{sym, ap, ◌∙◌, is_name, has_attributes}
-use Rattle.sftp_listing.proofs.NamesLeft.{no-name-left}
+use Rattle.sftp_listing.proofs.FirstNames.{no-name-left}
 use Rattle.sftp_listing.proofs.listing.Listing.name_left.Goals as goal
 
 pub returns-in-None-clause-left : goal.returns-in-None-clause-left

@@ -1,5 +1,5 @@
 use Rattle.sftp_listing.proofs.Imports.{◌∙◌}
-use Rattle.sftp_listing.proofs.NamesLeft.{struck-next, struck-last}
+use Rattle.sftp_listing.proofs.FirstNames.{struck-next, struck-last}
 use Rattle.sftp_listing.proofs.listing.Listing.strike_all.Goals as goal
 
 pub loop-name-preserved : goal.loop-name-preserved

@@ -2,7 +2,7 @@ use Rattle.std.proofs.Common.{◌≡◌, IsTrue, false}
 use Rattle.std.proofs.lemmas.Result.{IfOk-weaker}
 use Rattle.sftp_profile.specs.State.{State}
 use Rattle.sftp_profile.specs.Permitted.{Permitted}
-use Rattle.sftp_profile.specs.Judged.{IsStep}
+use Rattle.sftp_profile.specs.Permitted.{IsStep}
 use Rattle.sftp_profile.proofs.Permissions.{permitted-reply, refused-reply}
 use Rattle.sftp_profile.proofs.judges.Judge.accept.Goals as goal
 

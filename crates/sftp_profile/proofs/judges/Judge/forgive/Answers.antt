@@ -2,7 +2,7 @@ use Rattle.std.proofs.Common.{sym, ◌∙◌, true}
 use Rattle.std.proofs.lemmas.Result.{IfOk-weaker}
 use Rattle.sftp_profile.specs.StrictAnswers.{told}
 use Rattle.sftp_profile.specs.Permitted.{first_of, under, taken_for, retold}
-use Rattle.sftp_profile.specs.Judged.{Outcome, IsForgiven}
+use Rattle.sftp_profile.specs.Permitted.{Outcome, IsForgiven}
 use Rattle.sftp_profile.proofs.Permissions.{passes-outcome, unpassed-outcome, first-outcome, second-result}
 use Rattle.sftp_profile.proofs.judges.Judge.forgive.Goals as goal
 

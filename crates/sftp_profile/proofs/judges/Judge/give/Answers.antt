@@ -1,8 +1,8 @@
 use Rattle.std.proofs.Common.{sym, ap, ◌∙◌, ◌==◌, length}
 use Rattle.std.proofs.lemmas.Result.{IfOk-weaker}
 use Rattle.sftp_packets.specs.declared.replies.Answer.TheVariants as replies
-use Rattle.sftp_profile.specs.Judged.{IsStrict, IsGiven}
-use Rattle.sftp_profile.proofs.OpenDirectories.{none-given, some-given}
+use Rattle.sftp_profile.specs.Permitted.{IsStrict, IsGiven}
+use Rattle.sftp_profile.proofs.DirectoryLists.{none-given, some-given}
 use Rattle.sftp_profile.proofs.judges.Judge.give.Goals as goal
 
 pub returns-then-are_none : goal.returns-then-are_none

@@ -1,7 +1,7 @@
 use Rattle.std.proofs.Common.{sym, ◌∙◌}
 use Rattle.std.proofs.lemmas.Result.{IfOk-weaker}
-use Rattle.sftp_profile.specs.Judged.{IsPermitted, IsNoted, IsJudged}
-use Rattle.sftp_profile.proofs.OpenDirectories.{stateless-outcome, noted-outcome}
+use Rattle.sftp_profile.specs.Permitted.{IsPermitted, IsNoted, IsJudged}
+use Rattle.sftp_profile.proofs.DirectoryLists.{stateless-outcome, noted-outcome}
 use Rattle.sftp_profile.proofs.judges.Judge.judge.Goals as goal
 
 pub returns-then-is_stateless : goal.returns-then-is_stateless

@@ -1,4 +1,4 @@
-use Rattle.sftp_profile.proofs.OpenDirectories.{unmet-outcome, met-outcome}
+use Rattle.sftp_profile.proofs.DirectoryLists.{unmet-outcome, met-outcome}
 use Rattle.sftp_profile.proofs.judges.Judge.judge_and_note.Goals as goal
 
 pub returns-in-Ok-false : goal.returns-in-Ok-false

@@ -3,9 +3,9 @@ use Rattle.std.specs.Prelude.{if◌then◌else◌}
 use Rattle.std.proofs.lemmas.Result.{IfOk-weaker}
 use Rattle.sftp_profile.specs.DirectoryHandles.{directory_of, passes_directory}
 use Rattle.sftp_profile.specs.Permitted.{first_of, taken_as, listed_as, standing_for, under, by_directory}
-use Rattle.sftp_profile.specs.Judged.{Outcome, IsByDirectory}
+use Rattle.sftp_profile.specs.Permitted.{Outcome, IsByDirectory}
 use Rattle.sftp_profile.proofs.Permissions.{first-outcome, second-result}
-use Rattle.sftp_profile.proofs.OpenDirectories.{forgiven-outcome, unforgiven-outcome}
+use Rattle.sftp_profile.proofs.DirectoryLists.{forgiven-outcome, unforgiven-outcome}
 use Rattle.sftp_profile.proofs.judges.Judge.judge_directory.Goals as goal
 
 pub returns-then-passes_directory : goal.returns-then-passes_directory

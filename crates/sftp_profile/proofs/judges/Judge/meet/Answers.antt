@@ -2,9 +2,9 @@ use Rattle.std.proofs.Common.{sym, ◌∙◌, true}
 use Rattle.std.proofs.lemmas.Result.{IfOk-weaker}
 use Rattle.sftp_profile.specs.DirectoryHandles.{directory_of}
 use Rattle.sftp_profile.specs.Permitted.{first_of, permitted, by_directory, under}
-use Rattle.sftp_profile.specs.Judged.{Outcome, IsMet}
+use Rattle.sftp_profile.specs.Permitted.{Outcome, IsMet}
 use Rattle.sftp_profile.proofs.Permissions.{first-outcome, second-result}
-use Rattle.sftp_profile.proofs.OpenDirectories.{barred-outcome, unbarred-outcome}
+use Rattle.sftp_profile.proofs.DirectoryLists.{barred-outcome, unbarred-outcome}
 use Rattle.sftp_profile.proofs.judges.Judge.meet.Goals as goal
 
 pub returns-then-is_barred : goal.returns-then-is_barred

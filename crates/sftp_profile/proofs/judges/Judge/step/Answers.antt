@@ -1,7 +1,7 @@
 use Rattle.std.proofs.Common.{sym, ap, subst, ◌∙◌}
 use Rattle.std.specs.Prelude.{unwrap_or, IsTrue}
 use Rattle.std.proofs.lemmas.Result.{IfOk-weaker}
-use Rattle.sftp_profile.specs.Judged.{IsJudged, IsStep}
+use Rattle.sftp_profile.specs.Permitted.{IsJudged, IsStep}
 use Rattle.sftp_profile.specs.Profiles.{keeps_requests}
 use Rattle.sftp_profile.specs.State.{State}
 use Rattle.sftp_profile.proofs.Permissions.{put-same, replaced-outcome}

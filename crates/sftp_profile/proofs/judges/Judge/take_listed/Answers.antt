@@ -4,9 +4,9 @@ use Rattle.std.specs.Option.{option_map}
 use Rattle.std.proofs.lemmas.Result.{IfOk-weaker}
 use Rattle.sftp_profile.specs.StrictAnswers.{told}
 use Rattle.sftp_profile.specs.DirectoryHandles.{directory_of}
-use Rattle.sftp_profile.specs.Listed.{due_items}
-use Rattle.sftp_profile.specs.Judged.{IsListed, IsGiven}
-use Rattle.sftp_profile.proofs.OpenDirectories.{off-outcome, on-outcome, no-given, given-outcome}
+use Rattle.sftp_profile.specs.DirectoryHandles.{due_items}
+use Rattle.sftp_profile.specs.Permitted.{IsListed, IsGiven}
+use Rattle.sftp_profile.proofs.DirectoryLists.{off-outcome, on-outcome, no-given, given-outcome}
 use Rattle.sftp_profile.proofs.judges.Judge.take_listed.Goals as goal
 
 pub returns-then-not-lists_changes : goal.returns-then-not-lists_changes

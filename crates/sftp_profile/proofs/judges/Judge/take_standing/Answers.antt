@@ -2,8 +2,8 @@ use Rattle.std.proofs.Common.{sym, ◌∙◌}
 use Rattle.std.proofs.lemmas.Result.{IfOk-weaker}
 use Rattle.sftp_profile.specs.DirectoryHandles.{directory_of}
 use Rattle.sftp_profile.specs.Permitted.{standing_for}
-use Rattle.sftp_profile.specs.Judged.{IsPermitted, IsStanding}
-use Rattle.sftp_profile.proofs.OpenDirectories.{off-outcome, on-outcome, standing-outcome, no-standing}
+use Rattle.sftp_profile.specs.Permitted.{IsPermitted, IsStanding}
+use Rattle.sftp_profile.proofs.DirectoryLists.{off-outcome, on-outcome, standing-outcome, no-standing}
 use Rattle.sftp_profile.proofs.judges.Judge.take_standing.Goals as goal
 
 pub returns-then-not-opens_directories : goal.returns-then-not-opens_directories

@@ -1,6 +1,6 @@
 use Rattle.sftp_server.proofs.Imports.{◌<◌, ◌∙◌, true, false, length, subst, sym, arith, State, Machine, choices_of}
 use Rattle.sftp_server.proofs.Imports.{server_clash}
-use Rattle.sftp_server.proofs.CoreNotes.{count-noted, choice-noted}
+use Rattle.sftp_server.proofs.Settling.{count-noted, choice-noted}
 use Rattle.sftp_server.proofs.cores.Core.choice.Goals as goal
 
 pub choice-k-requires : goal.choice-k-requires

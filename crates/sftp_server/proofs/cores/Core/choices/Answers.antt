@@ -1,5 +1,5 @@
 use Rattle.sftp_server.proofs.Imports.{◌≡◌, length, subst, ◌∙◌, State, Machine, choices_of, server_clash}
-use Rattle.sftp_server.proofs.CoreNotes.{count-noted}
+use Rattle.sftp_server.proofs.Settling.{count-noted}
 use Rattle.sftp_server.proofs.cores.Core.choices.Goals as goal
 
 pub returns-clause-count : goal.returns-clause-count

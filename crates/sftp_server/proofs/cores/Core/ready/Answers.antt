@@ -1,5 +1,5 @@
 use Rattle.sftp_server.proofs.Imports.{sym, ◌∙◌}
-use Rattle.sftp_server.proofs.CoreNotes.{ready-noted}
+use Rattle.sftp_server.proofs.Settling.{ready-noted}
 use Rattle.sftp_server.proofs.cores.Core.ready.Goals as goal
 
 pub returns : goal.returns

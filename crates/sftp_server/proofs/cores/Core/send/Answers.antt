@@ -1,6 +1,6 @@
 use Rattle.sftp_server.proofs.Imports.{List, sym, ap, State, Entry, Machine}
-use Rattle.sftp_server.proofs.CoreSteps.{core-sent, sent-step, spelled-at}
-use Rattle.sftp_server.proofs.CoreNotes.{sent-shorter, keeps-sent}
+use Rattle.sftp_server.proofs.Queues.{core-sent, sent-step, spelled-at}
+use Rattle.sftp_server.proofs.Settling.{sent-shorter, keeps-sent}
 use Rattle.sftp_server.proofs.cores.Core.send.Goals as goal
 
 pub overflow_sub-before : goal.overflow_sub-before

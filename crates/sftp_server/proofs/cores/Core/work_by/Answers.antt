@@ -1,8 +1,8 @@
 use Rattle.sftp_server.proofs.Imports.{◌≡◌, ℕ, true, Some, refl, sym, subst, ◌∙◌, State, Machine, is_ready, pending_at}
 use Rattle.sftp_server.proofs.Imports.{server_clash}
 use Rattle.sftp_server.proofs.Queues.{is-pending, not-pending}
-use Rattle.sftp_server.proofs.CoreSteps.{worked-step, core-worked}
-use Rattle.sftp_server.proofs.CoreNotes.{ready-inside, keeps-done}
+use Rattle.sftp_server.proofs.Queues.{worked-step, core-worked}
+use Rattle.sftp_server.proofs.Settling.{ready-inside, keeps-done}
 use Rattle.sftp_server.proofs.cores.Core.work_by.Goals as goal
 
 -- what is ready as the core is seen is ready as it is kept

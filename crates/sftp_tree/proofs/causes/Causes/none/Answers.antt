@@ -1,4 +1,4 @@
-use Rattle.sftp_tree.proofs.CauseLaws.Bits.{none-set}
+use Rattle.sftp_tree.proofs.CauseLaws.{none-set}
 use Rattle.sftp_tree.proofs.causes.Causes.none.Goals as goal
 
 pub returns : goal.returns

@@ -1,4 +1,4 @@
-use Rattle.sftp_tree.proofs.CauseLaws.Bits.{joined-set}
+use Rattle.sftp_tree.proofs.CauseLaws.{joined-set}
 use Rattle.sftp_tree.proofs.causes.Causes.union.Goals as goal
 
 pub returns : goal.returns

@@ -1,6 +1,6 @@
 use Rattle.sftp_tree.proofs.Imports.{◌*◌, ◌%◌, ◌^◌, ◌∙◌, sym, ap, when, in_set}
 use Rattle.std.proofs.Common.{bit_or}
-use Rattle.sftp_tree.proofs.CauseLaws.Bits.{when-not, when-set}
+use Rattle.sftp_tree.proofs.CauseLaws.{when-not, when-set}
 use Rattle.sftp_tree.proofs.causes.Causes.when.Goals as goal
 
 pub returns-then-not-holds : goal.returns-then-not-holds

@@ -1,5 +1,5 @@
 use Rattle.sftp_tree.proofs.Imports.{sym, ap, length}
-use Rattle.sftp_tree.proofs.Nesting.Moves.{root-branch}
+use Rattle.sftp_tree.proofs.Nesting.Changes.{root-branch}
 use Rattle.sftp_tree.proofs.entries.Entries.root.Goals as goal
 
 pub invariant_of-result : goal.invariant_of-result

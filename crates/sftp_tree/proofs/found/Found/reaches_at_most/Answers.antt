@@ -2,7 +2,7 @@ use Rattle.sftp_tree.proofs.Imports.{rules, ◌≡◌, Some, IfSome, sym, ap, su
 use Rattle.std.specs.Option.{option_map}
 use Rattle.sftp_tree.specs.declared.entries.seen.Seen.TheVariants.{Dir, File, Link}
 use Rattle.sftp_tree.proofs.Nesting.Reach.{reach-alike}
-use Rattle.sftp_tree.proofs.Walks.Ends.{reach-no-directory}
+use Rattle.sftp_tree.proofs.Walks.Counts.{reach-no-directory}
 use Rattle.sftp_tree.proofs.found.Found.reaches_at_most.Goals as goal
 
 pub returns-in-Some-Dir : goal.returns-in-Some-Dir

@@ -4,7 +4,7 @@ use Rattle.std.specs.Io.KnownBytes.{Appends}
 use Rattle.sftp_streams.proofs.Buffers.{on_err}
 use Rattle.sftp_treefile.proofs.Texts.Front.{AppendsPart-none}
 use Rattle.sftp_tree.specs.PictureParts.{head_of}
-use Rattle.sftp_tree.proofs.TreeFiles.Written.{names_count, home_short}
+use Rattle.sftp_tree.proofs.TreeFiles.Files.{names_count, home_short}
 use Rattle.sftp_tree.proofs.pictures.writing.send_front.Goals as goal
 
 pub overflow_sub-head : goal.overflow_sub-head

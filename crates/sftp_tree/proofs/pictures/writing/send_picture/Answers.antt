@@ -4,7 +4,7 @@ use Rattle.std.specs.Io.KnownBytes.{Appends}
 use Rattle.sftp_streams.specs.Streams.{AppendsPart}
 use Rattle.sftp_streams.proofs.Buffers.{on_err, Appends-then, AppendsPart-first, AppendsPart-then}
 use Rattle.sftp_tree.specs.PictureParts.{head_of}
-use Rattle.sftp_tree.proofs.TreeFiles.Written.{picture_written}
+use Rattle.sftp_tree.proofs.TreeFiles.Files.{picture_written}
 use Rattle.sftp_tree.proofs.pictures.writing.send_picture.Goals as goal
 
 pub returns-in_err-send_front-clause-err : goal.returns-in_err-send_front-clause-err

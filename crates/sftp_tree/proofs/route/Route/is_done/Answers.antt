@@ -1,5 +1,5 @@
 use Rattle.sftp_tree.proofs.Imports.{◌≡◌, ◌==◌, ◌&&◌, true, false, length, sym, ap, ◌∙◌, is_last}
-use Rattle.sftp_tree.proofs.Walks.Routes.{is_last-route}
+use Rattle.sftp_tree.proofs.Walks.{is_last-route}
 use Rattle.sftp_tree.proofs.route.Route.is_done.Goals as goal
 use Rattle.sftp_tree.proofs.route.Route.is_done.Goals.{then-is_done, else-is_done}
 

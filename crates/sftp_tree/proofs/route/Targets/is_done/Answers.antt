@@ -1,5 +1,5 @@
 use Rattle.sftp_tree.proofs.Imports.{◌≡◌, ◌&&◌, true, false, sym, ap, ◌∙◌, list_all, is_done, is_last}
-use Rattle.sftp_tree.proofs.Walks.Routes.{is_last-targets}
+use Rattle.sftp_tree.proofs.Walks.{is_last-targets}
 use Rattle.sftp_tree.proofs.route.Targets.is_done.Goals as goal
 
 pub returns-then-is_empty : goal.returns-then-is_empty

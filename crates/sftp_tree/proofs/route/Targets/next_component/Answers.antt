@@ -1,5 +1,5 @@
 use Rattle.sftp_tree.proofs.Imports.{◌++◌, ap, ◌∙◌, left_of}
-use Rattle.sftp_tree.proofs.Walks.Routes.{left_of-push}
+use Rattle.sftp_tree.proofs.Walks.{left_of-push}
 use Rattle.sftp_tree.proofs.route.Targets.next_component.Goals as goal
 
 pub loop-component-preserved : goal.loop-component-preserved

@@ -1,5 +1,5 @@
 use Rattle.sftp_tree.proofs.Imports.{◌++◌, ap, ◌∙◌, Split, left_of}
-use Rattle.sftp_tree.proofs.Walks.Routes.{left_of-push}
+use Rattle.sftp_tree.proofs.Walks.{left_of-push}
 use Rattle.sftp_tree.proofs.route.Targets.push_front.Goals as goal
 
 pub returns-in_ok-push : goal.returns-in_ok-push

@@ -1,5 +1,5 @@
 use Rattle.sftp_tree.proofs.Imports.{sym, ap, ◌∙◌, trim, changed}
-use Rattle.sftp_tree.proofs.KeptTrees.Trims.{trimmed-already}
+use Rattle.sftp_tree.proofs.KeptTrees.{trimmed-already}
 use Rattle.sftp_tree.proofs.trees.Tree.apply.Goals as goal
 
 pub returns-in-Nothing-clause-ok : goal.returns-in-Nothing-clause-ok

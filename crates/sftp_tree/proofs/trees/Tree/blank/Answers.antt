@@ -1,7 +1,7 @@
 -- The root alone.
 use Rattle.sftp_tree.proofs.Imports.{◌≡◌, [], sym, subst, ◌∙◌, Place, TreeLimits, usual_limits, Names, IsKept, seen}
 use Rattle.sftp_tree.proofs.Imports.{Stores, only_root, blank}
-use Rattle.sftp_tree.proofs.FileCounts.Pins.{none_pinned}
+use Rattle.sftp_tree.proofs.FileCounts.{none_pinned}
 use Rattle.sftp_tree.proofs.TreeFiles.Files.{blank_kept}
 use Rattle.sftp_tree.proofs.TreeFiles.Stores.{grown_root}
 use Rattle.sftp_tree.proofs.trees.Tree.blank.Goals as goal

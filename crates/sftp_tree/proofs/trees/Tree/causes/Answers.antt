@@ -1,5 +1,5 @@
 use Rattle.sftp_tree.proofs.Imports.{sym, ap, ◌∙◌, CauseSet}
-use Rattle.sftp_tree.proofs.CauseLaws.Places.{unjudged}
+use Rattle.sftp_tree.proofs.CauseLaws.{unjudged}
 use Rattle.sftp_tree.proofs.trees.Tree.causes.Goals as goal
 
 pub returns-in-None : goal.returns-in-None

@@ -1,7 +1,7 @@
 use Rattle.sftp_tree.proofs.Imports.{◌≡◌, sym, ap, subst, ◌∙◌, Tree, IsKept, content_at, with_changed_file, seen}
 use Rattle.sftp_tree.proofs.Imports.{AreCounted}
-use Rattle.sftp_tree.proofs.KeptTrees.Trims.{trimmed-already}
-use Rattle.sftp_tree.proofs.KeptTrees.Values.{kept-changed}
+use Rattle.sftp_tree.proofs.KeptTrees.{trimmed-already}
+use Rattle.sftp_tree.proofs.KeptTrees.{kept-changed}
 use Rattle.sftp_tree.proofs.KeptTrees.Counts.{owner-there, owner-changed, changed-parts}
 use Rattle.sftp_tree.proofs.trees.Tree.change_file.Goals as goal
 

@@ -1,6 +1,6 @@
 use Rattle.sftp_tree.proofs.Imports.{asked}
-use Rattle.sftp_tree.specs.Found.{placed}
-use Rattle.sftp_tree.proofs.CauseLaws.Places.{led-is}
+use Rattle.sftp_tree.specs.Plans.{placed}
+use Rattle.sftp_tree.proofs.CauseLaws.{led-is}
 use Rattle.sftp_tree.proofs.trees.Tree.ends.Goals as goal
 
 pub returns-clause-old : goal.returns-clause-old

@@ -1,6 +1,6 @@
 -- The root is a name more.
 use Rattle.sftp_tree.proofs.Imports.{length, ap, arith}
-use Rattle.sftp_tree.proofs.TreeFiles.Written.{names_count}
+use Rattle.sftp_tree.proofs.TreeFiles.Files.{names_count}
 use Rattle.sftp_tree.proofs.trees.Tree.entry_count.Goals as goal
 
 pub overflow_sub-result : goal.overflow_sub-result

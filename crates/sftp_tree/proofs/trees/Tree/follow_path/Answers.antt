@@ -1,10 +1,10 @@
 use Rattle.sftp_tree.proofs.Imports.{rules, ◌≡◌, ◌≤◌, ◌++◌, [], refl, sym, ap, ◌∙◌, subst, IfOk, MatchResult, arith}
 use Rattle.sftp_tree.proofs.Imports.{list_all, is_step, are_names, components, Split, list_all-octets, walk, looked}
 use Rattle.sftp_tree.proofs.Imports.{link_limit, looked_limit, steps_of}
-use Rattle.sftp_tree.specs.Found.{placed}
+use Rattle.sftp_tree.specs.Plans.{placed}
 use Rattle.sftp_tree.proofs.Walks.Counts.{walk-count}
-use Rattle.sftp_tree.proofs.Walks.Steps.{reached-good, reached-bad, looked_of-good, looked_of-bad, counted-most}
-use Rattle.sftp_tree.proofs.Walks.Places.{steps-from}
+use Rattle.sftp_tree.proofs.Walks.{reached-good, reached-bad, looked_of-good, looked_of-bad, counted-most}
+use Rattle.sftp_tree.proofs.Walks.{steps-from}
 use Rattle.sftp_tree.proofs.trees.Tree.follow_path.Goals as goal
 use Rattle.sftp_tree.proofs.trees.Tree.follow_path.Goals.{then-parts, else-parts}
 

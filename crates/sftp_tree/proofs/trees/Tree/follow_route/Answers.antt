@@ -1,11 +1,11 @@
 use Rattle.sftp_tree.proofs.Imports.{◌≡◌, suc, ◌-◌, ◌++◌, [], ◌∷◌, if◌then◌else◌, sym, ap, subst, ◌∙◌, Ok, arith}
 use Rattle.sftp_tree.proofs.Imports.{list_all, and_parts, is_step, components, Split, walk, looked, start_of, meets}
 use Rattle.sftp_tree.proofs.Imports.{is_last, through, meeting, Standing, IsLentAt}
-use Rattle.sftp_tree.proofs.Walks.Steps.{walk-turn, looked-turn, walk-nil, behind_link-none, behind_link-some}
-use Rattle.sftp_tree.proofs.Walks.Steps.{looked_behind-some, stays, lends, below, counted-on, counted-last, counted-all}
-use Rattle.sftp_tree.proofs.Walks.Steps.{counted-stopped, looked_behind-none, looked-nil, looked-cons}
-use Rattle.sftp_tree.proofs.Walks.Meetings.{steps-behind, through-link}
-use Rattle.sftp_tree.proofs.Walks.Places.{place-of}
+use Rattle.sftp_tree.proofs.Walks.{walk-turn, looked-turn, walk-nil, behind_link-none, behind_link-some}
+use Rattle.sftp_tree.proofs.Walks.{looked_behind-some, stays, lends, below, counted-on, counted-last, counted-all}
+use Rattle.sftp_tree.proofs.Walks.{counted-stopped, looked_behind-none, looked-nil, looked-cons}
+use Rattle.sftp_tree.proofs.Walks.{steps-behind, through-link}
+use Rattle.sftp_tree.proofs.Walks.{place-of}
 use Rattle.sftp_tree.proofs.trees.Tree.follow_route.Goals as goal
 
 pub loop-component-smaller-in-Enters : goal.loop-component-smaller-in-Enters

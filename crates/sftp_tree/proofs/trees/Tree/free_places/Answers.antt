@@ -1,9 +1,9 @@
 use Rattle.sftp_tree.proofs.Imports.{sym, ap, ◌∙◌, CauseSet, asked, IsRefusal}
 use Rattle.sftp_tree.specs.declared.causes.Refused.{Refused}
 use Rattle.sftp_tree.specs.declared.causes.Refused.TheVariants as refusals
-use Rattle.sftp_tree.specs.Found.{placed, new_placed}
-use Rattle.sftp_tree.proofs.CauseLaws.Places.{exit, own-holds, lost-holds}
-use Rattle.sftp_tree.proofs.Walks.Ends.{lost-placed}
+use Rattle.sftp_tree.specs.Plans.{placed, new_placed}
+use Rattle.sftp_tree.proofs.CauseLaws.{exit, own-holds, lost-holds}
+use Rattle.sftp_tree.proofs.Walks.Counts.{lost-placed}
 use Rattle.sftp_tree.proofs.trees.Tree.free_places.Goals as goal
 
 pub returns-in_err-refuse-clause-refused : goal.returns-in_err-refuse-clause-refused

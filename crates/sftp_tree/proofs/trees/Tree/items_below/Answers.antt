@@ -2,7 +2,7 @@ use Rattle.sftp_tree.proofs.Imports.{◌≡◌, ◌∷◌, List, ◌++◌, map, 
 use Rattle.sftp_tree.proofs.Imports.{Name, Child, Item, IsNode, is_directory, children, shown_child, listing, entry_of}
 use Rattle.sftp_tree.proofs.Imports.{Children, AreBranches, nodes_of}
 use Rattle.sftp_tree.proofs.Nesting.NodesBelow.{children-alike, own-kept, listed-child, listed-none}
-use Rattle.sftp_tree.proofs.Requests.Listings.{children-kept, listing-of}
+use Rattle.sftp_tree.proofs.Requests.{children-kept, listing-of}
 use Rattle.sftp_tree.proofs.trees.Tree.items_below.Goals as goal
 
 pub directory_of-dir-requires : goal.directory_of-dir-requires

@@ -1,8 +1,8 @@
 use Rattle.sftp_tree.proofs.Imports.{◌≡◌, ◌&&◌, not, sym, ap, ◌∙◌, Ok, list_any, Place, IsKept, every_cause}
 use Rattle.sftp_tree.proofs.Imports.{has_room_for, asked, in_set}
-use Rattle.sftp_tree.specs.Found.{placed, new_placed}
-use Rattle.sftp_tree.proofs.Requests.Outcomes.{judged}
-use Rattle.sftp_tree.proofs.Walks.Ends.{end-kept}
+use Rattle.sftp_tree.specs.Plans.{placed, new_placed}
+use Rattle.sftp_tree.proofs.Requests.Rows.{judged}
+use Rattle.sftp_tree.proofs.Walks.Counts.{end-kept}
 use Rattle.sftp_tree.proofs.trees.Tree.judge.Goals as goal
 use Rattle.sftp_tree.proofs.trees.Tree.judge.Goals.{then-not-has_any, else-not-has_any}
 

@@ -1,5 +1,5 @@
 use Rattle.sftp_tree.proofs.Imports.{arith}
-use Rattle.sftp_tree.proofs.Requests.Plans.{bytes-are}
+use Rattle.sftp_tree.proofs.Requests.{bytes-are}
 use Rattle.sftp_tree.proofs.trees.Tree.link_to.Goals as goal
 
 pub returns-clause-bytes : goal.returns-clause-bytes

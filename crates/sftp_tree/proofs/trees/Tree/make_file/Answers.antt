@@ -1,7 +1,7 @@
 use Rattle.sftp_tree.proofs.Imports.{◌≡◌, ◌+◌, ◌^◌, nat_lt, arith, sym, ap, subst, ◌∙◌, None, ltb-true, nat_cmp, get}
 use Rattle.sftp_tree.proofs.Imports.{put, File, Tree, IsKept, node_at, with_node, seen, AreCounted, with_new_file}
-use Rattle.sftp_tree.proofs.Limits.Tests.{fits-parts}
-use Rattle.sftp_tree.proofs.KeptTrees.Trims.{trimmed-already}
+use Rattle.sftp_tree.proofs.Limits.{fits-parts}
+use Rattle.sftp_tree.proofs.KeptTrees.{trimmed-already}
 use Rattle.sftp_tree.proofs.KeptTrees.Counts.{files-in_order}
 use Rattle.sftp_tree.proofs.KeptTrees.NewFiles.{kept-new, made-parts, next-free, put-back, one-to-lose}
 use Rattle.sftp_tree.proofs.trees.Tree.make_file.Goals as goal

@@ -4,11 +4,11 @@ use Rattle.sftp_tree.proofs.Imports.{is_directory, node_at, without_node, has_en
 use Rattle.sftp_tree.proofs.Imports.{put_in_its_stead, seen, AreCounted, IsChangedWhereNamed, file_named}
 use Rattle.sftp_tree.proofs.Imports.{without_a_name}
 use Rattle.std.specs.Option.{IfSome}
-use Rattle.sftp_tree.proofs.KeptTrees.Moves.{kept-move}
-use Rattle.sftp_tree.proofs.WellFormedTrees.Places.{apart-from, alone-there}
-use Rattle.sftp_tree.proofs.FileCounts.Names.{one_name}
+use Rattle.sftp_tree.proofs.KeptTrees.{kept-move}
+use Rattle.sftp_tree.proofs.WellFormedTrees.{apart-from, alone-there}
+use Rattle.sftp_tree.proofs.FileCounts.{one_name}
 use Rattle.sftp_tree.proofs.KeptTrees.Counts.{name-to-lose, left-parts}
-use Rattle.sftp_tree.proofs.FileCounts.Moves.{named-moved}
+use Rattle.sftp_tree.proofs.FileCounts.{named-moved}
 use Rattle.sftp_tree.proofs.trees.Tree.move_to.Goals as goal
 
 -- the new place is not below the old one, and nothing is below it

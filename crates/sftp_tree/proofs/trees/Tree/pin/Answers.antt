@@ -1,7 +1,7 @@
 use Rattle.sftp_tree.proofs.Imports.{◌≡◌, ℕ, ◌<◌, ◌^◌, sym, ap, subst, ◌∙◌, is_some, Table, Stored, Tree, IsKept}
 use Rattle.sftp_tree.proofs.Imports.{HasFile, content_at, times_pinned, contents, seen, AreCounted, after_pin}
 use Rattle.sftp_tree.proofs.KeptTrees.Counts.{files-in_order}
-use Rattle.sftp_tree.proofs.OpenFiles.Pinned.{kept-pin, room-to-pin, pin-parts}
+use Rattle.sftp_tree.proofs.OpenFiles.{kept-pin, room-to-pin, pin-parts}
 use Rattle.sftp_tree.proofs.trees.Tree.pin.Goals as goal
 
 pub pin-requires : goal.pin-requires

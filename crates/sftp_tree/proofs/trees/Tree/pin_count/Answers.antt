@@ -1,6 +1,6 @@
 use Rattle.sftp_tree.proofs.Imports.{ap, ◌∙◌, Tree, times_pinned}
 use Rattle.sftp_tree.proofs.KeptTrees.Counts.{files-in_order}
-use Rattle.sftp_tree.proofs.OpenFiles.Pinned.{pins-counted}
+use Rattle.sftp_tree.proofs.OpenFiles.{pins-counted}
 use Rattle.sftp_tree.proofs.trees.Tree.pin_count.Goals as goal
 
 pub returns : goal.returns

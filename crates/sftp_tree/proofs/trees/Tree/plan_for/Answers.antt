@@ -1,11 +1,11 @@
 use Rattle.sftp_tree.proofs.Imports.{◌≡◌, subst, ap, ◌∙◌, IfSome, asked, planned, AreAny, IsPlanned, HasNode}
 use Rattle.sftp_tree.specs.Requests.{plan_at}
-use Rattle.sftp_tree.specs.Found.{IsFoundIn, new_placed}
-use Rattle.sftp_tree.specs.Ends.{ok_where}
-use Rattle.sftp_tree.proofs.CauseLaws.Places.{free-between}
-use Rattle.sftp_tree.proofs.Requests.Plans.{if-ok-both}
+use Rattle.sftp_tree.specs.Plans.{IsFoundIn, new_placed}
+use Rattle.sftp_tree.specs.Plans.{ok_where}
+use Rattle.sftp_tree.proofs.CauseLaws.{free-between}
+use Rattle.sftp_tree.proofs.Requests.{if-ok-both}
 use Rattle.sftp_tree.proofs.Requests.Rows.{file-at}
-use Rattle.sftp_tree.proofs.Requests.Outcomes.{planned-at, planned-between}
+use Rattle.sftp_tree.proofs.Requests.Rows.{planned-at, planned-between}
 use Rattle.sftp_tree.proofs.trees.Tree.plan_for.Goals as goal
 
 pub plan_between-requires-clause-file : goal.plan_between-requires-clause-file

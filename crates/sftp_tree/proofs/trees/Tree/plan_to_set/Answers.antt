@@ -1,5 +1,5 @@
 use Rattle.sftp_tree.proofs.Imports.{sym, ◌∙◌, ap, Some, option_map, node_seen, Dir}
-use Rattle.sftp_tree.proofs.WellFormedTrees.Found.{node-kept}
+use Rattle.sftp_tree.proofs.WellFormedTrees.{node-kept}
 use Rattle.sftp_tree.proofs.trees.Tree.plan_to_set.Goals as goal
 
 pub changed_owner-requires : goal.changed_owner-requires

@@ -1,7 +1,7 @@
 use Rattle.sftp_tree.proofs.Imports.{◌≡◌, sym, ap, subst, ◌∙◌, None, Tree, IsKept, node_at, with_node, seen, AreCounted}
 use Rattle.sftp_tree.proofs.Imports.{IsChangedWhereNamed, with_a_name}
-use Rattle.sftp_tree.proofs.KeptTrees.Trims.{trimmed-already}
-use Rattle.sftp_tree.proofs.KeptTrees.Entries.{kept-put}
+use Rattle.sftp_tree.proofs.KeptTrees.{trimmed-already}
+use Rattle.sftp_tree.proofs.KeptTrees.{kept-put}
 use Rattle.sftp_tree.proofs.KeptTrees.Counts.{room-to-count, put-parts}
 use Rattle.sftp_tree.proofs.trees.Tree.put.Goals as goal
 

@@ -1,6 +1,6 @@
 -- The highest limits allow what the tree has.
 use Rattle.sftp_tree.proofs.Imports.{◌≡◌, ◌∙◌, ap, TreeLimits, raised, seen}
-use Rattle.sftp_tree.proofs.KeptTrees.Raised.{raised-kept}
+use Rattle.sftp_tree.proofs.KeptTrees.Counts.{raised-kept}
 use Rattle.sftp_tree.proofs.trees.Tree.raise.Goals as goal
 
 pub from_parts-requires-clause-kept : goal.from_parts-requires-clause-kept

@@ -2,8 +2,8 @@ use Rattle.sftp_tree.proofs.Imports.{◌≡◌, ℕ, ◌+◌, ◌<◌, refl, sym
 use Rattle.sftp_tree.proofs.Imports.{without_node, times_named, trim, seen, AreCounted, IsChangedWhereNamed, file_named}
 use Rattle.sftp_tree.proofs.Imports.{without_a_name}
 use Rattle.std.specs.Option.{IfSome}
-use Rattle.sftp_tree.proofs.KeptTrees.Entries.{kept-without}
-use Rattle.sftp_tree.proofs.FileCounts.Names.{one_name, named-without}
+use Rattle.sftp_tree.proofs.KeptTrees.{kept-without}
+use Rattle.sftp_tree.proofs.FileCounts.{one_name, named-without}
 use Rattle.sftp_tree.proofs.KeptTrees.Counts.{name-to-lose, left-parts}
 use Rattle.sftp_tree.proofs.trees.Tree.remove_at.Goals as goal
 

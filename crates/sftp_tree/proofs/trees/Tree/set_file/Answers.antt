@@ -1,5 +1,5 @@
 use Rattle.sftp_tree.proofs.Imports.{refl, sym, ◌∙◌, content_at}
-use Rattle.sftp_tree.proofs.CauseLaws.Limits.{changed-room}
+use Rattle.sftp_tree.proofs.CauseLaws.{changed-room}
 use Rattle.sftp_tree.proofs.trees.Tree.set_file.Goals as goal
 
 pub change_file-requires : goal.change_file-requires

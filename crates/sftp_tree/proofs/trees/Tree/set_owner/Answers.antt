@@ -1,7 +1,7 @@
 use Rattle.sftp_tree.proofs.Imports.{◌≡◌, sym, ap, subst, ◌∙◌, IsTrue, Dir, Tree, IsKept, node_at, with_node}
 use Rattle.sftp_tree.proofs.Imports.{is_directory, seen, AreCounted}
-use Rattle.sftp_tree.proofs.KeptTrees.Trims.{trimmed-already}
-use Rattle.sftp_tree.proofs.KeptTrees.Values.{kept-owner-there}
+use Rattle.sftp_tree.proofs.KeptTrees.{trimmed-already}
+use Rattle.sftp_tree.proofs.KeptTrees.{kept-owner-there}
 use Rattle.sftp_tree.proofs.KeptTrees.Counts.{owner-parts}
 use Rattle.sftp_tree.proofs.trees.Tree.set_owner.Goals as goal
 

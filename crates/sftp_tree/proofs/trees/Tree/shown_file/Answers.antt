@@ -1,6 +1,6 @@
 use Rattle.sftp_tree.proofs.Imports.{◌≡◌, Some, sym, ◌∙◌, ap, arith, is_at, option_copied, nat_cmp, get, IsContent}
 use Rattle.sftp_tree.proofs.Imports.{content_at}
-use Rattle.sftp_tree.proofs.PlaceTables.Each.{lookup_holds}
+use Rattle.sftp_tree.proofs.PlaceTables.{lookup_holds}
 use Rattle.sftp_tree.proofs.trees.Tree.shown_file.Goals as goal
 
 -- what is found in a tree is the content of a file, whose permissions have twelve bits

@@ -1,5 +1,5 @@
 use Rattle.sftp_tree.proofs.Imports.{sym, ◌∙◌, ap, option_map, node_seen, node_at}
-use Rattle.sftp_tree.proofs.WellFormedTrees.Found.{node-kept}
+use Rattle.sftp_tree.proofs.WellFormedTrees.{node-kept}
 use Rattle.sftp_tree.proofs.trees.Tree.stat_at.Goals as goal
 
 pub shown-requires : goal.shown-requires

@@ -1,7 +1,7 @@
 use Rattle.sftp_tree.proofs.Imports.{◌≡◌, ℕ, sym, ap, subst, ◌∙◌, Table, Stored, Tree, IsKept, is_pinned, seen}
 use Rattle.sftp_tree.proofs.Imports.{AreCounted, after_unpin}
 use Rattle.sftp_tree.proofs.KeptTrees.Counts.{files-in_order}
-use Rattle.sftp_tree.proofs.OpenFiles.Pinned.{pinned-there, kept-unpin, pin-to-lose, unpin-parts}
+use Rattle.sftp_tree.proofs.OpenFiles.{pinned-there, kept-unpin, pin-to-lose, unpin-parts}
 use Rattle.sftp_tree.proofs.trees.Tree.unpin.Goals as goal
 
 pub unpin-requires : goal.unpin-requires

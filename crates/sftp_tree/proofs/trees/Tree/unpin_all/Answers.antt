@@ -1,5 +1,5 @@
 use Rattle.sftp_tree.proofs.Imports.{◌≡◌, ◌∙◌, [], ap, subst, sym, Tree, IsKept, trim, seen, AreCounted}
-use Rattle.sftp_tree.proofs.OpenFiles.Unpinned.{kept-unpinned, unpinned-parts}
+use Rattle.sftp_tree.proofs.OpenFiles.{kept-unpinned, unpinned-parts}
 use Rattle.sftp_tree.proofs.trees.Tree.unpin_all.Goals as goal
 
 -- the tree afterwards, and its counts

@@ -1,8 +1,8 @@
 use Rattle.sftp_tree.proofs.Imports.{◌≡◌, ℕ, IsTrue, sym, ap, refl, subst, ◌∙◌, arith, are_bytes, Table, Stored, Tree}
 use Rattle.sftp_tree.proofs.Imports.{IsKept, seen, AreCounted, written_content, with_written_file, after_write}
-use Rattle.sftp_tree.proofs.Requests.Plans.{bytes-are}
+use Rattle.sftp_tree.proofs.Requests.{bytes-are}
 use Rattle.sftp_tree.proofs.KeptTrees.Counts.{content-parts}
-use Rattle.sftp_tree.proofs.OpenFiles.Written.{kept-write}
+use Rattle.sftp_tree.proofs.OpenFiles.{kept-write}
 use Rattle.sftp_tree.proofs.trees.Tree.write_file.Goals as goal
 
 -- the tree with other files

@@ -1,4 +1,4 @@
-use Rattle.sftp_tree.proofs.Nesting.Moves.{root-branch}
+use Rattle.sftp_tree.proofs.Nesting.Changes.{root-branch}
 use Rattle.sftp_tree.proofs.entries.directories.Child.new.Goals as goal
 
 pub returns-in-Dir-clause-whole : goal.returns-in-Dir-clause-whole

@@ -1,7 +1,7 @@
 use Rattle.sftp_tree.proofs.Imports.{◌≡◌, [], ◌∷◌, ◌++◌, ap, sym, ◌∙◌, append-nil, Place, File, Link, node_at, branch}
 use Rattle.sftp_tree.proofs.Nesting.Changes.{no-names}
-use Rattle.sftp_tree.proofs.Nesting.Moves.{nothing, step-alone, step-here, step-none, step-in}
-use Rattle.sftp_tree.proofs.Nesting.Tables.{get-below_alone}
+use Rattle.sftp_tree.proofs.Nesting.Changes.{nothing, step-alone, step-here, step-none, step-in}
+use Rattle.sftp_tree.proofs.Nesting.{get-below_alone}
 use Rattle.sftp_tree.proofs.entries.directories.Dir.at.Goals as goal
 
 pub returns-in-Some-File-2-clause-there : goal.returns-in-Some-File-2-clause-there

@@ -1,5 +1,5 @@
 use Rattle.sftp_tree.proofs.Imports.{◌∷◌, ap, sym, ◌∙◌, is_at, name_cmp, get, Names, node_at, branch_of}
-use Rattle.sftp_tree.proofs.Nesting.Tables.{get-flat, branch-found}
+use Rattle.sftp_tree.proofs.Nesting.{get-flat, branch-found}
 use Rattle.sftp_tree.proofs.entries.directories.Dir.child.Goals as goal
 
 pub returns-clause-below : goal.returns-clause-below

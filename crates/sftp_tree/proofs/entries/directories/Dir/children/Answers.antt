@@ -1,5 +1,5 @@
 use Rattle.sftp_tree.proofs.Imports.{[], ap, subst, ◌∙◌, place_cmp, InOrder, Names, children, nodes_of}
-use Rattle.sftp_tree.proofs.Nesting.Tables.{sorted-flat_of}
+use Rattle.sftp_tree.proofs.Nesting.{sorted-flat_of}
 use Rattle.sftp_tree.proofs.Nesting.NodesBelow.{nodes-children}
 use Rattle.sftp_tree.proofs.entries.directories.Dir.children.Goals as goal
 

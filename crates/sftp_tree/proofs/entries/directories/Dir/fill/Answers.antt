@@ -1,5 +1,5 @@
 use Rattle.sftp_tree.proofs.Imports.{◌∷◌, ◌++◌, [], subst, Name, IsGrafted}
-use Rattle.sftp_tree.proofs.Nesting.Moves.{root-branch, filled}
+use Rattle.sftp_tree.proofs.Nesting.Changes.{root-branch, filled}
 use Rattle.sftp_tree.proofs.entries.directories.Dir.fill.Goals as goal
 
 pub put-requires-clause-branch : goal.put-requires-clause-branch

@@ -1,5 +1,5 @@
 use Rattle.sftp_tree.proofs.Imports.{Some, [], ◌∷◌, ap, sym, ◌∙◌, node_at, is_taken, branch_seen}
-use Rattle.sftp_tree.proofs.Nesting.Moves.{child-taken}
+use Rattle.sftp_tree.proofs.Nesting.Changes.{child-taken}
 use Rattle.sftp_tree.proofs.entries.directories.Dir.has_at.Goals as goal
 
 pub returns-in-Some-Dir : goal.returns-in-Some-Dir

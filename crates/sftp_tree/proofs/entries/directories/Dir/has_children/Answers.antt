@@ -1,5 +1,5 @@
 use Rattle.sftp_tree.proofs.Imports.{[], ap, ◌∙◌, Names, has_entries}
-use Rattle.sftp_tree.proofs.Nesting.Tables.{has_entries-children}
+use Rattle.sftp_tree.proofs.Nesting.{has_entries-children}
 use Rattle.sftp_tree.proofs.entries.directories.Dir.has_children.Goals as goal
 
 pub returns : goal.returns

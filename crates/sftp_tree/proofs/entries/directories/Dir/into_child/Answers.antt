@@ -1,7 +1,7 @@
 -- A directory's table is in order and starts at the directory.
 use Rattle.sftp_tree.proofs.Imports.{subst, IsBranch}
 use Rattle.sftp_tree.specs.declared.entries.directories.Child.TheVariants.{Dir}
-use Rattle.sftp_tree.proofs.Nesting.Growth.{dir_branch}
+use Rattle.sftp_tree.proofs.Nesting.{dir_branch}
 use Rattle.sftp_tree.proofs.entries.directories.Dir.into_child.Goals as goal
 
 pub returns-clause-branch : goal.returns-clause-branch

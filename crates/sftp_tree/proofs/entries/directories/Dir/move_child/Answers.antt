@@ -1,5 +1,5 @@
 use Rattle.sftp_tree.proofs.Imports.{◌∷◌, ◌++◌, [], sym, ap, subst, ◌∙◌, append_assoc, Place, node_at, branch, IsFilled}
-use Rattle.sftp_tree.proofs.Nesting.Moves.{root-branch, moved-at, nothing, gone-free}
+use Rattle.sftp_tree.proofs.Nesting.Changes.{root-branch, moved-at, nothing, gone-free}
 use Rattle.sftp_tree.proofs.entries.directories.Dir.move_child.Goals as goal
 
 pub replace-moved-requires-clause-branch : goal.replace-moved-requires-clause-branch

@@ -1,5 +1,5 @@
 use Rattle.sftp_tree.proofs.Imports.{[], ap, subst, sym, place_cmp, InOrder, get, Names, node_at}
-use Rattle.sftp_tree.proofs.Nesting.Tables.{sorted-flat_of}
+use Rattle.sftp_tree.proofs.Nesting.{sorted-flat_of}
 use Rattle.sftp_tree.proofs.entries.directories.Dir.owner.Goals as goal
 
 pub returns-clause-owner : goal.returns-clause-owner

@@ -1,7 +1,7 @@
 -- The child comes last in the map, and so in the table.
 use Rattle.sftp_tree.proofs.Imports.{◌≡◌, ◌++◌, ◌∷◌, [], ap, sym, subst, ◌∙◌, AllByRecursion, keys_of, Less, place_cmp}
 use Rattle.sftp_tree.proofs.Imports.{branch, placed, flat_of, AreChildren}
-use Rattle.sftp_tree.proofs.Nesting.Growth.{pushed}
+use Rattle.sftp_tree.proofs.Nesting.{pushed}
 use Rattle.sftp_tree.proofs.entries.directories.Dir.push.Goals as goal
 
 pub invariant_of-self-2 : goal.invariant_of-self-2

@@ -1,6 +1,6 @@
 -- An entry at the end of the directory comes at the end of all.
 use Rattle.sftp_tree.proofs.Imports.{◌++◌, ◌∷◌, [], ap, sym, ◌∙◌, File, Link, names_in, place_in, names_from}
-use Rattle.sftp_tree.proofs.Nesting.Growth.{last_in_top, names_more}
+use Rattle.sftp_tree.proofs.Nesting.{last_in_top, names_more}
 use Rattle.sftp_tree.proofs.entries.growing.Growth.add.Goals as goal
 
 pub push-requires-clause-last : goal.push-requires-clause-last

@@ -2,7 +2,7 @@
 use Rattle.sftp_tree.proofs.Imports.{◌≡◌, ◌++◌, ◌∷◌, [], ap, sym, subst, ◌∙◌, AllByRecursion, keys_of, Less, place_cmp}
 use Rattle.sftp_tree.proofs.Imports.{InOrder, names_from, branch, placed, IsBranch}
 use Rattle.sftp_tree.specs.declared.entries.directories.Child.TheVariants as children
-use Rattle.sftp_tree.proofs.Nesting.Growth.{names_push, last_child}
+use Rattle.sftp_tree.proofs.Nesting.{names_push, last_child}
 use Rattle.sftp_tree.proofs.entries.growing.Growth.close.Goals as goal
 
 pub push-requires-clause-last : goal.push-requires-clause-last

@@ -1,6 +1,6 @@
 -- A new directory has its own entry alone.
 use Rattle.sftp_tree.proofs.Imports.{◌++◌, ◌∷◌, [], ◌∙◌, Opened, Dir, names_from, placed}
-use Rattle.sftp_tree.proofs.Nesting.Growth.{names_push, names_more}
+use Rattle.sftp_tree.proofs.Nesting.{names_push, names_more}
 use Rattle.sftp_tree.proofs.entries.growing.Growth.open.Goals as goal
 
 pub returns-clause-names : goal.returns-clause-names
