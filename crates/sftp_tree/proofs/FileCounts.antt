@@ -490,9 +490,9 @@ pub retained : {F : Type 0} (T : F → ℕ → Stored → Bool → Stored → F 
     → (b ≡ nat_lt 0 s.names) × (w ≡ without_pins s))
     → (f : F) (files after : Table ℕ Stored) → RetainsPairs T f files after → after ≡ unpinned files
 retained T each f [] after r = r
-retained T each f (e ∷ es) after (b, w, g, rest, called, then, is) =
+retained T each f (e ∷ es) after (b, w, g, rest, called, behind, is) =
     let call = each f e.0 e.1 b w g called in
-    let left = retained T each g es rest then in
+    let left = retained T each g es rest behind in
     is ∙ (λ i. cond (call.0 i) ((e.0, call.1 i) ∷ left i) (left i))
 
 -- one more file

@@ -10,6 +10,7 @@ use Rattle.sftp_tree.proofs.Imports.{with_changed_file, contents, pin_count_at, 
 use Rattle.sftp_tree.proofs.Imports.{IsChanged, IsChangedWhereNamed, with_a_name, without_a_name, with_content_made}
 use Rattle.sftp_tree.proofs.Imports.{with_attributes_set, List, [], ◌∷◌, list_all, and_parts, and_from, le-leb}
 use Rattle.sftp_tree.proofs.Imports.{highest_are, Files, content_fits, IsStart, picture}
+use Rattle.sftp_tree.proofs.Imports.{raised as raised_tree}
 use Rattle.sftp_tree.proofs.Limits.{fits-parts, fits-from}
 use Rattle.sftp_tree.proofs.KeptTrees.{times_named-owner}
 use Rattle.sftp_tree.proofs.FileCounts.{changed-pins, pins-where_held}
@@ -151,7 +152,7 @@ all-wider low high le (e ∷ files) all =
     (le-leb (length e.1.bytes) high.file_bytes (omega (arith, le, leb-true (length e.1.bytes) low.file_bytes parts.0)))
     (all-wider low high le files parts.1)
 
-pub raised-kept : (t : Tree) → IsKept t → IsKept (raised t)
+pub raised-kept : (t : Tree) → IsKept t → IsKept (raised_tree t)
 raised-kept t kept =
     let well = kept.well_formed in
     let parts = fits-parts t kept.within_limits in
@@ -172,7 +173,7 @@ raised-kept t kept =
         uid = well.uid;
         gid = well.gid;
       };
-      within_limits = fits-from (raised t) (record {
+      within_limits = fits-from (raised_tree t) (record {
         entries = le-leb (length t.names - 1) highest_limits.entries
             (omega (arith, leb-true (length t.names - 1) t.limits.entries parts.entries, well.limits.entries.1));
         depths = parts.depths;
@@ -184,7 +185,7 @@ raised-kept t kept =
       trimmed = kept.trimmed;
     }
 
-pub raised-start : (t : Tree) (bytes : List ℕ) → IsStart t bytes → IsStart (raised t) (picture (raised t))
+pub raised-start : (t : Tree) (bytes : List ℕ) → IsStart t bytes → IsStart (raised_tree t) (picture (raised_tree t))
 raised-start t bytes start =
     let kept = raised-kept t (record { well_formed = start.well_formed; within_limits = start.within_limits; trimmed = start.trimmed }) in
     record {
