@@ -1,8 +1,8 @@
 -- Packets after their length: what is read is spelled so, and what is spelled so is read again.
 use Rattle.std.proofs.Common.{◌≡◌, ℕ, ◌≤◌, false, List, [], ◌∷◌, length, refl, cond, eqb, ◌++◌, Ok, sym, ap, subst}
 use Rattle.std.proofs.Common.{◌∙◌, ◌^◌, ◌<◌, true, codes, map, append_assoc, arith, Err, zero, suc, Bool, take, drop}
-use Rattle.std.proofs.Common.{Some, inl, inr}
-use Rattle.std.specs.Prelude.{IfSome, ◌&&◌, bytes_eq, nat_lt, find, nat_eq}
+use Rattle.std.proofs.Common.{Option, Some, None, inl, inr}
+use Rattle.std.specs.Prelude.{IfSome, ◌&&◌, ◌||◌, bytes_eq, nat_lt, find, nat_eq, is_some}
 use Rattle.sftp_packets.specs.declared.requests.Ask.{Ask}
 use Rattle.sftp_packets.specs.declared.replies.Answer.{Answer}
 use Rattle.sftp_packets.specs.declared.packets.Packet.{Packet}
@@ -10,10 +10,12 @@ use Rattle.sftp_packets.specs.declared.packets.Packet.TheVariants.{Init, Version
 use Rattle.sftp_packets.specs.declared.packets.Side.{Side}
 use Rattle.sftp_packets.specs.Spelling.{handle_limit, uint32, pairs, FitsPairs, string, AreBytes, FitsString, uint64}
 use Rattle.sftp_packets.specs.Spelling.{attributes, FitsAttrs, with_id, names, FitsNames, Field, Text, Attributes}
-use Rattle.sftp_packets.specs.Spelling.{FitsField, Fit, Message, Rest, Items}
-use Rattle.sftp_packets.specs.Requests.{ask_parts, asked_handle, asks_known, FitsAsk, posix_rename_name}
-use Rattle.sftp_packets.specs.Requests.{hardlink_name, fsync_name, limits_name, known_extensions, is_known_extension}
-use Rattle.sftp_packets.specs.Requests.{server_extensions, extension_data_at, extension_at, request_at, ask_row}
+use Rattle.sftp_packets.specs.Spelling.{FitsField, Fit, Message, Rest, Items, Number, LongNumber, Flags, Handle}
+use Rattle.sftp_packets.specs.Spelling.{ExtensionName, Row, field_bytes, fields_bytes, named_bytes, row_parts, handle_in}
+use Rattle.sftp_packets.specs.Requests.{ask_parts, asked_handle, asks_known, FitsAsk, known_extensions, ask_row}
+use Rattle.sftp_packets.specs.Requests.{is_known_extension, server_extensions, extension_data_at, extension_at}
+use Rattle.sftp_packets.specs.Requests.{request_at, every_ask, ask_at, is_named, data_at, asked_at, Value, Makes}
+use Rattle.sftp_packets.specs.Requests.{maker}
 use Rattle.sftp_packets.specs.Requests.{answer_parts, answered_handle, FitsAnswer, reply_at, answer_row}
 use Rattle.sftp_packets.specs.Packets.{contents, side_of, handle_of, hides_extension, FitsFields, packet_at}
 use Rattle.sftp_packets.specs.Packets.{packet_of, spelling, HasSpelling, client_packet_at, server_packet_at}
@@ -21,15 +23,15 @@ use Rattle.std.proofs.lemmas.Bool.{eqb-true, cond_both, ltb-true, and_parts, or_
 use Rattle.std.proofs.lemmas.List.{append-nil, nil_from_length, take_at}
 use Rattle.sftp_packets.specs.declared.errors.Fault.{Fault}
 use Rattle.sftp_packets.specs.declared.packets.Side.TheVariants.{Client, Server}
-use Rattle.sftp_packets.specs.Reading.{Reader, refuse, two, uint32_at, pairs_at, none_at, one, string_at, handle_at}
-use Rattle.sftp_packets.specs.Reading.{rest_at, three, uint64_at, attributes_at, names_at}
+use Rattle.sftp_packets.specs.Reading.{Reader, refuse, two, uint32_at, pairs_at, one, string_at, handle_at}
+use Rattle.sftp_packets.specs.Reading.{◌>>=◌, rest_at, three, uint64_at, attributes_at, names_at, pair_at}
 use Rattle.sftp_packets.proofs.Bytes.{Is32, Is64, IsBytes, IsBytes-rest, wide32}
-use Rattle.sftp_packets.proofs.Readers.{TakesAs, two_takes, two_again, none_takes, one_takes, one_again}
+use Rattle.sftp_packets.proofs.Readers.{TakesAs, two_takes, two_again, one_takes, one_again, Takes-none}
 use Rattle.sftp_packets.proofs.Readers.{three_takes, three_again}
 use Rattle.sftp_packets.proofs.FieldLaws.{uint32_takes, uint32_again, FitsHandle, as_bytes, string_takes}
 use Rattle.sftp_packets.proofs.FieldLaws.{string_again, handle_takes, handle_again, rest_takes, rest_again}
 use Rattle.sftp_packets.proofs.FieldLaws.{uint64_takes, uint64_again}
-use Rattle.sftp_packets.proofs.FieldLaws.{pairs_takes, pairs_again}
+use Rattle.sftp_packets.proofs.FieldLaws.{pairs_takes, pairs_again, pair_takes, pair_again}
 use Rattle.std.specs.Simd.Lanes.{all_below}
 use Rattle.std.specs.List.{AllByRecursion, list_all, list_any, starts_with}
 use Rattle.std.proofs.lemmas.Slice.Eq.{bytes_eq-Decides, starts_is}
@@ -94,6 +96,189 @@ pub record FitsRow (side : Side) (kind : ℕ) (packet : Packet) : Type 0 where
   pub kind_is : head (contents packet) ≡ kind
   pub is_sent : side_of packet ≡ side
 
+-- ---- fields of a row, each with any value
+
+-- whether others may follow a field
+abbrev pub has_others : Field → Bool
+has_others (Message message language) = false
+has_others (Rest bytes) = false
+has_others (Attributes attrs) = false
+has_others (Items items) = false
+has_others other = true
+
+-- whether what comes after the fields comes last
+abbrev pub ends_last : List Field → Bool
+ends_last [] = true
+ends_last (field ∷ []) = true
+ends_last (field ∷ next ∷ others) = has_others field && ends_last (next ∷ others)
+
+abbrev is_no_handle : Field → Bool
+is_no_handle (Handle handle) = false
+is_no_handle other = true
+
+-- whether a handle comes first
+abbrev handle_first : List Field → Bool
+handle_first [] = true
+handle_first (field ∷ fields) = list_all is_no_handle fields
+
+-- a handle is within its limit
+abbrev SmallIn : Field → Type 0
+SmallIn (Handle handle) = IsSmall handle
+SmallIn other = Unit {0}
+
+abbrev AreSmall : List Field → Type 0
+AreSmall [] = Unit {0}
+AreSmall (field ∷ fields) = SmallIn field × AreSmall fields
+
+small-field : (field : Field) → is_no_handle field ≡ true → SmallIn field
+small-field (Handle handle) e = absurd cc
+small-field other e = tt
+
+small-fields : (fields : List Field) → list_all is_no_handle fields ≡ true → AreSmall fields
+small-fields [] e = tt
+small-fields (field ∷ fields) e = let both = and_parts _ _ e in (small-field field both.0, small-fields fields both.1)
+
+all-small : (fields : List Field) → handle_first fields ≡ true → IfSome (handle_in fields) IsSmall → AreSmall fields
+all-small [] first small = tt
+all-small (Handle handle ∷ fields) first small = (small, small-fields fields first)
+all-small (other ∷ fields) first small = (tt, small-fields fields first)
+
+handle-small : (fields : List Field) → AreSmall fields → IfSome (handle_in fields) IsSmall
+handle-small [] small = tt
+handle-small (Handle handle ∷ fields) small = small.0
+handle-small (other ∷ fields) small = tt
+
+-- the value of a field, and the field with another value
+abbrev value_of : (field : Field) → Value field
+value_of (Number number) = number
+value_of (LongNumber number) = number
+value_of (Flags flags) = flags
+value_of (Text text) = text
+value_of (Handle handle) = handle
+value_of (ExtensionName name) = name
+value_of (Message message language) = (message, language)
+value_of (Rest bytes) = bytes
+value_of (Attributes attrs) = attrs
+value_of (Items items) = items
+
+abbrev with_value : (field : Field) → Value field → Field
+with_value (Number number) value = Number value
+with_value (LongNumber number) value = LongNumber value
+with_value (Flags flags) value = Flags value
+with_value (Text text) value = Text value
+with_value (Handle handle) value = Handle value
+with_value (ExtensionName name) value = ExtensionName value
+with_value (Message message language) value = Message value.0 value.1
+with_value (Rest bytes) value = Rest value
+with_value (Attributes attrs) value = Attributes value
+with_value (Items items) value = Items value
+
+-- a value of such a field, whatever its own, and what is made of a value of each
+abbrev value_at : (field : Field) → Reader (Value field)
+value_at (Number number) = uint32_at
+value_at (LongNumber number) = uint64_at
+value_at (Flags flags) = uint32_at
+value_at (Text text) = string_at
+value_at (Handle handle) = handle_at
+value_at (ExtensionName name) = string_at
+value_at (Message message language) = pair_at
+value_at (Rest bytes) = rest_at
+value_at (Attributes attrs) = attributes_at
+value_at (Items items) = names_at
+
+abbrev fields_at : {A : Type 0} → (fields : List Field) → Makes fields A → Reader A
+fields_at [] make bytes = Ok (make, bytes)
+fields_at (field ∷ fields) make bytes = value_at field bytes >>= λ value. fields_at fields (make value.0) value.1
+
+-- the values of fields, the fields with other values, and what is made of values
+abbrev Values : List Field → Type 0
+Values [] = Unit {0}
+Values (field ∷ fields) = Value field × Values fields
+
+abbrev values_of : (fields : List Field) → Values fields
+values_of [] = tt
+values_of (field ∷ fields) = (value_of field, values_of fields)
+
+abbrev with_values : (fields : List Field) → Values fields → List Field
+with_values [] values = []
+with_values (field ∷ fields) values = with_value field values.0 ∷ with_values fields values.1
+
+abbrev made : {A : Type 0} → (fields : List Field) → Makes fields A → Values fields → A
+made [] make values = make
+made (field ∷ fields) make values = made fields (make values.0) values.1
+
+-- the bytes of fields, and that they fit, one by one
+bytes-then : (field : Field) (fields : List Field) → fields_bytes (field ∷ fields) ≡ field_bytes field ++ fields_bytes fields
+bytes-then field [] = sym (append-nil (field_bytes field))
+bytes-then field (next ∷ others) = refl
+
+fit-then : (field : Field) (fields : List Field) → FitsField field → Fit fields → Fit (field ∷ fields)
+fit-then field [] fits fit = fits
+fit-then field (next ∷ others) fits fit = (fits, fit)
+
+-- a value that is read is spelled so, and fits
+value-takes : (field : Field) → TakesAs (value_at field) (λ value. field_bytes (with_value field value)) (λ value. FitsField (with_value field value) × SmallIn (with_value field value))
+value-takes (Number number) bytes x rest is_bytes e = let t = uint32_takes bytes x rest is_bytes e in (t.0, (t.1, tt))
+value-takes (LongNumber number) bytes x rest is_bytes e = let t = uint64_takes bytes x rest is_bytes e in (t.0, (t.1, tt))
+value-takes (Flags flags) bytes x rest is_bytes e = let t = uint32_takes bytes x rest is_bytes e in (t.0, (t.1, tt))
+value-takes (Text text) bytes x rest is_bytes e = let t = string_takes bytes x rest is_bytes e in (t.0, (t.1, tt))
+value-takes (Handle handle) bytes x rest is_bytes e = handle_takes bytes x rest is_bytes e
+value-takes (ExtensionName name) bytes x rest is_bytes e = let t = string_takes bytes x rest is_bytes e in (t.0, (t.1, tt))
+value-takes (Message message language) bytes x rest is_bytes e = let t = pair_takes bytes x rest is_bytes e in (t.0, (t.1, tt))
+value-takes (Rest text) bytes x rest is_bytes e = let t = rest_takes bytes x rest is_bytes e in (t.0, (t.1, tt))
+value-takes (Attributes attrs) bytes x rest is_bytes e = let t = attributes_takes bytes x rest is_bytes e in (t.0, (t.1, tt))
+value-takes (Items items) bytes x rest is_bytes e = let t = names_takes bytes x rest is_bytes e in (t.0, (t.1, tt))
+
+-- a field that fits is read again; what comes last has nothing after it
+value-again : (field : Field) (rest : List ℕ) → FitsField field → SmallIn field → (has_others field ≡ false → rest ≡ []) → value_at field (field_bytes field ++ rest) ≡ Ok (value_of field, rest)
+value-again (Number number) rest fits small last = uint32_again rest number fits
+value-again (LongNumber number) rest fits small last = uint64_again rest number fits
+value-again (Flags flags) rest fits small last = uint32_again rest flags fits
+value-again (Text text) rest fits small last = string_again rest text fits
+value-again (Handle handle) rest fits small last = handle_again rest handle (fits, small)
+value-again (ExtensionName name) rest fits small last = string_again rest name fits
+value-again (Message message language) rest fits small last = pair_again rest (message, language) fits
+value-again (Rest bytes) rest fits small last = subst (λ (r : List ℕ). rest_at (bytes ++ r) ≡ Ok (bytes, r)) (sym (last refl)) (rest_again bytes)
+value-again (Attributes attrs) rest fits small last = attributes_again rest attrs fits
+value-again (Items items) rest fits small last = names_again rest items fits
+
+-- what was made of values that were read
+record HasRead {A : Type 0} (fields : List Field) (make : Makes fields A) (bytes : List ℕ) (a : A) (rest : List ℕ) : Type 0 where
+  pub values : Values fields
+  pub is_made : made fields make values ≡ a
+  pub taken : Takes bytes (fields_bytes (with_values fields values)) rest
+  pub fit : Fit (with_values fields values)
+  pub small : AreSmall (with_values fields values)
+
+fields-take : {A : Type 0} (fields : List Field) (make : Makes fields A) (bytes : List ℕ) (a : A) (rest : List ℕ) → IsBytes bytes → fields_at fields make bytes ≡ Ok (a, rest) → HasRead fields make bytes a rest
+fields-take {A = A} [] make bytes a rest is_bytes e =
+    subst (λ (y : A × List ℕ). HasRead {A = A} [] make bytes y.0 y.1) (ok_is (make, bytes) (a, rest) e)
+    (record { values = tt; is_made = refl; taken = Takes-none bytes is_bytes; fit = tt; small = tt })
+fields-take {A = A} (field ∷ fields) make bytes a rest is_bytes e =
+    let v = bind_ok (value_at field bytes) (λ value. fields_at {A = A} fields (make value.0) value.1) (a, rest) e in
+    let t = value-takes field bytes v.0.0 v.0.1 is_bytes v.1 in
+    let others = fields-take {A = A} fields (make v.0.0) v.0.1 a rest t.0.rest_fits v.2 in
+    let filled = with_value field v.0.0 in
+    let after = with_values fields others.values in
+    let both = Takes-then bytes (field_bytes filled) v.0.1 (fields_bytes after) rest t.0 others.taken in
+    record {
+      values = (v.0.0, others.values);
+      is_made = others.is_made;
+      taken = subst (λ (text : List ℕ). Takes bytes text rest) (sym (bytes-then filled after)) both;
+      fit = fit-then filled after t.1.0 others.fit;
+      small = (t.1.1, others.small);
+    }
+
+-- fields that fit are read again
+fields-again : {A : Type 0} (fields : List Field) (make : Makes fields A) → Fit fields → AreSmall fields → ends_last fields ≡ true → fields_at fields make (fields_bytes fields ++ []) ≡ Ok (made fields make (values_of fields), [])
+fields-again [] make fits small last = refl
+fields-again (field ∷ []) make fits small last = rw (value-again field [] fits small.0 (λ none. refl)) refl
+fields-again {A = A} (field ∷ next ∷ others) make fits small last =
+    let both = and_parts (has_others field) (ends_last (next ∷ others)) last in
+    ap (fields_at {A = A} (field ∷ next ∷ others) make) (append_assoc (field_bytes field) (fields_bytes (next ∷ others)) [])
+    ∙ rw (value-again field (fields_bytes (next ∷ others) ++ []) fits.0 small.0 (λ none. absurd (true≢false (sym both.0 ∙ none))))
+      (fields-again {A = A} (next ∷ others) (make (value_of field)) fits.1 small.1 both.1)
+
 -- ==== Packets of a side, by their type: the first packets, and what the packets of either side share.
 
 -- a row of the packet table: what is read after a type is a packet of that type and that side
@@ -131,73 +316,168 @@ pub ends : (side : Side) (kind : ℕ) (body : List ℕ) (packet : Packet) → pa
 unfolding packet_of
 ends side kind body packet e = rw e refl
 
+-- ==== What the rows of requests have in common. One request is named in each lemma, so that all others compute: a new
+-- one needs no line here.
+
+-- ---- what is made of a row's fields
+
+-- the request that is made of values has them in its row
+ask-made : (ask : Ask) (values : Values (ask_row ask).fields) → ask_row (made (ask_row ask).fields (maker ask) values) ≡ record (ask_row ask) { fields = with_values (ask_row ask).fields values }
+ask-made asks.Limits values = refl
+ask-made other values = refl
+
+-- made of its own values it is itself
+ask-again : (ask : Ask) → made (ask_row ask).fields (maker ask) (values_of (ask_row ask).fields) ≡ ask
+ask-again asks.Limits = refl
+ask-again other = refl
+
+pub ask_ends_last : (ask : Ask) → ends_last (ask_row ask).fields ≡ true
+ask_ends_last asks.Limits = refl
+ask_ends_last other = refl
+
+ask-handle_first : (ask : Ask) → handle_first (ask_row ask).fields ≡ true
+ask-handle_first asks.Limits = refl
+ask-handle_first other = refl
+
+-- ---- extensions among them
+
+-- an extension that has no request of its own
+abbrev is_unknown : Ask → Bool
+is_unknown (asks.Unknown name rest) = true
+is_unknown other = false
+
+-- any other request is read as its row says
+read-as : (ask : Ask) → is_unknown ask ≡ false → (bytes : List ℕ) → ask_at ask bytes ≡ fields_at (ask_row ask).fields (maker ask) bytes
+read-as (asks.Unknown name rest) e bytes = absurd cc
+read-as other e bytes = refl
+
+made-known : (ask : Ask) → is_unknown ask ≡ false → (values : Values (ask_row ask).fields) → asks_known (made (ask_row ask).fields (maker ask) values) ≡ false
+made-known (asks.Unknown name rest) e values = absurd cc
+made-known other e values = refl
+
+-- an unknown extension, and each with a name in its row, has the type 200
+unknown-type : (ask : Ask) → cond (is_unknown ask) (ask_row ask).kind 200 ≡ 200
+unknown-type asks.Limits = refl
+unknown-type other = refl
+
+named-type : (ask : Ask) → cond (is_some (ask_row ask).extension) (ask_row ask).kind 200 ≡ 200
+named-type asks.Limits = refl
+named-type other = refl
+
+not-unknown : (ask : Ask) → eqb (ask_row ask).kind 200 ≡ false → is_unknown ask ≡ false
+not-unknown ask other = by (is_unknown ask) (unknown-type ask)
+  where
+    by : (b : Bool) → cond b (ask_row ask).kind 200 ≡ 200 → b ≡ false
+    by true is = absurd (true≢false (sym (ap (λ (k : ℕ). eqb k 200) is) ∙ other))
+    by false is = refl
+
+not-named : (ask : Ask) → eqb (ask_row ask).kind 200 ≡ false → (ask_row ask).extension ≡ None
+not-named ask other = by (ask_row ask).extension (named-type ask)
+  where
+    by : (o : Option (List ℕ)) → cond (is_some o) (ask_row ask).kind 200 ≡ 200 → o ≡ None
+    by None is = refl
+    by (Some name) is = absurd (true≢false (sym (ap (λ (k : ℕ). eqb k 200) is) ∙ other))
+
+-- one with a name in its row is known
+named-known : (ask : Ask) → cond (is_some (ask_row ask).extension) (is_unknown ask) false ≡ false
+named-known asks.Limits = refl
+named-known other = refl
+
+-- its name is written out
+abbrev is_text : Option (List ℕ) → Bool
+is_text None = true
+is_text (Some name) = all_below 256 name && nat_lt (length name) (2 ^ 32)
+
+named-text : (ask : Ask) → is_text (ask_row ask).extension ≡ true
+named-text asks.Limits = refl
+named-text other = refl
+
+-- what is read after its id or after its name
+abbrev reader_of : Option (List ℕ) → Ask → Reader Ask
+reader_of None ask = ask_at ask
+reader_of (Some name) ask = extension_at
+
+asked-as : (ask : Ask) → is_unknown ask ≡ false → (bytes : List ℕ) → client_packet_at (ask_row ask).kind bytes ≡ request_at (reader_of (ask_row ask).extension ask) bytes
+unfolding client_packet_at
+asked-as (asks.Unknown name rest) e bytes = absurd cc
+asked-as other e bytes = refl
+
+abbrev data_by : Option (List ℕ) → Ask → Reader Ask
+data_by None ask = ask_at ask
+data_by (Some name) ask = extension_data_at name
+
+data-as : (ask : Ask) (bytes : List ℕ) → data_by (ask_row ask).extension ask bytes ≡ ask_at ask bytes
+unfolding extension_data_at
+data-as asks.Limits bytes = refl
+data-as other bytes = refl
+
+-- ---- finding one
+
+some_is : {A : Type 0} (x y : A) → Some x ≡ Some y → x ≡ y
+some_is x y e = cc
+
+find-holds : {A : Type 0} (has : A → Bool) (xs : List A) (x : A) → find has xs ≡ Some x → has x ≡ true
+find-holds has [] x e = absurd cc
+find-holds {A = A} has (y ∷ xs) x e = by (has y) refl e
+  where
+    by : (b : Bool) → has y ≡ b → cond b (Some y) (find has xs) ≡ Some x → has x ≡ true
+    by true is e = subst (λ (z : A). has z ≡ true) (some_is y x e) is
+    by false is e = find-holds has xs x e
+
+find-none : {A : Type 0} (has : A → Bool) (xs : List A) → find has xs ≡ None → list_any has xs ≡ false
+find-none has [] e = refl
+find-none has (y ∷ xs) e = by (has y) e
+  where
+    by : (b : Bool) → cond b (Some y) (find has xs) ≡ None → (b || list_any has xs) ≡ false
+    by true e = absurd cc
+    by false e = find-none has xs e
+
+named-is : (name : List ℕ) (o : Option (List ℕ)) → is_named name o ≡ true → o ≡ Some name
+named-is name None e = absurd cc
+named-is name (Some known) e = ap (λ (n : List ℕ). Some n) (sym ((bytes_eq-Decides name known).0 e))
+
 -- ==== Extensions: the name decides what is read after it. What is read is spelled so, and what is spelled so is read
 -- again.
 
 -- ---- what is read is spelled so
 
--- what an extension has after its name
-abbrev data_of : Ask → List ℕ
-data_of (asks.PosixRename oldpath newpath) = string oldpath ++ string newpath
-data_of (asks.Hardlink oldpath newpath) = string oldpath ++ string newpath
-data_of (asks.Fsync handle) = string handle
-data_of (asks.Unknown name rest) = rest
-data_of other = []
+-- data of an extension of that name
+abbrev TakesData : List ℕ → Reader Ask → Type 0
+TakesData name read = (bytes : List ℕ) (ask : Ask) (rest : List ℕ) → IsBytes bytes → read bytes ≡ Ok (ask, rest)
+    → (behind : List ℕ) × Takes bytes behind rest × FitsAskOf 200 ask × (ask_fields ask ≡ string name ++ behind)
 
--- an extension of that name
-abbrev IsExtension : List ℕ → Ask → Type 0
-IsExtension name ask = FitsAskOf 200 ask × (ask_fields ask ≡ string name ++ data_of ask)
+named-then : (name : List ℕ) (fields : List Field) → named_bytes (Some name) fields ≡ string name ++ fields_bytes fields
+named-then name [] = sym (append-nil (string name))
+named-then name (field ∷ fields) = refl
 
-abbrev TakesExtension : List ℕ → Reader Ask → Type 0
-TakesExtension name read = TakesAs read data_of (IsExtension name)
+known_takes : (name : List ℕ) (ask : Ask) → (ask_row ask).extension ≡ Some name → TakesData name (ask_at ask)
+known_takes name ask named bytes a rest is_bytes e =
+    let known : is_unknown ask ≡ false = subst (λ (o : Option (List ℕ)). cond (is_some o) (is_unknown ask) false ≡ false) named (named-known ask) in
+    let t = fields-take (ask_row ask).fields (maker ask) bytes a rest is_bytes (sym (read-as ask known bytes) ∙ e) in
+    let filled = with_values (ask_row ask).fields t.values in
+    let kind : (ask_row ask).kind ≡ 200 = subst (λ (o : Option (List ℕ)). cond (is_some o) (ask_row ask).kind 200 ≡ 200) named (named-type ask) in
+    let spelled : named_bytes (ask_row ask).extension filled ≡ string name ++ fields_bytes filled = ap (λ (o : Option (List ℕ)). named_bytes o filled) named ∙ named-then name filled in
+    let row =
+      subst (λ (row : Row). Fit row.fields × IfSome (handle_in row.fields) IsSmall × (row.kind ≡ 200) × ((row_parts row).1 ≡ string name ++ fields_bytes filled))
+      (sym (ask-made ask t.values)) (t.fit, handle-small filled t.small, kind, spelled) in
+    subst (λ (b : Ask). (behind : List ℕ) × Takes bytes behind rest × FitsAskOf 200 b × (ask_fields b ≡ string name ++ behind)) t.is_made
+    (fields_bytes filled, t.taken, (row.0, row.1, made-known ask known t.values, row.2), row.3)
 
-posix_rename_takes : TakesExtension posix_rename_name (two string_at string_at asks.PosixRename)
-posix_rename_takes = two_takes string_at string_at asks.PosixRename string string data_of FitsString FitsString (IsExtension posix_rename_name) string_takes string_takes (λ a b. refl) (λ a b f g. (((f, g), tt, refl, refl), refl))
+unknown_takes : (name : List ℕ) → FitsString name → is_known_extension name ≡ false → TakesData name (ask_at (asks.Unknown name []))
+unknown_takes name fits unknown bytes a rest is_bytes e =
+    let b = bind_ok (rest_at bytes) (λ b. Ok (asks.Unknown name b.0, b.1)) (a, rest) e in
+    let t = rest_takes bytes b.0.0 b.0.1 is_bytes b.1 in
+    subst (λ (y : Ask × List ℕ). (behind : List ℕ) × Takes bytes behind y.1 × FitsAskOf 200 y.0 × (ask_fields y.0 ≡ string name ++ behind))
+    (ok_is (asks.Unknown name b.0.0, b.0.1) (a, rest) b.2) (b.0.0, t.0, ((fits, t.1), tt, unknown, refl), refl)
 
-hardlink_takes : TakesExtension hardlink_name (two string_at string_at asks.Hardlink)
-hardlink_takes = two_takes string_at string_at asks.Hardlink string string data_of FitsString FitsString (IsExtension hardlink_name) string_takes string_takes (λ a b. refl) (λ a b f g. (((f, g), tt, refl, refl), refl))
+data_takes : (name : List ℕ) → FitsString name → (found : Option Ask) → find (λ ask. is_named name (ask_row ask).extension) every_ask ≡ found → TakesData name (data_at name found)
+data_takes name fits None is = unknown_takes name fits (find-none (λ ask. is_named name (ask_row ask).extension) every_ask is)
+data_takes name fits (Some ask) is =
+    known_takes name ask (named-is name (ask_row ask).extension (find-holds (λ ask. is_named name (ask_row ask).extension) every_ask ask is))
 
-fsync_takes : TakesExtension fsync_name (one handle_at asks.Fsync)
-fsync_takes = one_takes handle_at asks.Fsync string data_of FitsHandle (IsExtension fsync_name) handle_takes (λ a. refl) (λ a f. ((f.0, f.1, refl, refl), refl))
-
-limits_takes : TakesExtension limits_name (none_at asks.Limits)
-limits_takes = none_takes asks.Limits data_of (IsExtension limits_name) refl ((tt, tt, refl, refl), refl)
-
-unknown_takes : (name : List ℕ) → FitsString name → is_known_extension name ≡ false → TakesExtension name (one rest_at (asks.Unknown name))
-unknown_takes name fits unknown = one_takes rest_at (asks.Unknown name) as_bytes data_of AreBytes (IsExtension name) rest_takes (λ a. refl) (λ a f. (((fits, f), tt, unknown, refl), refl))
-
--- a known extension: its name, and how its data is read
-abbrev Known : Type 0
-Known = List ℕ × Reader Ask
-
-abbrev known : List Known
-known =
-    (posix_rename_name, two string_at string_at asks.PosixRename)
-    ∷ (hardlink_name, two string_at string_at asks.Hardlink)
-    ∷ (fsync_name, one handle_at asks.Fsync)
-    ∷ (limits_name, none_at asks.Limits)
-    ∷ []
-
-known_take : AllByRecursion (λ k. TakesExtension k.0 k.1) known
-known_take = (posix_rename_takes, (hardlink_takes, (fsync_takes, (limits_takes, tt))))
-
--- the data of the first of these that has the name, and else all that is left
-abbrev data_among : List ℕ → List Known → Reader Ask
-data_among name [] = one rest_at (asks.Unknown name)
-data_among name (k ∷ others) = cond (bytes_eq name k.0) k.1 (data_among name others)
-
--- it is the data of the extension whose name it is
-among_takes : (name : List ℕ) (ks : List Known) → AllByRecursion (λ k. TakesExtension k.0 k.1) ks → (list_any (λ k. bytes_eq name k.0) ks ≡ false → TakesExtension name (one rest_at (asks.Unknown name)))
-    → TakesExtension name (data_among name ks)
-among_takes name [] take others = others refl
-among_takes name (k ∷ ks) take others =
-    cond_both (bytes_eq name k.0) k.1 (data_among name ks) (TakesExtension name)
-    (λ same. subst (λ (n : List ℕ). TakesExtension n k.1) (sym ((bytes_eq-Decides name k.0).0 same)) take.0)
-    (λ not_this. among_takes name ks take.1 (λ none. others (or_from _ _ not_this none)))
-
-extension_data_takes : (name : List ℕ) → FitsString name → TakesExtension name (extension_data_at name)
+extension_data_takes : (name : List ℕ) → FitsString name → TakesData name (extension_data_at name)
 unfolding extension_data_at
-extension_data_takes name fits = among_takes name known known_take (unknown_takes name fits)
+extension_data_takes name fits = data_takes name fits (find (λ ask. is_named name (ask_row ask).extension) every_ask) refl
 
 pub extension_takes : TakesAs extension_at ask_fields (FitsAskOf 200)
 unfolding extension_at
@@ -205,8 +485,8 @@ extension_takes bytes ask rest is_bytes e =
     let n = bind_ok (string_at bytes) (λ name. extension_data_at name.0 name.1) (ask, rest) e in
     let t = string_takes bytes n.0.0 n.0.1 is_bytes n.1 in
     let u = extension_data_takes n.0.0 t.1 n.0.1 ask rest t.0.rest_fits n.2 in
-    let both = Takes-then bytes (string n.0.0) n.0.1 (data_of ask) rest t.0 u.0 in
-    (subst (λ (text : List ℕ). Takes bytes text rest) (sym u.1.1) both, u.1.0)
+    let both = Takes-then bytes (string n.0.0) n.0.1 u.0 rest t.0 u.1 in
+    (subst (λ (text : List ℕ). Takes bytes text rest) (sym u.3) both, u.2)
 
 -- ---- what is spelled so is read again
 
@@ -221,138 +501,74 @@ are_bytes [] e = tt
 are_bytes (b ∷ bytes) e = let p = and_parts _ _ e in (ltb-true b 256 p.0, are_bytes bytes p.1)
 
 -- a name that is written out
-fits_name : (name : List ℕ) → all_below 256 name ≡ true → length name < 2 ^ 32 → FitsString name
-fits_name name bytes short = record { bytes_fit = are_bytes name bytes; length_fits = short }
+fits_name : (name : List ℕ) → is_text (Some name) ≡ true → FitsString name
+fits_name name text =
+    let both = and_parts _ _ text in
+    record { bytes_fit = are_bytes name both.0; length_fits = ltb-true (length name) (2 ^ 32) both.1 }
 
 -- what the server announces can be encoded
-announced_fit : (names : List (List ℕ)) → list_all (λ name. all_below 256 name && nat_lt (length name) (2 ^ 32)) names ≡ true → FitsPairs (map (λ name. (name, codes "1")) names)
+announced_fit : (names : List (List ℕ)) → list_all (λ name. is_text (Some name)) names ≡ true → FitsPairs (map (λ name. (name, codes "1")) names)
 announced_fit [] fit = tt
 announced_fit (name ∷ names) fit =
     let fits = and_parts _ _ fit in
-    let this = and_parts _ _ fits.0 in
-    ((fits_name name this.0 (ltb-true (length name) (2 ^ 32) this.1), fits_name (codes "1") refl (omega arith)), announced_fit names fits.1)
+    ((fits_name name fits.0, fits_name (codes "1") refl), announced_fit names fits.1)
 
 pub version_spelled : HasSpelling (Version 3 server_extensions)
 unfolding spelling
 version_spelled =
     record { fields = (omega arith, announced_fit known_extensions refl); whole = omega arith; handle = tt; canonical = refl }
 
-two_paths_again : (name : List ℕ) (make : List ℕ → List ℕ → Ask) (oldpath newpath : List ℕ) → FitsString name → extension_data_at name ≡ two string_at string_at make → FitsString oldpath × FitsString newpath
-    → extension_at ((string name ++ (string oldpath ++ string newpath)) ++ []) ≡ Ok (make oldpath newpath, [])
-two_paths_again name make oldpath newpath fits_name is fits =
-    named_again name (string oldpath ++ string newpath) fits_name
-    ∙ ap (λ (read : Reader Ask). read ((string oldpath ++ string newpath) ++ [])) is
-    ∙ two_again string_at string_at make string string oldpath newpath [] (string_again (string newpath ++ []) oldpath fits.0) (string_again [] newpath fits.1)
-
-pub posix_rename_again : (oldpath newpath : List ℕ) → FitsString oldpath × FitsString newpath → extension_at ((string posix_rename_name ++ (string oldpath ++ string newpath)) ++ []) ≡ Ok (asks.PosixRename oldpath newpath, [])
-unfolding extension_data_at
-posix_rename_again oldpath newpath fits = two_paths_again posix_rename_name asks.PosixRename oldpath newpath (fits_name posix_rename_name refl (omega arith)) refl fits
-
-pub hardlink_again : (oldpath newpath : List ℕ) → FitsString oldpath × FitsString newpath → extension_at ((string hardlink_name ++ (string oldpath ++ string newpath)) ++ []) ≡ Ok (asks.Hardlink oldpath newpath, [])
-unfolding extension_data_at
-hardlink_again oldpath newpath fits = two_paths_again hardlink_name asks.Hardlink oldpath newpath (fits_name hardlink_name refl (omega arith)) refl fits
-
-pub fsync_again : (handle : List ℕ) → FitsHandle handle → extension_at ((string fsync_name ++ string handle) ++ []) ≡ Ok (asks.Fsync handle, [])
-unfolding extension_data_at
-fsync_again handle fits =
-    named_again fsync_name (string handle) (fits_name fsync_name refl (omega arith))
-    ∙ one_again handle_at asks.Fsync (string handle) handle [] (handle_again [] handle fits)
-
-pub limits_again : extension_at (string limits_name ++ []) ≡ Ok (asks.Limits, [])
-unfolding extension_data_at
-limits_again = named_again limits_name [] (fits_name limits_name refl (omega arith))
-
 -- after any other name all that is left is read
-none_among : (name : List ℕ) (ks : List Known) → list_any (λ k. bytes_eq name k.0) ks ≡ false → data_among name ks ≡ one rest_at (asks.Unknown name)
-none_among name [] none = refl
-none_among name (k ∷ ks) none = let others = or_parts (bytes_eq name k.0) (list_any (λ k. bytes_eq name k.0) ks) none in rw (others.0) (none_among name ks others.1)
+none_found : {A : Type 0} (has : A → Bool) (xs : List A) → list_any has xs ≡ false → find has xs ≡ None
+none_found has [] none = refl
+none_found has (x ∷ xs) none = let others = or_parts (has x) (list_any has xs) none in rw (others.0) (none_found has xs others.1)
 
-unknown_data_again : (name : List ℕ) → is_known_extension name ≡ false → extension_data_at name ≡ one rest_at (asks.Unknown name)
+unknown_again : (name rest : List ℕ) → FitsString name → is_known_extension name ≡ false → extension_at ((string name ++ rest) ++ []) ≡ Ok (asks.Unknown name rest, [])
 unfolding extension_data_at
-unknown_data_again name unknown = none_among name known unknown
-
-pub unknown_again : (name rest : List ℕ) → FitsString name → is_known_extension name ≡ false → extension_at ((string name ++ rest) ++ []) ≡ Ok (asks.Unknown name rest, [])
 unknown_again name rest fits unknown =
     named_again name rest fits
-    ∙ ap (λ (read : Reader Ask). read (rest ++ [])) (unknown_data_again name unknown)
+    ∙ ap (λ (found : Option Ask). data_at name found (rest ++ [])) (none_found (λ ask. is_named name (ask_row ask).extension) every_ask unknown)
     ∙ one_again rest_at (asks.Unknown name) rest rest [] (rest_again rest)
 
--- ==== Requests after their length: what is read is spelled so, and what is spelled so is read again. One more request
--- is two more lines.
+-- ==== Requests after their length: what is read is spelled so, and what is spelled so is read again.
 
--- ---- what is read is spelled so, by what requests have after their id
+-- ---- what is read is spelled so
 
 request_takes : (kind : ℕ) (ask : Reader Ask) → TakesAs ask ask_fields (FitsAskOf kind) → TakesRow Client kind (request_at ask)
 request_takes kind ask takes =
     two_takes uint32_at ask (λ id a. Request (record { id = id; ask = a })) uint32 ask_fields fields_of Is32 (FitsAskOf kind) (FitsRow Client kind) uint32_takes takes (λ id a. refl)
     (λ id a f g. record { fields = (f, g.0); handle = g.1; canonical = g.2; kind_is = g.3; is_sent = refl })
 
-path_takes : (kind : ℕ) (make : List ℕ → Ask) → ((a : List ℕ) → ask_fields (make a) ≡ string a) → ((a : List ℕ) → FitsString a → FitsAskOf kind (make a)) → TakesRow Client kind (request_at (one string_at make))
-path_takes kind make same fit = request_takes kind (one string_at make) (one_takes string_at make string ask_fields FitsString (FitsAskOf kind) string_takes same fit)
+-- a request that has a type of its own
+ask_takes : (ask : Ask) → eqb (ask_row ask).kind 200 ≡ false → TakesAs (ask_at ask) ask_fields (FitsAskOf (ask_row ask).kind)
+ask_takes ask own bytes a rest is_bytes e =
+    let known = not-unknown ask own in
+    let t = fields-take (ask_row ask).fields (maker ask) bytes a rest is_bytes (sym (read-as ask known bytes) ∙ e) in
+    let filled = with_values (ask_row ask).fields t.values in
+    let taken = subst (λ (o : Option (List ℕ)). Takes bytes (named_bytes o filled) rest) (sym (not-named ask own)) t.taken in
+    let row =
+      subst (λ (row : Row). Takes bytes (row_parts row).1 rest × Fit row.fields × IfSome (handle_in row.fields) IsSmall × (row.kind ≡ (ask_row ask).kind))
+      (sym (ask-made ask t.values)) (taken, t.fit, handle-small filled t.small, refl) in
+    subst (λ (b : Ask). Takes bytes (ask_fields b) rest × FitsAskOf (ask_row ask).kind b) t.is_made
+    (row.0, (row.1, row.2, made-known ask known t.values, row.3))
 
-handle_only_takes : (kind : ℕ) (make : List ℕ → Ask) → ((a : List ℕ) → ask_fields (make a) ≡ string a) → ((a : List ℕ) → FitsHandle a → FitsAskOf kind (make a)) → TakesRow Client kind (request_at (one handle_at make))
-handle_only_takes kind make same fit = request_takes kind (one handle_at make) (one_takes handle_at make string ask_fields FitsHandle (FitsAskOf kind) handle_takes same fit)
-
-paths_takes : (kind : ℕ) (make : List ℕ → List ℕ → Ask) → ((a b : List ℕ) → ask_fields (make a b) ≡ string a ++ string b) → ((a b : List ℕ) → FitsString a → FitsString b → FitsAskOf kind (make a b))
-    → TakesRow Client kind (request_at (two string_at string_at make))
-paths_takes kind make same fit = request_takes kind (two string_at string_at make) (two_takes string_at string_at make string string ask_fields FitsString FitsString (FitsAskOf kind) string_takes string_takes same fit)
-
-path_attrs_takes : (kind : ℕ) (make : List ℕ → Attrs → Ask) → ((a : List ℕ) (b : Attrs) → ask_fields (make a b) ≡ string a ++ attributes b) → ((a : List ℕ) (b : Attrs) → FitsString a → FitsAttrs b → FitsAskOf kind (make a b))
-    → TakesRow Client kind (request_at (two string_at attributes_at make))
-path_attrs_takes kind make same fit = request_takes kind (two string_at attributes_at make) (two_takes string_at attributes_at make string attributes ask_fields FitsString FitsAttrs (FitsAskOf kind) string_takes attributes_takes same fit)
-
-open_takes : TakesRow Client 3 (request_at (three string_at uint32_at attributes_at asks.Open))
-open_takes = request_takes 3 (three string_at uint32_at attributes_at asks.Open) (three_takes string_at uint32_at attributes_at asks.Open string uint32 attributes ask_fields FitsString Is32 FitsAttrs (FitsAskOf 3) string_takes uint32_takes attributes_takes (λ a b c. refl) (λ a b c f g h. ((f, (g, h)), tt, refl, refl)))
-
-read_takes : TakesRow Client 5 (request_at (three handle_at uint64_at uint32_at asks.Read))
-read_takes = request_takes 5 (three handle_at uint64_at uint32_at asks.Read) (three_takes handle_at uint64_at uint32_at asks.Read string uint64 uint32 ask_fields FitsHandle Is64 Is32 (FitsAskOf 5) handle_takes uint64_takes uint32_takes (λ a b c. refl) (λ a b c f g h. ((f.0, (g, h)), f.1, refl, refl)))
-
-write_takes : TakesRow Client 6 (request_at (three handle_at uint64_at string_at asks.Write))
-write_takes = request_takes 6 (three handle_at uint64_at string_at asks.Write) (three_takes handle_at uint64_at string_at asks.Write string uint64 string ask_fields FitsHandle Is64 FitsString (FitsAskOf 6) handle_takes uint64_takes string_takes (λ a b c. refl) (λ a b c f g h. ((f.0, (g, h)), f.1, refl, refl)))
-
-fsetstat_takes : TakesRow Client 10 (request_at (two handle_at attributes_at asks.Fsetstat))
-fsetstat_takes = request_takes 10 (two handle_at attributes_at asks.Fsetstat) (two_takes handle_at attributes_at asks.Fsetstat string attributes ask_fields FitsHandle FitsAttrs (FitsAskOf 10) handle_takes attributes_takes (λ a b. refl) (λ a b f g. ((f.0, g), f.1, refl, refl)))
+asked_takes : (kind : ℕ) → eqb kind 200 ≡ false → (found : Option Ask) → find (λ ask. eqb kind (ask_row ask).kind) every_ask ≡ found → TakesRow Client kind (asked_at found)
+asked_takes kind own None is = refuse_takes Client kind WrongType
+asked_takes kind own (Some ask) is =
+    let same : kind ≡ (ask_row ask).kind = eqb-true kind (ask_row ask).kind (find-holds (λ ask. eqb kind (ask_row ask).kind) every_ask ask is) in
+    let off : eqb (ask_row ask).kind 200 ≡ false = subst (λ (k : ℕ). eqb k 200 ≡ false) same own in
+    subst (λ (k : ℕ). TakesRow Client k (request_at (ask_at ask))) (sym same) (request_takes (ask_row ask).kind (ask_at ask) (ask_takes ask off))
 
 -- ---- the packets of a client, by their type
 
 pub client_packet_takes : (kind : ℕ) → TakesRow Client kind (client_packet_at kind)
 unfolding client_packet_at
 client_packet_takes kind =
-    by_kind Client kind 1 _ _ init_takes
-    (by_kind Client kind 3 _ _ open_takes
-    (by_kind Client kind 4 _ _ (handle_only_takes 4 asks.Close (λ a. refl) (λ a f. (f.0, f.1, refl, refl)))
-    (by_kind Client kind 5 _ _ read_takes
-    (by_kind Client kind 6 _ _ write_takes
-    (by_kind Client kind 7 _ _ (path_takes 7 asks.Lstat (λ a. refl) (λ a f. (f, tt, refl, refl)))
-    (by_kind Client kind 8 _ _ (handle_only_takes 8 asks.Fstat (λ a. refl) (λ a f. (f.0, f.1, refl, refl)))
-    (by_kind Client kind 9 _ _ (path_attrs_takes 9 asks.Setstat (λ a b. refl) (λ a b f g. ((f, g), tt, refl, refl)))
-    (by_kind Client kind 10 _ _ fsetstat_takes
-    (by_kind Client kind 11 _ _ (path_takes 11 asks.Opendir (λ a. refl) (λ a f. (f, tt, refl, refl)))
-    (by_kind Client kind 12 _ _ (handle_only_takes 12 asks.Readdir (λ a. refl) (λ a f. (f.0, f.1, refl, refl)))
-    (by_kind Client kind 13 _ _ (path_takes 13 asks.Remove (λ a. refl) (λ a f. (f, tt, refl, refl)))
-    (by_kind Client kind 14 _ _ (path_attrs_takes 14 asks.Mkdir (λ a b. refl) (λ a b f g. ((f, g), tt, refl, refl)))
-    (by_kind Client kind 15 _ _ (path_takes 15 asks.Rmdir (λ a. refl) (λ a f. (f, tt, refl, refl)))
-    (by_kind Client kind 16 _ _ (path_takes 16 asks.Realpath (λ a. refl) (λ a f. (f, tt, refl, refl)))
-    (by_kind Client kind 17 _ _ (path_takes 17 asks.Stat (λ a. refl) (λ a f. (f, tt, refl, refl)))
-    (by_kind Client kind 18 _ _ (paths_takes 18 asks.Rename (λ a b. refl) (λ a b f g. ((f, g), tt, refl, refl)))
-    (by_kind Client kind 19 _ _ (path_takes 19 asks.Readlink (λ a. refl) (λ a f. (f, tt, refl, refl)))
-    (by_kind Client kind 20 _ _ (paths_takes 20 asks.Symlink (λ a b. refl) (λ a b f g. ((f, g), tt, refl, refl)))
-    (by_kind Client kind 200 _ _ (request_takes 200 extension_at extension_takes)
-    (refuse_takes Client kind WrongType))))))))))))))))))))
-
--- ---- what a request has after its id, with nothing after it
-
-path_again : (make : List ℕ → Ask) (path : List ℕ) → FitsString path → one string_at make (string path ++ []) ≡ Ok (make path, [])
-path_again make path fits = one_again string_at make (string path) path [] (string_again [] path fits)
-
-handle_only_again : (make : List ℕ → Ask) (handle : List ℕ) → FitsHandle handle → one handle_at make (string handle ++ []) ≡ Ok (make handle, [])
-handle_only_again make handle fits = one_again handle_at make (string handle) handle [] (handle_again [] handle fits)
-
-paths_again : (make : List ℕ → List ℕ → Ask) (a b : List ℕ) → FitsString a × FitsString b → two string_at string_at make ((string a ++ string b) ++ []) ≡ Ok (make a b, [])
-paths_again make a b fits = two_again string_at string_at make string string a b [] (string_again (string b ++ []) a fits.0) (string_again [] b fits.1)
-
-path_attrs_again : (make : List ℕ → Attrs → Ask) (a : List ℕ) (b : Attrs) → FitsString a × FitsAttrs b → two string_at attributes_at make ((string a ++ attributes b) ++ []) ≡ Ok (make a b, [])
-path_attrs_again make a b fits = two_again string_at attributes_at make string attributes a b [] (string_again (attributes b ++ []) a fits.0) (attributes_again [] b fits.1)
+    let found = find (λ ask. eqb kind (ask_row ask).kind) every_ask in
+    by_kind Client kind 1 (two uint32_at pairs_at Init) _ init_takes
+    (cond_both (eqb kind 200) (request_at extension_at) (asked_at found) (TakesRow Client kind)
+    (λ same. subst (λ (k : ℕ). TakesRow Client k (request_at extension_at)) (sym (eqb-true kind 200 same)) (request_takes 200 extension_at extension_takes))
+    (λ own. asked_takes kind own found refl))
 
 -- ---- what is spelled so is read again
 
@@ -361,31 +577,35 @@ request_again ask id a lt e =
     ap (request_at ask) (sym (append-nil (uint32 id ++ (ask_parts a).1)))
     ∙ two_again uint32_at ask (λ id a. Request (record { id = id; ask = a })) uint32 (λ (x : Ask). (ask_parts x).1) id a [] (uint32_again ((ask_parts a).1 ++ []) id lt) e
 
+-- the fields of a request, without the name of an extension
+fields_again : (ask : Ask) → is_unknown ask ≡ false → FitsAsk ask → IfSome (asked_handle ask) IsSmall → ask_at ask (fields_bytes (ask_row ask).fields ++ []) ≡ Ok (ask, [])
+fields_again ask known fits small =
+    read-as ask known (fields_bytes (ask_row ask).fields ++ [])
+    ∙ fields-again (ask_row ask).fields (maker ask) fits (all-small (ask_row ask).fields (ask-handle_first ask) small) (ask_ends_last ask)
+    ∙ ap (λ (a : Ask). Ok (a, [])) (ask-again ask)
+
+-- and with it
+reader_again : (ask : Ask) (o : Option (List ℕ)) → (ask_row ask).extension ≡ o → is_unknown ask ≡ false → FitsAsk ask → IfSome (asked_handle ask) IsSmall
+    → reader_of o ask (named_bytes o (ask_row ask).fields ++ []) ≡ Ok (ask, [])
+reader_again ask None is known fits small = fields_again ask known fits small
+reader_again ask (Some name) is known fits small =
+    let behind = fields_bytes (ask_row ask).fields in
+    let text = subst (λ (o : Option (List ℕ)). is_text o ≡ true) is (named-text ask) in
+    ap (λ (bytes : List ℕ). extension_at (bytes ++ [])) (named-then name (ask_row ask).fields)
+    ∙ named_again name behind (fits_name name text)
+    ∙ subst (λ (o : Option (List ℕ)). data_by o ask (behind ++ []) ≡ ask_at ask (behind ++ [])) is (data-as ask (behind ++ []))
+    ∙ fields_again ask known fits small
+
+known_again : (id : ℕ) (ask : Ask) → is_unknown ask ≡ false → id < 2 ^ 32 → FitsAsk ask → IfSome (asked_handle ask) IsSmall → packet_of Client (with_id id (ask_parts ask)) ≡ Ok (Request (record { id = id; ask = ask }))
+known_again id ask known lt fits small =
+    ends Client (ask_row ask).kind (uint32 id ++ (ask_parts ask).1) (Request (record { id = id; ask = ask }))
+    (asked-as ask known (uint32 id ++ (ask_parts ask).1)
+    ∙ request_again (reader_of (ask_row ask).extension ask) id ask lt (reader_again ask (ask_row ask).extension refl known fits small))
+
 pub asked_again : (id : ℕ) (ask : Ask) → id < 2 ^ 32 → FitsAsk ask → IfSome (asked_handle ask) IsSmall → asks_known ask ≡ false → packet_of Client (with_id id (ask_parts ask)) ≡ Ok (Request (record { id = id; ask = ask }))
 unfolding client_packet_at
-asked_again id (asks.Open path pflags attrs) lt fits small known = ends Client 3 _ _ (request_again (three string_at uint32_at attributes_at asks.Open) id _ lt (three_again string_at uint32_at attributes_at asks.Open string uint32 attributes path pflags attrs [] (string_again (uint32 pflags ++ (attributes attrs ++ [])) path fits.0) (uint32_again (attributes attrs ++ []) pflags fits.1.0) (attributes_again [] attrs fits.1.1)))
-asked_again id (asks.Close handle) lt fits small known = ends Client 4 _ _ (request_again (one handle_at asks.Close) id _ lt (handle_only_again asks.Close handle (fits, small)))
-asked_again id (asks.Read handle offset len) lt fits small known = ends Client 5 _ _ (request_again (three handle_at uint64_at uint32_at asks.Read) id _ lt (three_again handle_at uint64_at uint32_at asks.Read string uint64 uint32 handle offset len [] (handle_again (uint64 offset ++ (uint32 len ++ [])) handle (fits.0, small)) (uint64_again (uint32 len ++ []) offset fits.1.0) (uint32_again [] len fits.1.1)))
-asked_again id (asks.Write handle offset bytes) lt fits small known = ends Client 6 _ _ (request_again (three handle_at uint64_at string_at asks.Write) id _ lt (three_again handle_at uint64_at string_at asks.Write string uint64 string handle offset bytes [] (handle_again (uint64 offset ++ (string bytes ++ [])) handle (fits.0, small)) (uint64_again (string bytes ++ []) offset fits.1.0) (string_again [] bytes fits.1.1)))
-asked_again id (asks.Lstat path) lt fits small known = ends Client 7 _ _ (request_again (one string_at asks.Lstat) id _ lt (path_again asks.Lstat path fits))
-asked_again id (asks.Fstat handle) lt fits small known = ends Client 8 _ _ (request_again (one handle_at asks.Fstat) id _ lt (handle_only_again asks.Fstat handle (fits, small)))
-asked_again id (asks.Setstat path attrs) lt fits small known = ends Client 9 _ _ (request_again (two string_at attributes_at asks.Setstat) id _ lt (path_attrs_again asks.Setstat path attrs fits))
-asked_again id (asks.Fsetstat handle attrs) lt fits small known = ends Client 10 _ _ (request_again (two handle_at attributes_at asks.Fsetstat) id _ lt (two_again handle_at attributes_at asks.Fsetstat string attributes handle attrs [] (handle_again (attributes attrs ++ []) handle (fits.0, small)) (attributes_again [] attrs fits.1)))
-asked_again id (asks.Opendir path) lt fits small known = ends Client 11 _ _ (request_again (one string_at asks.Opendir) id _ lt (path_again asks.Opendir path fits))
-asked_again id (asks.Readdir handle) lt fits small known = ends Client 12 _ _ (request_again (one handle_at asks.Readdir) id _ lt (handle_only_again asks.Readdir handle (fits, small)))
-asked_again id (asks.Remove path) lt fits small known = ends Client 13 _ _ (request_again (one string_at asks.Remove) id _ lt (path_again asks.Remove path fits))
-asked_again id (asks.Mkdir path attrs) lt fits small known = ends Client 14 _ _ (request_again (two string_at attributes_at asks.Mkdir) id _ lt (path_attrs_again asks.Mkdir path attrs fits))
-asked_again id (asks.Rmdir path) lt fits small known = ends Client 15 _ _ (request_again (one string_at asks.Rmdir) id _ lt (path_again asks.Rmdir path fits))
-asked_again id (asks.Realpath path) lt fits small known = ends Client 16 _ _ (request_again (one string_at asks.Realpath) id _ lt (path_again asks.Realpath path fits))
-asked_again id (asks.Stat path) lt fits small known = ends Client 17 _ _ (request_again (one string_at asks.Stat) id _ lt (path_again asks.Stat path fits))
-asked_again id (asks.Rename oldpath newpath) lt fits small known = ends Client 18 _ _ (request_again (two string_at string_at asks.Rename) id _ lt (paths_again asks.Rename oldpath newpath fits))
-asked_again id (asks.Readlink path) lt fits small known = ends Client 19 _ _ (request_again (one string_at asks.Readlink) id _ lt (path_again asks.Readlink path fits))
-asked_again id (asks.Symlink targetpath linkpath) lt fits small known = ends Client 20 _ _ (request_again (two string_at string_at asks.Symlink) id _ lt (paths_again asks.Symlink targetpath linkpath fits))
-asked_again id (asks.PosixRename oldpath newpath) lt fits small known = ends Client 200 _ _ (request_again extension_at id _ lt (posix_rename_again oldpath newpath fits))
-asked_again id (asks.Hardlink oldpath newpath) lt fits small known = ends Client 200 _ _ (request_again extension_at id _ lt (hardlink_again oldpath newpath fits))
-asked_again id (asks.Fsync handle) lt fits small known = ends Client 200 _ _ (request_again extension_at id _ lt (fsync_again handle (fits, small)))
-asked_again id asks.Limits lt fits small known = ends Client 200 _ _ (request_again extension_at id _ lt limits_again)
 asked_again id (asks.Unknown name rest) lt fits small known = ends Client 200 _ _ (request_again extension_at id _ lt (unknown_again name rest fits.0 known))
+asked_again id other lt fits small known = known_again id other refl lt fits small
 
 -- ==== Replies after their length: what is read is spelled so, and what is spelled so is read again. One more reply is
 -- some lines more, all of them here.
@@ -563,26 +783,7 @@ packet_layout (Version version extensions) fits unknown = refl
 packet_layout (Request request) fits unknown = ask_layout request.id request.ask fits.1 unknown
 packet_layout (Reply reply) fits unknown = answer_layout reply.id reply.answer
 
--- ---- fields before others
-
--- whether others may follow a field
-abbrev pub has_others : Field → Bool
-has_others (Message message language) = false
-has_others (Rest bytes) = false
-has_others (Attributes attrs) = false
-has_others (Items items) = false
-has_others other = true
-
--- whether what comes after the fields comes last
-abbrev pub ends_last : List Field → Bool
-ends_last [] = true
-ends_last (field ∷ []) = true
-ends_last (field ∷ next ∷ others) = has_others field && ends_last (next ∷ others)
-
--- one request is named, so that each of the others computes
-pub ask_ends_last : (ask : Ask) → ends_last (ask_row ask).fields ≡ true
-ask_ends_last asks.Limits = refl
-ask_ends_last other = refl
+-- ---- what replies end in
 
 pub answer_ends_last : (answer : Answer) → ends_last (answer_row answer).fields ≡ true
 answer_ends_last (answers.Handle handle) = refl

@@ -3,7 +3,7 @@ use Rattle.std.proofs.Common.{◌≡◌, ℕ, Bool, true, false, cond, List, [],
 use Rattle.std.proofs.Common.{append_assoc, zero, suc, ◌<◌, ◌≤◌, ◌∷◌, length, Option, Some, None, subst, arith, ◌-◌}
 use Rattle.std.proofs.Common.{◌+◌}
 use Rattle.sftp_packets.specs.declared.errors.Fault.{Fault}
-use Rattle.sftp_packets.specs.Reading.{◌>>=◌, Reader, none_at, one, two, three, optional_at, many_at, up_to_end, Reads}
+use Rattle.sftp_packets.specs.Reading.{◌>>=◌, Reader, one, two, three, optional_at, many_at, up_to_end, Reads}
 use Rattle.sftp_packets.proofs.Bytes.{IsBytes}
 use Rattle.std.specs.Prelude.{IfSome, is_some}
 use Rattle.std.specs.List.{flat_map, AllByRecursion}
@@ -57,12 +57,6 @@ TakesAs {A = A} read spell Fits = (bytes : List ℕ) (x : A) (rest : List ℕ) �
 -- what fits is read again, whatever follows
 abbrev pub AgainAs : {A : Type 0} → Reader A → (A → List ℕ) → (A → Type 0) → Type 0
 AgainAs {A = A} read spell Fits = (rest : List ℕ) (x : A) → Fits x → read (spell x ++ rest) ≡ Ok (x, rest)
-
--- ---- none
-
-pub none_takes : {A : Type 0} (value : A) (spell : A → List ℕ) (Fits : A → Type 0) → spell value ≡ [] → Fits value → TakesAs (none_at value) spell Fits
-none_takes {A = A} value spell Fits empty fits bytes x rest is_bytes e =
-    subst (λ (y : A × List ℕ). Takes bytes (spell y.0) y.1 × Fits y.0) (ok_is (value, bytes) (x, rest) e) (rw empty (Takes-none bytes is_bytes), fits)
 
 -- ---- one
 

@@ -1,14 +1,18 @@
 -- The requests (draft-ietf-secsh-filexfer-02, sections 6 and 8): how each is spelled, how it is read, and which reply
 -- it may get.
-use Rattle.std.specs.Prelude.{◌==◌, ℕ, Bool, false, if◌then◌else◌, List, [], ◌∷◌, codes, map, bytes_eq, Option}
+use Rattle.std.specs.Prelude.{◌==◌, ℕ, Bool, false, if◌then◌else◌, List, [], ◌∷◌, codes, map, bytes_eq, find, Option}
+use Rattle.std.specs.Prelude.{Some, None}
 use Rattle.std.specs.List.{list_any}
 use Rattle.sftp_packets.specs.declared.errors.Fault.TheVariants.{WrongType}
 use Rattle.sftp_packets.specs.declared.requests.Ask.{Ask}
 use Rattle.sftp_packets.specs.declared.requests.Ask.TheVariants as asks
 use Rattle.sftp_packets.specs.declared.packets.Packet.{Packet}
 use Rattle.sftp_packets.specs.declared.packets.Packet.TheVariants.{Request, Reply}
-use Rattle.sftp_packets.specs.Spelling.{Row, plain, extension, Number, LongNumber, Flags, Text, Handle, ExtensionName}
-use Rattle.sftp_packets.specs.Spelling.{Rest, Attributes, no_attributes, row_parts, Fit, handle_in, Message, Items}
+use Rattle.sftp_packets.specs.declared.attributes.Attrs.{Attrs}
+use Rattle.sftp_packets.specs.declared.names.NameItem.{NameItem}
+use Rattle.sftp_packets.specs.Spelling.{Field, Number, LongNumber, Flags, Text, Handle, ExtensionName, Message, Rest}
+use Rattle.sftp_packets.specs.Spelling.{Attributes, Items, Row, plain, extension, no_attributes, row_parts, Fit}
+use Rattle.sftp_packets.specs.Spelling.{handle_in}
 use Rattle.sftp_packets.specs.Reading.{Reader, ◌>>=◌, refuse, none_at, one, two, three, uint32_at, uint64_at}
 use Rattle.sftp_packets.specs.Reading.{string_at, handle_at, rest_at, attributes_at, names_at}
 use Rattle.sftp_packets.specs.declared.replies.Answer.{Answer}
@@ -116,18 +120,50 @@ reply_type other = 101
 
 -- ---- how requests are read
 
+-- The fields of a request of the kind of this one, whatever its own; of an extension those after its name (draft,
+-- sections 6 and 8).
+abbrev pub ask_at : Ask → Reader Ask
+ask_at (asks.Open path pflags attrs) = three string_at uint32_at attributes_at asks.Open
+ask_at (asks.Close handle) = one handle_at asks.Close
+ask_at (asks.Read handle offset len) = three handle_at uint64_at uint32_at asks.Read
+ask_at (asks.Write handle offset bytes) = three handle_at uint64_at string_at asks.Write
+ask_at (asks.Lstat path) = one string_at asks.Lstat
+ask_at (asks.Fstat handle) = one handle_at asks.Fstat
+ask_at (asks.Setstat path attrs) = two string_at attributes_at asks.Setstat
+ask_at (asks.Fsetstat handle attrs) = two handle_at attributes_at asks.Fsetstat
+ask_at (asks.Opendir path) = one string_at asks.Opendir
+ask_at (asks.Readdir handle) = one handle_at asks.Readdir
+ask_at (asks.Remove path) = one string_at asks.Remove
+ask_at (asks.Mkdir path attrs) = two string_at attributes_at asks.Mkdir
+ask_at (asks.Rmdir path) = one string_at asks.Rmdir
+ask_at (asks.Realpath path) = one string_at asks.Realpath
+ask_at (asks.Stat path) = one string_at asks.Stat
+ask_at (asks.Rename oldpath newpath) = two string_at string_at asks.Rename
+ask_at (asks.Readlink path) = one string_at asks.Readlink
+ask_at (asks.Symlink targetpath linkpath) = two string_at string_at asks.Symlink
+ask_at (asks.PosixRename oldpath newpath) = two string_at string_at asks.PosixRename
+ask_at (asks.Hardlink oldpath newpath) = two string_at string_at asks.Hardlink
+ask_at (asks.Fsync handle) = one handle_at asks.Fsync
+ask_at asks.Limits = none_at asks.Limits
+ask_at (asks.Unknown name rest) = one rest_at (asks.Unknown name)
+
 -- a request: its id, and what it asks for
 abbrev pub request_at : Reader Ask → Reader Packet
 request_at ask = two uint32_at ask (λ id a. Request (record { id = id; ask = a }))
 
+-- whether a row has the name of a known extension, and it is this one
+abbrev pub is_named : List ℕ → Option (List ℕ) → Bool
+is_named name None = false
+is_named name (Some known) = bytes_eq name known
+
+-- the data of a known extension, if there is one of that name, and else of an unknown one
+abbrev pub data_at : List ℕ → Option Ask → Reader Ask
+data_at name None = ask_at (asks.Unknown name [])
+data_at name (Some ask) = ask_at ask
+
 -- the data of an extension, by its name (OpenSSH's PROTOCOL, section 4)
 unfoldable pub extension_data_at : List ℕ → Reader Ask
-extension_data_at name =
-    if bytes_eq name posix_rename_name then two string_at string_at asks.PosixRename else
-    if bytes_eq name hardlink_name then two string_at string_at asks.Hardlink else
-    if bytes_eq name fsync_name then one handle_at asks.Fsync else
-    if bytes_eq name limits_name then none_at asks.Limits else
-    one rest_at (asks.Unknown name)
+extension_data_at name = data_at name (find (λ ask. is_named name (ask_row ask).extension) every_ask)
 
 -- an extension: its name, and then its data (draft, section 8)
 unfoldable pub extension_at : Reader Ask
@@ -135,29 +171,61 @@ extension_at bytes = do
   name ← string_at bytes
   extension_data_at name.0 name.1
 
+-- a request that has a type of its own, if there is one of that type
+abbrev pub asked_at : Option Ask → Reader Packet
+asked_at None = refuse WrongType
+asked_at (Some ask) = request_at (ask_at ask)
+
 -- the fields after the type of a request (draft, sections 6 and 8)
 abbrev pub request_packet_at : ℕ → Reader Packet
 request_packet_at kind =
-    if kind == 3 then request_at (three string_at uint32_at attributes_at asks.Open) else
-    if kind == 4 then request_at (one handle_at asks.Close) else
-    if kind == 5 then request_at (three handle_at uint64_at uint32_at asks.Read) else
-    if kind == 6 then request_at (three handle_at uint64_at string_at asks.Write) else
-    if kind == 7 then request_at (one string_at asks.Lstat) else
-    if kind == 8 then request_at (one handle_at asks.Fstat) else
-    if kind == 9 then request_at (two string_at attributes_at asks.Setstat) else
-    if kind == 10 then request_at (two handle_at attributes_at asks.Fsetstat) else
-    if kind == 11 then request_at (one string_at asks.Opendir) else
-    if kind == 12 then request_at (one handle_at asks.Readdir) else
-    if kind == 13 then request_at (one string_at asks.Remove) else
-    if kind == 14 then request_at (two string_at attributes_at asks.Mkdir) else
-    if kind == 15 then request_at (one string_at asks.Rmdir) else
-    if kind == 16 then request_at (one string_at asks.Realpath) else
-    if kind == 17 then request_at (one string_at asks.Stat) else
-    if kind == 18 then request_at (two string_at string_at asks.Rename) else
-    if kind == 19 then request_at (one string_at asks.Readlink) else
-    if kind == 20 then request_at (two string_at string_at asks.Symlink) else
-    if kind == 200 then request_at extension_at else
-    refuse WrongType
+    if kind == 200 then request_at extension_at else asked_at (find (λ ask. kind == (ask_row ask).kind) every_ask)
+
+-- ---- what makes requests; for proofs, which so speak of all rows at once
+
+-- the values that a field may have
+abbrev pub Value : Field → Type 0
+Value (Number number) = ℕ
+Value (LongNumber number) = ℕ
+Value (Flags flags) = ℕ
+Value (Text text) = List ℕ
+Value (Handle handle) = List ℕ
+Value (ExtensionName name) = List ℕ
+Value (Message message language) = List ℕ × List ℕ
+Value (Rest bytes) = List ℕ
+Value (Attributes attrs) = Attrs
+Value (Items items) = List NameItem
+
+-- a function that makes something of a value of each such field, in their order
+abbrev pub Makes : List Field → Type 0 → Type 0
+Makes [] A = A
+Makes (field ∷ fields) A = Value field → Makes fields A
+
+-- what makes a request of the values of its fields
+abbrev pub maker : (ask : Ask) → Makes (ask_row ask).fields Ask
+maker (asks.Open path pflags attrs) = asks.Open
+maker (asks.Close handle) = asks.Close
+maker (asks.Read handle offset len) = asks.Read
+maker (asks.Write handle offset bytes) = asks.Write
+maker (asks.Lstat path) = asks.Lstat
+maker (asks.Fstat handle) = asks.Fstat
+maker (asks.Setstat path attrs) = asks.Setstat
+maker (asks.Fsetstat handle attrs) = asks.Fsetstat
+maker (asks.Opendir path) = asks.Opendir
+maker (asks.Readdir handle) = asks.Readdir
+maker (asks.Remove path) = asks.Remove
+maker (asks.Mkdir path attrs) = asks.Mkdir
+maker (asks.Rmdir path) = asks.Rmdir
+maker (asks.Realpath path) = asks.Realpath
+maker (asks.Stat path) = asks.Stat
+maker (asks.Rename oldpath newpath) = asks.Rename
+maker (asks.Readlink path) = asks.Readlink
+maker (asks.Symlink targetpath linkpath) = asks.Symlink
+maker (asks.PosixRename oldpath newpath) = asks.PosixRename
+maker (asks.Hardlink oldpath newpath) = asks.Hardlink
+maker (asks.Fsync handle) = asks.Fsync
+maker asks.Limits = asks.Limits
+maker (asks.Unknown name rest) = asks.Unknown
 
 -- ==== The replies (draft-ietf-secsh-filexfer-02, sections 7 and 8): how each is spelled, and how it is read.
 

@@ -3,7 +3,6 @@
 #![tactic(auto)]
 
 mod attributes;
-mod copying;
 mod errors;
 pub mod examples;
 mod fields;

@@ -1,5 +1,6 @@
 //! The requests (draft, sections 6 and 8; OpenSSH's PROTOCOL, section 4): the type of each, its fields, its handle, the
-//! type of its reply, and its layout; and the names of extensions. `requests/reading.rt` reads requests.
+//! type of its reply, and its layout; and the names of extensions. `requests/reading.rt` reads them and
+//! `requests/copying.rt` copies them, both by the table here (`with_requests!`).
 ghost use Rattle.std.specs.Prelude.{◌≡◌, bytes_eq, option_copied};
 ghost use Rattle.std.specs.List.{list_any};
 ghost use Rattle.sftp_packets.specs.Requests.{ask_row, ask_parts, asked_handle, is_known_extension, asks_known};
@@ -11,6 +12,7 @@ use crate::packets::INIT;
 use crate::replies::{ATTRS, DATA, EXTENDED_REPLY, HANDLE, NAME, STATUS};
 use crate::strings::ByteString;
 
+mod copying;
 pub(crate) mod reading;
 
 // The types of requests (draft, section 3).
@@ -248,35 +250,66 @@ macro_rules! with_asked {
 
 pub(crate) use with_asked;
 
+/// Hands the requests to a macro, behind what it is given: of a request of the draft the type, the variant, and the
+/// fields in their order, each with its kind (`FieldKind`, or `Tail` of one that comes last); of a known extension its
+/// name in place of the type. `Unknown`, which is any other extension, is for the macro itself.
+// They are read and copied by this table, which the compiler holds against `Ask`, and the proof against `ask_row`.
+macro_rules! with_requests {
+    ($use:ident!($($given:tt)*)) => {
+        $use! {
+            ($($given)*)
+            [
+                OPEN => Open { path: Text, pflags: Flags, attrs: Attributes },
+                CLOSE => Close { handle: Handle },
+                READ => Read { handle: Handle, offset: LongNumber, len: Number },
+                WRITE => Write { handle: Handle, offset: LongNumber, bytes: Text },
+                LSTAT => Lstat { path: Text },
+                FSTAT => Fstat { handle: Handle },
+                SETSTAT => Setstat { path: Text, attrs: Attributes },
+                FSETSTAT => Fsetstat { handle: Handle, attrs: Attributes },
+                OPENDIR => Opendir { path: Text },
+                READDIR => Readdir { handle: Handle },
+                REMOVE => Remove { path: Text },
+                MKDIR => Mkdir { path: Text, attrs: Attributes },
+                RMDIR => Rmdir { path: Text },
+                REALPATH => Realpath { path: Text },
+                STAT => Stat { path: Text },
+                RENAME => Rename { oldpath: Text, newpath: Text },
+                READLINK => Readlink { path: Text },
+                SYMLINK => Symlink { targetpath: Text, linkpath: Text },
+            ]
+            [
+                POSIX_RENAME => PosixRename { oldpath: Text, newpath: Text },
+                HARDLINK => Hardlink { oldpath: Text, newpath: Text },
+                FSYNC => Fsync { handle: Handle },
+                LIMITS => Limits {},
+            ]
+        }
+    };
+}
+
+pub(crate) use with_requests;
+
+/// The type of a request, by the table.
+macro_rules! type_in {
+    (
+        ($ask:expr)
+        [$($type:ident => $variant:ident { $($field:ident: $kind:ident),* },)*]
+        [$($name:ident => $extension:ident { $($part:ident: $part_kind:ident),* },)*]
+    ) => {
+        match $ask {
+            $(Ask::$variant { .. } => $type,)*
+            $(Ask::$extension { .. } => EXTENDED,)*
+            Ask::Unknown { .. } => EXTENDED,
+        }
+    };
+}
+
 /// The type of a request's packet.
 pub(crate) fn asked_type(ask: &Ask) -> u8
     ensures { result ≡ (ask_parts ask.now).0 }
 {
-    match ask {
-        Ask::Open { .. } => OPEN,
-        Ask::Close { .. } => CLOSE,
-        Ask::Read { .. } => READ,
-        Ask::Write { .. } => WRITE,
-        Ask::Lstat { .. } => LSTAT,
-        Ask::Fstat { .. } => FSTAT,
-        Ask::Setstat { .. } => SETSTAT,
-        Ask::Fsetstat { .. } => FSETSTAT,
-        Ask::Opendir { .. } => OPENDIR,
-        Ask::Readdir { .. } => READDIR,
-        Ask::Remove { .. } => REMOVE,
-        Ask::Mkdir { .. } => MKDIR,
-        Ask::Rmdir { .. } => RMDIR,
-        Ask::Realpath { .. } => REALPATH,
-        Ask::Stat { .. } => STAT,
-        Ask::Rename { .. } => RENAME,
-        Ask::Readlink { .. } => READLINK,
-        Ask::Symlink { .. } => SYMLINK,
-        Ask::PosixRename { .. }
-        | Ask::Hardlink { .. }
-        | Ask::Fsync { .. }
-        | Ask::Limits
-        | Ask::Unknown { .. } => EXTENDED,
-    }
+    with_requests!(type_in!(ask))
 }
 
 /// The handle that a request names; `None` if it names none.
@@ -296,18 +329,26 @@ pub fn asked_handle(ask: &Ask) -> Option<&[u8]>
     }
 }
 
+/// The name of a known extension, by the table.
+macro_rules! name_in {
+    (
+        ($ask:expr)
+        [$($type:ident => $variant:ident { $($field:ident: $kind:ident),* },)*]
+        [$($name:ident => $extension:ident { $($part:ident: $part_kind:ident),* },)*]
+    ) => {
+        match $ask {
+            $(Ask::$extension { .. } => Some($name),)*
+            // the rows of all others have none, as the proof finds
+            _ => None,
+        }
+    };
+}
+
 /// The name of a known extension, if a request is one; `None` for a request of the draft, and for `Unknown`.
 pub fn extension_name(ask: &Ask) -> Option<&'static [u8]>
     ensures { option_copied result ≡ (ask_row ask.now).extension }
 {
-    match ask {
-        Ask::PosixRename { .. } => Some(POSIX_RENAME),
-        Ask::Hardlink { .. } => Some(HARDLINK),
-        Ask::Fsync { .. } => Some(FSYNC),
-        Ask::Limits => Some(LIMITS),
-        // the rows of all others have none, as the proof finds
-        _ => None,
-    }
+    with_requests!(name_in!(ask))
 }
 
 /// The type of the reply that a request may get; each may get a status beside it, and most get nothing else (draft,
