@@ -57,7 +57,7 @@ pub use Rattle.sftp_tree.specs.PlaceCauses.{opening_causes, needing_causes, link
 pub use Rattle.sftp_tree.specs.Told.{IsFree, stat_ask}
 pub use Rattle.sftp_tree.specs.Requests.{Told, done, led_to, told_at, new_led, follows, has_step, shown_at, path_of}
 unfoldable pub use Rattle.sftp_tree.specs.Requests.{led, outcome}
-pub use Rattle.sftp_tree.specs.Plans.{size_fits}
+pub use Rattle.sftp_tree.specs.Room.{size_fits}
 pub use Rattle.sftp_tree.specs.Tree.{limits, IsContent, content_at, content_fits, with_content, Files, Tree, Pins}
 pub use Rattle.sftp_tree.specs.Tree.{IsNode, HasFile, node_at, is_pinned, times_pinned, with_pin, WellFormed, IsPin}
 pub use Rattle.sftp_tree.specs.Tree.{trim, IsKept, with_pins, without_pin, is_link, link_fits, Names, is_named}

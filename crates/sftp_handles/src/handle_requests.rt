@@ -2,7 +2,7 @@
 ghost use Rattle.std.specs.Prelude.{◌≡◌, ◌&&◌, not, ℕ, Ok, Some, is_some, IfOk, OnOk, IsTrue, option_map};
 ghost use Rattle.sftp_packets.specs.declared.requests.Ask.TheVariants.{Close, Read, Write, Fsetstat};
 ghost use Rattle.sftp_tree.specs.Told.{in_set};
-ghost use Rattle.sftp_tree.specs.Plans.{size_fits};
+ghost use Rattle.sftp_tree.specs.Room.{size_fits};
 ghost use Rattle.sftp_tree.specs.Tree.{HasFile, content_at, limits};
 ghost use Rattle.sftp_handles.specs.Slots.{found_file, refusing, granted, IsWritable};
 ghost use Rattle.sftp_handles.specs.State.{open_at};

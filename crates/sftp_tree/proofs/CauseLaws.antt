@@ -24,7 +24,7 @@ use Rattle.sftp_tree.specs.Requests.{plain_causes, plan_at, plan_between, outcom
 use Rattle.std.specs.Option.{option_map, is_some}
 use Rattle.std.proofs.Math.Bool.{and-false, or-true, or-false}
 use Rattle.sftp_tree.specs.Changes.{carried}
-use Rattle.sftp_tree.specs.Plans.{size_fits_at, has_room_to_open}
+use Rattle.sftp_tree.specs.Room.{size_fits_at, has_room_to_open}
 use Rattle.sftp_tree.proofs.Limits.{fits-again, fits-content, content-fits}
 use Rattle.sftp_tree.proofs.Limits.{fits-put_in_stead}
 use Rattle.sftp_tree.proofs.FileCounts as left

@@ -80,7 +80,7 @@ pub use Rattle.sftp_packets.specs.Spelling.{AreBytes}
 pub use Rattle.sftp_packets.specs.declared.attributes.Attrs.{Attrs}
 pub use Rattle.sftp_packets.specs.declared.requests.Ask.{Ask}
 pub use Rattle.sftp_packets.specs.Layouts.{IsAttrs, IsAsk}
-pub use Rattle.sftp_tree.specs.Asks.{asked, has_room_for, HasNode}
+pub use Rattle.sftp_tree.specs.Requests.{asked, has_room_for, HasNode}
 pub use Rattle.sftp_tree.specs.Attributes.{directory_owner, changed_owner, changed_content, resized, file_owner}
 pub use Rattle.sftp_tree.specs.PlaceCauses.{row, CauseSet, every_cause, is_none, only}
 unfoldable pub use Rattle.sftp_tree.specs.PlaceCauses.{no_causes, when, joined}
@@ -110,11 +110,11 @@ pub use Rattle.sftp_tree.specs.PlaceCauses.{making_causes, needing_causes, link_
 pub use Rattle.sftp_tree.specs.PlaceCauses.{leaving_causes, giving_causes, moving_causes, clashing_causes}
 pub use Rattle.sftp_tree.specs.PlaceCauses.{replacing_causes, exchanging_causes, goes_inside, are_one, are_one_file}
 pub use Rattle.sftp_tree.specs.PlaceCauses.{directory_causes, removing_causes, opening_causes}
-pub use Rattle.sftp_tree.specs.Plans.{CanMake, CanPut, CanTake, CanMove, CanDo, AreAny, OwnsBy, planned, changed}
+pub use Rattle.sftp_tree.specs.Plans.{CanMake, CanPut, CanTake, CanMove, CanDo, AreAny, planned, changed}
 pub use Rattle.sftp_tree.specs.Plans.{IsPlanned}
 pub use Rattle.sftp_tree.specs.Told.{IsFree, stat_ask, IsRefusal}
 unfoldable pub use Rattle.sftp_tree.specs.Told.{in_set}
-pub use Rattle.sftp_tree.specs.Plans.{has_room, size_fits, move_fits, has_room_for_file, reaches_at_most}
+pub use Rattle.sftp_tree.specs.Room.{has_room, size_fits, move_fits, has_room_for_file, reaches_at_most, OwnsBy}
 pub use Rattle.sftp_tree.specs.Stepping.{left_of, is_done}
 pub use Rattle.sftp_tree.specs.Nesting.{branch_seen, node_seen}
 pub use Rattle.sftp_tree.specs.Stepping.{meeting, StaysAtLink, LendsEnd}

@@ -8,13 +8,13 @@ pub mod Attributes
 pub mod Items
 pub mod PlaceCauses
 pub mod Changes
+pub mod Room
 pub mod Requests
 pub mod Told
 pub mod Picture
 pub mod PictureParts
 pub mod PictureExamples
 pub mod Plans
-pub mod Asks
 pub mod RequestExamples
 pub mod Stepping
 pub mod WalkExamples

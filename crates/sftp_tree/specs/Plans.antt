@@ -1,11 +1,8 @@
 -- The plans of requests, as the code has them, and when each can be carried out.
-use Rattle.std.specs.Prelude.{◌+◌, ◌-◌, ◌^◌, ◌&&◌, ◌||◌, not, nat_lt, nat_le, Bool, true, length, ℕ, Option, Some}
-use Rattle.std.specs.Prelude.{None, Result, Ok, Err, IfOk, IfSome, ◌≡◌, false, IsTrue}
-use Rattle.std.specs.List.{list_all}
-use Rattle.sftp_path.specs.Place.{Place, begins, depth_limit, parent, are_names}
-use Rattle.sftp_treefile.specs.declared.limits.TreeLimits.{TreeLimits}
+use Rattle.std.specs.Prelude.{Option, Some, None, Result, Ok, Err, IfOk, IfSome, ◌≡◌, false, IsTrue}
+use Rattle.sftp_path.specs.Place.{Place, parent, are_names}
 use Rattle.sftp_tree.specs.declared.nodes.Node.{Node}
-use Rattle.sftp_tree.specs.Tree.{Tree, Names, limits, is_file, depth_fits, IsKept, IsNode, IsContent, fits, node_at}
+use Rattle.sftp_tree.specs.Tree.{Tree, Names, IsKept, IsNode, IsContent, fits, node_at}
 use Rattle.sftp_tree.specs.Tree.{is_taken, is_directory, has_entries, trim}
 use Rattle.std.specs.Option.{option_map}
 use Rattle.sftp_tree.specs.declared.causes.Cause.{Cause}
@@ -20,46 +17,12 @@ use Rattle.sftp_treefile.specs.declared.files.Owner.{Owner}
 use Rattle.sftp_treefile.specs.TreeFile.{IsOwner, is_root, same_place}
 use Rattle.sftp_packets.specs.declared.attributes.Attrs.{Attrs}
 use Rattle.sftp_tree.specs.declared.file_contents.Content.{Content}
-use Rattle.sftp_tree.specs.declared.nodes.Node.TheVariants as nodes
 use Rattle.sftp_tree.specs.declared.plans.Plan.{Plan}
 use Rattle.sftp_tree.specs.declared.plans.Plan.TheVariants.{Nothing, Put, Remove, Move, SetOwner, SetFile, Make}
 use Rattle.sftp_tree.specs.declared.plans.Plan.TheVariants.{Truncate}
-use Rattle.sftp_tree.specs.Attributes.{changed_owner}
 use Rattle.sftp_tree.specs.PlaceCauses.{goes_inside}
 use Rattle.sftp_tree.specs.Changes as plans
 use Rattle.sftp_tree.specs.Changes.{carried, with_entry, put_in_its_stead, with_new_file}
-
--- ==== Whether what requests ask for keeps to the limits, in numbers.
-
--- whether one more entry, at a new place, keeps to the limits; the root is a place, but does not count as an entry
-abbrev pub has_room : Tree → Place → Bool
-has_room t place = nat_le (length t.names) (limits t).entries && depth_fits place
-
--- whether a file may have the size that is given, if one is
-abbrev pub size_fits : TreeLimits → Option ℕ → Bool
-size_fits bounds None = true
-size_fits bounds (Some size) = nat_le size bounds.file_bytes
-
--- the same, if the node is a file
-abbrev pub size_fits_at : TreeLimits → Option ℕ → Option Node → Bool
-size_fits_at bounds size standing = not (is_file standing) || size_fits bounds size
-
--- whether one more file, at a new place, keeps to the limits: it needs a number too
-abbrev pub has_room_for_file : Tree → Place → Bool
-has_room_for_file t place = has_room t place && nat_lt (t.made + 1) (2 ^ 32)
-
--- the same, if there is no node
-abbrev pub has_room_to_open : Tree → Place → Option Node → Bool
-has_room_to_open t place None = has_room_for_file t place
-has_room_to_open t place (Some standing) = true
-
--- whether each place that begins with `top` has at most `room` names after it
-abbrev pub reaches_at_most : Names → Place → ℕ → Bool
-reaches_at_most names top room = list_all (λ e. not (begins top e.0) || nat_le (length e.0 - length top) room) names
-
--- whether the node at the old place, with all below it, keeps to the limit of names in a place at the new one
-abbrev pub move_fits : Names → Place → Place → Bool
-move_fits names old new = nat_le (length new) depth_limit && reaches_at_most names old (depth_limit - length new)
 
 -- ==== What paths lead to, as the code has it.
 
@@ -193,11 +156,6 @@ AreAny attrs = Unit {0}
 -- a plan of the code can be carried out
 abbrev pub IsReady : Tree → Plan → Type 0
 IsReady t plan = IsKept t × CanDo AreAny t (planned plan)
-
--- a directory whose attributes are set gets an owner
-abbrev pub OwnsBy : Attrs → Option Node → Type 0
-OwnsBy attrs (Some (nodes.Dir owner)) = IsOwner (changed_owner attrs owner)
-OwnsBy attrs other = Unit {0}
 
 -- the plan can be carried out, and leaves the tree after the request
 pub record IsPlanned (t : Tree) (ask : Ask) (plan : Plan) : Type 0 where

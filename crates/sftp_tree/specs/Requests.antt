@@ -2,7 +2,8 @@
 -- it and what its reply says (draft-ietf-secsh-filexfer-02, sections 6.3 to 6.11; OpenSSH's PROTOCOL, section 4.1 for
 -- the order of SYMLINK's arguments, 4.3 for posix-rename and 4.5 for hardlink). Which walks follow a last link is this
 -- profile's own.
-use Rattle.std.specs.Prelude.{◌&&◌, not, ℕ, Bool, true, false, List, Option, Some, None, is_some, Result, Ok, Err}
+use Rattle.std.specs.Prelude.{◌&&◌, ◌||◌, not, ℕ, Bool, true, false, List, Option, Some, None, is_some, Result, Ok, Err}
+use Rattle.std.specs.Prelude.{IsTrue}
 use Rattle.std.specs.Option.{option_map}
 use Rattle.sftp_packets.specs.declared.attributes.Attrs.{Attrs}
 use Rattle.sftp_packets.specs.declared.requests.Ask.{Ask}
@@ -11,14 +12,17 @@ use Rattle.sftp_packets.specs.declared.requests.Ask.TheVariants.{Rename, Readlin
 use Rattle.sftp_packets.specs.declared.requests.Ask.TheVariants.{Opendir, Close, Read, Write, Fstat, Fsetstat, Readdir}
 use Rattle.sftp_packets.specs.declared.requests.Ask.TheVariants.{Fsync, Limits, Unknown}
 use Rattle.sftp_path.specs.Place.{Name, Place, absolute}
+use Rattle.sftp_treefile.specs.TreeFile.{IsOwner, are_bytes}
 use Rattle.sftp_path.specs.Table.{Table}
 use Rattle.sftp_tree.specs.declared.nodes.Node.{Node}
 use Rattle.sftp_tree.specs.declared.nodes.Node.TheVariants.{Dir, File, Link}
 use Rattle.sftp_tree.specs.declared.causes.Cause.{Cause}
 use Rattle.sftp_tree.specs.declared.causes.Cause.TheVariants.{NoRoom}
-use Rattle.sftp_tree.specs.Tree.{Tree, node_at, trim, fits}
+use Rattle.sftp_tree.specs.declared.asks.PathAsk.{PathAsk}
+use Rattle.sftp_tree.specs.declared.asks.PathAsk.TheVariants as paths
+use Rattle.sftp_tree.specs.Tree.{Tree, node_at, trim, fits, limits, is_file}
 use Rattle.sftp_tree.specs.Walk.{reached}
-use Rattle.sftp_tree.specs.Attributes.{directory_owner, shown}
+use Rattle.sftp_tree.specs.Attributes.{directory_owner, file_owner, shown}
 use Rattle.sftp_tree.specs.PlaceCauses.{CauseSet, no_causes, when, joined, is_none}
 use Rattle.sftp_tree.specs.PlaceCauses.{making_causes, needing_causes, link_causes, file_causes, setting_causes}
 use Rattle.sftp_tree.specs.PlaceCauses.{removing_causes, unlinking_causes, leaving_causes, giving_causes}
@@ -28,6 +32,8 @@ use Rattle.sftp_tree.specs.Changes.{Plan, no_change, put_node, remove_node, move
 use Rattle.sftp_tree.specs.Changes.{plan_to_open, plan_to_exchange, plan_to_name}
 use Rattle.sftp_tree.specs.Attributes.{excludes}
 use Rattle.sftp_tree.specs.Attributes.{listing}
+use Rattle.sftp_tree.specs.PlaceCauses.{are_one}
+use Rattle.sftp_tree.specs.Room.{has_room, size_fits_at, has_room_to_open, move_fits, OwnsBy}
 
 -- ---- what a reply says
 
@@ -299,3 +305,62 @@ with_room plain asked = when plain NoRoom (is_none plain && not (fits asked))
 -- the causes that hold
 unfoldable pub causes : Tree → Ask → CauseSet
 causes t ask = with_room (plain_causes t ask) (outcome t ask)
+
+-- ==== The requests as the code has them, and what it needs of each. Words of private contracts.
+
+-- the request that the code has as one of its paths
+abbrev pub asked : PathAsk → Ask
+asked (paths.Mkdir path attrs) = Mkdir path.now attrs.now
+asked (paths.Rmdir path) = Rmdir path.now
+asked (paths.Remove path) = Remove path.now
+asked (paths.Setstat path attrs) = Setstat path.now attrs.now
+asked (paths.Stat path) = Stat path.now
+asked (paths.Lstat path) = Lstat path.now
+asked (paths.Realpath path) = Realpath path.now
+asked (paths.Readlink path) = Readlink path.now
+asked (paths.Symlink target link) = Symlink target.now link.now
+asked (paths.Rename old new) = Rename old.now new.now
+asked (paths.PosixRename old new) = PosixRename old.now new.now
+asked (paths.Hardlink old new) = Hardlink old.now new.now
+asked (paths.Open path flags attrs) = Open path.now flags attrs.now
+asked (paths.Opendir path) = Opendir path.now
+
+-- ---- whether what a request asks for keeps to the limits
+
+-- at the place that its path leads to
+abbrev pub has_room_at : Tree → Ask → Place → Bool
+has_room_at t (Mkdir path attrs) place = has_room t place
+has_room_at t (Symlink target link) place = has_room t place
+has_room_at t (Setstat path attrs) place = size_fits_at (limits t) attrs.size (node_at t.names place)
+has_room_at t (Open path pflags attrs) place = has_room_to_open t place (node_at t.names place)
+has_room_at t other place = true
+
+-- with the two places that its paths lead to
+abbrev pub has_room_between : Tree → Ask → Place → Place → Bool
+has_room_between t (Rename oldpath newpath) old new = move_fits t.names old new
+has_room_between t (PosixRename oldpath newpath) old new = are_one t.names old new || move_fits t.names old new
+has_room_between t (Hardlink oldpath newpath) old new = has_room t new
+has_room_between t other old new = true
+
+-- by where its paths lead
+abbrev pub has_room_for : Tree → Ask → Result Place Cause → Option (Result Place Cause) → Bool
+has_room_for t ask (Ok place) None = has_room_at t ask place
+has_room_for t ask (Ok old) (Some (Ok new)) = has_room_between t ask old new
+has_room_for t ask (Ok old) (Some (Err cause)) = true
+has_room_for t ask (Err cause) new = true
+
+-- ---- what is to be done for it
+
+-- the owner of a new directory or of a new file is an owner, and so is that of a directory whose attributes are set;
+-- the target of a new link is bytes; `P` holds of the attributes that a file gets
+abbrev pub HasNode : (Attrs → Type 0) → Tree → Ask → Place → Type 0
+HasNode P t (Mkdir path attrs) place = IsOwner (directory_owner t attrs)
+HasNode P t (Symlink target link) place = IsTrue (are_bytes target)
+HasNode P t (Setstat path attrs) place = P attrs × OwnsBy attrs (node_at t.names place)
+HasNode P t (Open path pflags attrs) place = IsOwner (file_owner t attrs)
+HasNode P t other place = Unit {0}
+
+-- only a file gets a further name
+abbrev pub IsFileAt : Tree → Ask → Place → Type 0
+IsFileAt t (Hardlink oldpath newpath) old = IsTrue (is_file (node_at t.names old))
+IsFileAt t other old = Unit {0}

@@ -4,7 +4,7 @@ ghost use Rattle.sftp_path.specs.Place.{parent};
 ghost use Rattle.sftp_tree.specs.declared.causes.Cause.{Cause as cause};
 ghost use Rattle.sftp_tree.specs.Tree as tree;
 ghost use Rattle.sftp_tree.specs.Requests as requests;
-ghost use Rattle.sftp_tree.specs.Asks.{asked, has_room_for};
+ghost use Rattle.sftp_tree.specs.Requests.{asked, has_room_for};
 ghost use Rattle.sftp_tree.specs.Told.{in_set, IsFree, IsRefusal};
 ghost use Rattle.sftp_tree.specs.Plans.{placed, new_placed, EndIsThere, NewEndIsThere};
 ghost use Rattle.sftp_tree.specs.Plans as spec;

@@ -10,7 +10,7 @@ ghost use Rattle.sftp_tree.specs.Tree.{Tree, Pins, WellFormed, IsKept, HasFile, 
 ghost use Rattle.sftp_tree.specs.Tree.{times_pinned, is_pinned, with_pin, without_pin};
 ghost use Rattle.sftp_tree.specs.Attributes.{resized};
 ghost use Rattle.sftp_tree.specs.Changes.{written, write_fits, after_write, after_set, after_pin, after_unpin};
-ghost use Rattle.sftp_tree.specs.Plans.{size_fits};
+ghost use Rattle.sftp_tree.specs.Room.{size_fits};
 
 /// A pin more or less of one file is no pin more or less of another.
 pub fn pins_are_counted()

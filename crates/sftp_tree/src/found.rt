@@ -4,7 +4,7 @@ ghost use Rattle.sftp_treefile.specs.TreeFile.{is_root};
 ghost use Rattle.sftp_tree.specs.Tree as tree;
 ghost use Rattle.sftp_tree.specs.Tree.{Names as table, Tree as kept_tree};
 ghost use Rattle.sftp_tree.specs.PlaceCauses as place_causes;
-ghost use Rattle.sftp_tree.specs.Plans as rooms;
+ghost use Rattle.sftp_tree.specs.Room as rooms;
 ghost use Rattle.sftp_tree.specs.Plans.{node_of, IsThere, IsFoundIn};
 
 use crate::entries::seen::Seen;

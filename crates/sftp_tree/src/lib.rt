@@ -4,7 +4,6 @@
 
 mod asks;
 mod attributes;
-mod calls;
 mod causes;
 mod ends;
 mod entries;

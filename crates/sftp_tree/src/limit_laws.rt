@@ -16,7 +16,7 @@ ghost use Rattle.sftp_tree.specs.Tree.{files_fit, numbers_fit, depth_fits, link_
 ghost use Rattle.sftp_tree.specs.Tree.{node_at, with_node, without_node, content_at, with_content};
 ghost use Rattle.sftp_tree.specs.Changes.{moved};
 ghost use Rattle.sftp_tree.specs.Changes.{write_fits, after_write, after_set};
-ghost use Rattle.sftp_tree.specs.Plans.{has_room, size_fits};
+ghost use Rattle.sftp_tree.specs.Room.{has_room, size_fits};
 
 /// A tree is within the limits exactly if it is within each of them.
 pub fn limits_are_six()

@@ -4,7 +4,7 @@ ghost use Rattle.std.specs.Prelude.{◌≡◌, Some, is_some, option_map, length
 ghost use Rattle.sftp_tree.specs.Tree as tree;
 ghost use Rattle.sftp_tree.specs.Attributes as attributes;
 ghost use Rattle.sftp_tree.specs.Changes as changes;
-ghost use Rattle.sftp_tree.specs.Plans as room;
+ghost use Rattle.sftp_tree.specs.Room as room;
 
 use crate::causes::{Cause, Refused};
 use crate::file_numbers::FileNo;

@@ -6,8 +6,9 @@ ghost use Rattle.sftp_tree.specs.Tree as tree;
 ghost use Rattle.sftp_tree.specs.Attributes as attributes;
 ghost use Rattle.sftp_tree.specs.Changes as changes;
 ghost use Rattle.sftp_tree.specs.Requests as requests;
-ghost use Rattle.sftp_tree.specs.Asks.{asked};
+ghost use Rattle.sftp_tree.specs.Requests.{asked};
 ghost use Rattle.sftp_tree.specs.Nesting.{node_seen};
+ghost use Rattle.sftp_tree.specs.Room.{OwnsBy};
 ghost use Rattle.sftp_tree.specs.Plans.{node_of};
 ghost use Rattle.sftp_tree.specs.Plans.{LeadTo, AreWell};
 ghost use Rattle.sftp_tree.specs.Told.{IsFree, IsRefusal};
@@ -143,7 +144,7 @@ impl Tree {
         requires there { option_map node_seen node.now ≡ tree.node_at self.now.names place }
         ensures plan { spec.planned result
             ≡ changes.plan_to_set attrs.now place (tree.node_at self.now.names place) }
-        ensures owner { spec.OwnsBy attrs.now (tree.node_at self.now.names place) }
+        ensures owner { OwnsBy attrs.now (tree.node_at self.now.names place) }
     {
         let Some(standing) = node else {
             return Plan::Nothing;

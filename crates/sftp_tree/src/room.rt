@@ -1,7 +1,7 @@
 //! Whether what requests ask for keeps to the limits of the tree, in numbers.
 ghost use Rattle.std.specs.Prelude.{◌≡◌};
 ghost use Rattle.sftp_tree.specs.Plans.{node_of, IsThere, IsFoundIn};
-ghost use Rattle.sftp_tree.specs.Plans as room;
+ghost use Rattle.sftp_tree.specs.Room as room;
 ghost use Rattle.sftp_tree.specs.Tree as tree;
 ghost use Rattle.sftp_tree.specs.Tree.{Tree as kept_tree};
 

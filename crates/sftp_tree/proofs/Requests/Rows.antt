@@ -14,7 +14,7 @@ use Rattle.sftp_tree.proofs.Imports.{list_any, NoRoom, CauseSet, every_cause, is
 use Rattle.sftp_tree.proofs.Imports.{nat_lt, inl, inr, ◌⊎◌, ◌↔◌, nat_cmp, both_ways, InOrder, InOrder-put}
 use Rattle.sftp_tree.proofs.Imports.{times_named, times_pinned, is_pinned, is_held, trim, IsPlaceOf, IsPlanned}
 use Rattle.sftp_tree.proofs.Imports.{AreAny, planned}
-use Rattle.sftp_tree.specs.Asks.{has_room_at, has_room_between, IsFileAt}
+use Rattle.sftp_tree.specs.Requests.{has_room_at, has_room_between, IsFileAt}
 use Rattle.std.specs.Option.{is_some, IfSome}
 use Rattle.sftp_tree.specs.Requests.{led, new_led, causes_at, new_causes_at, causes_between, own_causes, plan_at}
 use Rattle.sftp_tree.specs.Requests.{plan_between, plan_led, led_to, outcome, shown_at, target_of, number_at, path_of}
