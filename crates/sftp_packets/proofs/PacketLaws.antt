@@ -277,7 +277,7 @@ fields-again {A = A} (field ∷ next ∷ others) make fits small last =
     let both = and_parts (has_others field) (ends_last (next ∷ others)) last in
     ap (fields_at {A = A} (field ∷ next ∷ others) make) (append_assoc (field_bytes field) (fields_bytes (next ∷ others)) [])
     ∙ rw (value-again field (fields_bytes (next ∷ others) ++ []) fits.0 small.0 (λ none. absurd (true≢false (sym both.0 ∙ none))))
-      (fields-again {A = A} (next ∷ others) (make (value_of field)) fits.1 small.1 both.1)
+    (fields-again {A = A} (next ∷ others) (make (value_of field)) fits.1 small.1 both.1)
 
 -- ==== Packets of a side, by their type: the first packets, and what the packets of either side share.
 
@@ -418,19 +418,19 @@ some_is x y e = cc
 
 find-holds : {A : Type 0} (has : A → Bool) (xs : List A) (x : A) → find has xs ≡ Some x → has x ≡ true
 find-holds has [] x e = absurd cc
-find-holds {A = A} has (y ∷ xs) x e = by (has y) refl e
+find-holds {A = A} has (y ∷ xs) x e = by (has y) refl e (find-holds has xs x)
   where
-    by : (b : Bool) → has y ≡ b → cond b (Some y) (find has xs) ≡ Some x → has x ≡ true
-    by true is e = subst (λ (z : A). has z ≡ true) (some_is y x e) is
-    by false is e = find-holds has xs x e
+    by : (b : Bool) → has y ≡ b → cond b (Some y) (find has xs) ≡ Some x → (find has xs ≡ Some x → has x ≡ true) → has x ≡ true
+    by true is e others = subst (λ (z : A). has z ≡ true) (some_is y x e) is
+    by false is e others = others e
 
 find-none : {A : Type 0} (has : A → Bool) (xs : List A) → find has xs ≡ None → list_any has xs ≡ false
 find-none has [] e = refl
-find-none has (y ∷ xs) e = by (has y) e
+find-none has (y ∷ xs) e = by (has y) e (find-none has xs)
   where
-    by : (b : Bool) → cond b (Some y) (find has xs) ≡ None → (b || list_any has xs) ≡ false
-    by true e = absurd cc
-    by false e = find-none has xs e
+    by : (b : Bool) → cond b (Some y) (find has xs) ≡ None → (find has xs ≡ None → list_any has xs ≡ false) → (b || list_any has xs) ≡ false
+    by true e others = absurd cc
+    by false e others = others e
 
 named-is : (name : List ℕ) (o : Option (List ℕ)) → is_named name o ≡ true → o ≡ Some name
 named-is name None e = absurd cc
@@ -458,8 +458,8 @@ known_takes name ask named bytes a rest is_bytes e =
     let kind : (ask_row ask).kind ≡ 200 = subst (λ (o : Option (List ℕ)). cond (is_some o) (ask_row ask).kind 200 ≡ 200) named (named-type ask) in
     let spelled : named_bytes (ask_row ask).extension filled ≡ string name ++ fields_bytes filled = ap (λ (o : Option (List ℕ)). named_bytes o filled) named ∙ named-then name filled in
     let row =
-      subst (λ (row : Row). Fit row.fields × IfSome (handle_in row.fields) IsSmall × (row.kind ≡ 200) × ((row_parts row).1 ≡ string name ++ fields_bytes filled))
-      (sym (ask-made ask t.values)) (t.fit, handle-small filled t.small, kind, spelled) in
+    subst (λ (row : Row). Fit row.fields × IfSome (handle_in row.fields) IsSmall × (row.kind ≡ 200) × ((row_parts row).1 ≡ string name ++ fields_bytes filled))
+    (sym (ask-made ask t.values)) (t.fit, handle-small filled t.small, kind, spelled) in
     subst (λ (b : Ask). (behind : List ℕ) × Takes bytes behind rest × FitsAskOf 200 b × (ask_fields b ≡ string name ++ behind)) t.is_made
     (fields_bytes filled, t.taken, (row.0, row.1, made-known ask known t.values, row.2), row.3)
 
@@ -470,14 +470,14 @@ unknown_takes name fits unknown bytes a rest is_bytes e =
     subst (λ (y : Ask × List ℕ). (behind : List ℕ) × Takes bytes behind y.1 × FitsAskOf 200 y.0 × (ask_fields y.0 ≡ string name ++ behind))
     (ok_is (asks.Unknown name b.0.0, b.0.1) (a, rest) b.2) (b.0.0, t.0, ((fits, t.1), tt, unknown, refl), refl)
 
-data_takes : (name : List ℕ) → FitsString name → (found : Option Ask) → find (λ ask. is_named name (ask_row ask).extension) every_ask ≡ found → TakesData name (data_at name found)
-data_takes name fits None is = unknown_takes name fits (find-none (λ ask. is_named name (ask_row ask).extension) every_ask is)
-data_takes name fits (Some ask) is =
+found_takes : (name : List ℕ) → FitsString name → (found : Option Ask) → find (λ ask. is_named name (ask_row ask).extension) every_ask ≡ found → TakesData name (data_at name found)
+found_takes name fits None is = unknown_takes name fits (find-none (λ ask. is_named name (ask_row ask).extension) every_ask is)
+found_takes name fits (Some ask) is =
     known_takes name ask (named-is name (ask_row ask).extension (find-holds (λ ask. is_named name (ask_row ask).extension) every_ask ask is))
 
 extension_data_takes : (name : List ℕ) → FitsString name → TakesData name (extension_data_at name)
 unfolding extension_data_at
-extension_data_takes name fits = data_takes name fits (find (λ ask. is_named name (ask_row ask).extension) every_ask) refl
+extension_data_takes name fits = found_takes name fits (find (λ ask. is_named name (ask_row ask).extension) every_ask) refl
 
 pub extension_takes : TakesAs extension_at ask_fields (FitsAskOf 200)
 unfolding extension_at
@@ -547,8 +547,8 @@ ask_takes ask own bytes a rest is_bytes e =
     let filled = with_values (ask_row ask).fields t.values in
     let taken = subst (λ (o : Option (List ℕ)). Takes bytes (named_bytes o filled) rest) (sym (not-named ask own)) t.taken in
     let row =
-      subst (λ (row : Row). Takes bytes (row_parts row).1 rest × Fit row.fields × IfSome (handle_in row.fields) IsSmall × (row.kind ≡ (ask_row ask).kind))
-      (sym (ask-made ask t.values)) (taken, t.fit, handle-small filled t.small, refl) in
+    subst (λ (row : Row). Takes bytes (row_parts row).1 rest × Fit row.fields × IfSome (handle_in row.fields) IsSmall × (row.kind ≡ (ask_row ask).kind))
+    (sym (ask-made ask t.values)) (taken, t.fit, handle-small filled t.small, refl) in
     subst (λ (b : Ask). Takes bytes (ask_fields b) rest × FitsAskOf (ask_row ask).kind b) t.is_made
     (row.0, (row.1, row.2, made-known ask known t.values, row.3))
 
