@@ -1,5 +1,5 @@
--- What requests need of a tree: room within its limits, in numbers, and owners. Words of private contracts, of which the
--- laws use some.
+-- What requests need of a tree: room within its limits, in numbers, and owners. Words of private contracts; the laws of
+-- limits use some.
 use Rattle.std.specs.Prelude.{◌+◌, ◌-◌, ◌^◌, ◌&&◌, ◌||◌, not, nat_lt, nat_le, Bool, true, length, ℕ, Option, Some}
 use Rattle.std.specs.Prelude.{None}
 use Rattle.std.specs.List.{list_all}

@@ -1,6 +1,6 @@
 //! The requests that are judged by the paths that they name (draft, sections 6.3 to 6.11; OpenSSH's PROTOCOL, sections
 //! 4.3 and 4.5): first what there is to say of each, which is its paths, the causes of its own bytes, the causes at the
-//! places that the paths lead to, whether there is room, and its plan; then what it does to a tree, and what it returns.
+//! places that the paths lead to, whether there is room, and its plan; then what it does to a tree and what it returns.
 //! A bad path has the cause `BadPath`, and one that leads nowhere the walk's: `NoEntry`, `NotDir` or `Loop`.
 ghost use Rattle.std.specs.Prelude.{◌≡◌, Some, is_some, IfOk, IfErr, IsTrue, OnOk, OnErr, MatchOption, option_copied};
 ghost use Rattle.sftp_packets.specs.declared.requests.Ask.TheVariants.{Setstat, Remove, Mkdir, Rmdir, Realpath, Rename};

@@ -1,5 +1,5 @@
-//! Exact copies of requests: a copy takes memory, so it may fail. Fields are copied one by one, as the table of requests
-//! says, and then the request is put together.
+//! Exact copies of requests: a copy takes memory, so it may fail. Fields are copied one by one, as the table of
+//! requests says, and then the request is put together.
 //!
 //! A copy of a request says that its bytes are bytes and that the numbers of an owner have 32 bits. A proof learns that
 //! only of what code reads, so functions here read them.

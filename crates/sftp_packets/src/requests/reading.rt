@@ -1,5 +1,5 @@
-//! Requests are read field by field, from left to right and up to the first fault, as the table of requests says (draft,
-//! sections 6 and 8).
+//! Requests are read field by field, from left to right and up to the first fault, as the table of requests says
+//! (draft, sections 6 and 8).
 ghost use Rattle.std.specs.Prelude.{◌≡◌};
 ghost use Rattle.sftp_packets.specs.declared.packets.Packet.{Packet};
 ghost use Rattle.sftp_packets.specs.Reading.{Reads, one, rest_at};
