@@ -8,7 +8,7 @@ use Rattle.sftp_packets.specs.declared.replies.Answer.{Answer}
 use Rattle.sftp_packets.specs.declared.packets.Packet.{Packet}
 use Rattle.sftp_packets.specs.declared.packets.Packet.TheVariants.{Init, Version, Request, Reply}
 use Rattle.sftp_packets.specs.declared.packets.Side.{Side}
-use Rattle.sftp_packets.specs.Spelling.{handle_limit, uint32, pairs, FitsPairs, string, AreBytes, FitsString, uint64}
+use Rattle.sftp_packets.specs.Spelling.{handle_limit, uint32, pairs, FitsPairs, string, AreBytes, FitsString}
 use Rattle.sftp_packets.specs.Spelling.{attributes, FitsAttrs, with_id, names, FitsNames, Field, Text, Attributes}
 use Rattle.sftp_packets.specs.Spelling.{FitsField, Fit, Message, Rest, Items, Number, LongNumber, Flags, Handle}
 use Rattle.sftp_packets.specs.Spelling.{ExtensionName, Row, field_bytes, fields_bytes, named_bytes, row_parts, handle_in}
@@ -19,13 +19,13 @@ use Rattle.sftp_packets.specs.Requests.{maker}
 use Rattle.sftp_packets.specs.Requests.{answer_parts, answered_handle, FitsAnswer, reply_at, answer_row}
 use Rattle.sftp_packets.specs.Packets.{contents, side_of, handle_of, hides_extension, FitsFields, packet_at}
 use Rattle.sftp_packets.specs.Packets.{packet_of, spelling, HasSpelling, client_packet_at, server_packet_at}
-use Rattle.std.proofs.lemmas.Bool.{eqb-true, cond_both, ltb-true, and_parts, or_from, or_parts, cases_Bool, true≢false}
+use Rattle.std.proofs.lemmas.Bool.{eqb-true, cond_both, ltb-true, and_parts, or_parts, cases_Bool, true≢false}
 use Rattle.std.proofs.lemmas.List.{append-nil, nil_from_length, take_at}
 use Rattle.sftp_packets.specs.declared.errors.Fault.{Fault}
 use Rattle.sftp_packets.specs.declared.packets.Side.TheVariants.{Client, Server}
 use Rattle.sftp_packets.specs.Reading.{Reader, refuse, two, uint32_at, pairs_at, one, string_at, handle_at}
 use Rattle.sftp_packets.specs.Reading.{◌>>=◌, rest_at, three, uint64_at, attributes_at, names_at, pair_at}
-use Rattle.sftp_packets.proofs.Bytes.{Is32, Is64, IsBytes, IsBytes-rest, wide32}
+use Rattle.sftp_packets.proofs.Bytes.{Is32, IsBytes, IsBytes-rest, wide32}
 use Rattle.sftp_packets.proofs.Readers.{TakesAs, two_takes, two_again, one_takes, one_again, Takes-none}
 use Rattle.sftp_packets.proofs.Readers.{three_takes, three_again}
 use Rattle.sftp_packets.proofs.FieldLaws.{uint32_takes, uint32_again, FitsHandle, as_bytes, string_takes}
@@ -38,7 +38,6 @@ use Rattle.std.proofs.lemmas.Slice.Eq.{bytes_eq-Decides, starts_is}
 use Rattle.sftp_packets.specs.declared.requests.Ask.TheVariants as asks
 use Rattle.sftp_packets.proofs.Readers.{bind_ok, Takes, Takes-then, guard_held, ok_is}
 use Rattle.sftp_packets.specs.declared.errors.Fault.TheVariants.{WrongType, Trailing}
-use Rattle.sftp_packets.specs.declared.attributes.Attrs.{Attrs}
 use Rattle.sftp_packets.proofs.FieldLaws.{attributes_takes, attributes_again}
 use Rattle.sftp_packets.specs.declared.replies.Answer.TheVariants as answers
 use Rattle.sftp_packets.proofs.FieldLaws.{names_takes, names_again}

@@ -62,6 +62,7 @@ fn server_packet(alloc: Global, kind: u8, body: &mut &[u8]) -> Result<Packet, Re
 /// # Errors
 ///
 /// `Fault` with the first fault from the left; `body` is then what was not yet read. `NoMemory` if memory runs out.
+#[inline(always)]
 pub fn read_fields(
     alloc: Global,
     side: Side,

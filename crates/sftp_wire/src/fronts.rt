@@ -12,6 +12,7 @@ use std::alloc::Global;
 
 /// The packet after a length.
 #[tactic(auto, unfolding(sftp_packets::specs::Packets::packet_of))]
+#[inline(always)]
 fn whole_packet(alloc: Global, side: Side, bytes: &[u8]) -> Result<Packet, ReadError>
     ensures { Gives result (packet_of side bytes.now) }
 {
@@ -33,6 +34,7 @@ fn whole_packet(alloc: Global, side: Side, bytes: &[u8]) -> Result<Packet, ReadE
 
 /// The packet in front, and how many bytes it takes.
 #[tactic(auto, unfolding(crate::specs::Fronts::front_of))]
+#[inline(always)]
 fn read_front(alloc: Global, bytes: &[u8], side: Side) -> Result<Option<(Packet, usize)>, ReadError>
     ensures { Gives result (front_of side bytes.now) }
 {
@@ -53,7 +55,8 @@ fn read_front(alloc: Global, bytes: &[u8], side: Side) -> Result<Option<(Packet,
     }
 }
 
-/// The same, with the place of a fault.
+/// The same, with the place of a fault. Called, and not inlined, each level above `client_packet` copies the packet.
+#[inline(always)]
 fn placed_front(
     alloc: Global,
     bytes: &[u8],
