@@ -39,6 +39,19 @@ def a_session_takes_all_memory(field):
 
 
 @attack()
+def truncated_files_keep_their_memory(field):
+    """A file that was cut gives its memory back, so that a session which cuts each file that it made needs one's."""
+    words = ["serve", "--tree", field.blank(), "--memory", str(LIMIT), "--save", "end.tree"]
+    status, errors, used = run(field, words, sessions.truncated(60))
+    if status != 0 or errors:
+        yield f"status {status}: {errors!r}"
+    if used > 4 * sessions.USUAL_FILE:
+        yield f"{used // MEBI} MiB"
+    if field.run("show", "end.tree").stdout.count(b" F ") != 60:
+        yield "a file is missing in the tree that was saved"
+
+
+@attack()
 def a_replayed_session_takes_all_memory(field):
     """A session that awaits WRITEs of 75 MiB before the first of their replies ends at the limit, and is saved."""
     tree, limit = field.blank(), 20 * MEBI

@@ -31,6 +31,14 @@ def sparse(count, size=USUAL_FILE):
     return HELLO + b"".join(map(encode, sparse_requests(count, size)))
 
 
+def truncated(count, size=USUAL_FILE):
+    """The same, where each file is cut to one byte before the next one is made."""
+    cuts = [Request(it + 2 * count, "SETSTAT", [name(it), {"size": 1}]) for it in range(count)]
+    asked = list(sparse_requests(count, size))
+    pairs = zip(asked[::2], asked[1::2], cuts)
+    return HELLO + b"".join(encode(request) for three in pairs for request in three)
+
+
 def removed(count, size=HIGHEST_FILE):
     """The same, where each file is removed while it is open."""
     asked = []

@@ -41,7 +41,8 @@ impl FileBytes {
         self.bytes.as_slice()
     }
 
-    /// Cuts the bytes to a size, or appends zeros up to it. The bytes that stay are moved only if the allocator has to.
+    /// Cuts the bytes to a size, or appends zeros up to it. The bytes that stay are moved only if the allocator has to,
+    /// or if less than half of the room would be used: the rest is then given back.
     ///
     /// # Errors
     ///
@@ -51,6 +52,7 @@ impl FileBytes {
         ensures err { OnErr result (self.new ≡ self.old) }
     {
         self.bytes.resize(size, 0)?;
+        give_back(&mut self.bytes);
         Ok(())
     }
 
@@ -70,6 +72,15 @@ impl FileBytes {
         }
         write_over(&mut self.bytes, offset as usize, new)?;
         Ok(())
+    }
+}
+
+/// Gives the room behind the bytes back if it is more than what they take. Growth leaves less.
+fn give_back(bytes: &mut Vec<u8>)
+    ensures { bytes.new.items ≡ bytes.old.items }
+{
+    if bytes.capacity() / 2 > bytes.len() {
+        bytes.shrink_to_fit();
     }
 }
 
