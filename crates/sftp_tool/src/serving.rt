@@ -5,6 +5,7 @@ ghost use Rattle.sftp_files.specs.declared.messages.Ending.TheVariants as ending
 ghost use Rattle.sftp_tool.specs.declared.serving.Unserved.TheVariants as unserveds;
 
 use crate::answers::{Answers, served};
+use crate::pieces::Pieces;
 use crate::replaying::{Parting, Replay};
 use crate::summaries::{Close, Summary, Traffic};
 use crate::trees::read_tree;
@@ -48,11 +49,13 @@ impl<'a> From<Failure<'a>> for Unserved<'a> {
     }
 }
 
-/// Serves a session. The tree file is read and judged before the file of the record is made.
+/// Serves a session, with its output in pieces if there is a seed for them. The tree file is read and judged before the
+/// file of the record is made.
 pub(crate) fn serve<'a, R: System, I: Read, O: Write, E: Write>(
     rt: &R,
     options: &ServeOptions<'a>,
     style: Style,
+    cuts: Option<u64>,
     input: &mut I,
     output: &mut O,
     errors: &mut E,
@@ -62,7 +65,8 @@ pub(crate) fn serve<'a, R: System, I: Read, O: Write, E: Write>(
     require_place(rt, options)?;
     let mut meter = Meter::new(rt, options.memory)?;
     let setup = set_up(rt, options, style)?;
-    let output = Announcing::new(output, errors, options.is_verbose);
+    let announcing = Announcing::new(output, errors, options.is_verbose);
+    let output = Pieces::new(announcing, cuts);
     let (end, traffic) = run(setup, &mut meter, input, output);
     conclude(rt, end, traffic, options, errors)
 }
