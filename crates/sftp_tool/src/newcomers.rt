@@ -245,7 +245,7 @@ fn named(name: &ByteString, ask: Ask, answer: Answer) -> Result<Newcomer, NoMemo
         Err(error) => {
             drop(ask);
             drop(answer);
-            Err(error)
+            Err(NoMemory::from(error))
         }
     }
 }

@@ -67,7 +67,7 @@ pub(crate) fn serve<'a, R: System, I: Read, O: Write, E: Write>(
     let setup = set_up(rt, options, style)?;
     let announcing = Announcing::new(output, errors, options.is_verbose);
     let output = Pieces::new(announcing, cuts);
-    let (end, traffic) = run(setup, &mut meter, input, output);
+    let (end, traffic) = run_session(setup, &mut meter, input, output);
     conclude(rt, end, traffic, options, errors)
 }
 
@@ -166,7 +166,7 @@ impl Conduct {
 
 /// Serves a session that is set up, and returns how it ended and what went through its streams. What is set aside is
 /// free then.
-fn run<I: Read, O: Write + Drop>(
+fn run_session<I: Read, O: Write + Drop>(
     setup: Setup,
     meter: &mut Meter,
     input: &mut I,
