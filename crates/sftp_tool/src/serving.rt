@@ -92,8 +92,7 @@ struct Conduct {
     answers: Answers,
 }
 
-/// Sets up a session. No step comes before what the one before it needs is known to be right: the file of the record is
-/// made last.
+/// Sets up a session. The file of the record is made last, when all else is read and judged.
 fn set_up<'a, R: System>(
     rt: &R,
     options: &ServeOptions<'a>,
