@@ -182,8 +182,8 @@ fn within<'a>(
     is_over: bool,
     transcript: &'a str,
 ) -> Result<Ending, Failure<'a>>
-    ensures same { IfOk result (λ it. ending ≡ Ok it) }
-    ensures status { IsAuditStatus ending → IsAuditStatus result }
+    ensures same { IfOk result (λ it. ending.entry ≡ Ok it) }
+    ensures status { IsAuditStatus ending.entry → IsAuditStatus result }
 {
     match ending {
         Ok(ending) => Ok(ending),
