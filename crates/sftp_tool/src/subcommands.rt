@@ -1,5 +1,5 @@
 //! The subcommands.
-ghost use Rattle.std.specs.Prelude.{◌≡◌, ◌≤◌, ℕ, List, None, Some, Ok, IfOk, IfErr};
+ghost use Rattle.std.specs.Prelude.{◌≡◌, ◌≤◌, ℕ, List, None, Some, IfOk, IfErr};
 ghost use Rattle.sftp_tree.specs.Picture.{IsStart};
 ghost use Rattle.sftp_audit.specs.Audit.{AccountsBy, IsFirstFaultBy};
 ghost use Rattle.sftp_files.specs.declared.messages.Ending.TheVariants as endings;
@@ -162,39 +162,11 @@ fn audit_within<'a, F: Read + Drop, R: System + Clock, O: Write, E: Write + IsTe
         IfOk result (IsVerdictAsked files.now.profile files.now.cuts tree (F.remaining transcript)) }
     ensures status { IsAuditStatus result }
 {
-    match Meter::new(rt, files.memory) {
-        Ok(mut meter) => {
-            let bounded = Bounded::new(transcript, &mut meter);
-            let ending = judge_as_asked(rt, files, start, kept, bounded, output, errors);
-            within(ending, meter.is_over(), files.transcript)
-        }
-        Err(failure) => {
-            drop(start);
-            drop(transcript);
-            Err(failure)
-        }
-    }
-}
-
-/// The outcome of a run that ended so. One that failed, and had more memory than it may, failed for that.
-fn within<'a>(
-    ending: Result<Ending, Failure<'a>>,
-    is_over: bool,
-    transcript: &'a str,
-) -> Result<Ending, Failure<'a>>
-    ensures same { IfOk result (λ it. ending.entry ≡ Ok it) }
-    ensures status { IsAuditStatus ending.entry → IsAuditStatus result }
-{
-    match ending {
-        Ok(ending) => Ok(ending),
-        Err(failure) => {
-            if is_over {
-                drop(failure);
-                Err(Failure::OverLimit(transcript))
-            } else {
-                Err(failure)
-            }
-        }
+    let mut meter = Meter::new(rt, files.memory)?;
+    let bounded = Bounded::new(transcript, &mut meter);
+    match judge_as_asked(rt, files, start, kept, bounded, output, errors) {
+        Err(_) if meter.is_over() => Err(Failure::OverLimit(files.transcript)),
+        ending => ending,
     }
 }
 
