@@ -1,6 +1,7 @@
 //! The arguments of the subcommands: a table for each, from which the parser and the help follow.
 
 use crate::{importing, profiles};
+use sftp_vary::NAMES;
 
 /// An argument of a subcommand: its name, its form, and what the help says of it.
 pub(crate) type Argument<'a> = (&'a str, Form<'a>, &'a str);
@@ -23,22 +24,6 @@ pub(crate) enum Form<'a> {
     /// `--NAME VALUE,...`, which are some of these.
     SomeOf(&'a str, &'a [&'a str]),
 }
-
-/// The freedom that lies in the output, and not in replies.
-pub(crate) const CUTS: &str = "cuts";
-
-/// The names of the freedoms: of those in replies, as `sftp_vary` has them, and of the other.
-const FREEDOMS: &[&str] = &[
-    "handles",
-    "listings",
-    "longnames",
-    "times",
-    "pairs",
-    "attributes",
-    "codes",
-    "texts",
-    CUTS,
-];
 
 const FILE: Form = Form::Place("FILE");
 
@@ -102,7 +87,7 @@ pub(crate) const SERVE: &[Argument] = &[
     ),
     (
         "only",
-        Form::SomeOf("NAME,...", FREEDOMS),
+        Form::SomeOf("NAME,...", NAMES),
         "With --vary: the freedoms to use",
     ),
     (

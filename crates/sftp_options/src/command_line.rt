@@ -9,7 +9,7 @@ ghost use Rattle.sftp_options.specs.Options.{IsPermissions, value_in, is_given};
 ghost use Rattle.sftp_options.specs.Options.{IsAuditAsked, IsAuditRequest, LacksFile};
 
 use crate::arguments::{
-    AUDIT, Argument, BLANK, CUTS, DIFF, EXPORT, Form, IMPORT, INFER, MAKE, RAISE, SERVE, SHOW,
+    AUDIT, Argument, BLANK, DIFF, EXPORT, Form, IMPORT, INFER, MAKE, RAISE, SERVE, SHOW,
 };
 use crate::inferring::InferOptions;
 use crate::{help, importing, inferring, profiles};
@@ -23,14 +23,8 @@ use std::alloc::{AllocError, Global};
 /// What a command line asks for.
 #[derive(Drop)]
 pub enum Request<'a> {
-    /// Serve a session.
-    Serve {
-        options: ServeOptions<'a>,
-        /// What its replies are like.
-        style: Style,
-        /// What fixes where its output is cut, if it is.
-        cuts: Option<u64>,
-    },
+    /// Serve a session, with replies of this style.
+    Serve(ServeOptions<'a>, Style),
     /// Audit a session.
     Audit(AuditOptions<'a>),
     /// Infer a tree from a session, and audit the session with it.
@@ -304,70 +298,35 @@ fn serve_request<'a>(given: &ArgMatches<'a>) -> Option<Request<'a>> {
         texts: given.get_flag("texts"),
         long_names: given.get_flag("long-names"),
     };
-    let variation = variation_of(given);
-    Some(Request::Serve {
+    Some(Request::Serve(
         options,
-        style: Style { variation, words },
-        cuts: cuts_of(given),
-    })
+        Style {
+            variation: variation_of(given),
+            words,
+        },
+    ))
 }
 
-/// What fixes the choices among what is free, if a session has any: the seed 0, if only what is free is given.
-fn seed_of(given: &ArgMatches<'_>) -> Option<u64> {
-    let seed = given.get_one("vary");
-    if given.get_strs("only").is_some() || given.get_flag("wild") {
-        Some(seed.unwrap_or(0))
-    } else {
-        seed
-    }
-}
-
-/// How the replies of a session are varied, if they are.
+/// How a session is varied, if it is: by the seed 0, if only what is free is given.
 fn variation_of(given: &ArgMatches<'_>) -> Option<Variation> {
-    let seed = seed_of(given)?;
+    let seed = given.get_one("vary");
+    let only = given.get_strs("only");
     let is_wild = given.get_flag("wild");
-    let freedoms = match given.get_strs("only") {
-        Some(names) if !is_wild && has_cuts_alone(names) => return None,
+    if seed.is_none() && only.is_none() && !is_wild {
+        return None;
+    }
+    let freedoms = match only {
         Some(names) => Freedoms::named(names),
         None => Freedoms::all(),
     };
     Some(Variation {
-        seed,
+        seed: seed.unwrap_or(0),
         freedoms: if is_wild {
             freedoms.with_wild()
         } else {
             freedoms
         },
     })
-}
-
-/// What fixes where the output of a session is cut, if it is.
-fn cuts_of(given: &ArgMatches<'_>) -> Option<u64> {
-    let seed = seed_of(given)?;
-    match given.get_strs("only") {
-        Some(names) if !has_cuts(names) => None,
-        _ => Some(seed),
-    }
-}
-
-/// Whether one of the names is that of the cuts.
-fn has_cuts(names: &[&str]) -> bool {
-    for name in names {
-        if *name == CUTS {
-            return true;
-        }
-    }
-    false
-}
-
-/// Whether each of the names is that of the cuts.
-fn has_cuts_alone(names: &[&str]) -> bool {
-    for name in names {
-        if *name != CUTS {
-            return false;
-        }
-    }
-    true
 }
 
 fn serve_options<'a>(given: &ArgMatches<'a>) -> Option<ServeOptions<'a>> {

@@ -16,7 +16,7 @@ impl<'a> Request<'a> {
     /// The tree file that a request reads, if it reads no other.
     pub fn tree(&self) -> Option<&'a str> {
         match self {
-            Request::Serve { options, .. } => Some(options.tree),
+            Request::Serve(options, _) => Some(options.tree),
             Request::Audit(files) => Some(files.tree),
             Request::Raise { tree, .. } => Some(*tree),
             Request::Export { file, .. } => Some(*file),
@@ -27,7 +27,7 @@ impl<'a> Request<'a> {
     /// The transcript that a request reads.
     pub fn transcript(&self) -> Option<&'a str> {
         match self {
-            Request::Serve { options, .. } => options.replay,
+            Request::Serve(options, _) => options.replay,
             Request::Audit(files) => Some(files.transcript),
             Request::Infer(options) => Some(options.transcript),
             _ => self.shown(),

@@ -184,11 +184,7 @@ fn perform_request<'a, R: System + Clock, I: Read, O: Write, E: Write + IsTermin
     errors: &mut E,
 ) -> Result<Ending, Failure<'a>> {
     match request {
-        Request::Serve {
-            options,
-            style,
-            cuts,
-        } => serve(rt, options, *style, *cuts, input, output, errors),
+        Request::Serve(options, style) => serve(rt, options, *style, input, output, errors),
         Request::Audit(files) => inferring::audit(rt, files, output, errors),
         Request::Infer(options) => inferring::infer(rt, options, output, errors),
         Request::Blank { file, keeping } => subcommands::blank(rt, file, *keeping),
@@ -277,12 +273,11 @@ fn serve<'a, R: System, I: Read, O: Write, E: Write>(
     rt: &R,
     options: &ServeOptions<'a>,
     style: Style,
-    cuts: Option<u64>,
     input: &mut I,
     output: &mut O,
     errors: &mut E,
 ) -> Result<Ending, Failure<'a>> {
-    match serving::serve(rt, options, style, cuts, input, output, errors) {
+    match serving::serve(rt, options, style, input, output, errors) {
         Ok(ending) => Ok(ending),
         Err(Unserved::Failed(failure)) => Err(failure),
         Err(Unserved::Fault(fault)) => {

@@ -49,13 +49,11 @@ impl<'a> From<Failure<'a>> for Unserved<'a> {
     }
 }
 
-/// Serves a session, with its output in pieces if there is a seed for them. The tree file is read and judged before the
-/// file of the record is made.
+/// Serves a session. The tree file is read and judged before the file of the record is made.
 pub(crate) fn serve<'a, R: System, I: Read, O: Write, E: Write>(
     rt: &R,
     options: &ServeOptions<'a>,
     style: Style,
-    cuts: Option<u64>,
     input: &mut I,
     output: &mut O,
     errors: &mut E,
@@ -66,7 +64,7 @@ pub(crate) fn serve<'a, R: System, I: Read, O: Write, E: Write>(
     let mut meter = Meter::new(rt, options.memory)?;
     let setup = set_up(rt, options, style)?;
     let announcing = Announcing::new(output, errors, options.is_verbose);
-    let output = Pieces::new(announcing, cuts);
+    let output = Pieces::new(announcing, style.cuts());
     let (end, traffic) = run_session(setup, &mut meter, input, output);
     conclude(rt, end, traffic, options, errors)
 }
