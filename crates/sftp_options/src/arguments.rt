@@ -83,7 +83,7 @@ pub(crate) const SERVE: &[Argument] = &[
     (
         "vary",
         Form::Number("N"),
-        "Use what the draft leaves free in replies, pseudorandomly, fixed by N",
+        "Use what the draft leaves free to a server, pseudorandomly, fixed by N",
     ),
     (
         "only",

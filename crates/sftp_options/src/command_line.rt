@@ -307,7 +307,7 @@ fn serve_request<'a>(given: &ArgMatches<'a>) -> Option<Request<'a>> {
     ))
 }
 
-/// How the replies of a session are varied, if they are: by the seed 0, if only what is free is given.
+/// How a session is varied, if it is: by the seed 0, if only what is free is given.
 fn variation_of(given: &ArgMatches<'_>) -> Option<Variation> {
     let seed = given.get_one("vary");
     let only = given.get_strs("only");

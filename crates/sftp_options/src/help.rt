@@ -31,7 +31,7 @@ client asks otherwise or ends its input, the session goes on in the order asked,
 With --memory, the session ends as if memory ran out when a reply is due and the process has more than BYTES. One
 request may take as much as a file or a listing has before that. The tree is then saved, an entry at a time.
 
-With --vary, replies use what the draft leaves free, by choices that N fixes in the order in which requests are done:
+With --vary, the server uses what the draft leaves free; N fixes its choices, in the order in which requests are done:
   handles     names of new handles: 0 to 256 bytes of any values
   listings    which names of a directory a reply gives, how many, and in which order
   longnames   long names: lines of any layout
@@ -40,6 +40,7 @@ With --vary, replies use what the draft leaves free, by choices that N fixes in 
   attributes  all attributes in the replies to REALPATH and READLINK
   codes       the code of a refusal, where several fit
   texts       messages and language tags
+  cuts        where the output is cut: writes of one byte up to a packet
 --only uses some of these, by the same choices. --only or --wild without --vary takes 0 for N.
 
 With --texts, the message of each refusal says in English why, and which limit of the tree was met. With --long-names,

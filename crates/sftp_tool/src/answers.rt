@@ -47,7 +47,7 @@ pub(crate) fn served<R: Source, W: Sink, L: Sink, S: Schedule>(
 {
     let style = answers.style;
     let words = style.words;
-    if style.variation.is_some() || answers.recorded.has_more() {
+    if style.varies_replies() || answers.recorded.has_more() {
         return serve_as::<R, W, L, S, GivenTable, Proposing>(
             tree,
             reader,

@@ -13,6 +13,7 @@ mod inferences;
 mod inferred_lines;
 mod inferring;
 mod newcomers;
+mod pieces;
 mod readings;
 mod recorded;
 mod replaying;
@@ -28,7 +29,7 @@ use serving::Unserved;
 use sftp_commands::{Faulty, ReadFiles};
 use sftp_faults::Spot;
 pub use sftp_files::System;
-use sftp_files::{Ending, Failure, ServeOptions, report, write_flushed};
+use sftp_files::{Ending, Failure, ImportOptions, ServeOptions, report, write_flushed};
 use sftp_options::{Request, parse};
 use sftp_progress::Console;
 use sftp_vary::Style;
@@ -175,7 +176,6 @@ fn spot_of_request<R: Files + AllocGlobal>(
     }
 }
 
-// Slow to prove: ten calls that may fail, each of which borrows streams.
 fn perform_request<'a, R: System + Clock, I: Read, O: Write, E: Write + IsTerminal>(
     rt: &R,
     request: &Request<'a>,
@@ -201,20 +201,63 @@ fn perform_request<'a, R: System + Clock, I: Read, O: Write, E: Write + IsTermin
             memory,
             is_json,
             says_progress,
-        } => {
-            let mut console = console(errors, *says_progress);
-            sftp_commands::diff(rt, (old, new), *memory, *is_json, output, &mut console)
-        }
+        } => diff(
+            rt,
+            (old, new),
+            *memory,
+            *is_json,
+            *says_progress,
+            output,
+            errors,
+        ),
         Request::Import {
             options,
             says_progress,
-        } => sftp_commands::import(rt, options, input, &mut console(errors, *says_progress)),
+        } => import(rt, options, *says_progress, input, errors),
         Request::Export {
             file,
             says_progress,
-        } => sftp_commands::export(rt, file, output, &mut console(errors, *says_progress)),
+        } => export(rt, file, *says_progress, output, errors),
         Request::Help(text) => subcommands::help(text.as_str(), output),
     }
+}
+
+/// Shows how two trees differ, while standard error says how far that is.
+fn diff<'a, R: System + Clock, O: Write, E: Write + IsTerminal>(
+    rt: &R,
+    names: (&'a str, &'a str),
+    memory: Option<u64>,
+    is_json: bool,
+    says_progress: bool,
+    output: &mut O,
+    errors: &mut E,
+) -> Result<Ending, Failure<'a>> {
+    let mut console = console(errors, says_progress);
+    sftp_commands::diff(rt, names, memory, is_json, output, &mut console)
+}
+
+/// Makes a tree file from an archive, while standard error says how far that is.
+fn import<'a, R: System + Clock, I: Read, E: Write + IsTerminal>(
+    rt: &R,
+    options: &ImportOptions<'a>,
+    says_progress: bool,
+    input: &mut I,
+    errors: &mut E,
+) -> Result<Ending, Failure<'a>> {
+    let mut console = console(errors, says_progress);
+    sftp_commands::import(rt, options, input, &mut console)
+}
+
+/// Makes an archive from a tree file, while standard error says how far that is.
+fn export<'a, R: System + Clock, O: Write, E: Write + IsTerminal>(
+    rt: &R,
+    file: &'a str,
+    says_progress: bool,
+    output: &mut O,
+    errors: &mut E,
+) -> Result<Ending, Failure<'a>> {
+    let mut console = console(errors, says_progress);
+    sftp_commands::export(rt, file, output, &mut console)
 }
 
 /// Standard error, and whether the run says there how far it is also where that is no terminal.

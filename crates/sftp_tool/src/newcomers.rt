@@ -204,19 +204,48 @@ fn with_attributes(item: &NameItem, attrs: Attrs) -> Result<NameItem, NoMemory> 
 ///
 /// `NoMemory` if memory runs out.
 fn newcomer_at(judge: &Judge, item: &NameItem, path: ByteString) -> Result<Newcomer, NoMemory> {
-    let name = item.filename.clone()?;
-    let attrs = item.attrs.clone()?;
     let ask = Ask::Lstat { path };
-    let given = Answer::Attrs(attrs);
-    match judge.told(&ask, &given)? {
-        Some(answer) => {
-            drop(given);
-            Ok(Newcomer { name, ask, answer })
+    match told_of(judge, item, &ask) {
+        Ok(answer) => named(&item.filename, ask, answer),
+        Err(error) => {
+            drop(ask);
+            Err(error)
         }
-        None => Ok(Newcomer {
-            name,
-            ask,
-            answer: given,
-        }),
+    }
+}
+
+/// The answer to an LSTAT with the attributes of an item, where the profile leaves nothing of them free.
+///
+/// # Errors
+///
+/// `NoMemory` if memory runs out.
+fn told_of(judge: &Judge, item: &NameItem, ask: &Ask) -> Result<Answer, NoMemory> {
+    let given = Answer::Attrs(item.attrs.clone()?);
+    match judge.told(ask, &given) {
+        Ok(None) => Ok(given),
+        Ok(Some(answer)) => {
+            drop(given);
+            Ok(answer)
+        }
+        Err(error) => {
+            drop(given);
+            Err(error)
+        }
+    }
+}
+
+/// The newcomer of this name.
+///
+/// # Errors
+///
+/// `NoMemory` if memory runs out.
+fn named(name: &ByteString, ask: Ask, answer: Answer) -> Result<Newcomer, NoMemory> {
+    match name.clone() {
+        Ok(name) => Ok(Newcomer { name, ask, answer }),
+        Err(error) => {
+            drop(ask);
+            drop(answer);
+            Err(NoMemory::from(error))
+        }
     }
 }

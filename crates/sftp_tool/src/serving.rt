@@ -5,6 +5,7 @@ ghost use Rattle.sftp_files.specs.declared.messages.Ending.TheVariants as ending
 ghost use Rattle.sftp_tool.specs.declared.serving.Unserved.TheVariants as unserveds;
 
 use crate::answers::{Answers, served};
+use crate::pieces::Pieces;
 use crate::replaying::{Parting, Replay};
 use crate::summaries::{Close, Summary, Traffic};
 use crate::trees::read_tree;
@@ -49,7 +50,6 @@ impl<'a> From<Failure<'a>> for Unserved<'a> {
 }
 
 /// Serves a session. The tree file is read and judged before the file of the record is made.
-// Slow to prove: it owns the tree while the record's file is made, and then both.
 pub(crate) fn serve<'a, R: System, I: Read, O: Write, E: Write>(
     rt: &R,
     options: &ServeOptions<'a>,
@@ -62,23 +62,125 @@ pub(crate) fn serve<'a, R: System, I: Read, O: Write, E: Write>(
 {
     require_place(rt, options)?;
     let mut meter = Meter::new(rt, options.memory)?;
-    let order = Order::new(rt, options)?;
-    let answers = Answers::new(rt, options, style)?;
-    let room = room_to_save(rt, options)?;
-    let tree = start(rt, options)?;
-    match new_log(rt, options) {
-        Ok(log) => {
-            let is_verbose = options.is_verbose;
-            let output = Announcing::new(output, errors, is_verbose);
-            let (end, traffic) = session(tree, log, order, answers, &mut meter, input, output);
-            drop(room);
-            conclude(rt, end, traffic, options, errors)
-        }
+    let setup = set_up(rt, options, style)?;
+    let announcing = Announcing::new(output, errors, options.is_verbose);
+    let output = Pieces::new(announcing, style.cuts());
+    let (end, traffic) = run_session(setup, &mut meter, input, output);
+    conclude(rt, end, traffic, options, errors)
+}
+
+/// What a session needs besides its streams.
+struct Setup {
+    start: Start,
+    conduct: Conduct,
+    log: Writer<Tally<Record>>,
+}
+
+/// The tree that a session starts from, and memory that is set aside until it ends.
+#[derive(Drop)]
+struct Start {
+    tree: Tree,
+    room: Vec<u8>,
+}
+
+/// How requests are answered: in which order, and with which replies.
+#[derive(Drop)]
+struct Conduct {
+    order: Order,
+    answers: Answers,
+}
+
+/// Sets up a session. The file of the record is made last, when all else is read and judged.
+fn set_up<'a, R: System>(
+    rt: &R,
+    options: &ServeOptions<'a>,
+    style: Style,
+) -> Result<Setup, Failure<'a>>
+    ensures { IfOk result (λ setup. IsUnused setup.log) }
+{
+    let conduct = Conduct::new(rt, options, style)?;
+    match Start::new(rt, options) {
+        Ok(start) => record(rt, options, start, conduct),
         Err(failure) => {
-            drop(tree);
-            Err(Unserved::Failed(failure))
+            drop(conduct);
+            Err(failure)
         }
     }
+}
+
+/// The setup of a session with a new record.
+fn record<'a, R: System>(
+    rt: &R,
+    options: &ServeOptions<'a>,
+    start: Start,
+    conduct: Conduct,
+) -> Result<Setup, Failure<'a>>
+    ensures { IfOk result (λ setup. IsUnused setup.log) }
+{
+    match new_log(rt, options) {
+        Ok(log) => Ok(Setup {
+            start,
+            conduct,
+            log,
+        }),
+        Err(failure) => {
+            drop(start);
+            drop(conduct);
+            Err(failure)
+        }
+    }
+}
+
+impl Start {
+    fn new<'a, R: System>(rt: &R, options: &ServeOptions<'a>) -> Result<Start, Failure<'a>> {
+        let room = room_to_save(rt, options)?;
+        match first_tree(rt, options) {
+            Ok(tree) => Ok(Start { tree, room }),
+            Err(failure) => {
+                drop(room);
+                Err(failure)
+            }
+        }
+    }
+}
+
+impl Conduct {
+    fn new<'a, R: System>(
+        rt: &R,
+        options: &ServeOptions<'a>,
+        style: Style,
+    ) -> Result<Conduct, Failure<'a>> {
+        let order = Order::new(rt, options)?;
+        match Answers::new(rt, options, style) {
+            Ok(answers) => Ok(Conduct { order, answers }),
+            Err(failure) => {
+                drop(order);
+                Err(failure)
+            }
+        }
+    }
+}
+
+/// Serves a session that is set up, and returns how it ended and what went through its streams. What is set aside is
+/// free then.
+fn run_session<I: Read, O: Write + Drop>(
+    setup: Setup,
+    meter: &mut Meter,
+    input: &mut I,
+    output: O,
+) -> (SessionEnd, Traffic)
+    requires { IsUnused setup.log }
+{
+    let Setup {
+        start,
+        conduct,
+        log,
+    } = setup;
+    let Start { tree, room } = start;
+    let Conduct { order, answers } = conduct;
+    let ended = session(tree, log, order, answers, meter, input, output);
+    drop(room);
+    ended
 }
 
 /// Fails if the tree could not be saved to its file, or would be saved in place of the record that is followed.
@@ -103,7 +205,7 @@ fn room_to_save<'a, R: System>(rt: &R, options: &ServeOptions<'a>) -> Result<Vec
 }
 
 /// The tree that the session starts from.
-fn start<'a, R: System>(rt: &R, options: &ServeOptions<'a>) -> Result<Tree, Failure<'a>> {
+fn first_tree<'a, R: System>(rt: &R, options: &ServeOptions<'a>) -> Result<Tree, Failure<'a>> {
     Ok(read_tree(rt, options.tree, options.memory)??)
 }
 

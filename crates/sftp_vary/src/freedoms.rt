@@ -1,7 +1,7 @@
-//! What the rules leave free in a server's replies.
+//! What the rules leave free to a server.
 ghost use Rattle.std.specs.Prelude.{◌<◌, ◌^◌};
 
-/// What is free in replies. Each is left free by the draft itself.
+/// What is free in replies, and in how they are written. Each is left free by the draft itself.
 #[derive(Clone, Copy)]
 pub enum Freedom {
     /// The name of a new handle: 0 to 256 bytes of any values, that of a closed handle too (section 6.3).
@@ -21,6 +21,8 @@ pub enum Freedom {
     Codes,
     /// The message and the language tag of each STATUS (section 7).
     Texts,
+    /// Where the output is cut into writes (section 3: packets come in a stream).
+    Cuts,
 }
 
 /// The names of the freedoms on the command line, in the order of their variants.
@@ -33,9 +35,10 @@ pub const NAMES: &[&str] = &[
     "attributes",
     "codes",
     "texts",
+    "cuts",
 ];
 
-/// How the replies of a session are varied.
+/// How a session is varied.
 #[derive(Clone, Copy)]
 pub struct Variation {
     /// What fixes the choices.
@@ -63,6 +66,7 @@ impl Freedom {
             Freedom::Attributes => 32,
             Freedom::Codes => 64,
             Freedom::Texts => 128,
+            Freedom::Cuts => 256,
         }
     }
 }
@@ -90,7 +94,7 @@ impl Freedoms {
     /// All of them.
     pub fn all() -> Freedoms {
         Freedoms {
-            bits: 255,
+            bits: 511,
             wild: false,
         }
     }
@@ -116,6 +120,11 @@ impl Freedoms {
     /// Whether it has this one.
     pub fn has(self, freedom: Freedom) -> bool {
         self.bits & freedom.bit() != 0
+    }
+
+    /// Whether it has any that is seen in replies.
+    pub fn has_any_in_replies(self) -> bool {
+        self.bits != 0 && self.bits != Freedom::Cuts.bit()
     }
 
     /// Whether texts and long names may be wild.

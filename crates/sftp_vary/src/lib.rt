@@ -1,9 +1,10 @@
-//! What the rules leave free in a server's replies, and answerers that use it (draft-ietf-secsh-filexfer-02, sections 5
+//! What the rules leave free to a server, and answerers that use it (draft-ietf-secsh-filexfer-02, sections 5
 //! to 7): pseudorandomly, so that a client that works with it takes no server's habit for the protocol's, or for words
 //! that people read.
 #![tactic(auto)]
 
 mod attributes;
+mod cuts;
 mod dice;
 mod freedoms;
 mod handles;
@@ -18,6 +19,7 @@ mod vary;
 mod worded;
 mod words;
 
+pub use cuts::Cuts;
 pub use freedoms::{Freedom, Freedoms, NAMES, Variation};
 pub use proposed::{Proposed, Proposer};
 pub use vary::Vary;

@@ -5,6 +5,7 @@ ghost use Rattle.sftp_packets.specs.declared.replies.Answer.TheVariants as repli
 ghost use Rattle.sftp_packets.specs.Packets.{HasSpelling};
 ghost use Rattle.sftp_vary.specs.Bare.{bare};
 
+use crate::cuts::Cuts;
 use crate::freedoms::{Freedom, Freedoms, Variation};
 use crate::lined::in_lines;
 use crate::spelled::spelled;
@@ -16,13 +17,33 @@ use sftp_wire::status::{EOF, OK};
 use sftp_wire::{Answer, Ask, ByteString, Reply, Request};
 use std::alloc::Global;
 
-/// How the replies of a session use what is free in them.
+/// How a session uses what is free.
 #[derive(Clone, Copy)]
 pub struct Style {
-    /// How they are varied, if they are.
+    /// How it is varied, if it is.
     pub variation: Option<Variation>,
-    /// Which words for people they have besides.
+    /// Which words for people replies have besides.
     pub words: Words,
+}
+
+impl Style {
+    /// Whether replies are varied.
+    pub fn varies_replies(self) -> bool {
+        match self.variation {
+            Some(variation) => variation.freedoms.has_any_in_replies(),
+            None => false,
+        }
+    }
+
+    /// Where the output is cut, if it is.
+    pub fn cuts(self) -> Option<Cuts> {
+        match self.variation {
+            Some(variation) if variation.freedoms.has(Freedom::Cuts) => {
+                Some(Cuts::new(variation.seed))
+            }
+            _ => None,
+        }
+    }
 }
 
 /// Which words for people replies have, in fields that are free.
