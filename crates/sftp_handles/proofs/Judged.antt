@@ -276,8 +276,8 @@ judged-coded s ask other code allowed end is judged = absurd cc
 
 -- a request that is done
 pub judged-ok : (s : State) (ask : Ask) (end : State) → IsDone s ask end → IsJudgedCode s ask 0 true end
-judged-ok s ask end done message language =
-    judged-done s ask (Status 0 message language) end (done message language)
+judged-ok s ask end does message language =
+    judged-done s ask (Status 0 message language) end (does message language)
 
 -- a request that a cause refuses
 pub judged-not_ok : (s : State) (ask : Ask) (cause : Cause) → IsTrue (causes s ask cause)
@@ -318,12 +318,12 @@ refused-reply s request reply end false judged is other a =
 pub judged-call : {A : Type 0} (s : State) (ask : Ask) (answer : Answer) (end : State) (call : Result A Refused)
     → has_code 0 answer ≡ true → OnOk call (IsDone s ask end) → IfErr call (IsRefusal s ask) → OnErr call (end ≡ s)
     → IfOk (is_done call) (λ allowed. IsJudged s ask answer allowed end)
-judged-call s ask answer end (Ok value) zero does refused kept =
-    judged-coded s ask answer 0 true end zero (judged-ok s ask end does)
-judged-call s ask answer end (Err (refusals.Cause cause)) zero does refused kept =
+judged-call s ask answer end (Ok value) coded does refused kept =
+    judged-coded s ask answer 0 true end coded (judged-ok s ask end does)
+judged-call s ask answer end (Err (refusals.Cause cause)) coded does refused kept =
     subst (λ (t : State). IsJudged s ask answer false t) (sym kept)
-    (judged-coded s ask answer 0 false s zero (judged-not_ok s ask cause refused))
-judged-call s ask answer end (Err refusals.NoMemory) zero does refused kept = tt
+    (judged-coded s ask answer 0 false s coded (judged-not_ok s ask cause refused))
+judged-call s ask answer end (Err refusals.NoMemory) coded does refused kept = tt
 
 -- ---- requests that change the tree
 

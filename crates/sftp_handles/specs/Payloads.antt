@@ -3,8 +3,8 @@
 use Rattle.sftp_packets.specs.declared.requests.Ask.{Ask}
 use Rattle.sftp_packets.specs.declared.requests.Ask.TheVariants as asks
 use Rattle.sftp_handles.specs.declared.requests.Purpose.{Purpose}
-use Rattle.sftp_handles.specs.declared.requests.Purpose.TheVariants.{Change, Open, List, Query, Unknown}
-use Rattle.std.specs.Prelude.{ℕ, ◌<◌, ◌^◌, [], ◌∷◌, IsTrue, ◌≡◌, ◌≤◌, length, Option, Some, None}
+use Rattle.sftp_handles.specs.declared.requests.Purpose.TheVariants as purposes
+use Rattle.std.specs.Prelude.{List, ℕ, ◌<◌, ◌^◌, [], ◌∷◌, IsTrue, ◌≡◌, ◌≤◌, length, Option, Some, None}
 use Rattle.sftp_packets.specs.declared.replies.Answer.{Answer}
 use Rattle.sftp_packets.specs.declared.replies.Answer.TheVariants as replies
 use Rattle.sftp_packets.specs.declared.packets.Packet.TheVariants.{Reply as reply_packet}
@@ -27,19 +27,19 @@ use Rattle.sftp_handles.specs.Allowed.{causes, said_to}
 -- ==== What requests are for, by what their replies say where no cause refuses them. Words of private contracts.
 
 abbrev pub purpose_of : Ask → Purpose
-purpose_of (asks.Open path pflags attrs) = Open
-purpose_of (asks.Opendir path) = Open
-purpose_of (asks.Readdir handle) = List
-purpose_of (asks.Read handle offset len) = Query
-purpose_of (asks.Stat path) = Query
-purpose_of (asks.Lstat path) = Query
-purpose_of (asks.Fstat handle) = Query
-purpose_of (asks.Realpath path) = Query
-purpose_of (asks.Readlink path) = Query
-purpose_of asks.Limits = Query
-purpose_of (asks.Unknown name rest) = Unknown
+purpose_of (asks.Open path pflags attrs) = purposes.Open
+purpose_of (asks.Opendir path) = purposes.Open
+purpose_of (asks.Readdir handle) = purposes.List
+purpose_of (asks.Read handle offset len) = purposes.Query
+purpose_of (asks.Stat path) = purposes.Query
+purpose_of (asks.Lstat path) = purposes.Query
+purpose_of (asks.Fstat handle) = purposes.Query
+purpose_of (asks.Realpath path) = purposes.Query
+purpose_of (asks.Readlink path) = purposes.Query
+purpose_of asks.Limits = purposes.Query
+purpose_of (asks.Unknown name rest) = purposes.Unknown
 -- that all others are changes is proved from their rows
-purpose_of other = Change
+purpose_of other = purposes.Change
 
 -- ==== What this program's own sessions answer to a request.
 

@@ -17,7 +17,7 @@ use Rattle.sftp_handles.proofs.Good.Pins.{state_of}
 use Rattle.sftp_handles.proofs.Judged.{step-is_allowed}
 use Rattle.sftp_handles.proofs.TotalSteps.SaidReplies.{FitInPacket, few-names, status-spelled, reply-listed}
 use Rattle.sftp_handles.proofs.TotalSteps.SaidReplies.{handle-spelled}
-use Rattle.sftp_packets.specs.declared.requests.Ask.TheVariants.{Opendir}
+use Rattle.sftp_packets.specs.declared.requests.Ask.TheVariants as asks
 use Rattle.sftp_tree.specs.Requests as paths
 use Rattle.sftp_tree.specs.Told as refusals_of
 use Rattle.sftp_handles.specs.declared.requests.Purpose.TheVariants as purposes
@@ -167,17 +167,17 @@ room-refuses s set none full =
 pub handles-refuse : (s : State) (ask : Ask) → purpose_of ask ≡ purposes.Open → IsTrue (is_none (paths.causes s.tree ask))
     → has_handle_left s ≡ false → IsTrue (causes s ask NoRoom)
 unfolding causes
-handles-refuse s (Open path pflags attrs) opening none full =
-    room-refuses s (paths.causes s.tree (Open path pflags attrs)) none full
-handles-refuse s (Opendir path) opening none full = room-refuses s (paths.causes s.tree (Opendir path)) none full
+handles-refuse s (asks.Open path pflags attrs) opening none full =
+    room-refuses s (paths.causes s.tree (asks.Open path pflags attrs)) none full
+handles-refuse s (asks.Opendir path) opening none full = room-refuses s (paths.causes s.tree (asks.Opendir path)) none full
 handles-refuse s other opening none full = absurd cc
 
 -- one that another cause refuses
 pub path-refuses : (s : State) (ask : Ask) (refused : Refused) → purpose_of ask ≡ purposes.Open
     → refusals_of.IsRefusal s.tree ask refused → IsRefusal s ask refused
-path-refuses s (Open path pflags attrs) refused opening holds =
+path-refuses s (asks.Open path pflags attrs) refused opening holds =
     refused-file s s.tree path pflags attrs refused refl holds
-path-refuses s (Opendir path) refused opening holds = refused-listing s s.tree path refused refl holds
+path-refuses s (asks.Opendir path) refused opening holds = refused-listing s s.tree path refused refl holds
 path-refuses s other refused opening holds = absurd cc
 
 -- ---- a new handle

@@ -4,7 +4,7 @@ use Rattle.sftp_handles.proofs.Imports.{Err, refl, ap, sym, ◌∙◌, IsTrue, b
 use Rattle.sftp_handles.proofs.Imports.{Node, Cause, Exists, IsDir, Tree, IsKept, node_at, is_link, reached}
 use Rattle.sftp_handles.proofs.Imports.{no_causes, when, is_none, opening_causes, excludes, listing, done, led}
 use Rattle.sftp_handles.proofs.Imports.{led_to, new_led, told_at, outcome, IsFree, free-led, free-at, lost-first}
-use Rattle.sftp_handles.proofs.Imports.{Opened, File, Listing, kept_flags, State, Good, settled, has_handle_left}
+use Rattle.sftp_handles.proofs.Imports.{Open, Opened, File, Listing, kept_flags, State, Good, settled, has_handle_left}
 use Rattle.sftp_handles.proofs.Imports.{causes, after, told_to, flags_of, opened_by, with_new, is_opening, IsOpenedBy}
 use Rattle.sftp_handles.proofs.Imports.{◌&&◌, nat_le, bytes_cmp, size, size-put, TreeLimits, NoRoom, fits, limits}
 use Rattle.sftp_handles.proofs.Imports.{CauseSet, none-each, limits-stay, open_at, with_open, handles_fit, state_fits}
@@ -12,7 +12,7 @@ use Rattle.sftp_handles.proofs.Imports.{with_handle_room, asked_state, ◌<◌, 
 use Rattle.sftp_handles.proofs.Imports.{subst, is_eq, Equal-is, nat_list_cmp_total, NameItem, Name, InOrder}
 use Rattle.sftp_handles.proofs.Imports.{bytes_cmp-same, get-put, InOrder-put, same_table, Left, Handles, names_in}
 use Rattle.sftp_handles.proofs.Imports.{struck, IsListing, with_struck, first_items, AreFirstNames, AreFirst}
-use Rattle.sftp_packets.specs.declared.requests.Ask.TheVariants.{Open, Opendir}
+use Rattle.sftp_packets.specs.declared.requests.Ask.TheVariants as asks
 use Rattle.sftp_packets.specs.declared.replies.Answer.TheVariants as replies
 use Rattle.sftp_tree.specs.declared.nodes.Node.TheVariants as nodes
 use Rattle.sftp_tree.specs.Requests.{number_at, file, plain_causes, causes as tree_causes}
@@ -58,41 +58,41 @@ number-opened pflags made (Some (nodes.Link linktarget)) exists directory link =
     absurd (both_ways true (link (neither (excludes pflags) exists)) refl)
 
 module _ (no-link : LeadsToNoLink) (t : Tree) (kept : IsKept t) (path : List ℕ) (pflags : ℕ) (attrs : Attrs)
-    (free : IsFree t (Open path pflags attrs)) where
-  not-linked : (place : Place) → led t (Open path pflags attrs) ≡ Some (Ok place) → excludes pflags ≡ false
+    (free : IsFree t (asks.Open path pflags attrs)) where
+  not-linked : (place : Place) → led t (asks.Open path pflags attrs) ≡ Some (Ok place) → excludes pflags ≡ false
       → is_link (node_at t.names place) ≡ false
   unfolding led
   not-linked place leads plain =
       let follows = ap (λ b. reached t (not b) path) (sym plain) in
       no-link t path place kept (follows ∙ same_Some (reached t (not (excludes pflags)) path) (Ok place) leads)
 
-  file-opened : (end : Option (Result Place Cause)) → led t (Open path pflags attrs) ≡ end
-      → (it : Opened) × (opened_by pflags (led_to done end (told_at t (Open path pflags attrs))) ≡ Some it)
+  file-opened : (end : Option (Result Place Cause)) → led t (asks.Open path pflags attrs) ≡ end
+      → (it : Opened) × (opened_by pflags (led_to done end (told_at t (asks.Open path pflags attrs))) ≡ Some it)
   unfolding led
   file-opened None leads = absurd cc
-  file-opened (Some (Err failed)) leads = absurd (leads-somewhere t (Open path pflags attrs) failed free leads)
+  file-opened (Some (Err failed)) leads = absurd (leads-somewhere t (asks.Open path pflags attrs) failed free leads)
   file-opened (Some (Ok place)) leads =
-      let none = (free-at t (Open path pflags attrs) place free leads refl).none in
+      let none = (free-at t (asks.Open path pflags attrs) place free leads refl).none in
       let given = number-opened pflags t (node_at t.names place) (none Exists) (none IsDir) (not-linked place leads) in
       (File given.0 (kept_flags pflags), ap (λ n. opened_by pflags (file n)) given.1)
 
-listing-opened : (t : Tree) (path : List ℕ) → IsFree t (Opendir path) → (end : Option (Result Place Cause))
-    → led t (Opendir path) ≡ end
-    → (it : Opened) × (opened_by 0 (led_to done end (told_at t (Opendir path))) ≡ Some it)
+listing-opened : (t : Tree) (path : List ℕ) → IsFree t (asks.Opendir path) → (end : Option (Result Place Cause))
+    → led t (asks.Opendir path) ≡ end
+    → (it : Opened) × (opened_by 0 (led_to done end (told_at t (asks.Opendir path))) ≡ Some it)
 unfolding led
 listing-opened t path free None leads = absurd cc
-listing-opened t path free (Some (Err failed)) leads = absurd (leads-somewhere t (Opendir path) failed free leads)
+listing-opened t path free (Some (Err failed)) leads = absurd (leads-somewhere t (asks.Opendir path) failed free leads)
 listing-opened t path free (Some (Ok place)) leads = (Listing (listing t place), refl)
 
 something-opened : LeadsToNoLink → (s : State) (ask : Ask) → Good s → IsTrue (is_opening ask)
     → IsTrue (is_none (causes s ask)) → (it : Opened) × (opened_by (flags_of ask) (told_to s.tree ask) ≡ Some it)
 unfolding causes told_to
-something-opened no-link s (Open path pflags attrs) good opening free =
-    let is_free = (room-of (paths.causes s.tree (Open path pflags attrs)) (has_handle_left s) free).0 in
-    file-opened no-link s.tree good.tree path pflags attrs is_free (led s.tree (Open path pflags attrs)) refl
-something-opened no-link s (Opendir path) good opening free =
-    let is_free = (room-of (paths.causes s.tree (Opendir path)) (has_handle_left s) free).0 in
-    listing-opened s.tree path is_free (led s.tree (Opendir path)) refl
+something-opened no-link s (asks.Open path pflags attrs) good opening free =
+    let is_free = (room-of (paths.causes s.tree (asks.Open path pflags attrs)) (has_handle_left s) free).0 in
+    file-opened no-link s.tree good.tree path pflags attrs is_free (led s.tree (asks.Open path pflags attrs)) refl
+something-opened no-link s (asks.Opendir path) good opening free =
+    let is_free = (room-of (paths.causes s.tree (asks.Opendir path)) (has_handle_left s) free).0 in
+    listing-opened s.tree path is_free (led s.tree (asks.Opendir path)) refl
 something-opened no-link s other good opening free = absurd cc
 
 -- ---- the state after it
@@ -101,10 +101,10 @@ opened-after : (s : State) (ask : Ask) (handle : List ℕ) (it : Opened) → IsT
     → opened_by (flags_of ask) (told_to s.tree ask) ≡ Some it
     → IsOpenedBy s ask handle it
 unfolding after
-opened-after s (Open path pflags attrs) handle it opening is =
-    ap (λ o. settled (outcome s.tree (Open path pflags attrs)) (with_new s.handles o (replies.Handle handle))) is
-opened-after s (Opendir path) handle it opening is =
-    ap (λ o. settled (outcome s.tree (Opendir path)) (with_new s.handles o (replies.Handle handle))) is
+opened-after s (asks.Open path pflags attrs) handle it opening is =
+    ap (λ o. settled (outcome s.tree (asks.Open path pflags attrs)) (with_new s.handles o (replies.Handle handle))) is
+opened-after s (asks.Opendir path) handle it opening is =
+    ap (λ o. settled (outcome s.tree (asks.Opendir path)) (with_new s.handles o (replies.Handle handle))) is
 opened-after s other handle it opening is = absurd cc
 
 pub handle-opens : LeadsToNoLink → (s : State) (ask : Ask) (handle : List ℕ) → Good s → IsTrue (is_opening ask)
@@ -156,10 +156,10 @@ pub asked-room : (s : State) (ask : Ask) (handle : List ℕ) (it : Opened) → I
     → IsTrue (is_none (plain_causes s.tree ask)) → open_at s.handles handle ≡ None
     → causes s ask NoRoom ≡ not (state_fits (asked_state s ask handle it))
 unfolding causes
-asked-room s (Open path pflags attrs) handle it opening none absent =
-    opening-room s (Open path pflags attrs) none ∙ fits-asked s (Open path pflags attrs) handle it absent
-asked-room s (Opendir path) handle it opening none absent =
-    opening-room s (Opendir path) none ∙ fits-asked s (Opendir path) handle it absent
+asked-room s (asks.Open path pflags attrs) handle it opening none absent =
+    opening-room s (asks.Open path pflags attrs) none ∙ fits-asked s (asks.Open path pflags attrs) handle it absent
+asked-room s (asks.Opendir path) handle it opening none absent =
+    opening-room s (asks.Opendir path) none ∙ fits-asked s (asks.Opendir path) handle it absent
 asked-room s other handle it opening none absent = absurd cc
 
 -- if one more may be opened, fewer are open than may be in any tree

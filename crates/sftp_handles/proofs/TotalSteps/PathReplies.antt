@@ -23,7 +23,7 @@ use Rattle.sftp_handles.specs.RequestRows.{listed}
 use Rattle.sftp_listing.proofs.FirstNames.{content-shown, node-shown, short-target}
 use Rattle.sftp_handles.proofs.TotalSteps.{bytes-by, text-fits}
 use Rattle.std.specs.Option.{option_map}
-use Rattle.sftp_tree.specs.declared.nodes.Node.TheVariants.{Dir, Link}
+use Rattle.sftp_tree.specs.declared.nodes.Node.TheVariants as nodes
 use Rattle.sftp_tree.specs.Requests.{target_of}
 use Rattle.sftp_tree.specs.Requests as paths
 use Rattle.sftp_handles.proofs.Good.{room-of}
@@ -110,12 +110,12 @@ there None none = absurd cc
 there (Some standing) none = (standing, refl)
 
 link-there : (found : Option Node) → link_causes found NoEntry ≡ false → link_causes found NotLink ≡ false
-    → (linktarget : List ℕ) × (found ≡ Some (Link linktarget))
+    → (linktarget : List ℕ) × (found ≡ Some (nodes.Link linktarget))
 unfolding when no_causes
 link-there None none kind = absurd cc
-link-there (Some (Dir owner)) none kind = absurd cc
-link-there (Some (File number)) none kind = absurd cc
-link-there (Some (Link linktarget)) none kind = (linktarget, refl)
+link-there (Some (nodes.Dir owner)) none kind = absurd cc
+link-there (Some (nodes.File number)) none kind = absurd cc
+link-there (Some (nodes.Link linktarget)) none kind = (linktarget, refl)
 
 shown-of : (found : Option Content) → is_some found ≡ true
     → (attrs : Attrs) × (option_map shown_content found ≡ Some attrs)
@@ -124,9 +124,9 @@ shown-of (Some content) is = (shown_content content, refl)
 
 -- each node is shown
 node-shows : (t : Tree) (standing : Node) → IsNode t.files standing → (attrs : Attrs) × (shown t standing ≡ Some attrs)
-node-shows t (Dir owner) is = (said 0 owner.uid owner.gid (0o040000 + owner.permissions), refl)
-node-shows t (File number) is = shown-of (content_at t.files number) is
-node-shows t (Link linktarget) is = (said (length linktarget) t.uid t.gid 0o120777, refl)
+node-shows t (nodes.Dir owner) is = (said 0 owner.uid owner.gid (0o040000 + owner.permissions), refl)
+node-shows t (nodes.File number) is = shown-of (content_at t.files number) is
+node-shows t (nodes.Link linktarget) is = (said (length linktarget) t.uid t.gid 0o120777, refl)
 
 -- the node at a place fits its fields and the limits
 pub node-kept : (t : Tree) → IsKept t → (place : Place) (standing : Node) → node_at t.names place ≡ Some standing
@@ -185,7 +185,7 @@ module _ (s : State) (good : Good s) where
 
   -- ---- names
 
-  names-target : (linktarget : List ℕ) → IsNode s.tree.files (Link linktarget) → link_fits (Link linktarget) ≡ true
+  names-target : (linktarget : List ℕ) → IsNode s.tree.files (nodes.Link linktarget) → link_fits (nodes.Link linktarget) ≡ true
       → FitsSaid (names (Some linktarget))
   names-target linktarget bytes link =
       let short = short-target linktarget link in
@@ -199,7 +199,7 @@ module _ (s : State) (good : Good s) where
   target-fits path place free leads =
       let none = (free-at s.tree (asks.Readlink path) place free leads refl).none in
       let found = link-there (node_at s.tree.names place) (none NoEntry) (none NotLink) in
-      let kept = node-kept s.tree good.tree place (Link found.0) found.1 in
+      let kept = node-kept s.tree good.tree place (nodes.Link found.0) found.1 in
       subst (λ o. FitsSaid (names (target_of o))) (sym found.1) (names-target found.0 kept.0 kept.1)
 
   leads-to : (path : List ℕ) (place : Place) → led s.tree (asks.Realpath path) ≡ Some (Ok place)
