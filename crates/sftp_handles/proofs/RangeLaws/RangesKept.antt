@@ -2,9 +2,9 @@
 use Rattle.sftp_handles.proofs.Imports.{◌≡◌, ◌≢◌, ◌||◌, nat_lt, ℕ, Bool, true, false, cond, List, [], ◌∷◌, length}
 use Rattle.sftp_handles.proofs.Imports.{Option, Some, None, unwrap_or, refl, sym, ap, subst, ◌∙◌, ◌⊎◌, inl, inr}
 use Rattle.sftp_handles.proofs.Imports.{nat_cmp, is_eq, is_at, lookup, filter, Equal-is, nat_cmp-IsAntisymmetric}
-use Rattle.sftp_handles.proofs.Imports.{true≢false, or_right, lt-ltb, eq-eqb, same_Some, OpenFlags, nat_list_cmp_total}
-use Rattle.sftp_handles.proofs.Imports.{bytes_decides, Ask, Answer, Request, Reply, asked_handle, bytes_cmp, same_bytes}
-use Rattle.sftp_handles.proofs.Imports.{get, retain, get-put_here, count-found, TreeLimits, Content, Tree, Files}
+use Rattle.sftp_handles.proofs.Imports.{true≢false, or_right, lt-ltb, eq-eqb, same_Some, OpenFlags}
+use Rattle.sftp_handles.proofs.Imports.{Ask, Answer, Request, Reply, asked_handle, bytes_cmp, same_bytes}
+use Rattle.sftp_handles.proofs.Imports.{get, retain, count-found, TreeLimits, Content, Tree, Files}
 use Rattle.sftp_handles.proofs.Imports.{content_at, with_content, limits, trim, is_named, is_pinned, ByteRange, Open}
 use Rattle.sftp_handles.proofs.Imports.{File, Listing, Left, Handles, open_at, with_open, pins_of, times_open}
 use Rattle.sftp_handles.proofs.Imports.{opens_file, State, settled, Needed, anything, a_file, a_listing, file}

@@ -2,16 +2,16 @@
 use Rattle.sftp_handles.proofs.Imports.{◌≡◌, ◌==◌, ℕ, zero, suc, ◌+◌, ◌-◌, ◌≤◌, List, [], ◌∷◌, ◌++◌, length, take}
 use Rattle.sftp_handles.proofs.Imports.{drop, false, if◌then◌else◌, refl, sym, ap, ◌∙◌, arith, ne_eqb, resized}
 use Rattle.sftp_handles.proofs.Imports.{overwritten, ◌≢◌, Bool, true, Option, Some, None, Ask, OpenFlags}
-use Rattle.sftp_handles.proofs.Imports.{asked_handle, TreeLimits, Content, Files, content_at, limits, Open, File}
+use Rattle.sftp_handles.proofs.Imports.{asked_handle, TreeLimits, Content, content_at, limits, Open, File}
 use Rattle.sftp_handles.proofs.Imports.{Listing, Left, open_at, State, Needed, anything, a_file, a_listing}
-use Rattle.sftp_handles.proofs.Imports.{seen_among, seen_file, row_of, ByteRange, Change, Touched, everything}
+use Rattle.sftp_handles.proofs.Imports.{seen_among, seen_file, row_of, Change, Touched, everything}
 use Rattle.sftp_handles.proofs.Imports.{touched, may_change, touched_by, touched_through}
 use Rattle.std.specs.Prelude.{replicate}
 use Rattle.sftp_tree.specs.Changes.{written}
 use Rattle.sftp_packets.specs.declared.requests.Ask.TheVariants as asks
 use Rattle.sftp_handles.specs.State.{seen}
-use Rattle.sftp_handles.specs.Clash.{span, range_within, range_of, range_by, range}
-use Rattle.sftp_handles.specs.Spans.{span_open, span_by, spanned, file_in, range_sized, range_now}
+use Rattle.sftp_handles.specs.Clash.{span, range_of, range_by, range}
+use Rattle.sftp_handles.specs.Spans.{span_open, span_by, spanned, file_in, range_now}
 use Rattle.sftp_handles.proofs.ClashLaws.{applied, IsChangeTo, part-stays}
 use Rattle.sftp_handles.proofs.ClashLaws.{limits-stay}
 
