@@ -92,7 +92,7 @@ def names_used(text: str) -> frozenset[str]:
 def is_bound(name: str, text: str) -> bool:
     """Returns whether a text has a name for a parameter, or for something of its own behind `where`."""
     word = re.escape(name)
-    parameter, variable = rf"\((?:\S+ )*{word}(?: [^\s:]+)* :", rf"λ \(?(?:\S+ )*{word}[ .]"
+    parameter, variable = rf"\((?:\S+ )*{word}(?: [^\s:]+)* :", rf"λ \(?(?:[^\s.]+ )*{word}[ .]"
     return bool(re.search(rf"(?m){parameter}|{variable}|^ +{word} .*[:=]", text))
 
 
