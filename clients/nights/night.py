@@ -7,7 +7,7 @@ import time
 from contextlib import suppress
 
 from nights import told
-from nights.keeping import Copy
+from nights.records import Copy
 from nights.records import Failed, NotTaken, Spool
 from paging import packets
 from probing import program

@@ -1,7 +1,15 @@
 """What ends a run early: a signal, a difference with --first, a time that is over."""
+import os
+import queue
 import signal
 import threading
 import time
+from collections import deque
+from concurrent import futures
+
+from probing import sessions, verdicts
+from probing.sessions import Session
+from sftp3 import trees
 
 
 class Halt:
@@ -50,3 +58,84 @@ class Until:
     def left(self):
         """How many seconds are left, at least 0."""
         return max(0, self.deadline - time.monotonic()) if self.deadline is not None else float("inf")
+
+
+# For each worker, how many tasks are begun before the first of them is asked for its result.
+AHEAD = 8
+
+
+class Worker:
+    """Plays and judges sessions, one at a time, in a folder of its own."""
+
+    def __init__(self, folder, server, auditor, timeout):
+        self.server, self.timeout = server, timeout
+        self.auditor = auditor.in_folder(folder)
+        # the server's own file of the tree, which it may change, and the file that the audit reads
+        self.tree_file, self.kept_tree = (os.path.join(folder, name) for name in ("start.tree", "judged.tree"))
+        self.tree = self.data = None
+
+    def write_tree(self, tree):
+        if tree is not self.tree:
+            self.tree, self.data = tree, trees.put(tree)
+            self.write(self.kept_tree)
+        self.write(self.tree_file)
+
+    def write(self, name):
+        with open(name, "wb") as file:
+            file.write(self.data)
+
+    def play(self, tree, steps, in_flight, seed, stop, timeout=None):
+        """The session of these steps, and what is judged of it. Raises Stopped once `stop` is set, unless there is a
+        difference by then."""
+        self.write_tree(tree)
+        session = sessions.play(self.server, self.tree_file, steps, in_flight, timeout or self.timeout, stop)
+        return session, verdicts.judge(self.auditor, self.kept_tree, session, seed, stop)
+
+
+class Pool:
+    """Workers side by side. A task is called with a worker; once `stop` is set, no more are begun."""
+
+    def __init__(self, workers):
+        self.jobs, self.idle = len(workers), queue.SimpleQueue()
+        for worker in workers:
+            self.idle.put(worker)
+        self.executor = futures.ThreadPoolExecutor(self.jobs)
+
+    def run(self, task, stop):
+        worker = self.idle.get()
+        try:
+            return None if stop.is_set() else task(worker)
+        except sessions.Stopped:
+            return None
+        finally:
+            self.idle.put(worker)
+
+    def in_order(self, tasks, stop, tick):
+        """Gives what the tasks return, in their order, whichever ends first; None for those that were stopped. `tick`
+        is called now and then. All have ended when this ends."""
+        tasks, begun = iter(tasks), deque()
+        try:
+            while True:
+                while len(begun) < AHEAD * self.jobs and not stop.is_set():
+                    task = next(tasks, None)
+                    if task is None:
+                        break
+                    begun.append(self.executor.submit(self.run, task, stop))
+                if not begun:
+                    return
+                while not futures.wait([begun[0]], timeout=0.5).done:
+                    tick()
+                tick()
+                yield begun.popleft().result()
+        finally:
+            for one in begun:
+                one.cancel()
+            futures.wait(begun)
+
+
+def not_started(error, in_flight, seed):
+    """The difference of a server that started before, and did not start now."""
+    session = error.session or Session(in_flight)
+    verdict = verdicts.Verdict(False, str(error), None, "NotStarted",
+                               {"expected": "VERSION 3", "found": str(error).splitlines()[0]})
+    return verdicts.Difference(seed, None, "INIT", verdict, session.records, session, None, None)

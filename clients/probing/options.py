@@ -5,7 +5,7 @@ import textwrap
 
 import sftp3
 from probing import features, files, program, refusals, sessions, shrinking, verdicts
-from recording.complaints import Parser
+from recording.parsers import Parser
 from recording.twice import named_twice
 from recording.ways import refuse_way_of_another
 
