@@ -1,4 +1,5 @@
-"""What the lines of `rt check` and `rt must-fail` say of edits."""
+"""What the lines of `rt check` and `rt must-fail` say of edits; commands that run until a time, and that can be
+stopped together."""
 import os
 import re
 import signal

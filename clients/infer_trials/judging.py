@@ -1,4 +1,4 @@
-"""What `sftpv3 audit` says of a session with a tree, and `sftpv3 infer` without one."""
+"""What `sftpv3 audit` says of a session with a tree, and `sftpv3 infer` without one; trees that a seed makes."""
 import os
 import random
 import re

@@ -1,6 +1,7 @@
 """The transcripts of a user: which there are, when their sessions ran, and whether one still runs.
 
 What users can write is in the spool: names, times and locks are believed no further than the one whose record it is.
+So what is audited is a copy, which nobody but root can change.
 """
 import calendar
 import errno

@@ -1,4 +1,5 @@
-"""Which reply is to which request, what was in flight meanwhile, and what overtook what."""
+"""Which reply is to which request, what was in flight meanwhile, and what overtook what, in a transcript, whose
+faults it names."""
 import heapq
 import os
 import stat

@@ -4,6 +4,9 @@ the server's user can enter: the plan makes files that others could write, and s
 No path of the plan leads out of the directory, whatever it would lead to if the directory were the root: a `..` is
 taken out with the name before it, and each link leads to a place below the directory, by an absolute path. In either
 order of its two paths, SYMLINK makes its link there.
+
+What sessions made there is removed in a session of its own, which follows no link, and ends at a server that lists what
+no session made.
 """
 import copy
 import time

@@ -1,4 +1,14 @@
-"""Differences that are alike: of one request, with the same causes, the same expectation, and found alike."""
+"""Differences that are alike: of one request, with the same causes, the same expectation, and found alike; and kinds of
+difference that have one cause, which are put behind one of them, as far as that can be told.
+
+A WRITE that is lost shows later, in READ, FSTAT, STAT and READDIR: each is a kind of its own. What tells the cause is
+the shrunk session: without the request that it still has, and that changed something, the difference does not come. So
+kinds have one cause if the last change in their shortest sessions is by the same kind of request, and if what differs
+is the same of a thing: its bytes, its permissions, whether it is there. A kind whose shortest session changes nothing
+has no cause but its own request.
+
+A kind that was not shrunk goes behind another if in each of its sessions it came after this one, of the same thing.
+"""
 import re
 
 import sftp3

@@ -1,8 +1,13 @@
 """The plan of a session. A seed, a tree and a number of requests have one plan, whatever the server answers.
 
-A plan has two parts, mixed with each other. Small scenes meet on the files of the tree; `weights` says how often each
-is drawn. Large scenes, which `weights` gives to each seed, have files and directories of their own, below names that no
-small scene knows. At the end of both, all that they made is read back and listed.
+A plan has two parts, mixed with each other. Small scenes meet on the files of the tree. Large scenes have files and
+directories of their own, below names that no small scene knows. At the end of both, all that they made is read back and
+listed.
+
+The weight of a small scene is the number of draws in 100 sessions of 60 requests: together they are about 2,400, and
+three of five draws try to be refused, by one request as a rule. What a client does every day is drawn in most sessions.
+What few clients ever do has the weight RARE: then some 5 to 10 of 100 sessions have it, which is enough to find what a
+server does wrong there, and not so much that one flaw is all that is seen of a server. No weight depends on a server.
 """
 import itertools
 import random

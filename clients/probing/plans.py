@@ -1,5 +1,9 @@
 """The steps of a plan: requests, with handles that stand for the replies that give them; those of a session that was
-recorded, so that it can be played again against any server; and the bytes of the files that plans upload."""
+recorded, so that it can be played again against any server; and the bytes of the files that plans upload.
+
+What a server says that it has room for, by `limits@openssh.com`, cuts the steps. The probe asks for it before the
+session that is recorded: the answer changes nothing in the tree, and the plan stays the same.
+"""
 import random
 import struct
 

@@ -1,5 +1,10 @@
 """Starts the server that is tried, keeps the last of what it writes to standard error, and ends it; and the streams of
-packets to and from it."""
+packets to and from it.
+
+What it leaves running are processes that lost the one that started them, and get the probe for their parent instead.
+Those of a session are known by a variable, or by the process group or session of its server, and end with it. Those
+that took care not to be known end with the run, unless they may be what --reset started, which goes on.
+"""
 import ctypes
 import os
 import selectors

@@ -1,5 +1,6 @@
-"""Scenes that move files as clients do: uploads and downloads in blocks, and what follows them on the same files. Each
-scene has names of its own, directly below the root, so that no other scene meets them; `p.blank` makes one."""
+"""Scenes that move files as clients do: uploads and downloads in blocks, and what follows them on the same files; and
+scenes with many names, unusual names, deep paths and many handles. Each scene has names of its own, directly below the
+root, so that no other scene meets them; `p.blank` makes one."""
 import sftp3
 from probing.plans import Content
 

@@ -1,4 +1,5 @@
-"""The command lines of sftpv3-record and sftpv3-recordd: options, help and complaints, by argparse."""
+"""The command lines of sftpv3-record and sftpv3-recordd: options, help and complaints, by argparse;
+complaints of all scripts about theirs."""
 import argparse
 
 from recording.notices import printable

@@ -1,4 +1,5 @@
-"""What a folder has, found through descriptors of its directories: no link is followed, whatever changes meanwhile."""
+"""What a folder has, found through descriptors of its directories: no link is followed, whatever changes meanwhile;
+and the entries of a tree file: these, and the directories and links that lead to them from the root."""
 import heapq
 import os
 import re

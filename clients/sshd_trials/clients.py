@@ -1,5 +1,5 @@
 """What clients do in a session with the sshd of the loopback. Each act returns whether its work is done, and what was
-printed."""
+printed. Editors save below a mount of sshfs: each replaces the first line of a file in its own way."""
 import os
 import pty
 import select

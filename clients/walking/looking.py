@@ -1,4 +1,5 @@
-"""What a walk asks: where things are, what a directory has, what a link and a file hold. It follows no link."""
+"""What a walk asks: where things are, what a directory has, what a link and a file hold. It follows no link.
+`sftpv3 infer` makes the tree of what was seen."""
 import subprocess
 from collections import deque
 

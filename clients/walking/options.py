@@ -6,7 +6,7 @@ import sys
 from probing import program, sessions, verdicts
 from probing.options import flying, seconds
 from recording.parsers import Parser
-from recording.twice import is_one_file
+from recording.ways import is_one_file
 from walking import bounds, looking
 
 # The exit statuses: the tree was written; no tree explains what the server told; wrong usage; it was not written.

@@ -1,4 +1,5 @@
-"""What attacks stand on: a folder of their own, a user of their own, and runs of the program."""
+"""What attacks stand on: a folder of their own, a user of their own, and runs of the program; what
+a user with SFTP alone, who is recorded, does to the recorder through /proc."""
 import os
 import pwd
 import re

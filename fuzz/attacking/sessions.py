@@ -1,4 +1,5 @@
-"""Sessions and files that are short and make a program take much memory, and runs whose memory is measured."""
+"""Sessions and files that are short and make a program take much memory, and runs whose memory is measured;
+a few SFTP requests over `ssh -s`, for an SFTP-only user."""
 import os
 import subprocess
 import sys
