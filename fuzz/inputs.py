@@ -1,6 +1,11 @@
-"""Random requests, trees, and changes of bytes, each by a given source of random numbers."""
-from sftp3 import OPENING, Request, encode, put_records, string, uint32, uint64, until_fault
-from sftp3.trees import DIRECTORY, FILE, FURTHER, HIGHEST, LINK, USUAL, Entry, Tree, put, text_of
+"""Random requests, trees, and changes of bytes, each by a given source of random numbers; and what
+`serve` has to say of a stream, by the documents alone."""
+from __future__ import annotations
+
+from sftp3 import (CLIENT, INIT, Malformed, OPENING, Request, encode, front, id_of, put_records, string, uint32,
+                   uint64, until_fault)
+from sftp3.packets import LONGEST
+from sftp3.trees import DIRECTORY, Entry, FILE, FURTHER, HIGHEST, LINK, Tree, USUAL, put, text_of
 
 NAMES = [b"a", b"b", b"c", b"d", b"l", b"m"]
 STEPS = [*NAMES, b"..", b".", b"", b"\xff\x01"]
@@ -230,3 +235,24 @@ def pieces(rng, data):
     count = rng.choice([0, 0, 1, 3, 10, 100])
     cuts = sorted(rng.randint(0, len(data)) for _ in range(min(count, len(data))))
     return [data[start:end] for start, end in zip([0, *cuts], [*cuts, len(data)]) if start < end]
+
+
+def session_end(sent: bytes, taken: list[bytes]) -> str | None:
+    """The message of `serve` after it took these packets of a stream, IdInUse aside; None for none."""
+    place = sum(map(len, taken))
+    rest = sent[place:]
+    try:
+        found = front(CLIENT, rest)
+    except Malformed as error:
+        return f"{error.fault} at {place}"
+    if found is None:
+        return "BadInit" if not taken else f"Cut at {place}" if rest else None
+    if rest[4] == INIT or not taken:
+        return "BadInit"
+    return f"IdInUse {id_of(rest)}"
+
+
+def limits_told(tree: Tree) -> bytes:
+    """What a session on a tree tells of its limits: packets, READ, WRITE, and open handles."""
+    _, _, read_bytes, handles = tree.limits
+    return uint64(LONGEST, read_bytes, read_bytes, handles)

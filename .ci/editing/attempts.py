@@ -8,7 +8,7 @@ from pathlib import Path
 
 from editing import verdicts
 from editing.blocks import Edit, EditsError
-from editing.commands import Commands
+from editing.verdicts import Commands
 
 # The edits that were refused, and why; or None if there was no time.
 Refusals = dict[Edit, str] | None

@@ -12,7 +12,7 @@ from crates import TOP, Crates
 
 from editing.attempts import Attempts, Refusals, groups
 from editing.blocks import Edit, edits_in, record_in, write_record
-from editing.commands import Commands
+from editing.verdicts import Commands
 from editing.definitions import Files
 from editing.hashes import hash_now, hash_of
 

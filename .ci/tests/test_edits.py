@@ -10,7 +10,7 @@ sys.path.insert(0, str(Path(__file__).resolve().parents[1]))
 from crates import Crates
 from editing.attempts import function_of
 from editing.blocks import EditsError, read_blocks, read_edit, record_in, write_record, wrong_edits
-from editing.definitions import Files
+from editing.definitions import Files, is_bound
 from editing.hashes import hash_of
 
 RIGHT = """# A comment at the head.
@@ -220,6 +220,12 @@ class Hashes(unittest.TestCase):
         for other in (joined.replace("n + n", "n + n + n"), joined.replace("twice n\n", "twice (twice n)\n"),
                       joined.replace("Prelude", "Other"), joined.replace("twice", "double")):
             self.assertNotEqual(self.hash_with(Sums=other), before)
+
+    def test_tells_variables_from_what_is_named_behind_them(self):
+        for text in ("both = λ n. twice n", "both = λ n m. twice n", "row = λ t place. twice t.names place;"):
+            self.assertFalse(is_bound("twice", text), text)
+        for text in ("λ twice. twice", "λ n twice. n", "λ n. λ twice. n", "both : (n twice : ℕ) → ℕ"):
+            self.assertTrue(is_bound("twice", text), text)
 
     def test_depends_on_which_of_two_definitions_is_meant(self):
         texts = {"Sizes": IMPORTS + TWICE, "Others": IMPORTS + TWICE.replace("n + n", "n")}

@@ -10,7 +10,7 @@ sys.dont_write_bytecode = True
 sys.path.insert(0, str(Path(__file__).resolve().parents[1]))
 import indexing
 import making
-from contracts import functions_of, head_of
+from indexing import functions_of, head_of
 
 SOURCE = """//! Files that are counted, and
 //! no more. A second sentence.

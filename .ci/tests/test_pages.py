@@ -1,13 +1,18 @@
-"""What `.ci/pages` finds in scripts and documents that are broken on purpose."""
+"""What `.ci/pages` finds in scripts and documents that are broken on purpose, and what `packaging/` writes that does
+not depend on the program."""
+import os
 import shutil
 import sys
 import tempfile
 import unittest
+from datetime import datetime, timezone
 from pathlib import Path
 from unittest import mock
 
 sys.dont_write_bytecode = True
 sys.path.insert(0, str(Path(__file__).resolve().parents[1]))
+sys.path.insert(0, str(Path(__file__).resolve().parents[2] / "packaging"))
+import mdoc
 import scripts
 import texts
 
@@ -72,6 +77,25 @@ class Version(unittest.TestCase):
     def test_is_told_if_it_does_not(self):
         for changes in "## 0.3.0\n\n## 0.2.0\n", "## 0.2\n", "# Changes\n":
             self.assertRegex(self.wrong(changes)[0], r"^CHANGELOG\.md: .*0\.2\.0$")
+
+
+class Dates(unittest.TestCase):
+    def test_page_has_the_date_that_is_given(self):
+        with mock.patch.dict(os.environ, SOURCE_DATE_EPOCH="90000"):
+            self.assertEqual(mdoc.page_date(), "January 2, 1970")
+
+    def test_page_has_the_date_of_the_changes_without_git(self):
+        changed = datetime.fromtimestamp((mdoc.TOP / "CHANGELOG.md").stat().st_mtime, timezone.utc)
+        with mock.patch.dict(os.environ, SOURCE_DATE_EPOCH="", PATH="/nowhere"):
+            self.assertEqual(mdoc.page_date(), changed.strftime("%B %-d, %Y"))
+
+
+class Sections(unittest.TestCase):
+    def test_headings_paragraphs_and_items(self):
+        text = "NOTES\n\nIt runs. It\nends.\n\nMore.\n\n- one\n  word\n- 'two'\n\nBehind.\n\nCAVEATS\n\n- three\n"
+        self.assertEqual(mdoc.sections(text), [
+            ".Sh NOTES", "It runs.", "It ends.", ".Pp", "More.", ".Bl -bullet", ".It", "one word", ".It",
+            "\\&\\(aqtwo\\(aq", ".El", ".Pp", "Behind.", ".Sh CAVEATS", ".Bl -bullet", ".It", "three", ".El"])
 
 
 if __name__ == "__main__":

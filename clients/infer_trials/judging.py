@@ -1,7 +1,10 @@
-"""What `sftpv3 audit` says of a session with a tree, and `sftpv3 infer` without one."""
+"""What `sftpv3 audit` says of a session with a tree, and `sftpv3 infer` without one; trees that a seed makes."""
 import os
+import random
 import re
 import subprocess
+
+from sftp3 import trees
 
 # Seconds that either may take for one of these sessions.
 PATIENCE = 120
@@ -48,3 +51,73 @@ def accepted_without(program, transcript, options=(), tree=None):
     if not is_right:
         raise Wrong(f"`infer` wrote a tree, and `audit` says with it: {verdict}")
     return True, said
+
+
+NAMES = [b"a", b"b", b"docs", b"log", b"x y", b"caf\xc3\xa9", b"new", b"n", b"\xff", b"data.bin"]
+MODES = {trees.DIRECTORY: [0o755, 0o700, 0o1777], trees.FILE: [0o644, 0o600, 0o755, 0o640]}
+
+
+class Maker:
+    """Draws the entries of a tree."""
+
+    def __init__(self, seed):
+        self.random = random.Random(f"start {seed}")
+        self.entries, self.directories = {}, [b""]
+
+    def place(self):
+        """A place that is free, as a path."""
+        while True:
+            path = self.random.choice(self.directories) + b"/" + self.random.choice(NAMES)
+            if path not in self.entries:
+                return path
+
+    def add(self, path, kind, content=b""):
+        owner = self.random.choice([(0, 0), (0, 0), (1000, 1000), (7, 8)])
+        self.entries[path] = trees.Entry(path, kind, content, *owner, self.random.choice(MODES.get(kind, [0])))
+
+    def directory(self):
+        path = self.place()
+        if path.count(b"/") < 4:
+            self.add(path, trees.DIRECTORY)
+            self.directories.append(path)
+
+    def file(self):
+        size = self.random.choice([0, 1, 5, 26, 100, 3000])
+        self.add(self.place(), trees.FILE, self.random.randbytes(size))
+
+    def of_kind(self, kind):
+        return [path for path, entry in self.entries.items() if entry.kind == kind]
+
+    def link(self):
+        """A link that leads to an entry, by its path or by its name alone, or to nothing."""
+        found = list(self.entries)
+        target = self.random.choice(found + [b"/nothing", b"n/m"])
+        self.add(self.place(), trees.LINK, self.random.choice([target, target.rpartition(b"/")[2]]))
+
+    def further_name(self):
+        """One more name of a file. The first in the order of the tree has the bytes, the others lead to it."""
+        files = self.of_kind(trees.FILE)
+        if files:
+            first, other = sorted([self.random.choice(files), self.place()], key=lambda path: path.split(b"/"))
+            old = self.entries.pop(first, None) or self.entries.pop(other)
+            lead = [entry for entry in self.entries.values()
+                    if entry.kind == trees.FURTHER and entry.content == old.path]
+            self.entries[first] = trees.Entry(first, trees.FILE, old.content, old.uid, old.gid, old.permissions)
+            self.entries[other] = trees.Entry(other, trees.FURTHER, first)
+            for entry in lead:
+                entry.content = first
+
+
+def start(seed, links, names):
+    """The tree of a seed: with links, or with files of several names, or neither."""
+    maker = Maker(seed)
+    for _ in range(maker.random.randint(1, 4)):
+        maker.directory()
+    for _ in range(maker.random.randint(2, 7)):
+        maker.file()
+    for _ in range(maker.random.randint(1, 4) if links else 0):
+        maker.link()
+    for _ in range(maker.random.randint(1, 2) if names else 0):
+        maker.further_name()
+    home = maker.random.choice([b"/", b"/", maker.random.choice(maker.directories) or b"/"])
+    return trees.Tree(maker.entries.values(), home)

@@ -4,7 +4,7 @@ import os
 import random
 
 import sftp3
-from infer_trials import judging, starts, strict
+from infer_trials import judging, strict
 from probing import mutated, program
 from probing.plans import Step
 from sftp3 import trees
@@ -124,7 +124,7 @@ MISTAKES = [wrong_byte, mutated.lost_write, swapped, mutated.exchanged_writes, w
 
 def attempt(folder, seed, looks_first):
     """For each kind of mistake, pairs of whether it was caught and where its transcript is."""
-    tree = starts.start(seed, seed % strict.LINKS == 0, False)
+    tree = judging.start(seed, seed % strict.LINKS == 0, False)
     steps = plan_of(seed, tree, looks_first)
     records, tree_file, transcript = strict.record(folder, tree, steps, seed, 1)
     is_right, said = judging.accepted_without(program.program(), transcript)

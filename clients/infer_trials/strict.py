@@ -3,7 +3,7 @@ import os
 import tempfile
 from dataclasses import dataclass
 
-from infer_trials import judging, starts
+from infer_trials import judging
 from probing import planner, program, sessions
 from sftp3 import trees
 
@@ -38,7 +38,7 @@ def record(folder, tree, steps, seed, in_flight):
 def attempt(folder, seed):
     """Plays the session of a seed, and judges it without its tree."""
     links, names = seed % LINKS == 0, seed % NAMES == 0
-    tree = starts.start(seed, links, names)
+    tree = judging.start(seed, links, names)
     count = LEAST + seed * 37 % (MOST - LEAST + 1)
     steps = list(planner.Planner(seed, tree).small(count))
     _, tree_file, transcript = record(folder, tree, steps, seed, 16 if seed % 2 else 1)

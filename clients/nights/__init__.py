@@ -1,2 +1,2 @@
-"""The parts of clients/nightly: `records` are the transcripts of a user, `keeping` copies them where only root can
-change them, `night` audits them one after the other."""
+"""The parts of clients/nightly: `records` are the transcripts of a user, and copies of them where only root can
+change them; `night` audits them one after the other, and says what came of it."""

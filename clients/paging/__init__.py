@@ -1,11 +1,9 @@
 """Pages that show sessions, for clients/probe --report and clients/page. In the order in which they are used:
 
 packets      a packet as a person reads it: its name, a line, its fields
-exchanges    which reply is to which request, and what was in flight meanwhile
+exchanges    a transcript as records, which reply is to which request, and what was in flight meanwhile
 places       where a reply differs: the byte, with what was expected and what was found
 folding      which records of a long session are shown
 picture      the HTML of a session: time downwards, a lane for each request in flight
-document     the HTML of a page, with page.css and page.js in it
-runs         the page of a run of the probe
-single       the page of one session
+document     the HTML of a page, with page.css and page.js in it: that of one session, that of a run of the probe
 """

@@ -2,24 +2,23 @@
 
 starting    the tree that a probe starts from
 model       what the planner believes the server's tree to be
-plans       the steps of a plan, or of a session that was recorded; the bytes in them
-planner     the plan of a session: draws scenes, spells paths in many ways, and reads all back at the end
+plans       the steps of a plan, or of a session that was recorded; the bytes in them; what a server has room for
+planner     the plan of a session: draws scenes, each as often as it says, spells paths in many ways, and reads all back
+            at the end
 features    what `--skip` may name in a plan
-weights     how often each scene is drawn, and which seeds have which large scenes
 scenes      small scenes that make sense; refusals: requests that some cause refuses; effects: what they do to the model
-transfers   large scenes with much data; crowds: those with many names or handles
-room        the steps of a plan within what the server says that it has room for
-servers     starts and ends the server, with packets to and from it; leftovers: ends what it leaves running
+transfers   large scenes with much data, or with many names or handles
+servers     starts and ends the server, with packets to and from it, and ends what it leaves running
 sessions    plays a plan against a server, and records it
-below       a plan below a directory of its own; clearing: removes what sessions made there
+below       a plan below a directory of its own; removes what sessions made there
 ownfiles    refuses to play where the server has other files than the tree's
 verdicts    asks `sftpv3 audit`, and goes on after a difference
-groups      differences that are alike; causes: those that have one cause
+groups      differences that are alike, and those that have one cause
 shrinking   the shortest session that still shows a difference, by guesses at what it may need
 options     the command line, and the exit statuses
-limits      what ends a run early; workers: what plays sessions side by side
+limits      what ends a run early, what was played, and how far the probe is; plays sessions side by side
 unseen      sessions with a server whose files nobody can see, which look first
-runs        one run of the probe; tally: what was played, and how far the probe is
+runs        one run of the probe
 reports     what is printed, kept and reported, also as JUnit; printed: a difference as pages and reports show it
 planted     servers with bugs, for clients/test-probe
 faults      servers with one fault each, for clients/test-probe-faults: faulty_writes, faulty_reads, faulty_names,

@@ -1,7 +1,20 @@
-"""What ends a run early: a signal, a difference with --first, a time that is over."""
+"""What ends a run early: a signal, a difference with --first, a time that is over; what was played, and how far the
+probe is; and workers, each of which plays and judges one session at a time, side by side with the others."""
+import os
+import queue
 import signal
+import sys
 import threading
 import time
+from collections import deque
+from concurrent import futures
+from contextlib import suppress
+from dataclasses import dataclass, field
+from typing import List
+
+from probing import sessions, verdicts
+from probing.sessions import Session
+from sftp3 import trees
 
 
 class Halt:
@@ -50,3 +63,173 @@ class Until:
     def left(self):
         """How many seconds are left, at least 0."""
         return max(0, self.deadline - time.monotonic()) if self.deadline is not None else float("inf")
+
+
+# For each worker, how many tasks are begun before the first of them is asked for its result.
+AHEAD = 8
+
+
+class Worker:
+    """Plays and judges sessions, one at a time, in a folder of its own."""
+
+    def __init__(self, folder, server, auditor, timeout):
+        self.server, self.timeout = server, timeout
+        self.auditor = auditor.in_folder(folder)
+        # the server's own file of the tree, which it may change, and the file that the audit reads
+        self.tree_file, self.kept_tree = (os.path.join(folder, name) for name in ("start.tree", "judged.tree"))
+        self.tree = self.data = None
+
+    def write_tree(self, tree):
+        if tree is not self.tree:
+            self.tree, self.data = tree, trees.put(tree)
+            self.write(self.kept_tree)
+        self.write(self.tree_file)
+
+    def write(self, name):
+        with open(name, "wb") as file:
+            file.write(self.data)
+
+    def play(self, tree, steps, in_flight, seed, stop, timeout=None):
+        """The session of these steps, and what is judged of it. Raises Stopped once `stop` is set, unless there is a
+        difference by then."""
+        self.write_tree(tree)
+        session = sessions.play(self.server, self.tree_file, steps, in_flight, timeout or self.timeout, stop)
+        return session, verdicts.judge(self.auditor, self.kept_tree, session, seed, stop)
+
+
+class Pool:
+    """Workers side by side. A task is called with a worker; once `stop` is set, no more are begun."""
+
+    def __init__(self, workers):
+        self.jobs, self.idle = len(workers), queue.SimpleQueue()
+        for worker in workers:
+            self.idle.put(worker)
+        self.executor = futures.ThreadPoolExecutor(self.jobs)
+
+    def run(self, task, stop):
+        worker = self.idle.get()
+        try:
+            return None if stop.is_set() else task(worker)
+        except sessions.Stopped:
+            return None
+        finally:
+            self.idle.put(worker)
+
+    def in_order(self, tasks, stop, tick):
+        """Gives what the tasks return, in their order, whichever ends first; None for those that were stopped. `tick`
+        is called now and then. All have ended when this ends."""
+        tasks, begun = iter(tasks), deque()
+        try:
+            while True:
+                while len(begun) < AHEAD * self.jobs and not stop.is_set():
+                    task = next(tasks, None)
+                    if task is None:
+                        break
+                    begun.append(self.executor.submit(self.run, task, stop))
+                if not begun:
+                    return
+                while not futures.wait([begun[0]], timeout=0.5).done:
+                    tick()
+                tick()
+                yield begun.popleft().result()
+        finally:
+            for one in begun:
+                one.cancel()
+            futures.wait(begun)
+
+
+def not_started(error, in_flight, seed):
+    """The difference of a server that started before, and did not start now."""
+    session = error.session or Session(in_flight)
+    verdict = verdicts.Verdict(False, str(error), None, "NotStarted",
+                               {"expected": "VERSION 3", "found": str(error).splitlines()[0]})
+    return verdicts.Difference(seed, None, "INIT", verdict, session.records, session, None, None)
+
+
+# Seconds between two lines where standard error is no terminal.
+PAUSE = 10
+
+
+@dataclass
+class Played:
+    """The session of a seed, and how it went."""
+
+    # The seed, or the number where a recorded session is played.
+    seed: int
+    # The most requests in flight.
+    in_flight: int
+    # How many seconds it took, with the audits, and without waiting for a processor's turn.
+    seconds: float
+    # How many requests the plan has, and how many of them no verdict was given on: those behind a difference of which
+    # nobody knows what it changed, and those that were not asked.
+    requests: int
+    unjudged: int
+    # The groups of its differences, each once, in the order in which they came.
+    groups: List = field(default_factory=list)
+
+    def vain(self):
+        """Whether nothing at all was judged: then it does not count as accepted."""
+        return not self.groups and self.unjudged >= self.requests
+
+
+class Tally:
+    """All sessions, in the order of their seeds. `planned` is how many were to be played."""
+
+    def __init__(self, planned=0):
+        self.planned, self.played = planned, []
+        self.stopped = None
+        # what the server's VERSION says
+        self.version = None
+
+    def add(self, played):
+        self.played.append(played)
+
+    @property
+    def sessions(self):
+        """How many sessions there were in which something was judged."""
+        return sum(not one.vain() for one in self.played)
+
+    @property
+    def requests(self):
+        return sum(one.requests for one in self.played)
+
+    @property
+    def unjudged(self):
+        return sum(one.unjudged for one in self.played)
+
+    @property
+    def differing(self):
+        """How many sessions differ."""
+        return sum(bool(one.groups) for one in self.played)
+
+    @property
+    def left(self):
+        """How many sessions were not played."""
+        return self.planned - len(self.played)
+
+    @property
+    def judged(self):
+        """The sessions of which something was judged."""
+        return [one for one in self.played if not one.vain()]
+
+
+class Progress:
+    """A line on a terminal that is always the latest; elsewhere a line every ten seconds."""
+
+    def __init__(self, stream=None, pause=PAUSE):
+        self.stream, self.pause = stream or sys.stderr, pause
+        self.terminal = self.stream.isatty()
+        self.last = time.monotonic()
+
+    def say(self, text):
+        # a terminal may be gone, and what is said here is not missed
+        with suppress(OSError):
+            if self.terminal:
+                print(f"\r\x1b[K{text}", end="", file=self.stream, flush=True)
+            elif time.monotonic() - self.last >= self.pause:
+                self.last = time.monotonic()
+                print(f"probe: {text}", file=self.stream, flush=True)
+
+    def clear(self):
+        if self.terminal:
+            self.say("")

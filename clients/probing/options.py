@@ -5,8 +5,8 @@ import textwrap
 
 import sftp3
 from probing import features, files, program, refusals, sessions, shrinking, verdicts
-from recording.complaints import Parser
-from recording.twice import named_twice
+from recording.parsers import Parser
+from recording.ways import named_twice
 from recording.ways import refuse_way_of_another
 
 # The exit statuses: all sessions were accepted; there are differences; the command line is wrong, or plans nothing; the

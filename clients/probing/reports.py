@@ -10,7 +10,7 @@ import time
 from xml.sax import saxutils
 
 import sftp3
-from paging import document, packets, runs
+from paging import document, packets
 from probing import files, printed, program
 from sftp3 import trees
 
@@ -136,7 +136,8 @@ def write_page(name, given, tally, found):
              ("requests", f"{tally.requests:,}, {tally.unjudged:,} of which were not judged"),
              ("time", f"{sum(one.seconds for one in tally.played):,.1f} s in all sessions, until "
                       f"{time.strftime('%Y-%m-%d %H:%M:%S', time.gmtime())} UTC")]
-    document.write(name, runs.page(runs.Run("sftpv3-probe", summary(tally, found), facts, seeds, differences)))
+    run = document.Run("sftpv3-probe", summary(tally, found), facts, seeds, differences)
+    document.write(name, document.page_of_run(run))
 
 
 def options_of(command):

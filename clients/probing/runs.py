@@ -5,9 +5,9 @@ import time
 from dataclasses import dataclass, field
 from typing import List, Optional
 
-from paging import single
-from probing import (causes, features, groups, limits, options, ownfiles, planner, plans, program, reports,
-                     sessions, shrinking, starting, tally, unseen, verdicts, workers)
+from paging import document
+from probing import (features, groups, limits, options, ownfiles, planner, plans, program, reports, sessions,
+                     shrinking, starting, unseen, verdicts)
 from probing.sessions import NotStarted
 from sftp3 import trees
 from walking import bounds
@@ -21,7 +21,7 @@ MOST_PLAYED, MOST_ENDED = 12, 3
 class Outcome:
     """What came of a seed."""
 
-    played: tally.Played
+    played: limits.Played
     # Pairs of the steps that were played and a difference, each kind once for a request.
     differences: List = field(default_factory=list)
     # Why the server did not start, if it did not even once.
@@ -36,7 +36,7 @@ class Plan:
     def __init__(self, given, seed, steps, tree, stop):
         self.seed, self.steps, self.tree, self.stop = seed, steps, tree, stop
         self.in_flight = options.in_flight(given, seed)
-        self.outcome = Outcome(tally.Played(seed, self.in_flight, 0, 0, 0))
+        self.outcome = Outcome(limits.Played(seed, self.in_flight, 0, 0, 0))
         self.seen, self.endings = set(), []
 
     def play(self, worker):
@@ -53,7 +53,7 @@ class Plan:
                 raise
             except NotStarted as error:
                 self.outcome.not_started = error if number == 0 else None
-                self.take([workers.not_started(error, self.in_flight, self.seed)])
+                self.take([limits.not_started(error, self.in_flight, self.seed)])
                 break
             self.take(judged.differences)
             self.count(number, session, judged)
@@ -66,7 +66,7 @@ class Plan:
     def play_once(self, worker):
         """Where the server ended with several requests unanswered, they are asked one by one, to see which it is."""
         session, judged = worker.play(self.tree, self.steps, self.in_flight, self.seed, self.stop)
-        self.outcome.version = single.version(session.records)
+        self.outcome.version = document.version(session.records)
         if session.ended and session.unanswered > 1:
             try:
                 alone = worker.play(self.tree, self.steps, options.ONE, self.seed, self.stop)
@@ -125,18 +125,18 @@ class Run:
         if not is_known and not given.tree:
             raise options.Wrong(ownfiles.NO_TREE)
         players = self.workers(folder, server, auditor)
-        self.pool = workers.Pool(players)
+        self.pool = limits.Pool(players)
         self.until = limits.Until(halt, given.patience)
         if not is_known and (why := ownfiles.trouble(server, players[0], self.tree, halt)):
             raise options.Wrong(why)
         self.playing = limits.Halt(self.until)
-        self.groups, self.tally, self.progress = groups.Groups(), tally.Tally(), tally.Progress()
+        self.groups, self.tally, self.progress = groups.Groups(), limits.Tally(), limits.Progress()
 
     def workers(self, folder, server, auditor):
         """What plays the sessions, one for each that is played at a time."""
         folders = [self.place(folder, number) for number in range(options.jobs(self.given))]
         if self.given.look_first is None:
-            return [workers.Worker(one, server, auditor, self.given.timeout) for one in folders]
+            return [limits.Worker(one, server, auditor, self.given.timeout) for one in folders]
         place = unseen.Place(server, self.given.look_first, self.given.timeout, self.halt)
         return [unseen.Worker(one, server, auditor, self.given.timeout, place) for one in folders]
 
@@ -199,7 +199,7 @@ class Run:
                 self.progress.clear()
                 program.say(f"seed {difference.seed}: {found[-1][1].title()}; expected: {difference.expected}")
         if found:
-            for (_, group, _), others in zip(found, causes.behind(found, self.tree)):
+            for (_, group, _), others in zip(found, groups.behind(found, self.tree)):
                 group.put_behind(others)
         outcome.played.groups = list(dict.fromkeys(group for _, group, _ in found))
         self.tally.version = self.tally.version or outcome.version
@@ -216,7 +216,7 @@ class Run:
         for _ in self.pool.in_order(tasks, budget.until, say):
             pass
         self.progress.clear()
-        causes.arrange(self.groups.all())
+        groups.arrange(self.groups.all())
 
     def keep(self, group):
         """Keeps the session of a group."""

@@ -6,7 +6,7 @@ from dataclasses import dataclass, field
 from typing import List, Optional, Tuple
 
 import sftp3
-from probing import room, servers
+from probing import plans, servers
 from probing.servers import NotStarted, Server, Stopped  # noqa: F401 (callers have them from here)
 
 # Seconds to wait for a reply, and how many times as long for VERSION.
@@ -124,20 +124,20 @@ class Player:
         announced = {name for name, _ in pairs}
         self.waiting = deque(step for step in self.waiting
                              if sftp3.EXTENSIONS.get(step.name) in announced | {None})
-        if room.EXTENSION in announced:
+        if plans.EXTENSION in announced:
             self.waiting = deque(self.within_room(self.waiting))
 
     def within_room(self, steps):
         """The steps, within what the server says that it has room for. The question is not recorded, since no plan has
         it."""
-        self.streams.give(room.question())
+        self.streams.give(plans.question())
         packet = self.next_packet()
         while packet is None:
             self.exchange()
             packet = self.next_packet()
             if packet is None and self.session.end:
-                raise NotStarted(f"no reply to {room.EXTENSION.decode()} came: {self.session.end}")
-        found = room.answered(packet)
+                raise NotStarted(f"no reply to {plans.EXTENSION.decode()} came: {self.session.end}")
+        found = plans.answered(packet)
         self.heard = time.monotonic()
         return found.cut(steps) if found else steps
 

@@ -5,8 +5,8 @@ import sys
 from contextlib import suppress
 
 import sftp3
-from probing import below, clearing, program, sessions, verdicts, workers
-from walking import bounds, inferring
+from probing import below, limits, program, sessions, verdicts
+from walking import bounds, looking
 from walking.looking import ask, real
 from walking.sessions import DIRECTORY, kind_of
 
@@ -20,11 +20,11 @@ class Place:
     if `stop` was set by then; so no session is played."""
 
     def __init__(self, server, path, timeout, stop):
-        if not inferring.can_infer(program.program()):
-            raise inferring.NotInferred("the program sftpv3 has no `infer`, which --look-first needs")
+        if not looking.can_infer(program.program()):
+            raise looking.NotInferred("the program sftpv3 has no `infer`, which --look-first needs")
         self.path = None
         with suppress(sessions.Stopped):
-            clearing.hold(server, self.steps(path), timeout, stop)
+            below.hold(server, self.steps(path), timeout, stop)
 
     def steps(self, path):
         (reply,) = yield [ask("REALPATH", path)]
@@ -64,7 +64,7 @@ def is_open(found):
     return kind_of(given) != DIRECTORY or bool(given["permissions"] & 0o077)
 
 
-class Worker(workers.Worker):
+class Worker(limits.Worker):
     """Plays sessions below directories of their own, below a place."""
 
     def __init__(self, folder, server, auditor, timeout, place):
@@ -77,7 +77,7 @@ class Worker(workers.Worker):
             self.make(base.own, stop)
             session = sessions.play(self.server, "", base.steps(steps), in_flight, timeout or self.timeout, stop)
         finally:
-            left = clearing.Clearing(base.own).run(self.server, self.timeout, stop)
+            left = below.Clearing(base.own).run(self.server, self.timeout, stop)
             for line in left.split("\n") if left else ():
                 program.say(f"probe: {line}", sys.stderr)
         self.infer(session, {step.number for step in base.looking}, stop)
@@ -90,7 +90,7 @@ class Worker(workers.Worker):
         def steps():
             found.append((yield from private(path)))
         try:
-            clearing.hold(self.server, steps(), self.timeout, stop)
+            below.hold(self.server, steps(), self.timeout, stop)
         except bounds.Misbehaves as error:
             raise sessions.NotStarted(str(error)) from None
         if found[0]:
@@ -100,7 +100,7 @@ class Worker(workers.Worker):
         """Has the tree made that the requests with these numbers saw, and keeps it with the session."""
         with open(self.seen, "wb") as file:
             file.write(sftp3.put_records(of_numbers(session.records, numbers)))
-        is_there, said, why = inferring.infer(self.auditor.program, self.seen, self.kept_tree, self.auditor.options,
+        is_there, said, why = looking.infer(self.auditor.program, self.seen, self.kept_tree, self.auditor.options,
                                               program.MEMORY, stop)
         if not is_there:
             raise verdicts.Trouble("\n".join(["no tree is what the session saw at its start: " + said, why]), 1)

@@ -1,12 +1,11 @@
 """The parts of the recorder, clients/record, and of clients/recordd, each building on those before it:
 
 standard  the three standard descriptors; keeps other processes of the user out
-packets   a stream of bytes as packets, one direction of a session
-plain     VERSION without extensions
+packets   a stream of bytes as packets, one direction of a session; VERSION without extensions
 times     the file of times beside a transcript
 notices   lines to standard error, to a log, to syslog
-folders   whether others could replace a file
-ways      the way to a file by open folders, past links of others
+ways      the way to a file by open folders, past links of others; whether others could replace it, and whether two
+          names lead to one file
 replacing files that are replaced whole
 naming    names of transcripts, and how they are opened
 sinks     where records go: files, pipes, a spool
@@ -14,10 +13,8 @@ signals   the module `signal`, quickly imported
 server    the server's process: its start, its end, its status
 auditing  an audit that reads along
 sessions  the loop that passes packets on, how it ends, and what the client of a session that ends still awaits
-shares    what each user has of a spool
-keeping   the daemon that keeps records in a spool
+keeping   the daemon that keeps records in a spool, and what each user has of one
 options   the commands
-complaints  about command lines
-ending      signals that end other scripts in order
+ending    signals that end other scripts in order
 parsers   their options, with help and complaints
 """

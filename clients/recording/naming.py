@@ -6,7 +6,7 @@ import pwd
 import stat
 import time
 
-from recording import folders, ways
+from recording import ways
 
 # How long a pipe may be without a reader.
 PATIENCE = 5
@@ -88,7 +88,7 @@ def expand(name, environment=os.environ):
 
 def folder_warning(name):
     """What is wrong with the folders of this name, or None: others could rename or replace what is in them."""
-    found = folders.fault(folders.looked_at(name))
+    found = ways.fault(ways.looked_at(name))
     return f"{found}, who can replace the record" if found else None
 
 

@@ -14,7 +14,7 @@ from recording.server import NotStarted, start
 from recording.sessions import OWN_FAILURE, Session, Signals
 from recording.sinks import Failed, FileSink, SpoolSink, TimesSink
 from recording.standard import open_standard_files
-from recording.twice import named_twice
+from recording.ways import named_twice
 
 NAME = "sftpv3-record"
 
@@ -238,7 +238,7 @@ def record_session(options):
         return error.status
     change = None
     if options.plain:
-        from recording.plain import plain as change
+        from recording.packets import plain as change
     session = Session(server, signals, notices, options, change)
     if options.audit:
         session.audit = open_audit(options, notices)

@@ -1,8 +1,17 @@
-"""The command lines of sftpv3-record and sftpv3-recordd: options, help and complaints, by argparse."""
+"""The command lines of sftpv3-record and sftpv3-recordd: options, help and complaints, by argparse;
+complaints of all scripts about theirs."""
 import argparse
 
-from recording.complaints import Parser
+from recording.notices import printable
 from recording.options import AUDIT_FLAGS, AUDIT_MEMORY, AUDIT_VALUES, GRACE, NAME
+
+
+class Parser(argparse.ArgumentParser):
+    """A parser whose complaints show what it was given as one line that does nothing to a terminal."""
+
+    def error(self, message):
+        super().error(printable(message))
+
 
 RECORD_NOTES = """\
 In TRANSCRIPT and in the names of --times, --log, --tree and --out, %p is the recorder's process, %u the user, %t the

@@ -3,7 +3,7 @@ import os
 import select
 import struct
 
-from recording import folders, times, ways
+from recording import times, ways
 
 # The form of the socket of a spool: recording/keeping.py has it.
 SPOOL_OPENING = b"SFTPSP01"
@@ -139,7 +139,7 @@ class SpoolSink:
         """Refuses a socket that another user could have made in place of the daemon's."""
         import socket
         _, user, _ = PEER.unpack(self.socket.getsockopt(socket.SOL_SOCKET, socket.SO_PEERCRED, PEER.size))
-        found = folders.fault([*place.above, (place.path, place.state())], user)
+        found = ways.fault([*place.above, (place.path, place.state())], user)
         if not found and user not in (0, os.geteuid(), place.folder_state().st_uid):
             found = "it is of a user whom its folder does not belong to"
         if found:

@@ -2,15 +2,16 @@
 there meanwhile, no link is followed that was not looked at, and none that another user may have put there.
 
 What is then done with the file is done by its name in the last folder, which stays open. A session waits for the start
-of the recorder, so this imports little.
+of the recorder, so this imports little. Here is, too, whether others could put another file in
+its place, and whether two names of a command line lead to one file.
 """
 from __future__ import annotations
 
 import errno
+import grp
 import os
+import pwd
 import stat
-
-from recording import folders
 
 # The most links that lead to each other, as the system has it.
 MOST_LINKS = 40
@@ -347,4 +348,77 @@ def own_folder(name: str) -> int:
 
 def is_own(folder: os.stat_result) -> bool:
     """Whether a folder is this user's, and no other can write to it."""
-    return folder.st_uid == os.geteuid() and not folders.is_writable(folder, os.geteuid())
+    return folder.st_uid == os.geteuid() and not is_writable(folder, os.geteuid())
+
+
+def is_private(group, user):
+    """Whether the group is that of this user alone: it has the user's name, and no other members."""
+    try:
+        found, name = grp.getgrgid(group), pwd.getpwuid(user).pw_name
+    except KeyError:
+        return False
+    return found.gr_name == name and not set(found.gr_mem) - {name}
+
+
+def is_writable(found, user):
+    """Whether others than this user and the owner may write into the folder."""
+    if found.st_mode & stat.S_IWOTH:
+        return True
+    return bool(found.st_mode & stat.S_IWGRP) and found.st_gid != 0 and not is_private(found.st_gid, user)
+
+
+def looked_at(path):
+    """The states of the folders on the way to a path, from the root on, and of what is there, each with its name; None
+    is that of the first which is not there. Links are followed."""
+    whole = os.path.join(os.path.realpath(os.path.dirname(path) or "."), os.path.basename(path))
+    found = []
+    for end in [1, *(at for at in range(1, len(whole)) if whole[at] == "/"), len(whole)]:
+        try:
+            found.append((whole[:end], os.lstat(whole[:end])))
+        except OSError:
+            return [*found, (whole[:end], None)]
+    return found
+
+
+def fault(states, owner=None):
+    """What is wrong with a folder on a way, or None: of the states on it, each with its name, of which the last one is
+    that of what is there, or None. The last folder may belong to `owner`, too.
+
+    What root and the process's user own is theirs to change. In a folder with the sticky bit, others cannot replace
+    what belongs to those two.
+    """
+    trusted = {0, os.geteuid()}
+    for at, (folder, found) in enumerate(states[:-1]):
+        behind = states[at + 1][1]
+        if found.st_uid not in trusted and not (found.st_uid == owner and at == len(states) - 2):
+            return f"the folder {folder} belongs to another user"
+        is_kept = found.st_mode & stat.S_ISVTX and (behind is None or behind.st_uid in trusted)
+        if is_writable(found, os.geteuid()) and not is_kept:
+            return f"the folder {folder} is writable by others"
+    return None
+
+
+def is_one_file(one: str, other: str) -> bool:
+    """Whether both names lead to one regular file, or to one that is not there yet. A device may be named twice, and a
+    name that leads through a link of another user leads nowhere."""
+    try:
+        for name in (one, other):
+            refuse_link_of_another(name)
+        found, further = os.stat(one), os.stat(other)
+    except FileNotFoundError:
+        return os.path.realpath(one) == os.path.realpath(other)
+    except OSError:
+        return False
+    return stat.S_ISREG(found.st_mode) and (found.st_dev, found.st_ino) == (further.st_dev, further.st_ino)
+
+
+def named_twice(names: list[tuple[str, str | None]], may_be_one: tuple[str, ...] = (),
+                unfollowed: tuple[str, ...] = ()) -> tuple[str, str] | None:
+    """The first two of these that name one file: pairs of what a name is for, and the name, if it is given. Those of
+    `may_be_one` may name one file with each other, and of those of `unfollowed` a link leads nowhere."""
+    given = [(what, name) for what, name in names if name and not (what in unfollowed and os.path.islink(name))]
+    for place, (what, name) in enumerate(given):
+        for other, further in given[place + 1:]:
+            if not (what in may_be_one and other in may_be_one) and is_one_file(name, further):
+                return what, other
+    return None

@@ -7,7 +7,7 @@ import sftp3
 from serve_trials import steps as trials
 from serve_trials.programs import has, run
 from serve_trials.steps import PROGRAM
-from trials.lftp import ServerOfLftp
+from trials.steps import ServerOfLftp
 
 LINES = ['D "/" 0 0 0755', 'D "/d" 1000 1001 0700', 'F "/d/f" 1 2 0644 "hello"', 'F "/empty" 0 0 0000 ""',
          'L "/link" "d/f"', 'D "/open" 12345678 4294967294 01777', 'F "/set" 0 0 06755 "s"',

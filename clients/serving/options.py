@@ -2,7 +2,7 @@
 import os
 
 from recording import naming
-from recording.twice import named_twice
+from recording.ways import named_twice
 
 NAME = "sftpv3-serve"
 

@@ -1,7 +1,7 @@
 """The command line of sftpv3-serve as argparse has it, for help and complaints."""
 import argparse
 
-from recording.complaints import Parser
+from recording.parsers import Parser
 from serving.options import NAME
 
 NOTES = """\

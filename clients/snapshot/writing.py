@@ -6,7 +6,7 @@ from typing import BinaryIO, Callable, Dict, NamedTuple, Tuple
 from sftp3 import trees
 from sftp3.trees import HIGHEST, LONGEST_NAME, USUAL, text_of
 from snapshot.looking import Entry, Trouble, is_mounted_over, kind, shown
-from snapshot.places import View
+from snapshot.looking import View
 
 PIECE = 1 << 20
 

@@ -7,7 +7,7 @@ import sys
 import threading
 import time
 
-from probing import below, clearing, planner, servers, starting
+from probing import below, planner, servers, starting
 from probing.program import TOP, program
 from sftp3 import trees
 from walk_trials.walks import HOSTILE, POSIX, SFTP_SERVER, run, signalled
@@ -61,7 +61,7 @@ def try_paths(steps):
     steps.check("29 plans: all paths are below the directory, but those that look at the way to it", not wrong, wrong)
 
 
-class Asked(clearing.Clearing):
+class Asked(below.Clearing):
     """Keeps the paths that it asks about."""
 
     def steps(self):
@@ -90,7 +90,7 @@ def try_signals(steps, folder):
     os.environ["MARK"] = os.path.join(folder, "mark")
     stop, start = threading.Event(), time.monotonic()
     threading.Timer(1, stop.set).start()
-    said = clearing.Clearing(b"/live").run(servers.Server([*HOSTILE, "hangs_at_removal"]), 600, stop)
+    said = below.Clearing(b"/live").run(servers.Server([*HOSTILE, "hangs_at_removal"]), 600, stop)
     steps.check("what hangs while it is removed is left once the run is to end", said == '"/live" is left: the run was '
                 "ended while it was removed" and time.monotonic() - start < 30, f"{said}: {time.monotonic() - start}")
     stop, asked = threading.Event(), Asked(b"/d")

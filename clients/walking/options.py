@@ -5,9 +5,9 @@ import sys
 
 from probing import program, sessions, verdicts
 from probing.options import flying, seconds
-from recording.complaints import Parser
-from recording.twice import is_one_file
-from walking import bounds, inferring
+from recording.parsers import Parser
+from recording.ways import is_one_file
+from walking import bounds, looking
 
 # The exit statuses: the tree was written; no tree explains what the server told; wrong usage; it was not written.
 WRITTEN, NO_TREE, BAD_USAGE, NOT_WRITTEN = range(4)
@@ -44,8 +44,8 @@ def parser(about):
     add("--max-bytes", metavar="N", type=count, default=bounds.READ,
         help=f"the most bytes of files to read, all together; a line names each file that is left ({bounds.READ})")
     add("--session", metavar="FILE", help="keep the transcript of the session, which is made anew")
-    add("--memory", metavar="BYTES", type=count, default=inferring.MEMORY,
-        help=f"the most memory of `sftpv3 infer`, which takes three times that of the record ({inferring.MEMORY})")
+    add("--memory", metavar="BYTES", type=count, default=looking.MEMORY,
+        help=f"the most memory of `sftpv3 infer`, which takes three times that of the record ({looking.MEMORY})")
     add("--in-flight", metavar="N", type=flying, default=IN_FLIGHT,
         help=f"the most requests without a reply ({IN_FLIGHT})")
     add("--timeout", metavar="S", type=seconds, default=sessions.TIMEOUT,

@@ -10,8 +10,8 @@ import subprocess
 import time
 from contextlib import contextmanager
 
-from attacking import procs
-from attacking.client import Client
+from attacking import ground
+from attacking.sessions import Client
 from attacking.ground import SECONDS, attack
 from attacking.recorders import daemon
 from attacking.saving import TOP
@@ -99,7 +99,7 @@ def account(field, shell, pam=None):
 def the_recorder_is_opened_through_proc(field):
     """The memory and the streams of the recorder, and the server's input, cannot be opened through /proc."""
     with account(field, "/bin/sh") as user:
-        for act in (procs.recorders_stream, procs.servers_own_stream, procs.recorders_memory):
+        for act in (ground.recorders_stream, ground.servers_own_stream, ground.recorders_memory):
             mark = os.path.join(user.home, "mark")
             shutil.chown(field.put("mark", b""), user.name)
             shutil.copy(field.path("mark"), mark)
@@ -107,7 +107,7 @@ def the_recorder_is_opened_through_proc(field):
             client = user.session()
             try:
                 process = client.recorder()
-                if process is None and act is not procs.servers_own_stream:
+                if process is None and act is not ground.servers_own_stream:
                     # its files cannot even be listed
                     process = max(int(it) for it in os.listdir("/proc") if it.isdigit() and is_recorder(it))
                 act(client, process, mark.encode())

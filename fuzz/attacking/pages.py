@@ -1,12 +1,20 @@
 """Attacks on sftpv3-probe and sftpv3-page, by another user of the machine and by the server under test."""
 import json
 import os
+import re
+import shutil
 import subprocess
+import tarfile
 from xml.etree import ElementTree
 
-from attacking.ground import SECONDS, attack
+import sftp3
+from attacking.ground import SECONDS, attack, wrong_status
+from attacking.memory import archive_of
 from attacking.recorders import VICTIM
+from attacking.saving import OPENED, TOP
 from programs import program
+from sftp3 import CLIENT, Request, SERVER, encode, init, put_records, version
+from sftp3.trees import DIRECTORY, Entry, Tree, put
 
 HERE = os.path.dirname(os.path.realpath(__file__))
 ONCE = ["--jobs", "1", "--seeds", "1", "--requests", "10", "--skip", "transfers", "--budget", "2", "--timeout", "3",
@@ -110,3 +118,130 @@ def a_servers_words_break_a_report(field):
             continue
         if not is_right:
             yield f"{name}: {found}"
+
+
+# Names that a shell or make would act on, in several of their contexts.
+HOSTILE_NAMES = ("`touch ran`", "`touch${IFS}ran`", "a;touch${IFS}ran;", "$(touch${IFS}ran)", "'`touch${IFS}ran`'",
+                 "x\n`touch${IFS}ran`", "$(shell touch ran)", "a|b", "a:b", "%", "\udcff", "#", "=x")
+NAME = "x\naccepted 5 requests\n\x1b[2J\u009b\u202e\\"
+
+
+@attack(is_small=True)
+def a_name_passes_for_a_verdict(field):
+    """A file name with line feeds and `accepted` is one line of a message, without control characters."""
+    start = field.blank()
+    bad = field.path(NAME.replace("/", ""))
+    with open(bad, "wb") as it:
+        it.write(b"SFTREE01")
+    absent = NAME + "absent"
+    runs = [["audit", "--tree", start, "--transcript", absent], ["audit", "--tree", absent, "--transcript", start],
+            ["audit", "--tree", bad, "--transcript", bad], ["show", absent], ["show", bad], ["show", "--full", absent],
+            ["diff", start, absent], ["diff", bad, start], ["raise", absent, "y"], ["raise", start, f"none/{NAME}"],
+            ["blank", f"none/{NAME}"], ["make", f"none/{NAME}"], ["import", f"none/{NAME}"], ["export", absent],
+            ["serve", "--tree", absent], ["serve", "--tree", start, "--record", f"none/{NAME}"],
+            ["serve", "--tree", start, "--save", f"none/{NAME}"], ["blank", start, NAME], [NAME], [f"--{NAME}"],
+            ["audit", "--profile", NAME, "--tree", start, "--transcript", start], ["serve", "--shuffle", NAME],
+            ["audit", "--umask", NAME, "--tree", start, "--transcript", start], ["blank", "--mode", NAME, start],
+            ["show", "--full", "--data", NAME, start]]
+    for words in runs:
+        done = field.run(*words, input=init() if words[0] == "serve" else b"home\n")
+        said = done.stderr + (b"" if words[0] == "serve" else done.stdout)
+        if done.returncode == 0 or not said:
+            yield f"{words[0]}: status {done.returncode}, {said!r}"
+        for line in said.split(b"\n"):
+            if line.startswith(b"accepted") or any(byte < 32 or byte > 126 for byte in line):
+                yield f"{' '.join(words[:2])!r}: {line!r}"
+    os.remove(bad)
+
+
+@attack(is_small=True)
+def a_name_fills_the_screen(field):
+    """A message on an entry of an archive has the start of its name, whether it is refused or passed over."""
+    for name, most in (("x" * 60_000, 3_000), ("d/" * 30_000 + "x", 3_000), ("\x01" * 60_000, 5_000)):
+        for kind, words, wanted in ((tarfile.REGTYPE, [], 2), (tarfile.FIFOTYPE, [], 2),
+                                    (tarfile.FIFOTYPE, ["--special", "skip"], 0),
+                                    (tarfile.FIFOTYPE, ["--special", "file"], 2)):
+            done = field.run("import", *words, "made.tree", input=archive_of([name], kind=kind))
+            yield from (f"{name[:2]!r} {words}: {it}" for it in wrong_status(done, wanted))
+            if not 1_000 < len(done.stderr) < most or done.stderr.count(b"\n") != 1:
+                yield f"{name[:2]!r} {words}: {len(done.stderr)} bytes, {done.stderr[:40]!r}"
+
+
+@attack("make", is_small=True)
+def a_name_runs_in_a_makefile(field):
+    """What the documents give to make runs no part of a transcript's name, says that one was left out, and waits for no
+    pipe."""
+    with open(os.path.join(TOP, "docs/USING.md"), encoding="utf-8") as file:
+        field.put("Makefile", re.search(r"(?s)```make[^\n]*\n(.*?)```", file.read())[1].encode())
+    field.blank()
+    os.mkdir(field.path("records"))
+    field.put("records/good.transcript", OPENED)
+    os.mkfifo(field.path("records/pipe.transcript"))
+    make = ["make", "-k", "-j", "2"]
+    search = {**os.environ, "PATH": f"{os.path.dirname(field.program)}:{os.environ['PATH']}"}
+    for name in (None, *HOSTILE_NAMES):
+        if name:
+            field.put(f"records/{name}.transcript", OPENED)
+            field.put("records/a", b"")
+        done = subprocess.run(make, cwd=field.folder, env=search, capture_output=True, timeout=20)
+        if os.path.lexists(field.path("ran")):
+            yield f"{name!r}: a command of the name ran"
+            os.remove(field.path("ran"))
+        if (done.returncode == 0) != (name is None):
+            yield f"{name!r}: status {done.returncode}, {done.stderr[-200:]!r}"
+        if not field.read("records/good.verdict").startswith(b"accepted"):
+            yield "the session is not audited"
+        if name:
+            os.remove(field.path(f"records/{name}.transcript"))
+
+
+SESSION = [(CLIENT, init()), (SERVER, version(3, [])),
+           (CLIENT, encode(Request(1, "STAT", [b"/\x01\xff\"\\\n"]))), (SERVER, sftp3.status(1, 0, b"\x1b[2J\xff"))]
+NAMES = [b"\x01", b'"', b"\\", b"\n", b"\x7f", b"\xc3\xa9", b"\xed\xa0\x80", b"\xff", b"\xc0\xaf"]
+
+
+def member(name, value):
+    """How JSON has a member of bytes, by docs/FORMATS.md."""
+    try:
+        return {name: value.decode("utf-8")}
+    except UnicodeDecodeError:
+        return {f"{name}_hex": value.hex()}
+
+
+def objects(done):
+    """The objects of a run, as Python reads them, and jq, if it is installed."""
+    read = [json.loads(line) for line in done.stdout.decode("utf-8").splitlines()]
+    if shutil.which("jq"):
+        by_jq = subprocess.run(["jq", "-c", "."], input=done.stdout, capture_output=True, timeout=60)
+        again = [json.loads(line) for line in by_jq.stdout.decode("utf-8").splitlines()]
+        if by_jq.returncode or again != read:
+            raise ValueError(f"jq reads {again}, {by_jq.stderr}")
+    return read
+
+
+@attack(is_small=True)
+def a_name_breaks_a_json_object(field):
+    """Whatever names of files, paths and packets have, each line of --json is one object, with the very bytes."""
+    start, bad = field.blank(), field.put(NAME.replace("/", ""), b"SFTREE01")
+    record = field.put("refused", put_records(SESSION))
+    field.put("names.tree", put(Tree([Entry(b"/" + it, DIRECTORY) for it in NAMES])))
+    diff = field.run("diff", "--json", start, "names.tree")
+    wanted = [{"change": "added", **member("path", b"/" + it), "kind": "D"} for it in sorted(NAMES)]
+    if diff.returncode != 1 or objects(diff) != wanted:
+        yield f"diff: {diff.returncode}, {diff.stdout!r}"
+    audit = field.run("audit", "--json", "--explain", "--tree", start, "--transcript", record)
+    said = objects(audit)
+    if audit.returncode != 1 or audit.stderr or [it["verdict"] for it in said] != ["refused"] or \
+            said[0]["record"] != 4 or \
+            [it["part"] for it in said[0]["explanation"]][:3] != ["request", "reply", "causes"]:
+        yield f"audit: {audit.returncode}, {audit.stdout!r}"
+    absent = NAME + "absent"
+    for wanted, words, file in ((3, ["audit", "--tree", absent, "--transcript", record], absent),
+                                (2, ["audit", "--tree", bad, "--transcript", bad], bad),
+                                (2, ["audit", "--tree", start, "--transcript", bad], bad),
+                                (2, ["diff", start, bad], bad), (3, ["diff", absent, start], absent)):
+        done = field.run(*words, "--json")
+        said = objects(done)
+        if done.returncode != wanted or len(said) != 1 or said[0]["error"]["status"] != wanted or \
+                said[0]["error"]["file"] != file or not done.stderr:
+            yield f"{' '.join(words)!r}: {done.returncode}, {done.stdout!r}"
