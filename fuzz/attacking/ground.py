@@ -6,6 +6,7 @@ import subprocess
 import tempfile
 
 from programs import program
+from recording import temporary
 
 SECONDS = 120
 CLIENTS = os.path.join(os.path.dirname(os.path.realpath(__file__)), "../../clients")
@@ -53,7 +54,7 @@ class Ground:
         self.folder, self.user, self.program = None, None, None
 
     def __enter__(self):
-        self.folder = tempfile.mkdtemp(prefix="sftpv3-attacks-")
+        self.folder = tempfile.mkdtemp(prefix="sftpv3-attacks-", dir=temporary.folder())
         os.chmod(self.folder, 0o755)
         self.program = shutil.copy(program(), os.path.join(self.folder, "sftpv3"))
         os.chmod(self.program, 0o755)
