@@ -4,6 +4,8 @@ import pwd
 import shutil
 import subprocess
 import tempfile
+from functools import cache
+from importlib import machinery, util
 
 from programs import program
 from recording import temporary
@@ -36,6 +38,15 @@ class Attack:
                 return list(self.function(Field(folder, ground)))
             except subprocess.TimeoutExpired as error:
                 return [f"no end within {error.timeout} seconds: {error.cmd}"]
+
+
+@cache
+def script(name):
+    """A script of clients/ as a module."""
+    loader = machinery.SourceFileLoader(f"script_{name}", os.path.join(CLIENTS, name))
+    found = util.module_from_spec(util.spec_from_loader(loader.name, loader))
+    loader.exec_module(found)
+    return found
 
 
 def attack(*needs, is_small=False):

@@ -4,8 +4,9 @@ import os
 import subprocess
 from contextlib import ExitStack, contextmanager, suppress
 
-from attacking.ground import CLIENTS, SECONDS, attack
+from attacking.ground import CLIENTS, SECONDS, attack, script
 from programs import program
+from recording import naming
 from serving import saving
 from snapshot.looking import Trouble
 from snapshot.places import View
@@ -171,3 +172,22 @@ def a_folder_of_a_user_is_a_link(field):
                     yield f"{place} {words}: status {done.returncode}, {len(done.stdout)} bytes {done.stderr[-200:]!r}"
                 if wanted and b"a symbolic link of another user is on the way" not in done.stderr:
                     yield f"{place} {words}: {done.stderr[-200:]!r}"
+
+
+@attack("user")
+def a_link_is_a_folder_again_when_it_is_read(field):
+    """At whichever look a link of a user on the way becomes a directory, what asks where a name leads gets an answer."""
+    tree = script("tree")
+    asks = (lambda name: tree.is_within("/x", name), lambda name: tree.is_within(f"{name}/x", "/nowhere"),
+            naming.folder_warning)
+    for what, ask in enumerate(asks):
+        for number in range(1, MOST):
+            scene = Ways(field, f"{what}-{number}", ".")
+            scene.swap()
+            with acting_before(number, scene.swap_back, CALLS) as looks:
+                try:
+                    ask(f"{scene.home}/way/below")
+                except OSError as error:
+                    yield f"{what}, look {number}: {error}"
+            if len(looks) < number:
+                break
