@@ -33,6 +33,13 @@ def place(prefix: str) -> ways.Location:
 
 
 def folder() -> str:
-    """What it is called."""
-    with place("") as found:
+    """What it is called, if a file can be written there."""
+    with place(".sftpv3-") as found:
+        try:
+            with open(found.make(), "wb") as file:
+                file.write(b"x")
+        except OSError as error:
+            raise Unfit(f"{named()}: {error.strerror} (TMPDIR)") from None
+        finally:
+            found.remove()
         return os.path.dirname(found.path)
