@@ -18,6 +18,7 @@ from contextlib import suppress
 
 import sftp3
 from paging import packets
+from recording import temporary
 
 # Seconds for a server to end after its input did, and after it left a request unanswered.
 PARTING, SILENT_PARTING = 2, 0.5
@@ -74,7 +75,7 @@ def started(words, environment=None):
 
 def run_reset(command, environment, seconds, stop):
     """What it starts may go on, and have its standard error: so that is a file, and no pipe to be read to its end."""
-    with tempfile.TemporaryFile() as errors:
+    with tempfile.TemporaryFile(dir=temporary.folder()) as errors:
         process = subprocess.Popen(command, shell=True, env=environment, stdin=subprocess.DEVNULL,
                                    stdout=subprocess.DEVNULL, stderr=errors, start_new_session=True)
         deadline = None if seconds is None else time.monotonic() + seconds

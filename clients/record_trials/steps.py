@@ -9,6 +9,7 @@ from pathlib import Path
 TOP = Path(__file__).resolve().parents[2]
 sys.path.insert(0, str(TOP / "clients"))
 import sftp3
+from recording import temporary
 
 RECORD = os.environ.get("RECORD", str(TOP / "clients/record"))
 STUB = str(TOP / "clients/record_trials/stub.py")
@@ -20,7 +21,7 @@ class Room:
     """A folder for one trial, and the processes that it started, which are ended with it."""
 
     def __init__(self):
-        self.folder = Path(tempfile.mkdtemp(prefix="sftpv3-record-"))
+        self.folder = Path(tempfile.mkdtemp(prefix="sftpv3-record-", dir=temporary.folder()))
         self.started = []
 
     def __enter__(self):

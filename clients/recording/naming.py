@@ -88,7 +88,10 @@ def expand(name, environment=os.environ):
 
 def folder_warning(name):
     """What is wrong with the folders of this name, or None: others could rename or replace what is in them."""
-    found = ways.fault(ways.looked_at(name))
+    try:
+        found = ways.fault(ways.looked_at(name))
+    except OSError:
+        found = f"a folder on the way to {name} was changed by others"
     return f"{found}, who can replace the record" if found else None
 
 

@@ -15,6 +15,7 @@ TOP = Path(__file__).resolve().parents[2]
 sys.path.insert(0, str(TOP / "clients"))
 import sftp3
 from probing.program import program
+from recording import temporary
 
 PROGRAM = program()
 # what is tried, as words: `SERVE="FILE serve"` tries the program without the script
@@ -134,7 +135,7 @@ class Room:
     """A folder for a trial, with a blank tree, and the servers that it started."""
 
     def __init__(self):
-        self.folder = Path(tempfile.mkdtemp(prefix="sftpv3-serve-"))
+        self.folder = Path(tempfile.mkdtemp(prefix="sftpv3-serve-", dir=temporary.folder()))
         self.servers = []
 
     def __enter__(self):

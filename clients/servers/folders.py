@@ -14,13 +14,13 @@ import stat
 import subprocess
 import sys
 import tarfile
-import tempfile
 import time
 from typing import NamedTuple
 
 import mounts
 import removing
 from probing import program
+from recording import temporary
 
 PREFIX, ROOT = "sftpv3-root-", "root"
 SET_ID = stat.S_ISUID | stat.S_ISGID
@@ -148,77 +148,96 @@ def put_all(builder, members):
     return directories
 
 
-def remove_left(folder):
-    """Removes what killed runs of this user left: folders that no run holds locked, and that have nothing but a root.
-    What cannot be removed stays, and stops nothing."""
+def remove_left(room):
+    """Removes what killed runs of this user left in the folder of a descriptor: folders that no run holds locked, and
+    that have nothing but a root. What cannot be removed stays, and stops nothing."""
+    for name in names_left(room):
+        with contextlib.suppress(OSError):
+            if time.time() - os.lstat(name, dir_fd=room).st_mtime >= LEFT:
+                remove_if_left(name, room)
+
+
+def names_left(room):
     names = []
     with contextlib.suppress(OSError):
-        names = os.listdir(folder)
-    for name in names:
-        place = os.path.join(folder, name)
-        with contextlib.suppress(OSError):
-            if name.startswith(PREFIX) and time.time() - os.lstat(place).st_mtime >= LEFT:
-                remove_if_left(place)
+        readable = os.open(".", DIRECTORY, dir_fd=room)
+        try:
+            names = os.listdir(readable)
+        finally:
+            os.close(readable)
+    return [name for name in names if name.startswith(PREFIX)]
 
 
-def remove_if_left(place):
-    held = os.open(place, DIRECTORY)
+def remove_if_left(name, room):
+    held = os.open(name, DIRECTORY, dir_fd=room)
     try:
         state = os.fstat(held)
         is_own = state.st_uid == os.geteuid() and stat.S_IMODE(state.st_mode) == 0o700
         if is_own and os.listdir(held) in ([], [ROOT]):
             fcntl.flock(held, fcntl.LOCK_EX | fcntl.LOCK_NB)
-            remove_whole(held, place)
+            remove_whole(held, name, room)
     finally:
         os.close(held)
 
 
-def remove_whole(held, place):
-    """Removes the folder of a descriptor. Whatever ends this, the folder has no more than a root, so that the next run
-    goes on."""
+def remove_whole(held, name, room):
+    """Removes the folder of a descriptor, which has this name in another one. Whatever ends this, the folder has no
+    more than a root, so that the next run goes on."""
     with contextlib.suppress(FileNotFoundError):
         removing.remove(ROOT, held)
-    os.rmdir(place)
+    os.rmdir(name, dir_fd=room)
 
 
 class Folder:
-    """The folder of a tree file, while it is needed: `root` is a descriptor of it, `name` its path."""
+    """The folder of a tree file, while it is needed, by its descriptor `root`. All names are looked up in folders that
+    are open."""
 
     def __init__(self, tree_file):
-        remove_left(tempfile.gettempdir())
-        self.above = tempfile.mkdtemp(prefix=PREFIX)
-        self.lock = os.open(self.above, DIRECTORY)
-        fcntl.flock(self.lock, fcntl.LOCK_EX)
-        self.name = os.path.join(self.above, ROOT)
-        self.root = -1
+        # what was opened before has no mounts of this process
+        self.is_apart = mounts.own_namespace()
+        self.place = temporary.place(PREFIX)
+        self.lock = self.root = -1
         self.has_mount = False
         try:
+            remove_left(self.place.folder)
+            os.mkdir(self.place.name, 0o700, dir_fd=self.place.folder)
             self.make(tree_file)
         except BaseException:
             self.remove()
             raise
 
     def make(self, tree_file):
-        os.mkdir(self.name, 0o755)
-        if mounts.own_namespace():
-            mounts.without_set_id(self.name)
+        self.lock = self.place.open(DIRECTORY)
+        fcntl.flock(self.lock, fcntl.LOCK_EX)
+        os.mkdir(ROOT, 0o755, dir_fd=self.lock)
+        if self.is_apart:
+            mounts.without_set_id(self.mounted())
             self.has_mount = True
-        self.root = os.open(self.name, DIRECTORY)
+        self.root = os.open(ROOT, DIRECTORY, dir_fd=self.lock)
         builder = Builder(self.root, self.has_mount)
         fill(builder, tree_file)
         if builder.left_out:
             tell(f"set-id bits left out: {builder.left_out} (this system gives no mounts of one's own)")
 
+    def mounted(self):
+        """A path of the root, which goes by the folder that is open."""
+        return f"/proc/self/fd/{self.lock}/{ROOT}"
+
     def remove(self):
         if self.root >= 0:
             os.close(self.root)
         if self.has_mount:
-            mounts.unmount(self.name)
+            mounts.unmount(self.mounted())
+        if self.lock >= 0:
+            self.remove_folder()
+            os.close(self.lock)
+        self.place.close()
+
+    def remove_folder(self):
         try:
-            remove_whole(self.lock, self.above)
+            remove_whole(self.lock, self.place.name, self.place.folder)
         except OSError as error:
-            tell(f"{self.above} stays: {error.strerror}")
-        os.close(self.lock)
+            tell(f"{self.place.path} stays: {error.strerror}")
 
     def __enter__(self):
         return self

@@ -23,7 +23,7 @@ import folders  # noqa: E402
 import mounts  # noqa: E402
 import removing  # noqa: E402
 import inputs  # noqa: E402
-from recording import ending  # noqa: E402
+from recording import ending, temporary  # noqa: E402
 from recording.notices import printable  # noqa: E402
 from recording.standard import open_standard_files  # noqa: E402
 
@@ -64,6 +64,8 @@ def folder_of(arguments, package, program):
         fail(f"{program} is not there: apt-get install {package}")
     try:
         return folders.Folder(arguments[1])
+    except temporary.Unfit as error:
+        return fail(error)
     except (OSError, folders.Bad) as error:
         return fail(f"{arguments[1]}: {error}")
 
@@ -227,12 +229,13 @@ class Lent:
             take_back()
 
 
-def enter(folder):
+def enter(folder, take=lambda: None):
     """Makes the folder this process's root, and gives up the rights that lead out of it, and the sight of all other
-    processes. Files get the permissions that are asked for without those of 022."""
+    processes; `take` may close its descriptors. Files get the permissions that are asked for without those of 022."""
+    os.fchdir(folder.root)
+    take()
     apart.step_aside()
-    os.chroot(folder.name)
-    os.chdir("/")
+    os.chroot(".")
     os.umask(0o022)
     resource.setrlimit(resource.RLIMIT_CORE, (0, 0))
     mounts.give_up_rights()

@@ -6,6 +6,7 @@ import sys
 import tempfile
 
 from record_trials.steps import TOP
+from recording import temporary
 from sshd_trials.ground import INSIDE, PROGRAM, NotMade, keep, run
 
 SYSTEMD = "/lib/systemd/systemd"
@@ -36,7 +37,7 @@ StandardError=append:{said}
 
 def boot(script):
     """Runs a script below systemd. Returns its status, and what it printed."""
-    with tempfile.TemporaryDirectory(prefix="sftpv3-booted-") as room:
+    with tempfile.TemporaryDirectory(prefix="sftpv3-booted-", dir=temporary.folder()) as room:
         os.mkdir(f"{room}/root")
         said = f"{room}/said"
         open(said, "w", encoding="utf-8").close()

@@ -7,6 +7,8 @@ import subprocess
 import sys
 import tempfile
 
+from recording import temporary
+
 INSIDE = "SFTPV3_GROUND"
 SPACES = ["unshare", "--mount", "--net", "--pid", "--fork", "--kill-child", "--propagation", "private"]
 
@@ -32,7 +34,7 @@ def is_inside():
 def again(words):
     """Runs these words on a new ground. Returns their status."""
     signal.signal(signal.SIGTERM, lambda *_: sys.exit(143))
-    with tempfile.TemporaryDirectory(prefix="sftpv3-ground-") as room:
+    with tempfile.TemporaryDirectory(prefix="sftpv3-ground-", dir=temporary.folder()) as room:
         with subprocess.Popen([*SPACES, sys.executable, *words], env={**os.environ, INSIDE: room},
                               stdin=subprocess.DEVNULL) as trial:
             try:

@@ -7,8 +7,11 @@ import shutil
 import struct
 import subprocess
 import tempfile
+from functools import cache
+from importlib import machinery, util
 
 from programs import program
+from recording import temporary
 from sftp3 import Request, encode
 
 SECONDS = 120
@@ -41,6 +44,15 @@ class Attack:
                 return [f"no end within {error.timeout} seconds: {error.cmd}"]
 
 
+@cache
+def script(name):
+    """A script of clients/ as a module."""
+    loader = machinery.SourceFileLoader(f"script_{name}", os.path.join(CLIENTS, name))
+    found = util.module_from_spec(util.spec_from_loader(loader.name, loader))
+    loader.exec_module(found)
+    return found
+
+
 def attack(*needs, is_small=False):
     """Marks a function as an attack."""
     return lambda function: Attack(function, needs, is_small)
@@ -57,7 +69,7 @@ class Ground:
         self.folder, self.user, self.program = None, None, None
 
     def __enter__(self):
-        self.folder = tempfile.mkdtemp(prefix="sftpv3-attacks-")
+        self.folder = tempfile.mkdtemp(prefix="sftpv3-attacks-", dir=temporary.folder())
         os.chmod(self.folder, 0o755)
         self.program = shutil.copy(program(), os.path.join(self.folder, "sftpv3"))
         os.chmod(self.program, 0o755)

@@ -8,9 +8,10 @@ import sys
 import time
 from contextlib import ExitStack, contextmanager, suppress
 
-from attacking.ground import CLIENTS, SECONDS, attack
+from attacking.ground import CLIENTS, SECONDS, attack, script
 from attacking.sessions import MEBI
 from programs import program
+from recording import naming
 from serving import saving
 from snapshot.looking import Trouble, View
 from walk_trials import hostile
@@ -201,12 +202,12 @@ def call(field, script, *words, **options):
 def a_server_tells_a_path_without_end(field):
     """A path of REALPATH that no tree file has ends a walk and a probe at once, with a line, however long it is."""
     for kind, said in hostile.PATHS.items():
-        for script, words in (("walk", ["--session", "record"]), ("probe", PROBE)):
+        for name, words in (("walk", ["--session", "record"]), ("probe", PROBE)):
             start = time.monotonic()
-            done = call(field, script, *words, "--", *HOSTILE, kind, preexec_fn=bounded)
+            done = call(field, name, *words, "--", *HOSTILE, kind, preexec_fn=bounded)
             took = time.monotonic() - start
             if done.returncode != 3 or said not in done.stderr or b"Traceback" in done.stderr or took > PROMPT:
-                yield f"{script}, {kind}: status {done.returncode}, {took:.0f} seconds: {done.stderr[-300:]!r}"
+                yield f"{name}, {kind}: status {done.returncode}, {took:.0f} seconds: {done.stderr[-300:]!r}"
 
 
 @attack()
@@ -252,3 +253,22 @@ def a_server_makes_a_directory_that_others_enter(field):
         inside = [it for it in found if it[1].count(b"/") > 1 or it[0] not in ("MKDIR", "SETSTAT")]
         if inside or not found:
             yield f"{kind}: it is asked for more: {inside[:3]}"
+
+
+@attack("user")
+def a_link_is_a_folder_again_when_it_is_read(field):
+    """At whichever look a link of a user on the way becomes a directory, what asks where a name leads gets an answer."""
+    tree = script("tree")
+    asks = (lambda name: tree.is_within("/x", name), lambda name: tree.is_within(f"{name}/x", "/nowhere"),
+            naming.folder_warning)
+    for what, ask in enumerate(asks):
+        for number in range(1, MOST):
+            scene = Ways(field, f"{what}-{number}", ".")
+            scene.swap()
+            with acting_before(number, scene.swap_back, CALLS) as looks:
+                try:
+                    ask(f"{scene.home}/way/below")
+                except OSError as error:
+                    yield f"{what}, look {number}: {error}"
+            if len(looks) < number:
+                break

@@ -3,10 +3,8 @@ a link to a folder of root."""
 import argparse
 import os
 from contextlib import suppress
-from functools import cache
-from importlib import machinery, util
 
-from attacking.ground import CLIENTS, attack
+from attacking.ground import attack, script
 from attacking.looks import CALLS, MOST, acting_before, made
 from nights.night import Night
 from nights.records import Failed
@@ -65,15 +63,6 @@ def a_folder(path):
 def of_root_alone(path):
     if "of-root-" in path:
         a_file(path)
-
-
-@cache
-def script(name):
-    """A script of clients/ as a module."""
-    loader = machinery.SourceFileLoader(f"script_{name}", os.path.join(CLIENTS, name))
-    found = util.module_from_spec(util.spec_from_loader(loader.name, loader))
-    loader.exec_module(found)
-    return found
 
 
 def make_tree(field, name):
