@@ -3,6 +3,7 @@ clauses in crates/promises.txt; and what is checked of these: that each function
 source its first sentence counts, and its functions with their clauses."""
 import re
 import textwrap
+from functools import cache
 
 from crates import Crates
 from texts import TOP
@@ -52,6 +53,7 @@ def subjects_of(file):
     return [sentence_of(it.replace("\n-- ", " ")) for it in parts]
 
 
+@cache
 def functions_of(file):
     """Returns the functions of a source, with the clauses of each."""
     found, owner, is_trait, comment, said, function, end = [], "", False, [], [], None, ""

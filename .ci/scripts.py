@@ -11,12 +11,15 @@ from crates import TOP
 # What reads scripts in Python for mistakes, not for their layout: the first of these that is installed.
 READERS = (["ruff", "check", "--quiet", "--isolated", "--no-cache", "--select", "E9,F"], ["pyflakes3"], ["pyflakes"])
 
+# Most files, which are not looked into for a first line.
+NO_SCRIPTS = (".antt", ".edit", ".rt")
+
 
 def scripts(names: list[str], kind: str) -> list[str]:
     """Returns the scripts whose first line names an interpreter of this kind, and for Python its modules."""
-    heads = {it: (TOP / it).open("rb").readline(80) for it in names}
+    heads = {it: (TOP / it).open("rb").readline(80) for it in names if not it.endswith(NO_SCRIPTS)}
     is_script = re.compile(rb"#!.*\b" + kind.encode() + rb"[0-9.]*( -IS?)?\s*$")
-    return [it for it in names if is_script.match(heads[it]) or kind == "python" and it.endswith(".py")]
+    return [it for it, head in heads.items() if is_script.match(head) or kind == "python" and it.endswith(".py")]
 
 
 def said(words: list[str]) -> list[str]:

@@ -1,5 +1,5 @@
-"""What `.ci/pages` finds in cases that are lost, in an index that is old, and in promises that nothing makes. Expected
-values are written by hand."""
+"""What `.ci/pages` finds in cases that are lost, in an index that is old, in promises that nothing makes, and in counts
+of definitions. Expected values are written by hand."""
 import sys
 import tempfile
 import unittest
@@ -8,6 +8,7 @@ from unittest import mock
 
 sys.dont_write_bytecode = True
 sys.path.insert(0, str(Path(__file__).resolve().parents[1]))
+import believing
 import indexing
 import making
 from indexing import functions_of, head_of
@@ -137,6 +138,29 @@ class Cases(unittest.TestCase):
         found = making.run_cases("/bin/false", made, CASES)
         self.assertEqual(found, ["models/lists 1: /bin/false ended with status 1"])
         self.assertEqual(len(making.run_cases("/bin/true", made, CASES)), 1)
+
+
+class Counts(unittest.TestCase):
+    def wrong(self, old, new):
+        page = believing.PAGE.read_text()
+        self.assertIn(old, page)
+        with mock.patch.object(believing, "PAGE") as changed:
+            changed.read_text.return_value = page.replace(old, new, 1)
+            return list(believing.wrong_counts())
+
+    def test_finds_another_number_and_another_list(self):
+        found = self.wrong(" files for `audit`", "0 files for `audit`")
+        self.assertRegex(found[0], r"^docs/PROMISES\.md: the clauses reach \d,\d+ lines in \d\d files, ")
+        self.assertEqual(len(found), 1)
+        self.assertEqual(self.wrong("`Spelling`, `Reading`", "`Spelling`"),
+                         ["docs/PROMISES.md: the list of both lacks Reading of sftp_packets"])
+        self.assertEqual(self.wrong("alone: `Log` of", "alone: `Lots`, `Log` of"),
+                         ["docs/PROMISES.md: the list of serve has Lots of sftp_transcript"])
+
+    def test_counts_a_definition_with_its_comment(self):
+        lines = ["-- ==== A part.", "", "-- a number", "abbrev pub one : N", "-- of one", "one = 1", "", "two = 2"]
+        block = believing.Block(None, "abbrev pub one : N\none = 1")
+        self.assertEqual([*believing.lines_of(block, lines)], [2, 3, 4, 5])
 
 
 if __name__ == "__main__":
