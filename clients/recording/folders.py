@@ -14,11 +14,21 @@ def is_private(group, user):
     return found.gr_name == name and not set(found.gr_mem) - {name}
 
 
-def is_writable(found, user):
-    """Whether others than this user and the owner may write into the folder."""
+def has_list(folder):
+    """Whether an access list says who may use a folder; the group's permissions are the most that it gives."""
+    try:
+        return bool(os.getxattr(folder, "system.posix_acl_access"))
+    except OSError:
+        return False
+
+
+def is_writable(folder, found, user):
+    """Whether others than this user and the owner may write into the folder, which is a whole path or a descriptor."""
     if found.st_mode & stat.S_IWOTH:
         return True
-    return bool(found.st_mode & stat.S_IWGRP) and found.st_gid != 0 and not is_private(found.st_gid, user)
+    if not found.st_mode & stat.S_IWGRP:
+        return False
+    return found.st_gid != 0 and not is_private(found.st_gid, user) or has_list(folder)
 
 
 def looked_at(path):
@@ -47,6 +57,6 @@ def fault(states, owner=None):
         if found.st_uid not in trusted and not (found.st_uid == owner and at == len(states) - 2):
             return f"the folder {folder} belongs to another user"
         is_kept = found.st_mode & stat.S_ISVTX and (behind is None or behind.st_uid in trusted)
-        if is_writable(found, os.geteuid()) and not is_kept:
+        if is_writable(folder, found, os.geteuid()) and not is_kept:
             return f"the folder {folder} is writable by others"
     return None

@@ -339,12 +339,12 @@ def own_folder(name: str) -> int:
             way.go_through((it,))
         way.make(last)
         held = way.open_at(last, FOLDER, (*way.place, last))
-    if not is_own(os.fstat(held)):
+    if not is_own(held, os.fstat(held)):
         os.close(held)
         raise OSError(errno.EPERM, "it belongs to another user, or others can write to it", name)
     return held
 
 
-def is_own(folder: os.stat_result) -> bool:
+def is_own(folder: int | str, state: os.stat_result) -> bool:
     """Whether a folder is this user's, and no other can write to it."""
-    return folder.st_uid == os.geteuid() and not folders.is_writable(folder, os.geteuid())
+    return state.st_uid == os.geteuid() and not folders.is_writable(folder, state, os.geteuid())
