@@ -39,4 +39,4 @@ def is_foreign(name):
         found = os.lstat(name)
     except OSError:
         return False
-    return not (stat.S_ISDIR(found.st_mode) and ways.is_own(found))
+    return not (stat.S_ISDIR(found.st_mode) and ways.is_own(name, found))

@@ -106,7 +106,7 @@ def long_packets(steps, room):
             ran = run(room, "--overwrite", "t", "/bin/sh", "-c", reads, data=data if side == "client" else INIT,
                       preexec_fn=limited(resource.RLIMIT_AS, 300 << 20))
             took = time.monotonic() - start
-            steps.check(f"{name} of the {side}: it takes less than 2 s", took < 2, f"{took:.1f} s")
+            steps.check(f"{name} of the {side}: it takes less than 10 s", took < 10, f"{took:.1f} s")
             got = room.read("got") if side == "client" else ran.stdout
             steps.check(f"{name} of the {side}: every byte is passed on", got == data, f"{len(got)} bytes, {ran}")
             steps.check(f"{name} of the {side}: a line says that it is not recorded", b"not recorded" in ran.stderr)

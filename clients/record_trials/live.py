@@ -66,7 +66,7 @@ def stopped(steps, room):
     for number, name in ((1, b"/a"), (2, b"/b"), (3, b"/c")):
         process.stdin.write(request(number, "MKDIR", name, {}))
         receive(process, 21)
-    steps.check("--stop: the session is cut, with status 1", ended(process, 3) == 1, str(process.poll()))
+    steps.check("--stop: the session is cut, with status 1", ended(process, SOON) == 1, str(process.poll()))
     steps.check("--stop: the client sees the end", receive(process, 1) == b"")
     steps.check("--stop: the transcript is whole", whole(room)[0])
 
@@ -77,7 +77,7 @@ def accepted(steps, room):
     process.stdin.write(request(1, "MKDIR", b"/a", {}))
     receive(process, 21)
     close(process.stdin)
-    steps.check("a right session: status 0", ended(process, 3) == 0)
+    steps.check("a right session: status 0", ended(process, SOON) == 0)
     steps.check("a right session: the log has the verdict, standard error nothing",
                 "audit: accepted 1 requests" in log(room) and errors(process) == "", log(room))
 
@@ -98,14 +98,14 @@ def bad_auditors(steps, room):
         process.stdin.write(request(1, "STAT", b"/"))
         steps.check(f"an auditor that {name}: the session goes on", len(receive(process, 21)) == 21)
         close(process.stdin), close(process.stdout)
-        steps.check(f"an auditor that {name}: status 0", ended(process, 8) in (0, 141), str(process.poll()))
+        steps.check(f"an auditor that {name}: status 0", ended(process, SOON) in (0, 141), str(process.poll()))
         said = errors(process)
         steps.check(f"an auditor that {name}: a line says so", seen in said, said)
         steps.check(f"an auditor that {name}: the transcript has all", whole(room) == (True, 4), str(whole(room)))
     process = audited(room, program="/nowhere/sftpv3")
     steps.check("an auditor that does not exist: the session goes on", len(open_session(process)) == 9)
     close(process.stdin)
-    steps.check("an auditor that does not exist: status 0, and a line", ended(process, 3) == 0 and
+    steps.check("an auditor that does not exist: status 0, and a line", ended(process, SOON) == 0 and
                 "cannot run the audit" in errors(process))
 
 
@@ -159,14 +159,14 @@ def logs(steps, room):
                 lines[0].endswith(f"local t: {LINE}") and f"sftpv3-record[{process.pid}]" in lines[0], str(lines))
     steps.check("--log: the mode is 0600", oct((room.folder / "log").stat().st_mode)[-4:] == "0600")
     process.send_signal(signal.SIGTERM)
-    steps.check("a signal ends an audited session", ended(process, 3) == 128 + signal.SIGTERM)
+    steps.check("a signal ends an audited session", ended(process, SOON) == 128 + signal.SIGTERM)
     (room.folder / "victim").write_text("dear")
     (room.folder / "log").unlink()
     (room.folder / "log").symlink_to("victim")
     process = audited(room)
     open_session(process)
     close(process.stdin)
-    steps.check("--log: no link is followed", ended(process, 3) == 0 and room.read("victim") == b"dear")
+    steps.check("--log: no link is followed", ended(process, SOON) == 0 and room.read("victim") == b"dear")
 
 
 def lost_records(steps, room):
@@ -176,7 +176,7 @@ def lost_records(steps, room):
     for number, name in ((1, b"/a"), (2, b"/b"), (3, b"/c")):
         process.stdin.write(request(number, "MKDIR", name, {}))
         receive(process, 21)
-    steps.check("a lost record: the audit goes on, and finds the wrong reply", ended(process, 3) == 1,
+    steps.check("a lost record: the audit goes on, and finds the wrong reply", ended(process, SOON) == 1,
                 str(process.poll()))
     said = errors(process)
     steps.check("a lost record: lines for both", "not recorded any further" in said and LINE in said, said)
@@ -189,7 +189,7 @@ def long_packets(steps, room):
     process.stdin.write(struct.pack(">IB", 300_000, 200) + bytes(299_999))
     steps.check("a packet that is too long: the audited session goes on", len(receive(process, 17)) == 17)
     close(process.stdin)
-    steps.check("a packet that is too long: status 0", ended(process, 3) == 0, str(process.poll()))
+    steps.check("a packet that is too long: status 0", ended(process, SOON) == 0, str(process.poll()))
     said = errors(process)
     steps.check("a packet that is too long: neither recorded nor audited", "not recorded any further" in said and
                 "audit is given up" in said, said)
@@ -224,7 +224,7 @@ def chained(steps, room):
         process.stdin.write(request(1, "MKDIR", b"/a" if number == 1 else b"/b", {}))
         receive(process, 21)
         close(process.stdin)
-        steps.check(f"--out: session {number} ends", ended(process, 3) == 0, errors(process))
+        steps.check(f"--out: session {number} ends", ended(process, SOON) == 0, errors(process))
     steps.check("--out: both are accepted", log(room).count("audit: accepted 1 requests") == 2, log(room))
     shown = subprocess.run([PROGRAM, "show", tree], stdout=subprocess.PIPE, text=True, check=False).stdout
     steps.check("--out: the tree has what both made", '"/a"' in shown and '"/b"' in shown, shown)

@@ -6,6 +6,7 @@ import stat
 import subprocess
 import time
 
+from record_trials.ends import SOON
 from record_trials.failing import run
 from record_trials.steps import INIT, RECORD, STUB, close, ended, open_session, request
 from recording.options import plainly_read
@@ -35,7 +36,7 @@ def taken_names(steps, room):
     second.stdin.write(request(2, "STAT", b"/two"))
     for process in (first, second):
         close(process.stdin)
-        steps.check("two sessions with one name: status 0", ended(process, 5) == 0)
+        steps.check("two sessions with one name: status 0", ended(process, SOON) == 0)
     texts = sorted(it for it in (room.read("t"), room.read("t.2")) if it)
     steps.check("two sessions with one name have a transcript each",
                 [b"/one" in texts[0], b"/two" in texts[0]].count(True) == 1 and
@@ -81,7 +82,7 @@ def locks(steps, room):
                 str(ran.stderr))
     steps.check("and leaves it as it is", len(room.read("t")) == 28)
     close(process.stdin)
-    ended(process, 5)
+    ended(process, SOON)
     steps.check("then it is not locked any more", not is_locked())
 
 

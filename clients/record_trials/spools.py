@@ -35,7 +35,7 @@ class Spool:
 
     def end(self):
         self.daemon.send_signal(signal.SIGTERM)
-        return ended(self.daemon, 3)
+        return ended(self.daemon, SOON)
 
     def records(self):
         return sorted(self.folder.glob("*/*"))
@@ -106,7 +106,7 @@ def hanging_daemon(steps, room):
         close(process.stdin)
         name = f"a daemon that hangs {' '.join(options)}"
         steps.check(f"{name}: after 10 seconds the session {'ends' if status else 'goes on'}",
-                    (len(got), ended(process, 3)) == (0 if status else 21, status) and 9 < took < 15,
+                    (len(got), ended(process, SOON)) == (0 if status else 21, status) and 9 < took < 30,
                     f"{len(got)} {process.poll()} {took}")
         steps.check(f"{name}: a line says so", "has not replied" in errors(process))
         spool.daemon.send_signal(signal.SIGCONT)
@@ -137,7 +137,7 @@ def limits(steps, room):
     for process in (spool.session(options=["--required"]) for _ in range(2)):
         steps.check("--sessions 2: two sessions are recorded", len(open_session(process)) == 9)
     process = spool.session(options=["--required"])
-    steps.check("--sessions 2: a third one is refused", ended(process, 5) == 3)
+    steps.check("--sessions 2: a third one is refused", ended(process, SOON) == 3)
 
 
 def hostile(steps, room):
@@ -193,7 +193,7 @@ def activated(steps, room):
     process = room.start("--required", "--spool", path, STUB)
     steps.check("with socket activation: the session runs", len(open_session(process)) == 9)
     close(process.stdin)
-    steps.check("with socket activation: it is recorded", ended(process, 3) == 0 and
+    steps.check("with socket activation: it is recorded", ended(process, SOON) == 0 and
                 len(list(folder.glob("*/*.transcript"))) == 1)
 
 

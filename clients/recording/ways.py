@@ -340,15 +340,15 @@ def own_folder(name: str) -> int:
             way.go_through((it,))
         way.make(last)
         held = way.open_at(last, FOLDER, (*way.place, last))
-    if not is_own(os.fstat(held)):
+    if not is_own(held, os.fstat(held)):
         os.close(held)
         raise OSError(errno.EPERM, "it belongs to another user, or others can write to it", name)
     return held
 
 
-def is_own(folder: os.stat_result) -> bool:
+def is_own(folder: int | str, state: os.stat_result) -> bool:
     """Whether a folder is this user's, and no other can write to it."""
-    return folder.st_uid == os.geteuid() and not is_writable(folder, os.geteuid())
+    return state.st_uid == os.geteuid() and not is_writable(folder, state, os.geteuid())
 
 
 def is_private(group, user):
@@ -360,11 +360,21 @@ def is_private(group, user):
     return found.gr_name == name and not set(found.gr_mem) - {name}
 
 
-def is_writable(found, user):
-    """Whether others than this user and the owner may write into the folder."""
+def has_list(folder: int | str) -> bool:
+    """Whether an access list says who may use a folder; the group's permissions are the most that it gives."""
+    try:
+        return bool(os.getxattr(folder, "system.posix_acl_access"))
+    except OSError:
+        return False
+
+
+def is_writable(folder: int | str, found: os.stat_result, user: int) -> bool:
+    """Whether others than this user and the owner may write into the folder, which is a whole path or a descriptor."""
     if found.st_mode & stat.S_IWOTH:
         return True
-    return bool(found.st_mode & stat.S_IWGRP) and found.st_gid != 0 and not is_private(found.st_gid, user)
+    if not found.st_mode & stat.S_IWGRP:
+        return False
+    return found.st_gid != 0 and not is_private(found.st_gid, user) or has_list(folder)
 
 
 def looked_at(path):
@@ -393,7 +403,7 @@ def fault(states, owner=None):
         if found.st_uid not in trusted and not (found.st_uid == owner and at == len(states) - 2):
             return f"the folder {folder} belongs to another user"
         is_kept = found.st_mode & stat.S_ISVTX and (behind is None or behind.st_uid in trusted)
-        if is_writable(found, os.geteuid()) and not is_kept:
+        if is_writable(folder, found, os.geteuid()) and not is_kept:
             return f"the folder {folder} is writable by others"
     return None
 

@@ -1,6 +1,7 @@
 """Attacks on the temporary folders of scripts that root runs, where TMPDIR leads to what another user can change."""
 import itertools
 import os
+import struct
 import subprocess
 import sys
 import tempfile
@@ -10,7 +11,7 @@ from attacking.ground import CLIENTS, SECONDS, attack
 from attacking.looks import CALLS, MOST, acting_before
 from attacking.scripts import DIFFERING, ordinary
 from programs import TOP, program
-from recording import ways as recorded_ways
+from recording import ways
 from sftp3 import init
 from sftp3 import trees
 from sftp3.trees import FILE, Entry, Tree
@@ -59,7 +60,7 @@ def looks_of(scene, tree, number, is_checked):
     try:
         os.environ["TMPDIR"], tempfile.tempdir = scene.room, None
         if not is_checked:
-            recorded_ways.fault = lambda *_: None
+            ways.fault = lambda *_: None
         with acting_before(number, scene.swap, CALLS) as looks, suppress(OSError, folders.Bad):
             folders.Folder(tree)
     finally:
@@ -84,19 +85,29 @@ def a_name_in_the_folder_of_TMPDIR_becomes_a_link(field):
             yield f"{of_all}: {number} looks"
 
 
+def let_write(folder, user):
+    """Lets a user write into a folder by an access list: then the group's permissions are the most that it gives."""
+    entries = ((1, 7, -1), (2, 7, user), (4, 5, -1), (16, 7, -1), (32, 5, -1))
+    os.setxattr(folder, "system.posix_acl_access", struct.pack("<I", 2) + b"".join(
+        struct.pack("<HHi", *it) for it in entries))
+
+
 def rooms(field):
     """Yields folders that TMPDIR may name, and whether temporary files may be made there."""
     user, group = field.user.pw_uid, field.user.pw_gid
     for what, owner, mode, is_taken in (
             ("a user's", (user, group), 0o755, False), ("a user's with the sticky bit", (user, group), 0o1777, False),
             ("one of all", (0, 0), 0o777, False), ("one of a group", (0, group), 0o775, False),
-            ("one of all with the sticky bit", (0, 0), 0o1777, True), ("root's", (0, 0), 0o700, True)):
+            ("listed", (0, 0), 0o755, False), ("one of all with the sticky bit", (0, 0), 0o1777, True),
+            ("root's", (0, 0), 0o700, True)):
         path = field.path(what)
         os.makedirs(f"{path}/below/it", 0o700)
         for it in (f"{path}/below/it", f"{path}/below"):
             os.chmod(it, 0o755)
         os.chown(path, *owner)
         os.chmod(path, mode)
+        if what == "listed":
+            let_write(path, user)
         yield path, is_taken
         yield f"{path}/below/it", is_taken
     for what, owner in (("a user's link", user), ("root's link", 0)):
@@ -134,5 +145,10 @@ def a_temporary_folder_is_another_user_s(field):
     for room, is_taken in rooms(field):
         for words in lines:
             yield from wrong_of(field, words, room, is_taken)
+    if ways.fault([(field.path("listed"), os.stat(field.path("listed"))), ("", None)]) is None:
+        yield "a recorder has nothing to say of a folder that others can write by a list"
+    with suppress(OSError):
+        os.close(ways.own_folder(field.path("listed")))
+        yield "a folder that others can write by a list is kept"
     for words in (["install"], ["packaging/deb", field.path("packages")]):
         yield from wrong_of(field, [os.path.join(TOP, words[0]), *words[1:]], field.path("a user's"), False)
