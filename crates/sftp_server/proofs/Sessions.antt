@@ -1,6 +1,7 @@
 use Rattle.sftp_server.proofs.Imports.{◌≡◌, ℕ, List, [], ◌∷◌, ◌++◌, map, refl, sym, ap, ◌∙◌, append_assoc, append-nil}
 use Rattle.sftp_server.proofs.Imports.{map-append, flat_map_more, Packet, request_packet, reply_packet, Request}
-use Rattle.sftp_server.proofs.Imports.{Reply, Side, Client, Server, spelling, side_of, Event, Asked, Replied}
+use Rattle.sftp_server.proofs.Imports.{Reply, Side, Client, Server, spelling, side_of, Event}
+use Rattle.sftp_server.proofs.Imports.{Asked as asked_event, Replied as replied_event}
 use Rattle.sftp_server.proofs.Imports.{packet_of, record_text, transcript_opening, session_packets, spelled_if}
 use Rattle.sftp_server.proofs.Imports.{sent_by, recorded, our_version, ◌≢◌, Bool, if◌then◌else◌, Option, inl, inr}
 use Rattle.sftp_server.proofs.Imports.{arith, ne_eqb, Keeps, Appends-trans, BeginsFrom, window, Log, opened_text}
@@ -73,36 +74,36 @@ recorded-session init events event =
 
 -- what the client sent, what the server sent, and the record, with a request more
 pub record AskedSession (init : Packet) (events : List Event) (request : Request) : Type 0 where
-  pub client : sent_by Client (session_packets init (events ++ Asked request ∷ []))
+  pub client : sent_by Client (session_packets init (events ++ asked_event request ∷ []))
       ≡ sent_by Client (session_packets init events) ++ spelling (request_packet request)
-  pub server : sent_by Server (session_packets init (events ++ Asked request ∷ []))
+  pub server : sent_by Server (session_packets init (events ++ asked_event request ∷ []))
       ≡ sent_by Server (session_packets init events)
-  pub log : recorded (session_packets init (events ++ Asked request ∷ []))
+  pub log : recorded (session_packets init (events ++ asked_event request ∷ []))
       ≡ recorded (session_packets init events) ++ record_text (request_packet request)
 
 pub asked-session : (init : Packet) (events : List Event) (request : Request) → AskedSession init events request
 asked-session init events request = record {
-  client = sent-session Client init events (Asked request);
+  client = sent-session Client init events (asked_event request);
   server =
-      sent-session Server init events (Asked request) ∙ append-nil (sent_by Server (session_packets init events));
-  log = recorded-session init events (Asked request);
+      sent-session Server init events (asked_event request) ∙ append-nil (sent_by Server (session_packets init events));
+  log = recorded-session init events (asked_event request);
 }
 
 -- the same with a reply more
 pub record RepliedSession (init : Packet) (events : List Event) (reply : Reply) : Type 0 where
-  pub client : sent_by Client (session_packets init (events ++ Replied reply ∷ []))
+  pub client : sent_by Client (session_packets init (events ++ replied_event reply ∷ []))
       ≡ sent_by Client (session_packets init events)
-  pub server : sent_by Server (session_packets init (events ++ Replied reply ∷ []))
+  pub server : sent_by Server (session_packets init (events ++ replied_event reply ∷ []))
       ≡ sent_by Server (session_packets init events) ++ spelling (reply_packet reply)
-  pub log : recorded (session_packets init (events ++ Replied reply ∷ []))
+  pub log : recorded (session_packets init (events ++ replied_event reply ∷ []))
       ≡ recorded (session_packets init events) ++ record_text (reply_packet reply)
 
 pub replied-session : (init : Packet) (events : List Event) (reply : Reply) → RepliedSession init events reply
 replied-session init events reply = record {
   client =
-      sent-session Client init events (Replied reply) ∙ append-nil (sent_by Client (session_packets init events));
-  server = sent-session Server init events (Replied reply);
-  log = recorded-session init events (Replied reply);
+      sent-session Client init events (replied_event reply) ∙ append-nil (sent_by Client (session_packets init events));
+  server = sent-session Server init events (replied_event reply);
+  log = recorded-session init events (replied_event reply);
 }
 
 -- ==== A session that stops where a stream fails or memory runs out.
