@@ -257,7 +257,7 @@ def a_server_makes_a_directory_that_others_enter(field):
 
 @attack("user")
 def a_link_is_a_folder_again_when_it_is_read(field):
-    """At whichever look a link of a user on the way becomes a directory, what asks where a name leads gets an answer."""
+    """At whichever look a user's link on the way becomes a directory, what asks where a name leads gets an answer."""
     tree = script("tree")
     asks = (lambda name: tree.is_within("/x", name), lambda name: tree.is_within(f"{name}/x", "/nowhere"),
             naming.folder_warning)

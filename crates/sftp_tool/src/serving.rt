@@ -208,8 +208,8 @@ fn room_to_save<'a, R: System>(rt: &R, options: &ServeOptions<'a>) -> Result<Vec
     Ok(Vec::with_capacity(rt.alloc(), bytes)?)
 }
 
-/// Has malloc keep up to 2 MiB that were freed. Else each packet of some size takes its memory from the system anew, and
-/// gives it back: the bound is twice the largest block mapped by itself that was freed (M_TRIM_THRESHOLD in mallopt(3)).
+/// Has malloc keep up to 2 MiB that were freed. Else each larger packet takes its memory from the system anew and gives
+/// it back: the bound is twice the largest block mapped by itself that was freed (M_TRIM_THRESHOLD of mallopt(3)).
 fn keep_freed_memory<'a, R: System>(rt: &R) -> Result<(), Failure<'a>> {
     let block: Vec<u8> = Vec::with_capacity(rt.alloc(), FREED_BLOCK)?;
     drop(block);
