@@ -24,8 +24,8 @@ pub unlike_refusal : (refusal : Refusal) → IsPlain (audit_errors.Refused refus
 unlike_refusal refusals.NoMemory plain same = plain
 unlike_refusal other plain same = absurd cc
 
-same_start : (tree : List ℕ) (t u : Tree) → IsStart t tree → IsStart u tree → u ≡ t
-same_start tree t u of_t of_u = one_start u t tree of_u of_t
+one_start_of : (tree : List ℕ) (t u : Tree) → IsStart t tree → IsStart u tree → u ≡ t
+one_start_of tree t u of_t of_u = one_start u t tree of_u of_t
 
 -- ---- two refusals of events
 
@@ -172,17 +172,17 @@ module _ {S : Type 0} (step : StepOf S) (one_end : HasOneEnd step) where
       (unlike_fault e plain_a) (unlike_fault f plain_b) in
       inr (ap (λ (x : TranscriptError). audit_errors.Transcript x) same.1)
   one_first_fault begin tree transcript (audit_errors.Transcript e) (audit_errors.Refused f) for_a for_b plain_a plain_b not_a not_b =
-      let start : for_b.0 ≡ for_a.0 = same_start tree for_a.0 for_b.0 for_a.1 for_b.1 in
+      let start : for_b.0 ≡ for_a.0 = one_start_of tree for_a.0 for_b.0 for_a.1 for_b.1 in
       absurd
       (fault_alone (begin for_a.0) transcript e f (unlike_fault e plain_a) (unlike_refusal f plain_b) for_a.2
       (subst (λ (t : Tree). IsRefused (begin t) transcript f) start for_b.2))
   one_first_fault begin tree transcript (audit_errors.Refused e) (audit_errors.Transcript f) for_a for_b plain_a plain_b not_a not_b =
-      let start : for_a.0 ≡ for_b.0 = same_start tree for_b.0 for_a.0 for_b.1 for_a.1 in
+      let start : for_a.0 ≡ for_b.0 = one_start_of tree for_b.0 for_a.0 for_b.1 for_a.1 in
       absurd
       (fault_alone (begin for_b.0) transcript f e (unlike_fault f plain_b) (unlike_refusal e plain_a) for_b.2
       (subst (λ (t : Tree). IsRefused (begin t) transcript e) start for_a.2))
   one_first_fault begin tree transcript (audit_errors.Refused e) (audit_errors.Refused f) for_a for_b plain_a plain_b not_a not_b =
-      let start : for_b.0 ≡ for_a.0 = same_start tree for_a.0 for_b.0 for_a.1 for_b.1 in
+      let start : for_b.0 ≡ for_a.0 = one_start_of tree for_a.0 for_b.0 for_a.1 for_b.1 in
       inr (ap (λ (x : Refusal). audit_errors.Refused x)
       (one_refused (begin for_a.0) transcript e f (unlike_refusal e plain_a) (unlike_refusal f plain_b) for_a.2
       (subst (λ (t : Tree). IsRefused (begin t) transcript f) start for_b.2)))
