@@ -1,13 +1,13 @@
 //! The requests of a transcript in the order asked, each with its reply.
 
 use sftp_path::NoMemory;
-use sftp_transcript::{Memory, Reader, WINDOW};
-use sftp_wire::{Answer, Ask, Packet, Request};
+use sftp_transcript::{OPENING, WINDOW};
+use sftp_wire::{Answer, Ask, Packet, Request, Side, front};
 use std::alloc::Global;
 use std::collections::VecDeque;
 
-/// The bytes of a transcript before its first record.
-const OPENING: usize = 8;
+/// The version of the protocol.
+const VERSION: u32 = 3;
 
 /// A reply to a request.
 #[derive(Drop)]
@@ -31,12 +31,25 @@ pub(crate) struct Exchange {
     pub(crate) reply: Option<Reply>,
 }
 
+/// Whether a packet may be in the record with this number: a session begins with an INIT and a VERSION.
+fn may_be_in(packet: &Packet, number: u64) -> bool {
+    match packet {
+        Packet::Init { version, .. } => number == 1 && *version >= VERSION,
+        Packet::Version { version, .. } => number == 2 && *version == VERSION,
+        _ => number > 2,
+    }
+}
+
 /// The exchanges of a transcript one by one, as long as each has a reply and nothing is malformed. What is wrong with
 /// the records is the audit's to say.
 #[derive(Drop)]
 pub(crate) struct Exchanges<'a> {
-    reader: Reader<Memory<'a>>,
+    alloc: Global,
+    /// The records that are left.
+    left: &'a [u8],
     waiting: VecDeque<Exchange>,
+    /// Whether the first one that waits was given.
+    is_given: bool,
     /// The number of the last record.
     number: u64,
     /// Where it ends.
@@ -44,23 +57,27 @@ pub(crate) struct Exchanges<'a> {
 }
 
 impl<'a> Exchanges<'a> {
-    pub(crate) fn new(alloc: Global, session: &'a [u8]) -> Result<Exchanges<'a>, NoMemory> {
-        match Reader::new(alloc, Memory::new(session)) {
-            Ok(reader) => Ok(Exchanges {
-                reader,
-                waiting: VecDeque::new(alloc),
-                number: 0,
-                end: OPENING,
-            }),
-            Err(_) => Err(NoMemory),
+    pub(crate) fn new(alloc: Global, session: &'a [u8]) -> Exchanges<'a> {
+        Exchanges {
+            alloc,
+            left: session.strip_prefix(&OPENING).unwrap_or(&[]),
+            waiting: VecDeque::new(alloc),
+            is_given: false,
+            number: 0,
+            end: OPENING.len(),
         }
     }
 
     /// The next exchange with its reply; `None` at the end, and from the first request on that has no reply.
-    pub(crate) fn next(&mut self) -> Result<Option<Exchange>, NoMemory> {
+    pub(crate) fn next(&mut self) -> Result<Option<&Exchange>, NoMemory> {
+        if self.is_given {
+            self.is_given = false;
+            self.waiting.pop_front();
+        }
         for _ in 0..u64::MAX {
             if self.is_ready() {
-                return Ok(self.waiting.pop_front());
+                self.is_given = true;
+                return Ok(self.waiting.front());
             }
             if !self.read()? {
                 return Ok(None);
@@ -78,8 +95,17 @@ impl<'a> Exchanges<'a> {
 
     /// Reads a record, and says whether there was one that may be there.
     fn read(&mut self) -> Result<bool, NoMemory> {
-        match self.reader.next_record() {
-            Ok(Some((_, packet, length))) => {
+        let Some((direction, spelled)) = self.left.split_first() else {
+            return Ok(false);
+        };
+        let side = match *direction {
+            b'C' => Side::Client,
+            b'S' => Side::Server,
+            _ => return Ok(false),
+        };
+        match front(self.alloc, spelled, side) {
+            Ok(Some((packet, length))) => {
+                self.left = spelled.get(length..).unwrap_or(&[]);
                 self.number = self.number.saturating_add(1);
                 self.end = self.end.saturating_add(length).saturating_add(1);
                 self.take(packet)
@@ -89,6 +115,10 @@ impl<'a> Exchanges<'a> {
     }
 
     fn take(&mut self, packet: Packet) -> Result<bool, NoMemory> {
+        if !may_be_in(&packet, self.number) {
+            drop(packet);
+            return Ok(false);
+        }
         match packet {
             Packet::Request(request) => self.ask(request),
             Packet::Reply(reply) => {

@@ -6,7 +6,7 @@ use crate::errors::Stop;
 use crate::exchanges::{Exchange, Reply};
 use crate::facts::Says;
 use crate::handles::Opened;
-use crate::nodes::Sort;
+use crate::nodes::{Node, Sort};
 use crate::pieces::Piece;
 use crate::world::World;
 use sftp_wire::{Answer, Ask, Attrs, ByteString, Names, status};
@@ -17,6 +17,15 @@ fn follows(ask: &Ask) -> bool {
         Ask::Stat { .. } | Ask::Opendir { .. } | Ask::Open { .. } | Ask::Setstat { .. } => true,
         Ask::Realpath { .. } | Ask::Fstat { .. } | Ask::Fsetstat { .. } => true,
         _ => false,
+    }
+}
+
+/// What is open may have been changed, if it is open to be written.
+fn blur_opened(nodes: &mut Vec<Node>, opened: Opened) {
+    if opened.flags & 2 != 0 {
+        if let Some(entry) = nodes.get_mut(opened.entry) {
+            entry.file.is_blurred = true;
+        }
     }
 }
 
@@ -66,7 +75,7 @@ impl<'a> World<'a> {
 
     /// What a handle leads to.
     pub(crate) fn handle(&self, handle: &ByteString) -> Option<Opened> {
-        self.handles.get(handle.as_slice()).copied()
+        self.handles.get(handle.as_slice())
     }
 
     /// A request was done that changes something.
@@ -125,11 +134,17 @@ impl<'a> World<'a> {
 
     /// An extension may have changed any file that is open to be written.
     fn blur(&mut self) {
-        for opened in self.handles.values() {
-            if opened.flags & 2 != 0 {
-                if let Some(entry) = self.nodes.get_mut(opened.entry) {
-                    entry.file.is_blurred = true;
-                }
+        for opened in self.handles.others() {
+            blur_opened(&mut self.nodes, *opened);
+        }
+        self.blur_few();
+    }
+
+    /// The same of the files whose handles are in the list.
+    fn blur_few(&mut self) {
+        for place in 0..self.handles.len() {
+            if let Some(opened) = self.handles.opened(place) {
+                blur_opened(&mut self.nodes, opened);
             }
         }
     }
