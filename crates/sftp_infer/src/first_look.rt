@@ -14,11 +14,9 @@ impl<'a> Search<'a> {
             match exchanges.next()? {
                 Some(exchange) => {
                     self.requests = self.requests.saturating_add(1);
-                    if let Some(reply) = &exchange.reply {
-                        let names = count_of_names(&reply.answer);
-                        self.requests = self.requests.saturating_add(names);
-                        self.look_at(&exchange.ask, &reply.answer)?;
-                    }
+                    let names = count_of_names(exchange.answer);
+                    self.requests = self.requests.saturating_add(names);
+                    self.look_at(exchange.ask, exchange.answer)?;
                 }
                 None => break,
             }

@@ -88,9 +88,10 @@ fn other_number_of(name: &[u8]) -> u64 {
     hasher.finish()
 }
 
-/// Whether two names are the same. Most names are short, and those are compared byte by byte, which costs least.
+/// Whether two names are the same. Most that are not end in other bytes. Most names are short, and those are compared
+/// byte by byte, which costs least.
 fn are_same(name: &[u8], other: &[u8]) -> bool {
-    if name.len() != other.len() {
+    if name.len() != other.len() || name.last() != other.last() {
         return false;
     }
     if name.len() > SHORT {

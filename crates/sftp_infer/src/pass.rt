@@ -1,7 +1,7 @@
 //! A pass over a session.
 
 use crate::errors::Stop;
-use crate::exchanges::{Exchange, Exchanges};
+use crate::exchanges::Exchanges;
 use crate::world::World;
 use sftp_path::NoMemory;
 
@@ -56,7 +56,7 @@ impl<'a> World<'a> {
         for _ in 0..u64::MAX {
             match exchanges.next()? {
                 Some(exchange) => {
-                    match self.take_one(exchange) {
+                    match self.take(exchange) {
                         Ok(()) => {}
                         Err(Stop::Clash) => return Ok(Passed::Stuck),
                         Err(Stop::Again) => return Ok(Passed::Dirty),
@@ -73,13 +73,6 @@ impl<'a> World<'a> {
             Ok(Passed::Clean)
         } else {
             Ok(Passed::Dirty)
-        }
-    }
-
-    fn take_one(&mut self, exchange: &Exchange) -> Result<(), Stop> {
-        match &exchange.reply {
-            Some(reply) => self.take(exchange, reply),
-            None => Ok(()),
         }
     }
 

@@ -3,7 +3,7 @@
 use crate::attributes::sort_of;
 use crate::clashes::What;
 use crate::errors::Stop;
-use crate::exchanges::{Exchange, Reply};
+use crate::exchanges::Exchange;
 use crate::facts::Says;
 use crate::handles::Opened;
 use crate::nodes::{Node, Sort};
@@ -31,30 +31,30 @@ fn blur_opened(nodes: &mut Vec<Node>, opened: Opened) {
 
 impl<'a> World<'a> {
     /// Takes an exchange.
-    pub(crate) fn take(&mut self, exchange: &Exchange, reply: &Reply) -> Result<(), Stop> {
-        self.asked = exchange.number;
-        self.replied = reply.number;
-        self.teller = match &reply.answer {
-            Answer::Status { .. } | Answer::Handle(_) => exchange.number,
-            _ => reply.number,
+    pub(crate) fn take(&mut self, exchange: Exchange<'_>) -> Result<(), Stop> {
+        self.asked = exchange.asked;
+        self.replied = exchange.replied;
+        self.teller = match exchange.answer {
+            Answer::Status { .. } | Answer::Handle(_) => exchange.asked,
+            _ => exchange.replied,
         };
         self.work = self.work.saturating_add(1);
-        self.follows = follows(&exchange.ask);
-        match &reply.answer {
+        self.follows = follows(exchange.ask);
+        match exchange.answer {
             Answer::Status { code, .. } => self.take_status(exchange, *code),
-            Answer::Handle(handle) => self.take_handle(&exchange.ask, handle),
-            Answer::Data(bytes) => self.take_data(&exchange.ask, bytes, reply.end),
-            Answer::Name(names) => self.take_names(&exchange.ask, names),
-            Answer::Attrs(attrs) => self.take_attrs(&exchange.ask, attrs),
+            Answer::Handle(handle) => self.take_handle(exchange.ask, handle),
+            Answer::Data(bytes) => self.take_data(exchange.ask, bytes, exchange.answer_end),
+            Answer::Name(names) => self.take_names(exchange.ask, names),
+            Answer::Attrs(attrs) => self.take_attrs(exchange.ask, attrs),
             Answer::Extended(_) => Ok(()),
         }
     }
 
-    fn take_status(&mut self, exchange: &Exchange, code: u32) -> Result<(), Stop> {
+    fn take_status(&mut self, exchange: Exchange<'_>, code: u32) -> Result<(), Stop> {
         if code == status::OK {
             return self.take_done(exchange);
         }
-        match &exchange.ask {
+        match exchange.ask {
             Ask::Read {
                 handle,
                 offset,
@@ -79,8 +79,8 @@ impl<'a> World<'a> {
     }
 
     /// A request was done that changes something.
-    fn take_done(&mut self, exchange: &Exchange) -> Result<(), Stop> {
-        match &exchange.ask {
+    fn take_done(&mut self, exchange: Exchange<'_>) -> Result<(), Stop> {
+        match exchange.ask {
             Ask::Close { handle } => {
                 self.handles.remove(handle.as_slice());
                 Ok(())
@@ -89,7 +89,7 @@ impl<'a> World<'a> {
                 handle,
                 offset,
                 bytes,
-            } => { self.take_written(handle, *offset, bytes, exchange.end) }
+            } => { self.take_written(handle, *offset, bytes, exchange.ask_end) }
             Ask::Setstat { path, attrs } => self.take_set(path, attrs),
             Ask::Fsetstat { handle, attrs } => match self.handle(handle) {
                 Some(opened) => self.set_attrs(opened.entry, attrs),
