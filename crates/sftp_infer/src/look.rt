@@ -69,6 +69,19 @@ impl Found<'_> {
     }
 }
 
+/// Where a walk ended.
+#[derive(Drop)]
+struct Ended {
+    look: Look,
+    parent: usize,
+    /// How long the name is, and how much of the path is left behind it, where the path has it.
+    given: Option<(usize, usize)>,
+    /// The name, where it has not.
+    copied: Vec<u8>,
+    found: Place,
+    steps: u64,
+}
+
 /// A walk that has not ended.
 #[derive(Drop)]
 struct Walk<'w> {
@@ -137,6 +150,30 @@ impl<'w> Walk<'w> {
 impl<'a> World<'a> {
     /// Where a path leads now.
     pub(crate) fn look<'p>(&self, path: &'p [u8], follows: bool) -> Result<Found<'p>, NoMemory> {
+        let ended = self.walk_from(path, follows)?;
+        let given = match ended.given {
+            Some((len, left)) => part_before(path, len, left),
+            None => None,
+        };
+        let Ended {
+            look,
+            parent,
+            given: _,
+            copied,
+            found,
+            steps,
+        } = ended;
+        Ok(Found {
+            look,
+            parent,
+            given,
+            copied,
+            found,
+            steps,
+        })
+    }
+
+    fn walk_from<'w>(&'w self, path: &'w [u8], follows: bool) -> Result<Ended, NoMemory> {
         if !good_path(path) {
             return Ok(self.nowhere(Look::Bad, 0));
         }
@@ -153,12 +190,12 @@ impl<'a> World<'a> {
             walk.rest = self.home.as_slice();
             walk.is_given = false;
         }
-        self.walk(walk, path, follows)
+        self.walk(walk, follows)
     }
 
     /// A walk that led nowhere.
-    fn nowhere<'p>(&self, look: Look, steps: u64) -> Found<'p> {
-        Found {
+    fn nowhere(&self, look: Look, steps: u64) -> Ended {
+        Ended {
             look,
             parent: 0,
             given: None,
@@ -168,25 +205,14 @@ impl<'a> World<'a> {
         }
     }
 
-    /// What a walk found that ended at this name.
-    fn found<'p>(
-        &self,
-        walk: &Walk<'_>,
-        path: &'p [u8],
-        look: Look,
-        name: &[u8],
-        steps: u64,
-    ) -> Result<Found<'p>, NoMemory> {
-        let given = if walk.is_given {
-            part_before(path, name.len(), walk.rest.len())
+    /// What a walk comes to that ended at this name.
+    fn end(&self, walk: &Walk<'_>, look: Look, name: &[u8], steps: u64) -> Result<Ended, NoMemory> {
+        let (given, copied) = if walk.is_given {
+            (Some((name.len(), walk.rest.len())), Vec::new(self.alloc))
         } else {
-            None
+            (None, Vec::from_slice(self.alloc, name)?)
         };
-        let copied = match given {
-            Some(_) => Vec::new(self.alloc),
-            None => Vec::from_slice(self.alloc, name)?,
-        };
-        Ok(Found {
+        Ok(Ended {
             look,
             parent: walk.at,
             given,
@@ -196,20 +222,15 @@ impl<'a> World<'a> {
         })
     }
 
-    fn walk<'w, 'p>(
-        &'w self,
-        walk: Walk<'w>,
-        path: &'p [u8],
-        follows: bool,
-    ) -> Result<Found<'p>, NoMemory> {
+    fn walk<'w>(&'w self, walk: Walk<'w>, follows: bool) -> Result<Ended, NoMemory> {
         let mut walk = walk;
         for steps in 0..COMPONENT_LIMIT {
             match self.step(&mut walk, follows)? {
                 Step::On => {}
                 Step::End(look, name) => {
-                    let found = self.found(&walk, path, look, name, steps);
+                    let ended = self.end(&walk, look, name, steps);
                     drop(walk);
-                    return found;
+                    return ended;
                 }
             }
         }
