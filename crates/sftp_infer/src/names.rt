@@ -13,8 +13,8 @@ const FEW: usize = 8;
 /// How many bytes a short name has at most.
 const SHORT: usize = 16;
 
-/// How many cells in a row are tried for a name, and how many numbers in a row by SipHash. Names of one number by SipHash
-/// are not to be found in practice.
+/// How many cells in a row are tried for a name, and how many numbers in a row of those that are made by SipHash. Names
+/// of one such number are not to be found in practice.
 const TRIES: u32 = 16;
 
 /// How many cells a table has at least.
