@@ -135,20 +135,22 @@ impl<'a> Exchanges<'a> {
     /// Takes out the reply to the first request that waits, if it came early.
     fn take_early(&mut self) -> Option<Record> {
         let asked = self.waiting.front()?.record.number;
-        for place in 0..self.early.len() {
-            if self.is_early(place, asked) {
-                let early = self.early.swap_remove(place);
-                return Some(early.record);
-            }
+        let place = self.place_of_early(asked)?;
+        if place < self.early.len() {
+            let Early { asked: _, record } = self.early.swap_remove(place);
+            return Some(record);
         }
         None
     }
 
-    fn is_early(&self, place: usize, asked: u64) -> bool {
-        match self.early.get(place) {
-            Some(early) => early.asked == asked,
-            None => false,
+    /// Which of the early replies is to the request with this number.
+    fn place_of_early(&self, asked: u64) -> Option<usize> {
+        for (place, early) in self.early.iter().enumerate() {
+            if early.asked == asked {
+                return Some(place);
+            }
         }
+        None
     }
 
     /// The first request that waits, with its reply.
