@@ -9,21 +9,14 @@ use sftp_wire::{Answer, Ask};
 impl<'a> Search<'a> {
     /// Counts the requests and the names in replies, and looks for the home.
     pub(crate) fn look_first(&mut self) -> Result<(), NoMemory> {
-        let mut exchanges = Exchanges::new(self.alloc, self.session)?;
+        let mut exchanges = Exchanges::new(self.alloc, self.session);
         for _ in 0..u64::MAX {
             match exchanges.next()? {
                 Some(exchange) => {
                     self.requests = self.requests.saturating_add(1);
-                    let told = match &exchange.reply {
-                        Some(reply) => {
-                            let names = count_of_names(&reply.answer);
-                            self.requests = self.requests.saturating_add(names);
-                            self.look_at(&exchange.ask, &reply.answer)
-                        }
-                        None => Ok(()),
-                    };
-                    drop(exchange);
-                    told?;
+                    let names = count_of_names(exchange.answer);
+                    self.requests = self.requests.saturating_add(names);
+                    self.look_at(exchange.ask, exchange.answer)?;
                 }
                 None => break,
             }

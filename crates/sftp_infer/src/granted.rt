@@ -31,7 +31,7 @@ impl<'a> World<'a> {
         done
     }
 
-    fn grant_at(&mut self, found: &Found, asks: Asks) -> Result<(), Stop> {
+    fn grant_at(&mut self, found: &Found<'_>, asks: Asks) -> Result<(), Stop> {
         let spot = found.spot();
         match found.look {
             Look::Entry(at) => self.grant_of_entry(at, asks),

@@ -33,7 +33,7 @@ impl<'a> World<'a> {
     /// REALPATH told where a path leads.
     pub(crate) fn take_real(&mut self, path: &[u8], text: &[u8]) -> Result<(), Stop> {
         let found = self.reach(path, true)?;
-        let place = self.place(found.parent, found.name.as_slice(), false);
+        let place = self.place(found.parent, found.name(), false);
         let told = self.take_place(path, text, &found, place?);
         drop(found);
         told
@@ -43,7 +43,7 @@ impl<'a> World<'a> {
         &mut self,
         path: &[u8],
         text: &[u8],
-        found: &crate::look::Found,
+        found: &crate::look::Found<'_>,
         place: Vec<u8>,
     ) -> Result<(), Stop> {
         if place.as_slice() == text || !self.settings.is_strict {
@@ -58,7 +58,7 @@ impl<'a> World<'a> {
             Look::Unknown => {
                 self.propose(
                     found.parent,
-                    found.name.as_slice(),
+                    found.name(),
                     Says::Link(Vec::from_slice(self.alloc, text)?),
                 )?;
                 0

@@ -26,7 +26,7 @@ impl<'a> World<'a> {
             return Ok(());
         }
         let spot = self.spot(listing.entry, name);
-        if self.slot(spot).changed > listing.asked {
+        if self.name_changed(spot) > listing.asked {
             return self.mark(listing, spot);
         }
         match self.held(spot) {
@@ -35,6 +35,17 @@ impl<'a> World<'a> {
             None => self.list_unknown(spot, item)?,
         }
         self.mark(listing, spot)
+    }
+
+    /// The last request that changed what a name leads to.
+    fn name_changed(&self, spot: Spot<'_>) -> u64 {
+        match self.nodes.get(spot.parent) {
+            Some(directory) => match directory.names.get(spot) {
+                Some(slot) => slot.changed,
+                None => 0,
+            },
+            None => 0,
+        }
     }
 
     /// Notes that a listing gave a name.

@@ -38,25 +38,48 @@ pub(crate) enum Look {
 
 /// Where a path leads, and the directory and the name where the walk ended.
 #[derive(Drop)]
-pub(crate) struct Found {
+pub(crate) struct Found<'p> {
     pub(crate) look: Look,
     pub(crate) parent: usize,
-    pub(crate) name: Vec<u8>,
+    /// The name, where the path has it, and else a copy.
+    given: Option<&'p [u8]>,
+    copied: Vec<u8>,
     /// Where in the list of the directory the name is.
     found: Place,
     /// How many components the walk looked at.
     pub(crate) steps: u64,
 }
 
-impl Found {
+impl Found<'_> {
     /// The name where the walk ended.
+    pub(crate) fn name(&self) -> &[u8] {
+        match self.given {
+            Some(name) => name,
+            None => self.copied.as_slice(),
+        }
+    }
+
+    /// The same, in its directory.
     pub(crate) fn spot(&self) -> Spot<'_> {
         Spot {
             parent: self.parent,
-            name: self.name.as_slice(),
+            name: self.name(),
             found: self.found,
         }
     }
+}
+
+/// Where a walk ended.
+#[derive(Drop)]
+struct Ended {
+    look: Look,
+    parent: usize,
+    /// How long the name is, and how much of the path is left behind it, where the path has it.
+    given: Option<(usize, usize)>,
+    /// The name, where it has not.
+    copied: Vec<u8>,
+    found: Place,
+    steps: u64,
 }
 
 /// A walk that has not ended.
@@ -66,6 +89,8 @@ struct Walk<'w> {
     /// Where in the list of the directory the last name was found.
     found: Place,
     rest: &'w [u8],
+    /// Whether the rest is one of the path.
+    is_given: bool,
     /// What comes after the rest, the next one last.
     waiting: Vec<&'w [u8]>,
     links: u32,
@@ -90,6 +115,12 @@ pub(crate) fn next_part(path: &[u8]) -> Option<(&[u8], &[u8])> {
     Some((inner.get(..end)?, inner.get(end..)?))
 }
 
+/// So many bytes of a path, behind which so many are left.
+fn part_before(path: &[u8], len: usize, left: usize) -> Option<&[u8]> {
+    let end = path.len().checked_sub(left)?;
+    path.get(end.checked_sub(len)?..end)
+}
+
 /// Whether a path has a component.
 fn has_part(path: &[u8]) -> bool {
     path.iter().any(|byte| *byte != b'/')
@@ -107,6 +138,7 @@ impl<'w> Walk<'w> {
             self.waiting.push(self.rest)?;
         }
         self.rest = target;
+        self.is_given = false;
         self.links = self.links.saturating_add(1);
         if target.first() == Some(&b'/') {
             self.at = 0;
@@ -117,56 +149,93 @@ impl<'w> Walk<'w> {
 
 impl<'a> World<'a> {
     /// Where a path leads now.
-    pub(crate) fn look<'w>(&'w self, path: &'w [u8], follows: bool) -> Result<Found, NoMemory> {
+    pub(crate) fn look<'p>(&self, path: &'p [u8], follows: bool) -> Result<Found<'p>, NoMemory> {
+        let ended = self.walk_from(path, follows)?;
+        let given = match ended.given {
+            Some((len, left)) => part_before(path, len, left),
+            None => None,
+        };
+        let Ended {
+            look,
+            parent,
+            given: _,
+            copied,
+            found,
+            steps,
+        } = ended;
+        Ok(Found {
+            look,
+            parent,
+            given,
+            copied,
+            found,
+            steps,
+        })
+    }
+
+    fn walk_from<'w>(&'w self, path: &'w [u8], follows: bool) -> Result<Ended, NoMemory> {
         if !good_path(path) {
-            return Ok(Found {
-                look: Look::Bad,
-                parent: 0,
-                name: Vec::new(self.alloc),
-                found: Place::NotSought,
-                steps: 0,
-            });
+            return Ok(self.nowhere(Look::Bad, 0));
         }
         let mut walk = Walk {
             at: 0,
             found: Place::NotSought,
             rest: path,
+            is_given: true,
             waiting: Vec::new(self.alloc),
             links: 0,
         };
         if path.first() != Some(&b'/') {
             walk.waiting.push(path)?;
             walk.rest = self.home.as_slice();
+            walk.is_given = false;
         }
         self.walk(walk, follows)
     }
 
-    fn walk<'w>(&'w self, walk: Walk<'w>, follows: bool) -> Result<Found, NoMemory> {
+    /// A walk that led nowhere.
+    fn nowhere(&self, look: Look, steps: u64) -> Ended {
+        Ended {
+            look,
+            parent: 0,
+            given: None,
+            copied: Vec::new(self.alloc),
+            found: Place::NotSought,
+            steps,
+        }
+    }
+
+    /// What a walk comes to that ended at this name.
+    fn end(&self, walk: &Walk<'_>, look: Look, name: &[u8], steps: u64) -> Result<Ended, NoMemory> {
+        let (given, copied) = if walk.is_given {
+            (Some((name.len(), walk.rest.len())), Vec::new(self.alloc))
+        } else {
+            (None, Vec::from_slice(self.alloc, name)?)
+        };
+        Ok(Ended {
+            look,
+            parent: walk.at,
+            given,
+            copied,
+            found: walk.found,
+            steps,
+        })
+    }
+
+    fn walk<'w>(&'w self, walk: Walk<'w>, follows: bool) -> Result<Ended, NoMemory> {
         let mut walk = walk;
         for steps in 0..COMPONENT_LIMIT {
             match self.step(&mut walk, follows)? {
                 Step::On => {}
                 Step::End(look, name) => {
-                    let (parent, found) = (walk.at, walk.found);
+                    let ended = self.end(&walk, look, name, steps);
                     drop(walk);
-                    return Ok(Found {
-                        look,
-                        parent,
-                        name: Vec::from_slice(self.alloc, name)?,
-                        found,
-                        steps,
-                    });
+                    return ended;
                 }
             }
         }
         drop(walk);
-        Ok(Found {
-            look: Look::Loop,
-            parent: 0,
-            name: Vec::new(self.alloc),
-            found: Place::NotSought,
-            steps: COMPONENT_LIMIT,
-        })
+        Ok(self.nowhere(Look::Loop, COMPONENT_LIMIT))
     }
 
     fn step<'w>(&'w self, walk: &mut Walk<'w>, follows: bool) -> Result<Step<'w>, NoMemory> {
@@ -178,6 +247,7 @@ impl<'a> World<'a> {
             None => match walk.waiting.pop() {
                 Some(rest) => {
                     walk.rest = rest;
+                    walk.is_given = walk.links == 0;
                     Ok(Step::On)
                 }
                 None => Ok(self.end_in(walk)),
@@ -189,10 +259,12 @@ impl<'a> World<'a> {
     fn end_in<'w>(&'w self, walk: &mut Walk<'w>) -> Step<'w> {
         let look = Look::Entry(walk.at);
         walk.found = Place::NotSought;
+        walk.is_given = false;
         match self.entry(walk.at) {
+            Some(_) if walk.at == 0 => Step::End(look, &[]),
             Some(directory) => {
-                walk.at = directory.parent;
-                Step::End(look, directory.name.as_slice())
+                walk.at = directory.seat.parent;
+                Step::End(look, self.name_at(directory.seat))
             }
             None => Step::End(look, &[]),
         }
@@ -209,7 +281,7 @@ impl<'a> World<'a> {
         }
         if is_dot_dot(name) {
             walk.at = match self.entry(walk.at) {
-                Some(directory) => directory.parent,
+                Some(directory) => directory.seat.parent,
                 None => 0,
             };
             return Ok(Step::On);

@@ -4,7 +4,7 @@ use crate::clashes::What;
 use crate::errors::Stop;
 use crate::look::{Found, Look};
 use crate::names::Spot;
-use crate::nodes::{Held, Node, Sort};
+use crate::nodes::{Held, Sort};
 use crate::world::World;
 use sftp_wire::Attrs;
 
@@ -13,7 +13,7 @@ const WALKS: u32 = 8_192;
 
 impl<'a> World<'a> {
     /// Where a path leads whose request was done: each name on the way is a directory.
-    pub(crate) fn reach(&mut self, path: &[u8], follows: bool) -> Result<Found, Stop> {
+    pub(crate) fn reach<'p>(&mut self, path: &'p [u8], follows: bool) -> Result<Found<'p>, Stop> {
         for _ in 0..WALKS {
             let found = self.look(path, follows)?;
             self.count_steps(found.steps);
@@ -34,13 +34,13 @@ impl<'a> World<'a> {
     }
 
     /// Tells that what stopped a walk does not stop it.
-    fn open_way(&mut self, found: Found) -> Result<(), Stop> {
+    fn open_way(&mut self, found: Found<'_>) -> Result<(), Stop> {
         let opened = self.open_way_at(&found);
         drop(found);
         opened
     }
 
-    fn open_way_at(&mut self, found: &Found) -> Result<(), Stop> {
+    fn open_way_at(&mut self, found: &Found<'_>) -> Result<(), Stop> {
         let spot = found.spot();
         match found.look {
             Look::UnknownWay => {
@@ -82,7 +82,7 @@ impl<'a> World<'a> {
         at
     }
 
-    fn entry_of(&mut self, found: &Found, sort: Sort) -> Result<usize, Stop> {
+    fn entry_of(&mut self, found: &Found<'_>, sort: Sort) -> Result<usize, Stop> {
         let spot = found.spot();
         match found.look {
             Look::Entry(at) => {
@@ -100,7 +100,7 @@ impl<'a> World<'a> {
     }
 
     /// The directory and the name to which a path leads at which a request made something: nothing was there.
-    pub(crate) fn reach_free(&mut self, path: &[u8]) -> Result<Found, Stop> {
+    pub(crate) fn reach_free<'p>(&mut self, path: &'p [u8]) -> Result<Found<'p>, Stop> {
         let found = self.reach(path, false)?;
         match self.require_free(&found) {
             Ok(()) => Ok(found),
@@ -111,7 +111,7 @@ impl<'a> World<'a> {
         }
     }
 
-    fn require_free(&mut self, found: &Found) -> Result<(), Stop> {
+    fn require_free(&mut self, found: &Found<'_>) -> Result<(), Stop> {
         let spot = found.spot();
         match found.look {
             Look::Unknown => Ok(self.tell_nothing(spot, false)?),
@@ -127,23 +127,27 @@ impl<'a> World<'a> {
     /// A directory was made.
     pub(crate) fn mkdir(&mut self, path: &[u8], attrs: &Attrs) -> Result<(), Stop> {
         let found = self.reach_free(path)?;
-        let mut made = Node::new(self.alloc, Sort::Directory, self.teller);
-        made.rights = self.made_rights(attrs, 0o755, 0o777);
-        let done = self.make(made, found.spot());
+        let rights = self.made_rights(attrs, 0o755, 0o777);
+        let done = self.make(Sort::Directory, found.spot());
         drop(found);
-        done?;
+        let at = done?;
+        if let Some(made) = self.entry_mut(at) {
+            made.rights = rights;
+        }
         Ok(())
     }
 
     /// A link was made.
     pub(crate) fn symlink(&mut self, target: &[u8], path: &[u8]) -> Result<(), Stop> {
         let found = self.reach_free(path)?;
-        let text = Vec::from_slice(self.alloc, target)?;
-        let mut made = Node::new(self.alloc, Sort::Link, self.teller);
-        made.target = Some(text);
-        let done = self.make(made, found.spot());
+        let done = self.make(Sort::Link, found.spot());
         drop(found);
-        done?;
+        let at = done?;
+        let text = Vec::from_slice(self.alloc, target)?;
+        match self.entry_mut(at) {
+            Some(made) => made.target = Some(text),
+            None => drop(text),
+        }
         Ok(())
     }
 
@@ -155,7 +159,7 @@ impl<'a> World<'a> {
         done
     }
 
-    fn remove_at(&mut self, found: &Found) -> Result<(), Stop> {
+    fn remove_at(&mut self, found: &Found<'_>) -> Result<(), Stop> {
         let at = self.entry_of(found, Sort::File)?;
         if self.sort(at) == Sort::Directory {
             self.tell_sort(at, Sort::File, None)?;
@@ -171,7 +175,7 @@ impl<'a> World<'a> {
         done
     }
 
-    fn rmdir_at(&mut self, found: &Found) -> Result<(), Stop> {
+    fn rmdir_at(&mut self, found: &Found<'_>) -> Result<(), Stop> {
         let at = self.entry_of(found, Sort::Directory)?;
         self.tell_sort(at, Sort::Directory, None)?;
         if self.has_entries(at) == Some(true) {
@@ -200,7 +204,7 @@ impl<'a> World<'a> {
         done
     }
 
-    fn rename_from(&mut self, from: &Found, new: &[u8]) -> Result<(), Stop> {
+    fn rename_from(&mut self, from: &Found<'_>, new: &[u8]) -> Result<(), Stop> {
         let at = self.entry_of(from, Sort::Unknown)?;
         let to = self.reach_free(new)?;
         let done = self.move_to(from, at, &to);
@@ -216,7 +220,7 @@ impl<'a> World<'a> {
         done
     }
 
-    fn replace_from(&mut self, from: &Found, new: &[u8]) -> Result<(), Stop> {
+    fn replace_from(&mut self, from: &Found<'_>, new: &[u8]) -> Result<(), Stop> {
         let at = self.entry_of(from, Sort::Unknown)?;
         let to = self.reach(new, false)?;
         let done = match to.look {
@@ -228,18 +232,9 @@ impl<'a> World<'a> {
     }
 
     /// Moves an entry from one name to another.
-    fn move_to(&mut self, from: &Found, at: usize, to: &Found) -> Result<(), Stop> {
+    fn move_to(&mut self, from: &Found<'_>, at: usize, to: &Found<'_>) -> Result<(), Stop> {
         self.change(from.spot(), Held::Nothing)?;
-        self.change(to.spot(), Held::Entry(at))?;
-        let name = Vec::from_slice(self.alloc, to.name.as_slice())?;
-        match self.entry_mut(at) {
-            Some(entry) => {
-                entry.parent = to.parent;
-                entry.name = name;
-            }
-            None => drop(name),
-        }
-        Ok(())
+        Ok(self.seat_entry(at, to.spot())?)
     }
 
     /// A file got a further name.

@@ -7,15 +7,18 @@ use std::alloc::Global;
 use std::collections::BTreeMap;
 use std::hash::{DefaultHasher, Hasher};
 
-/// How many names are compared one after the other; more have numbers.
+/// How many names are compared one after the other; more have cells.
 const FEW: usize = 8;
 
 /// How many bytes a short name has at most.
 const SHORT: usize = 16;
 
-/// How many numbers in a row are tried for a name. Names of one number are not to be found in practice: it is made by
-/// SipHash.
+/// How many cells in a row are tried for a name, and how many numbers in a row of those that are made by SipHash. Names
+/// of one such number are not to be found in practice.
 const TRIES: u32 = 16;
+
+/// How many cells a table has at least.
+const CELLS: usize = 32;
 
 /// A name, and what is known of it.
 #[derive(Drop)]
@@ -33,6 +36,13 @@ pub(crate) struct Spot<'n> {
     pub(crate) found: Place,
 }
 
+/// Where the name of an entry is: the number of the directory, and the place in its list.
+#[derive(Clone, Copy)]
+pub(crate) struct Seat {
+    pub(crate) parent: usize,
+    pub(crate) place: usize,
+}
+
 /// Where in the list of a directory a name was found.
 #[derive(Clone, Copy)]
 pub(crate) enum Place {
@@ -44,24 +54,44 @@ pub(crate) enum Place {
     NotSought,
 }
 
+/// A cell of a table of names: the number of a name, and its place in the list, counted from 1; 0 if the cell is free.
+#[derive(Clone, Copy)]
+struct Cell {
+    number: u32,
+    place: u32,
+}
+
 /// The names of a directory, in the order in which they came up.
 #[derive(Drop)]
 pub(crate) struct DirectoryNames {
     names: Vec<Named>,
-    /// Where in the list the name of a number is, or one of those with a number before it; empty for few names.
-    places: BTreeMap<u64, usize>,
+    /// A table, empty for few names: each name has the cell of its number, or one of the next ones. As many as a power
+    /// of two.
+    cells: Vec<Cell>,
+    /// The places of the names that got no cell, by another number, or one of the next ones.
+    others: BTreeMap<u64, usize>,
 }
 
-/// The number of a name.
-fn number_of(name: &[u8]) -> u64 {
+/// The number of a name that says its cell: by FNV-1a, which costs least. Whoever wants to finds names of one number.
+fn number_of(name: &[u8]) -> u32 {
+    let mut number: u32 = 2_166_136_261;
+    for byte in name {
+        number = (number ^ u32::from(*byte)).wrapping_mul(16_777_619);
+    }
+    number ^ (number >> 16)
+}
+
+/// The number of a name that got no cell.
+fn other_number_of(name: &[u8]) -> u64 {
     let mut hasher = DefaultHasher::new();
     hasher.write(name);
     hasher.finish()
 }
 
-/// Whether two names are the same. Most names are short, and those are compared byte by byte, which costs least.
+/// Whether two names are the same. Most that are not end in other bytes. Most names are short, and those are compared
+/// byte by byte, which costs least.
 fn are_same(name: &[u8], other: &[u8]) -> bool {
-    if name.len() != other.len() {
+    if name.len() != other.len() || name.last() != other.last() {
         return false;
     }
     if name.len() > SHORT {
@@ -70,17 +100,35 @@ fn are_same(name: &[u8], other: &[u8]) -> bool {
     name.iter().zip(other).all(|(byte, other)| *byte == *other)
 }
 
+impl Cell {
+    fn free() -> Cell {
+        Cell {
+            number: 0,
+            place: 0,
+        }
+    }
+}
+
 impl DirectoryNames {
     pub(crate) fn new(alloc: Global) -> DirectoryNames {
         DirectoryNames {
             names: Vec::new(alloc),
-            places: BTreeMap::new(alloc),
+            cells: Vec::new(alloc),
+            others: BTreeMap::new(alloc),
         }
     }
 
     /// All names, with what is known of them.
     pub(crate) fn each(&self) -> &[Named] {
         self.names.as_slice()
+    }
+
+    /// The name at a place in the list.
+    pub(crate) fn name(&self, place: usize) -> &[u8] {
+        match self.names.get(place) {
+            Some(named) => named.name.as_slice(),
+            None => &[],
+        }
     }
 
     /// What is known of a name.
@@ -107,6 +155,7 @@ impl DirectoryNames {
         match spot.found {
             Place::At(place) => Some(place),
             Place::Nowhere(count) if count == self.names.len() => None,
+            Place::Nowhere(count) if self.is_at(count, spot.name) => Some(count),
             _ => self.place(spot.name),
         }
     }
@@ -117,13 +166,23 @@ impl DirectoryNames {
         alloc: Global,
         spot: Spot<'_>,
     ) -> Result<Option<&mut Slot>, NoMemory> {
-        let place = match self.place_again(spot) {
-            Some(place) => place,
-            None => self.add(Vec::from_slice(alloc, spot.name)?)?,
-        };
+        let place = self.seat(alloc, spot)?;
+        Ok(self.slot_at(place))
+    }
+
+    /// Where in the list a name is, which is added if it is not there.
+    pub(crate) fn seat(&mut self, alloc: Global, spot: Spot<'_>) -> Result<usize, NoMemory> {
+        match self.place_again(spot) {
+            Some(place) => Ok(place),
+            None => self.add(Vec::from_slice(alloc, spot.name)?),
+        }
+    }
+
+    /// What is known of the name at a place in the list, to be changed.
+    pub(crate) fn slot_at(&mut self, place: usize) -> Option<&mut Slot> {
         match self.names.get_mut(place) {
-            Some(named) => Ok(Some(&mut named.slot)),
-            None => Ok(None),
+            Some(named) => Some(&mut named.slot),
+            None => None,
         }
     }
 
@@ -132,9 +191,36 @@ impl DirectoryNames {
         if self.names.len() <= FEW {
             return self.place_of_few(name);
         }
-        let mut number = number_of(name);
+        let number = number_of(name);
+        let mut at = number as usize;
         for _ in 0..TRIES {
-            let place = *self.places.get(&number)?;
+            let cell = self.cell(at);
+            if cell.place == 0 {
+                return None;
+            }
+            let place = (cell.place as usize).saturating_sub(1);
+            if cell.number == number && self.is_at(place, name) {
+                return Some(place);
+            }
+            at = at.wrapping_add(1);
+        }
+        self.place_of_other(name)
+    }
+
+    /// The cell with this number, counted on from the first one behind the last one.
+    fn cell(&self, at: usize) -> Cell {
+        let mask = self.cells.len().saturating_sub(1);
+        match self.cells.get(at & mask) {
+            Some(cell) => *cell,
+            None => Cell::free(),
+        }
+    }
+
+    /// Where in the list a name is that has no cell.
+    fn place_of_other(&self, name: &[u8]) -> Option<usize> {
+        let mut number = other_number_of(name);
+        for _ in 0..TRIES {
+            let place = *self.others.get(&number)?;
             if self.is_at(place, name) {
                 return Some(place);
             }
@@ -167,24 +253,73 @@ impl DirectoryNames {
         }
         let slot = Slot::unknown();
         self.names.push(Named { name, slot })?;
-        if self.names.len() <= FEW {
-            return Ok(added);
-        }
-        for place in self.places.len()..self.names.len() {
-            self.number(place)?;
+        if self.names.len() > self.cells.len() / 2 && self.names.len() > FEW {
+            self.number_all()?;
+        } else {
+            self.number(added)?;
         }
         Ok(added)
     }
 
-    /// Gives the name at this place a number.
+    /// Makes a table of twice as many cells, and gives each name a cell.
+    fn number_all(&mut self) -> Result<(), NoMemory> {
+        let alloc = *self.names.allocator();
+        let count = self.cells.len().saturating_mul(2).max(CELLS);
+        self.others = BTreeMap::new(alloc);
+        self.cells = Vec::new(alloc);
+        self.cells = vec![in alloc; Cell::free(); count]?;
+        for place in 0..self.names.len() {
+            self.number(place)?;
+        }
+        Ok(())
+    }
+
+    /// Gives the name at this place a cell, if there is a table.
     fn number(&mut self, place: usize) -> Result<(), NoMemory> {
         let Some(named) = self.names.get(place) else {
             return Ok(());
         };
-        let mut number = number_of(named.name.as_slice());
+        if self.cells.is_empty() {
+            return Ok(());
+        }
+        let number = number_of(named.name.as_slice());
+        match u32::try_from(place.saturating_add(1)) {
+            Ok(kept) => {
+                let cell = Cell {
+                    number,
+                    place: kept,
+                };
+                if self.put_cell(cell) {
+                    return Ok(());
+                }
+                self.number_other(place)
+            }
+            Err(_) => Err(NoMemory),
+        }
+    }
+
+    /// Puts a cell where its number says, or behind that, and says whether one of those cells was free.
+    fn put_cell(&mut self, cell: Cell) -> bool {
+        let mask = self.cells.len().saturating_sub(1);
+        let mut at = cell.number as usize;
         for _ in 0..TRIES {
-            if !self.places.contains_key(&number) {
-                self.places.insert(number, place)?;
+            if let Some(free) = self.cells.get_mut(at & mask) {
+                if free.place == 0 {
+                    *free = cell;
+                    return true;
+                }
+            }
+            at = at.wrapping_add(1);
+        }
+        false
+    }
+
+    /// Gives the name at this place, which got no cell, another number.
+    fn number_other(&mut self, place: usize) -> Result<(), NoMemory> {
+        let mut number = other_number_of(self.name(place));
+        for _ in 0..TRIES {
+            if !self.others.contains_key(&number) {
+                self.others.insert(number, place)?;
                 return Ok(());
             }
             number = number.wrapping_add(1);

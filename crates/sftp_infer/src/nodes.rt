@@ -1,7 +1,7 @@
 //! What replies told of an entry.
 
 use crate::files::File;
-use crate::names::DirectoryNames;
+use crate::names::{DirectoryNames, Seat};
 use std::alloc::Global;
 
 /// What an entry is.
@@ -98,11 +98,9 @@ pub(crate) struct Node {
     /// Whether it is taken for new where it may as well be old.
     pub(crate) is_chosen: bool,
     /// The directory that it is in now, and its name there. Of a file, one of its names.
-    pub(crate) parent: usize,
-    pub(crate) name: Vec<u8>,
+    pub(crate) seat: Seat,
     /// The same at the start.
-    pub(crate) old_parent: usize,
-    pub(crate) old_name: Vec<u8>,
+    pub(crate) old_seat: Seat,
     pub(crate) rights: Rights,
     /// Of a directory: its names.
     pub(crate) names: DirectoryNames,
@@ -119,7 +117,7 @@ pub(crate) struct Node {
 
 impl Node {
     /// An entry of the start of which nothing else is known.
-    pub(crate) fn old(alloc: Global, sort: Sort, told: u64) -> Node {
+    pub(crate) fn old(alloc: Global, sort: Sort, told: u64, seat: Seat) -> Node {
         Node {
             sort,
             told,
@@ -127,10 +125,8 @@ impl Node {
             is_itself: false,
             is_old: true,
             is_chosen: false,
-            parent: 0,
-            name: Vec::new(alloc),
-            old_parent: 0,
-            old_name: Vec::new(alloc),
+            seat,
+            old_seat: seat,
             rights: Rights::unknown(),
             names: DirectoryNames::new(alloc),
             complete: None,
@@ -141,14 +137,12 @@ impl Node {
         }
     }
 
-    /// An entry that the session made.
-    pub(crate) fn new(alloc: Global, sort: Sort, told: u64) -> Node {
-        let mut made = Node::old(alloc, sort, told);
-        made.is_old = false;
-        made.is_shown = true;
-        made.is_itself = true;
-        made.complete = Some(told);
-        made.file.empty(told);
-        made
+    /// Makes it an entry that the session made.
+    pub(crate) fn be_new(&mut self, told: u64) {
+        self.is_old = false;
+        self.is_shown = true;
+        self.is_itself = true;
+        self.complete = Some(told);
+        self.file.empty(told);
     }
 }

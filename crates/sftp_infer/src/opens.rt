@@ -4,7 +4,7 @@ use crate::clashes::What;
 use crate::errors::Stop;
 use crate::handles::Opened;
 use crate::look::{Found, Look};
-use crate::nodes::{Node, Sort};
+use crate::nodes::Sort;
 use crate::world::World;
 use bitflags::Flags;
 use sftp_wire::{Ask, Attrs, ByteString, OpenFlags};
@@ -35,8 +35,8 @@ impl<'a> World<'a> {
             is_listing,
             flags,
         };
-        let name = Vec::from_slice(self.alloc, handle.as_slice())?;
-        self.handles.insert(name, opened)?;
+        let alloc = self.alloc;
+        self.handles.insert(alloc, handle.as_slice(), opened)?;
         self.most_handles = self.most_handles.max(self.handles.len() as u64);
         Ok(())
     }
@@ -60,7 +60,7 @@ impl<'a> World<'a> {
         Ok(at)
     }
 
-    fn open_found(&mut self, found: &Found, makes: bool, attrs: &Attrs) -> Result<usize, Stop> {
+    fn open_found(&mut self, found: &Found<'_>, makes: bool, attrs: &Attrs) -> Result<usize, Stop> {
         let spot = found.spot();
         match found.look {
             Look::Entry(at) => {
@@ -91,10 +91,18 @@ impl<'a> World<'a> {
     }
 
     /// Makes a file; `is_chosen` says whether it may as well have been there.
-    fn make_file(&mut self, found: &Found, attrs: &Attrs, is_chosen: bool) -> Result<usize, Stop> {
-        let mut made = Node::new(self.alloc, Sort::File, self.teller);
-        made.rights = self.made_rights(attrs, 0o644, 0o666);
-        made.is_chosen = is_chosen;
-        Ok(self.make(made, found.spot())?)
+    fn make_file(
+        &mut self,
+        found: &Found<'_>,
+        attrs: &Attrs,
+        is_chosen: bool,
+    ) -> Result<usize, Stop> {
+        let rights = self.made_rights(attrs, 0o644, 0o666);
+        let at = self.make(Sort::File, found.spot())?;
+        if let Some(made) = self.entry_mut(at) {
+            made.rights = rights;
+            made.is_chosen = is_chosen;
+        }
+        Ok(at)
     }
 }

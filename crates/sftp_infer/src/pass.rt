@@ -1,7 +1,7 @@
 //! A pass over a session.
 
 use crate::errors::Stop;
-use crate::exchanges::{Exchange, Exchanges};
+use crate::exchanges::Exchanges;
 use crate::world::World;
 use sftp_path::NoMemory;
 
@@ -32,7 +32,7 @@ impl<'a> World<'a> {
     /// all of it may take, and `passes` how often it may go through.
     pub(crate) fn rounds(&mut self, most: u64, passes: u32) -> Result<Passed, NoMemory> {
         for _ in 0..ROUNDS.min(passes) {
-            let mut exchanges = Exchanges::new(self.alloc, self.session)?;
+            let mut exchanges = Exchanges::new(self.alloc, self.session);
             let passed = self.pass(&mut exchanges, most);
             drop(exchanges);
             self.passes = self.passes.saturating_add(1);
@@ -56,9 +56,7 @@ impl<'a> World<'a> {
         for _ in 0..u64::MAX {
             match exchanges.next()? {
                 Some(exchange) => {
-                    let taken = self.take_one(&exchange);
-                    drop(exchange);
-                    match taken {
+                    match self.take(exchange) {
                         Ok(()) => {}
                         Err(Stop::Clash) => return Ok(Passed::Stuck),
                         Err(Stop::Again) => return Ok(Passed::Dirty),
@@ -75,13 +73,6 @@ impl<'a> World<'a> {
             Ok(Passed::Clean)
         } else {
             Ok(Passed::Dirty)
-        }
-    }
-
-    fn take_one(&mut self, exchange: &Exchange) -> Result<(), Stop> {
-        match &exchange.reply {
-            Some(reply) => self.take(exchange, reply),
-            None => Ok(()),
         }
     }
 

@@ -3,7 +3,7 @@
 use crate::clashes::{Clash, What};
 use crate::errors::Stop;
 use crate::facts::{Fact, Says};
-use crate::names::Spot;
+use crate::names::{Seat, Spot};
 use crate::world::World;
 use sftp_path::{DEPTH_LIMIT, NoMemory};
 
@@ -90,14 +90,17 @@ impl<'a> World<'a> {
     /// The directory that an entry is in, at the start or now.
     fn parent_of(&self, at: usize, is_old: bool) -> usize {
         match self.nodes.get(at) {
-            Some(entry) => {
-                if is_old {
-                    entry.old_parent
-                } else {
-                    entry.parent
-                }
-            }
+            Some(entry) if is_old => entry.old_seat.parent,
+            Some(entry) => entry.seat.parent,
             None => 0,
+        }
+    }
+
+    /// The name at a seat.
+    pub(crate) fn name_at(&self, seat: Seat) -> &[u8] {
+        match self.nodes.get(seat.parent) {
+            Some(directory) => directory.names.name(seat.place),
+            None => &[],
         }
     }
 
@@ -105,11 +108,8 @@ impl<'a> World<'a> {
     fn put_name(&self, at: usize, is_old: bool, text: &mut Vec<u8>) -> Result<(), NoMemory> {
         text.push(b'/')?;
         if let Some(entry) = self.nodes.get(at) {
-            if is_old {
-                text.extend_from_slice(entry.old_name.as_slice())?;
-            } else {
-                text.extend_from_slice(entry.name.as_slice())?;
-            }
+            let seat = if is_old { entry.old_seat } else { entry.seat };
+            text.extend_from_slice(self.name_at(seat))?;
         }
         Ok(())
     }
@@ -117,7 +117,9 @@ impl<'a> World<'a> {
     /// The text of the place where an entry is now.
     pub(crate) fn place_now(&self, at: usize) -> Result<Vec<u8>, NoMemory> {
         match self.nodes.get(at) {
-            Some(entry) if at != 0 => self.place(entry.parent, entry.name.as_slice(), false),
+            Some(entry) if at != 0 => {
+                self.place(entry.seat.parent, self.name_at(entry.seat), false)
+            }
             _ => self.place(0, &[], false),
         }
     }

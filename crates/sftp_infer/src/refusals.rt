@@ -167,7 +167,7 @@ impl<'a> World<'a> {
                 return true;
             }
             at = match self.entry(at) {
-                Some(entry) => entry.parent,
+                Some(entry) => entry.seat.parent,
                 None => 0,
             };
         }
@@ -263,7 +263,7 @@ impl<'a> World<'a> {
         Err(stop?)
     }
 
-    fn unexplained(&mut self, found: &Found) -> Result<Stop, Stop> {
+    fn unexplained(&mut self, found: &Found<'_>) -> Result<Stop, Stop> {
         match found.look {
             Look::Entry(at) | Look::NotDir(at) | Look::Unsure(at) | Look::Blind(at) => {
                 if !self.is_shown(at) {

@@ -2,12 +2,12 @@
 
 use crate::facts::Fact;
 use crate::files::File;
+use crate::handles::Handles;
 use crate::nodes::{Node, Rights, Slot};
 use crate::pieces::Pieces;
 use crate::world::World;
 use sftp_path::NoMemory;
 use std::alloc::Global;
-use std::collections::BTreeMap;
 
 impl File {
     /// Forgets what the session did, and a size that was only assumed.
@@ -50,17 +50,8 @@ impl Slot {
 
 impl Node {
     /// Makes it what it was at the start.
-    fn rewind(&mut self, alloc: Global) -> Result<(), NoMemory> {
-        self.parent = self.old_parent;
-        if self.name.as_slice() != self.old_name.as_slice() {
-            self.name = Vec::from_slice(alloc, self.old_name.as_slice())?;
-        }
-        self.rewind_inside(alloc);
-        Ok(())
-    }
-
-    /// The same of what it has beside its name.
-    fn rewind_inside(&mut self, alloc: Global) {
+    fn rewind(&mut self, alloc: Global) {
+        self.seat = self.old_seat;
         self.rights.rewind();
         self.file.rewind(alloc);
         self.names.rewind();
@@ -79,7 +70,7 @@ fn bytes_of(facts: &[Fact]) -> u64 {
 impl<'a> World<'a> {
     /// Goes back to the start of the session, with what is known of it.
     pub(crate) fn rewind(&mut self) -> Result<(), NoMemory> {
-        self.handles = BTreeMap::new(self.alloc);
+        self.handles = Handles::new(self.alloc);
         self.asked = 0;
         self.replied = 0;
         self.teller = 0;
@@ -103,7 +94,7 @@ impl<'a> World<'a> {
         };
         if entry.is_old {
             let shown = entry.file.shown.len() as u64;
-            entry.rewind(alloc)?;
+            entry.rewind(alloc);
             self.take_pieces(shown);
             return Ok(());
         }

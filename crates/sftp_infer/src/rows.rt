@@ -195,6 +195,9 @@ impl<'a> World<'a> {
         let Some(directory) = self.entry(at) else {
             return Ok(());
         };
+        if is_in_order(directory) {
+            return push_in_order(directory, above, waiting);
+        }
         let names = self.sorted(directory)?;
         let pushed = push_sorted(&names, above, waiting);
         drop(names);
@@ -379,6 +382,35 @@ impl<'a> World<'a> {
             _ => Ok(()),
         }
     }
+}
+
+/// Whether the names that a directory had at the start are in order in its list.
+fn is_in_order(directory: &Node) -> bool {
+    let mut last: &[u8] = &[];
+    for named in directory.names.each() {
+        if let Some(Held::Entry(_)) = named.slot.start {
+            if named.name.as_slice() <= last {
+                return false;
+            }
+            last = named.name.as_slice();
+        }
+    }
+    true
+}
+
+/// Pushes what a directory had at the start, the last one in its list first.
+fn push_in_order<'w>(
+    directory: &'w Node,
+    above: usize,
+    waiting: &mut Vec<Listed<'w>>,
+) -> Result<(), NoMemory> {
+    for named in directory.names.each().iter().rev() {
+        if let Some(Held::Entry(at)) = named.slot.start {
+            let name = named.name.as_slice();
+            waiting.push(Listed { at, name, above })?;
+        }
+    }
+    Ok(())
 }
 
 /// Pushes entries, the last name first.

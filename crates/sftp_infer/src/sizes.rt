@@ -254,8 +254,9 @@ impl<'a> World<'a> {
     fn chosen(&self, at: usize) -> Result<Option<(usize, Vec<u8>)>, Stop> {
         match self.entry(at) {
             Some(entry) if entry.is_chosen => {
-                let name = Vec::from_slice(self.alloc, entry.old_name.as_slice())?;
-                Ok(Some((entry.old_parent, name)))
+                let seat = entry.old_seat;
+                let name = Vec::from_slice(self.alloc, self.name_at(seat))?;
+                Ok(Some((seat.parent, name)))
             }
             _ => Ok(None),
         }

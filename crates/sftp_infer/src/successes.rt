@@ -3,10 +3,10 @@
 use crate::attributes::sort_of;
 use crate::clashes::What;
 use crate::errors::Stop;
-use crate::exchanges::{Exchange, Reply};
+use crate::exchanges::Exchange;
 use crate::facts::Says;
 use crate::handles::Opened;
-use crate::nodes::Sort;
+use crate::nodes::{Node, Sort};
 use crate::pieces::Piece;
 use crate::world::World;
 use sftp_wire::{Answer, Ask, Attrs, ByteString, Names, status};
@@ -20,32 +20,41 @@ fn follows(ask: &Ask) -> bool {
     }
 }
 
+/// What is open may have been changed, if it is open to be written.
+fn blur_opened(nodes: &mut Vec<Node>, opened: Opened) {
+    if opened.flags & 2 != 0 {
+        if let Some(entry) = nodes.get_mut(opened.entry) {
+            entry.file.is_blurred = true;
+        }
+    }
+}
+
 impl<'a> World<'a> {
     /// Takes an exchange.
-    pub(crate) fn take(&mut self, exchange: &Exchange, reply: &Reply) -> Result<(), Stop> {
-        self.asked = exchange.number;
-        self.replied = reply.number;
-        self.teller = match &reply.answer {
-            Answer::Status { .. } | Answer::Handle(_) => exchange.number,
-            _ => reply.number,
+    pub(crate) fn take(&mut self, exchange: Exchange<'_>) -> Result<(), Stop> {
+        self.asked = exchange.asked;
+        self.replied = exchange.replied;
+        self.teller = match exchange.answer {
+            Answer::Status { .. } | Answer::Handle(_) => exchange.asked,
+            _ => exchange.replied,
         };
         self.work = self.work.saturating_add(1);
-        self.follows = follows(&exchange.ask);
-        match &reply.answer {
+        self.follows = follows(exchange.ask);
+        match exchange.answer {
             Answer::Status { code, .. } => self.take_status(exchange, *code),
-            Answer::Handle(handle) => self.take_handle(&exchange.ask, handle),
-            Answer::Data(bytes) => self.take_data(&exchange.ask, bytes, reply.end),
-            Answer::Name(names) => self.take_names(&exchange.ask, names),
-            Answer::Attrs(attrs) => self.take_attrs(&exchange.ask, attrs),
+            Answer::Handle(handle) => self.take_handle(exchange.ask, handle),
+            Answer::Data(bytes) => self.take_data(exchange.ask, bytes, exchange.answer_end),
+            Answer::Name(names) => self.take_names(exchange.ask, names),
+            Answer::Attrs(attrs) => self.take_attrs(exchange.ask, attrs),
             Answer::Extended(_) => Ok(()),
         }
     }
 
-    fn take_status(&mut self, exchange: &Exchange, code: u32) -> Result<(), Stop> {
+    fn take_status(&mut self, exchange: Exchange<'_>, code: u32) -> Result<(), Stop> {
         if code == status::OK {
             return self.take_done(exchange);
         }
-        match &exchange.ask {
+        match exchange.ask {
             Ask::Read {
                 handle,
                 offset,
@@ -66,12 +75,12 @@ impl<'a> World<'a> {
 
     /// What a handle leads to.
     pub(crate) fn handle(&self, handle: &ByteString) -> Option<Opened> {
-        self.handles.get(handle.as_slice()).copied()
+        self.handles.get(handle.as_slice())
     }
 
     /// A request was done that changes something.
-    fn take_done(&mut self, exchange: &Exchange) -> Result<(), Stop> {
-        match &exchange.ask {
+    fn take_done(&mut self, exchange: Exchange<'_>) -> Result<(), Stop> {
+        match exchange.ask {
             Ask::Close { handle } => {
                 self.handles.remove(handle.as_slice());
                 Ok(())
@@ -80,7 +89,7 @@ impl<'a> World<'a> {
                 handle,
                 offset,
                 bytes,
-            } => { self.take_written(handle, *offset, bytes, exchange.end) }
+            } => { self.take_written(handle, *offset, bytes, exchange.ask_end) }
             Ask::Setstat { path, attrs } => self.take_set(path, attrs),
             Ask::Fsetstat { handle, attrs } => match self.handle(handle) {
                 Some(opened) => self.set_attrs(opened.entry, attrs),
@@ -125,11 +134,17 @@ impl<'a> World<'a> {
 
     /// An extension may have changed any file that is open to be written.
     fn blur(&mut self) {
-        for opened in self.handles.values() {
-            if opened.flags & 2 != 0 {
-                if let Some(entry) = self.nodes.get_mut(opened.entry) {
-                    entry.file.is_blurred = true;
-                }
+        for opened in self.handles.others() {
+            blur_opened(&mut self.nodes, *opened);
+        }
+        self.blur_few();
+    }
+
+    /// The same of the files whose handles are in the list.
+    fn blur_few(&mut self) {
+        for place in 0..self.handles.len() {
+            if let Some(opened) = self.handles.opened(place) {
+                blur_opened(&mut self.nodes, opened);
             }
         }
     }

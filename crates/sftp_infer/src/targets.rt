@@ -3,8 +3,7 @@
 use crate::errors::Stop;
 use crate::facts::{Fact, Says};
 use crate::files::File;
-use crate::names::Spot;
-use crate::nodes::{Held, Node, Sort};
+use crate::nodes::{Held, Sort};
 use crate::pieces::Known;
 use crate::world::World;
 use sftp_path::NoMemory;
@@ -47,10 +46,10 @@ impl<'a> World<'a> {
     /// Where an entry was at the start.
     pub(crate) fn old_text(&self, at: usize) -> Result<Option<Vec<u8>>, NoMemory> {
         match self.entry(at) {
-            Some(entry) if (entry.is_old || entry.is_chosen) && at != 0 => Ok(Some(self.old_place(
-                entry.old_parent,
-                entry.old_name.as_slice(),
-            )?)),
+            Some(entry) if (entry.is_old || entry.is_chosen) && at != 0 => {
+                let name = self.name_at(entry.old_seat);
+                Ok(Some(self.old_place(entry.old_seat.parent, name)?))
+            }
             _ => Ok(None),
         }
     }
@@ -115,7 +114,7 @@ impl<'a> World<'a> {
     /// of the told length.
     pub(crate) fn invented(&self, at: usize, length: Option<u64>) -> Result<Vec<u8>, NoMemory> {
         let parent = match self.entry(at) {
-            Some(link) => link.parent,
+            Some(link) => link.seat.parent,
             None => 0,
         };
         self.fresh_name(parent, length.unwrap_or(8))
@@ -230,22 +229,6 @@ impl<'a> World<'a> {
         } else {
             None
         }
-    }
-
-    /// A new entry, with the place where it is made as its first one.
-    pub(crate) fn make(&mut self, made: Node, spot: Spot<'_>) -> Result<usize, NoMemory> {
-        let mut made = made;
-        made.old_parent = spot.parent;
-        match Vec::from_slice(self.alloc, spot.name) {
-            Ok(name) => made.old_name = name,
-            Err(_) => {
-                drop(made);
-                return Err(NoMemory);
-            }
-        }
-        let at = self.put(made, spot.parent, spot.name)?;
-        self.change(spot, Held::Entry(at))?;
-        Ok(at)
     }
 }
 

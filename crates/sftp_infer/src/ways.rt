@@ -115,11 +115,11 @@ impl<'a> World<'a> {
         }
         drop(text);
         let (parent, above) = match (self.entry(at), self.entry(other)) {
-            (Some(link), Some(entry)) => (link.old_parent, entry.old_parent),
+            (Some(link), Some(entry)) => (link.old_seat.parent, entry.old_seat.parent),
             _ => return Ok(false),
         };
         let name = match self.entry(other) {
-            Some(entry) => Vec::from_slice(self.alloc, entry.old_name.as_slice())?,
+            Some(entry) => Vec::from_slice(self.alloc, self.name_at(entry.old_seat))?,
             None => return Ok(false),
         };
         if parent == above && name.len() as u64 == length {
@@ -154,7 +154,7 @@ impl<'a> World<'a> {
 
     fn propose_target(&mut self, at: usize, text: &[u8]) -> Result<(), NoMemory> {
         let (length, parent) = match self.entry(at) {
-            Some(link) => (link.length, link.old_parent),
+            Some(link) => (link.length, link.old_seat.parent),
             None => return Ok(()),
         };
         if length.unwrap_or(text.len() as u64) == text.len() as u64 {

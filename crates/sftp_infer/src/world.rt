@@ -2,15 +2,14 @@
 
 use crate::clashes::Clash;
 use crate::facts::{Fact, Says};
-use crate::handles::Opened;
-use crate::names::{Place, Spot};
+use crate::handles::Handles;
+use crate::names::{Place, Seat, Spot};
 use crate::nodes::{Held, Node, Slot, Sort};
 use crate::refusals::Guess;
 use crate::search::Take;
 use crate::settings::Settings;
 use sftp_path::NoMemory;
 use std::alloc::Global;
-use std::collections::BTreeMap;
 
 /// How many components of a walk are as much work as a request.
 const FREE_STEPS: u64 = 64;
@@ -27,7 +26,7 @@ pub(crate) struct World<'a> {
     /// The entries; the first one is the root.
     pub(crate) nodes: Vec<Node>,
     pub(crate) home: Vec<u8>,
-    pub(crate) handles: BTreeMap<Vec<u8>, Opened>,
+    pub(crate) handles: Handles,
     /// Who owns what is made, and the record that told it.
     pub(crate) owner: Option<(u32, u32)>,
     /// The most bytes that a READ gave, that a file had, and the most handles that were open.
@@ -77,7 +76,11 @@ impl<'a> World<'a> {
         home: &[u8],
     ) -> Result<World<'a>, NoMemory> {
         let mut nodes = Vec::new(alloc);
-        nodes.push(Node::old(alloc, Sort::Directory, 0))?;
+        let seat = Seat {
+            parent: 0,
+            place: 0,
+        };
+        nodes.push(Node::old(alloc, Sort::Directory, 0, seat))?;
         let home = Vec::from_slice(alloc, home)?;
         Ok(World {
             alloc,
@@ -85,7 +88,7 @@ impl<'a> World<'a> {
             settings,
             nodes,
             home,
-            handles: BTreeMap::new(alloc),
+            handles: Handles::new(alloc),
             owner: None,
             most_read: 0,
             most_bytes: 0,
@@ -191,27 +194,30 @@ impl<'a> World<'a> {
         }
     }
 
-    /// Makes an entry at a name, and returns its number.
-    pub(crate) fn put(
-        &mut self,
-        entry: Node,
-        parent: usize,
-        name: &[u8],
-    ) -> Result<usize, NoMemory> {
-        let mut entry = entry;
-        match Vec::from_slice(self.alloc, name) {
-            Ok(name) => entry.name = name,
-            Err(_) => {
-                drop(entry);
-                return Err(NoMemory);
-            }
-        }
-        entry.parent = parent;
-        self.store(entry)
+    /// Where the name of a spot is, which is added if it is not there.
+    fn seat(&mut self, spot: Spot<'_>) -> Result<Seat, NoMemory> {
+        let alloc = self.alloc;
+        let place = match self.nodes.get_mut(spot.parent) {
+            Some(entry) => entry.names.seat(alloc, spot)?,
+            None => 0,
+        };
+        Ok(Seat {
+            parent: spot.parent,
+            place,
+        })
     }
 
-    /// Stores an entry, and returns its number.
-    fn store(&mut self, entry: Node) -> Result<usize, NoMemory> {
+    /// What is known of the name at a seat, to be changed.
+    fn slot_at(&mut self, seat: Seat) -> Option<&mut Slot> {
+        match self.nodes.get_mut(seat.parent) {
+            Some(entry) => entry.names.slot_at(seat.place),
+            None => None,
+        }
+    }
+
+    /// Stores an entry of the start of which nothing else is known, and returns its number.
+    fn store(&mut self, sort: Sort, seat: Seat) -> Result<usize, NoMemory> {
+        let entry = Node::old(self.alloc, sort, self.teller, seat);
         if let Some(at) = self.spare.pop() {
             match self.nodes.get_mut(at) {
                 Some(place) => *place = entry,
@@ -226,22 +232,45 @@ impl<'a> World<'a> {
 
     /// Tells that the start has something at a name of which nothing is known.
     pub(crate) fn tell(&mut self, spot: Spot<'_>, sort: Sort) -> Result<usize, NoMemory> {
-        let mut entry = Node::old(self.alloc, sort, self.teller);
-        entry.old_parent = spot.parent;
-        match Vec::from_slice(self.alloc, spot.name) {
-            Ok(name) => entry.old_name = name,
-            Err(_) => {
-                drop(entry);
-                return Err(NoMemory);
-            }
-        }
-        let at = self.put(entry, spot.parent, spot.name)?;
+        let seat = self.seat(spot)?;
+        let at = self.store(sort, seat)?;
         let told = self.teller;
-        if let Some(slot) = self.slot_mut(spot)? {
+        if let Some(slot) = self.slot_at(seat) {
             slot.start = Some(Held::Entry(at));
             slot.told = told;
         }
         Ok(at)
+    }
+
+    /// A new entry, with the place where it is made as its first one.
+    pub(crate) fn make(&mut self, sort: Sort, spot: Spot<'_>) -> Result<usize, NoMemory> {
+        let seat = self.seat(spot)?;
+        let at = self.store(sort, seat)?;
+        let told = self.teller;
+        if let Some(entry) = self.nodes.get_mut(at) {
+            entry.be_new(told);
+        }
+        self.change_at(seat, Held::Entry(at));
+        Ok(at)
+    }
+
+    /// Moves an entry to a name, which leads to it from now on.
+    pub(crate) fn seat_entry(&mut self, at: usize, spot: Spot<'_>) -> Result<(), NoMemory> {
+        let seat = self.seat(spot)?;
+        self.change_at(seat, Held::Entry(at));
+        if let Some(entry) = self.nodes.get_mut(at) {
+            entry.seat = seat;
+        }
+        Ok(())
+    }
+
+    /// Has the name at a seat lead to something from now on.
+    fn change_at(&mut self, seat: Seat, held: Held) {
+        let changed = self.asked;
+        if let Some(slot) = self.slot_at(seat) {
+            slot.now = Some(held);
+            slot.changed = changed;
+        }
     }
 
     /// Tells that the start has nothing at a name of which nothing is known.
@@ -263,11 +292,8 @@ impl<'a> World<'a> {
 
     /// Has a name lead to something from now on.
     pub(crate) fn change(&mut self, spot: Spot<'_>, held: Held) -> Result<(), NoMemory> {
-        let changed = self.asked;
-        if let Some(slot) = self.slot_mut(spot)? {
-            slot.now = Some(held);
-            slot.changed = changed;
-        }
+        let seat = self.seat(spot)?;
+        self.change_at(seat, held);
         Ok(())
     }
 
