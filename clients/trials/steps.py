@@ -1,6 +1,7 @@
 """The steps of a test script: each is counted and has a line, and the last line counts them. Trials may be in parts:
 each is a module with TRIALS, functions of the steps and of a room."""
 import importlib
+import signal
 import subprocess
 import sys
 import threading
@@ -12,6 +13,8 @@ class Steps:
     def __init__(self) -> None:
         self.passed = self.failed = self.skipped = 0
         self.lock = threading.Lock()
+        # a shell has what it starts in the background ignore SIGINT, and so what that starts
+        signal.signal(signal.SIGINT, signal.default_int_handler)
 
     def check(self, name: str, holds: object, why: object = "") -> object:
         """A step, which passed if it holds; if not, its line says why. Returns whether it holds."""
