@@ -103,16 +103,25 @@ def looked_for(file, name):
         return fail(f"{LDD} did not end within {LOOKING} seconds")
 
 
-def libraries_of(program):
-    """The libraries that a program needs, by ldd, which runs code of the program's choice (DT_AUDIT). A program in a
-    folder that only root enters is given by a descriptor. One that is not dynamic has none."""
+def opened_program(program):
+    """Opens the program, which its owner may exchange from then on. No secret of root is one."""
+    held = os.open(program, os.O_RDONLY | os.O_NONBLOCK | os.O_CLOEXEC)
+    state = os.fstat(held)
+    if not stat.S_ISREG(state.st_mode) or not state.st_mode & stat.S_IROTH:
+        os.close(held)
+        fail(f"{program} is no file that every user can read")
+    return open(held, "rb")
+
+
+def libraries_of(program, file):
+    """The libraries that a program needs, which is open, by ldd, which runs code of the program's choice (DT_AUDIT). A
+    program in a folder that only root enters is given by its descriptor. One that is not dynamic has none."""
     said = ""
-    with open(program, "rb") as file:
-        for name in (program, f"/proc/self/fd/{file.fileno()}"):
-            found = looked_for(file, name)
-            if found.returncode == 0:
-                return re.findall(r"(/\S+) \(0x", found.stdout)
-            said += found.stdout + found.stderr
+    for name in (program, f"/proc/self/fd/{file.fileno()}"):
+        found = looked_for(file, name)
+        if found.returncode == 0:
+            return re.findall(r"(/\S+) \(0x", found.stdout)
+        said += found.stdout + found.stderr
     return [] if "not a dynamic executable" in said else fail(f"every user has to be able to read {program}")
 
 
@@ -161,9 +170,9 @@ def put_program(folder, program):
         os.mkdir(ASIDE, 0o700, dir_fd=folder.root)
     except FileExistsError:
         fail(f"the tree has /{ASIDE}, where the server's program has to stand until it has answered INIT")
-    libraries = libraries_of(program)
-    with directory_below(folder.root, ASIDE) as aside:
-        put_file(program, aside, "server")
+    with opened_program(program) as file, directory_below(folder.root, ASIDE) as aside:
+        libraries = libraries_of(program, file)
+        put_file(os.dup(file.fileno()), aside, "server")
         put_libraries(libraries, aside)
     loader = [os.path.basename(library) for library in libraries if "/ld-" in library]
     if not loader:

@@ -5,6 +5,7 @@ import fcntl
 import importlib
 import os
 import shlex
+import signal
 import subprocess
 import sys
 import threading
@@ -18,6 +19,8 @@ class Steps:
     def __init__(self) -> None:
         self.passed = self.failed = self.skipped = 0
         self.lock = threading.Lock()
+        # a shell has what it starts in the background ignore SIGINT, and so what that starts
+        signal.signal(signal.SIGINT, signal.default_int_handler)
 
     def check(self, name: str, holds: object, why: object = "") -> object:
         """A step, which passed if it holds; if not, its line says why. Returns whether it holds."""
