@@ -19,7 +19,6 @@ import time
 from typing import NamedTuple
 
 import mounts
-import removing
 from probing import program
 
 PREFIX, ROOT = "sftpv3-root-", "root"
@@ -28,7 +27,7 @@ SET_ID = stat.S_ISUID | stat.S_ISGID
 # How old, in seconds, a folder is at least that is taken for one that a killed run left.
 LEFT = 60
 
-DIRECTORY = removing.DIRECTORY
+DIRECTORY = mounts.DIRECTORY
 NEW_FILE = os.O_WRONLY | os.O_CREAT | os.O_EXCL | os.O_NOFOLLOW
 
 
@@ -177,7 +176,7 @@ def remove_whole(held, place):
     """Removes the folder of a descriptor. Whatever ends this, the folder has no more than a root, so that the next run
     goes on."""
     with contextlib.suppress(FileNotFoundError):
-        removing.remove(ROOT, held)
+        mounts.remove(ROOT, held)
     os.rmdir(place)
 
 

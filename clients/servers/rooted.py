@@ -21,8 +21,7 @@ sys.path.insert(0, os.path.dirname(HERE))
 import apart  # noqa: E402 (the folder above is not searched before)
 import folders  # noqa: E402
 import mounts  # noqa: E402
-import removing  # noqa: E402
-import inputs  # noqa: E402
+import streams  # noqa: E402
 from recording import ending  # noqa: E402
 from recording.notices import printable  # noqa: E402
 from recording.standard import open_standard_files  # noqa: E402
@@ -241,13 +240,13 @@ def enter(folder):
 def version_of(folder, server):
     """Passes INIT on, and gives what the server answers."""
     try:
-        first = inputs.read_packet(0)
-        inputs.write_all(server.stdin.fileno(), first)
-        return inputs.read_packet(server.stdout.fileno()) if first else b""
+        first = streams.read_packet(0)
+        streams.write_all(server.stdin.fileno(), first)
+        return streams.read_packet(server.stdout.fileno()) if first else b""
     except BrokenPipeError:
         return b""
     finally:
-        removing.remove(ASIDE, folder.root)
+        mounts.remove(ASIDE, folder.root)
 
 
 def run(folder, program, arguments):
@@ -259,17 +258,17 @@ def run(folder, program, arguments):
         server = subprocess.Popen(words, stdin=subprocess.PIPE, stdout=subprocess.PIPE, stderr=subprocess.PIPE,
                                   bufsize=0, env={"LC_ALL": "C"}, start_new_session=True,
                                   preexec_fn=lambda: enter(folder))
-        said = inputs.shown(server.stderr.fileno())
+        said = streams.shown(server.stderr.fileno())
         version = version_of(folder, server)
     finally:
         lent.remove()
-    inputs.write_all(1, version)
+    streams.write_all(1, version)
     ends = os.dup(server.stdin.fileno()), os.dup(server.stdout.fileno())
     server.stdin.close()
     server.stdout.close()
-    inputs.pass_all(*ends)
+    streams.pass_all(*ends)
     status = server.wait()
-    said.join(inputs.LAST_WORDS)
+    said.join(streams.LAST_WORDS)
     return status
 
 
