@@ -176,7 +176,7 @@ def a_folder_of_a_user_is_a_link(field):
 
 @attack("user")
 def a_link_is_a_folder_again_when_it_is_read(field):
-    """At whichever look a link of a user on the way becomes a directory, what asks where a name leads gets an answer."""
+    """At whichever look a link of a user on the way becomes a directory, what asks where a name leads is answered."""
     tree = script("tree")
     asks = (lambda name: tree.is_within("/x", name), lambda name: tree.is_within(f"{name}/x", "/nowhere"),
             naming.folder_warning)
