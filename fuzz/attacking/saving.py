@@ -165,7 +165,7 @@ def an_archive_makes_a_program_of_root(field):
     with open("/usr/bin/id", "rb") as file:
         content = file.read()
     field.put("end.tree", put(Tree([Entry(b"/id", FILE, content, permissions=0o4755)])))
-    archive = field.run("export", "end.tree").stdout
+    archive, recipes = field.run("export", "end.tree").stdout, []
     for document in ("README.md", "docs/USING.md"):
         with open(os.path.join(TOP, document), encoding="utf-8") as file:
             said = re.findall(r"export \S+ \| tar -C result (-x.*)", file.read())
@@ -176,8 +176,9 @@ def an_archive_makes_a_program_of_root(field):
             ran = subprocess.run([f"{made}/id"], user=field.user.pw_uid, group=field.user.pw_gid, capture_output=True)
             if os.stat(f"{made}/id").st_mode & 0o6000 or b"euid=" in ran.stdout or not ran.stdout:
                 yield f"{document}, {options}: {ran.stdout!r}"
-        if not said:
-            yield f"{document} does not say how to unpack"
+        recipes += said
+    if not recipes:
+        yield "no document says how to unpack"
 
 
 @attack(is_small=True)
