@@ -126,10 +126,11 @@ class Record:
 
 
 def found_in(folder):
-    """What has the name of a record in a folder that is open: pairs of the name and its state."""
+    """What has the name of a record in a folder that is open: pairs of the name and its state. What not even root may
+    look at is a file system that some user has mounted on a name of their own, and no record."""
     with os.scandir(folder) as entries:
         for entry in entries:
-            with suppress(FileNotFoundError):
+            with suppress(FileNotFoundError, PermissionError):
                 if RECORD.fullmatch(entry.name):
                     yield entry.name, entry.stat(follow_symlinks=False)
 
@@ -196,10 +197,13 @@ class Spool:
         """Whether what has the user's name is of none whom the spool is, in a spool where all may make names, and none
         may take those of others away."""
         spool = os.fstat(self.shared)
-        with suppress(FileNotFoundError):
+        try:
             owner = os.stat(self.user, dir_fd=self.shared, follow_symlinks=False).st_uid
-            return is_writable(spool) and spool.st_mode & stat.S_ISVTX and owner not in (0, spool.st_uid)
-        return False
+        except FileNotFoundError:
+            return False
+        except PermissionError:
+            owner = None
+        return is_writable(spool) and spool.st_mode & stat.S_ISVTX and owner not in (0, spool.st_uid)
 
     def found(self):
         """All records, in no order. What others own in the shared folder is theirs, whatever its name: it hides no

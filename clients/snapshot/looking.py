@@ -45,7 +45,8 @@ def shown(place: Place) -> str:
 def mount_points() -> List[Place]:
     """Where something is mounted, also what is of the same file system."""
     with open(MOUNTS, "rb") as file:
-        paths = [line.split()[4] for line in file]
+        # the kernel escapes blanks in a path, and leaves other bytes as they are
+        paths = [line.split(b" ")[4] for line in file]
     return [names(re.sub(rb"\\([0-7]{3})", lambda found: bytes([int(found[1], 8)]), path)) for path in paths]
 
 

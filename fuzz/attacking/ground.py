@@ -7,6 +7,7 @@ import shutil
 import struct
 import subprocess
 import tempfile
+from contextlib import suppress
 from functools import cache
 from importlib import machinery, util
 
@@ -19,7 +20,8 @@ CLIENTS = os.path.join(os.path.dirname(os.path.realpath(__file__)), "../../clien
 
 
 class Attack:
-    """A function that attacks, and yields what went wrong. `needs` has `user`, and names of programs."""
+    """A function that attacks, and yields what went wrong. `needs` has `user`, `fuse` (that users may mount file
+    systems of their own), and names of programs."""
 
     def __init__(self, function, needs, is_small):
         self.function, self.needs, self.is_small = function, needs, is_small
@@ -30,7 +32,9 @@ class Attack:
         for need in self.needs:
             if need == "user" and ground.user is None:
                 return "needs root, to make another user"
-            if need != "user" and not shutil.which(need):
+            if need == "fuse" and not users_may_mount():
+                return "needs /dev/fuse to be every user's"
+            if need not in ("user", "fuse") and not shutil.which(need):
                 return f"needs {need}"
         return None
 
@@ -42,6 +46,12 @@ class Attack:
                 return list(self.function(Field(folder, ground)))
             except subprocess.TimeoutExpired as error:
                 return [f"no end within {error.timeout} seconds: {error.cmd}"]
+
+
+def users_may_mount():
+    with suppress(OSError):
+        return os.stat("/dev/fuse").st_mode & 0o6 == 0o6
+    return False
 
 
 @cache

@@ -102,6 +102,22 @@ def a_link_of_another_user_says_what_a_user_writes(field):
                 yield f"{run}, link of {owner}: {os.path.getsize(saved)} bytes"
 
 
+@attack("unshare")
+def a_mount_point_cuts_its_own_name(field):
+    """What stands beside a mounted directory is in the tree, whatever bytes its name has."""
+    mounted = 'mount -t tmpfs none "$1" && shift && exec "$@"'
+    for byte in "\x0b\x0c\r\x85":
+        top = field.path(f"live-{ord(byte)}")
+        point = os.path.join(top, "up", f"{byte}x")
+        os.makedirs(point)
+        field.put(os.path.join(top, "up", "beside"), b"hidden")
+        made = subprocess.run(["unshare", "--mount", "sh", "-c", mounted, "sh", point, os.path.join(CLIENTS, "tree"),
+                               "--without-mounts", "--chroot", "--out", field.path("made.tree"), top],
+                              env={**os.environ, "SFTPV3": program()}, capture_output=True)
+        if made.returncode != 0 or b'"/up/beside"' not in field.run("show", "made.tree").stdout:
+            yield f"{byte!r}: status {made.returncode}, {made.stderr!r}: what stands beside it is not there"
+
+
 @attack("user")
 def a_link_that_nobody_can_have_planted(field):
     """A link of another user in a folder that only root can write is followed: nobody else put it there."""

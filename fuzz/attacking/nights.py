@@ -259,6 +259,29 @@ def a_strangers_name_spoils_the_status(field):
     yield from wrong(nights.run(), 0, good, without=[record_name(VICTIM)])
 
 
+@contextmanager
+def mounted(field, place):
+    """While a file system of the other user is there, which not even root may look at."""
+    server = field.put("server", f"#!/bin/sh\nexec '{program()}' serve --tree '{field.blank()}'\n".encode(), 0o755)
+    os.mkdir(place)
+    os.chown(place, field.user.pw_uid, field.user.pw_gid)
+    subprocess.run(["sshfs", "-o", f"ssh_command={server}", "x:/", place], user=field.user.pw_uid,
+                   group=field.user.pw_gid, extra_groups=[], check=True, capture_output=True, timeout=SECONDS)
+    try:
+        yield
+    finally:
+        subprocess.run(["umount", "-l", place], check=True)
+
+
+@attack("user", "fuse", "sshfs")
+def a_mount_keeps_a_verdict_away(field):
+    """A file system that a stranger mounts in the spool, where a record or the daemon's folder would be, stops none."""
+    nights = Nights(field, VICTIM)
+    for number, name in enumerate((record_name(field.user), record_name(VICTIM), VICTIM.pw_name)):
+        with mounted(field, os.path.join(nights.spool, name)):
+            yield from (f"{number}: {it}" for it in wrong(nights.run(), 0, "the folder is as they left it"))
+
+
 @attack("user")
 def a_name_reads_like_a_verdict(field):
     """What is not in the names that recorders give is printed in quotes."""
