@@ -41,6 +41,7 @@ With --vary, the server uses what the draft leaves free; N fixes its choices, in
   codes       the code of a refusal, where several fit
   texts       messages and language tags
   cuts        where the output is cut: writes of one byte up to a packet
+  versions    the pairs of names and data in VERSION
 --only uses some of these, by the same choices. --only or --wild without --vary takes 0 for N.
 
 With --texts, the message of each refusal says in English why, and which limit of the tree was met. With --long-names,

@@ -3,7 +3,7 @@ use Rattle.sftp_server.proofs.Imports.{map-append, flat_map_more, Packet, reques
 use Rattle.sftp_server.proofs.Imports.{Reply, Side, Client, Server, spelling, side_of, Event}
 use Rattle.sftp_server.proofs.Imports.{Asked as asked_event, Replied as replied_event}
 use Rattle.sftp_server.proofs.Imports.{packet_of, record_text, transcript_opening, session_packets, spelled_if}
-use Rattle.sftp_server.proofs.Imports.{sent_by, recorded, our_version, ◌≢◌, Bool, if◌then◌else◌, Option, inl, inr}
+use Rattle.sftp_server.proofs.Imports.{sent_by, recorded, ◌≢◌, Bool, if◌then◌else◌, Option, inl, inr}
 use Rattle.sftp_server.proofs.Imports.{arith, ne_eqb, Keeps, Appends-trans, BeginsFrom, window, Log, opened_text}
 use Rattle.sftp_server.proofs.Imports.{Tree, State, Good, settled, Allowed, SessionFault, Stop, Machine, started}
 use Rattle.sftp_server.proofs.Imports.{IsReached, opened_record, IsListed, IsBeginning, IsCutInLast, closed_tree}
@@ -17,7 +17,7 @@ use Rattle.sftp_handles.proofs.TotalSteps.PathReplies.{some-allowed}
 use Rattle.sftp_server.specs.declared.ends.Stop.TheVariants as stops
 use Rattle.sftp_server.specs.declared.ends.Stream.TheVariants as streams
 use Rattle.sftp_server.proofs.Machines.Laws as core_laws
-use Rattle.sftp_server.specs.Served.{IsStopped, IsWrittenSoFar, Served}
+use Rattle.sftp_server.specs.Served.{Start, IsStopped, IsWrittenSoFar, ServedFrom}
 use Rattle.sftp_server.specs.Sessions.{ended_by}
 pub mod Asked
 pub mod Replied
@@ -52,58 +52,58 @@ recorded-more first packets packet = sym (flat_map_more record_text transcript_o
 
 -- ---- a session
 
-pub session-more : (init : Packet) (events more : List Event)
-    → session_packets init (events ++ more) ≡ session_packets init events ++ map packet_of more
-session-more init events more =
-    ap (λ (l : List Packet). init ∷ our_version ∷ l) (map-append packet_of events more)
+pub session-more : (start : Start) (init : Packet) (events more : List Event)
+    → session_packets start init (events ++ more) ≡ session_packets start init events ++ map packet_of more
+session-more start init events more =
+    ap (λ (l : List Packet). init ∷ start.version ∷ l) (map-append packet_of events more)
 
-pub sent-session : (side : Side) (init : Packet) (events : List Event) (event : Event)
-    → sent_by side (session_packets init (events ++ event ∷ []))
-    ≡ sent_by side (session_packets init events)
+pub sent-session : (start : Start) (side : Side) (init : Packet) (events : List Event) (event : Event)
+    → sent_by side (session_packets start init (events ++ event ∷ []))
+    ≡ sent_by side (session_packets start init events)
     ++ spelled_if side (side_of (packet_of event)) (spelling (packet_of event))
-sent-session side init events event =
-    ap (sent_by side) (session-more init events (event ∷ []))
-    ∙ sent-more side (session_packets init events) (packet_of event)
+sent-session start side init events event =
+    ap (sent_by side) (session-more start init events (event ∷ []))
+    ∙ sent-more side (session_packets start init events) (packet_of event)
 
-pub recorded-session : (init : Packet) (events : List Event) (event : Event)
-    → recorded (session_packets init (events ++ event ∷ []))
-    ≡ recorded (session_packets init events) ++ record_text (packet_of event)
-recorded-session init events event =
-    ap recorded (session-more init events (event ∷ []))
-    ∙ recorded-more init (our_version ∷ map packet_of events) (packet_of event)
+pub recorded-session : (start : Start) (init : Packet) (events : List Event) (event : Event)
+    → recorded (session_packets start init (events ++ event ∷ []))
+    ≡ recorded (session_packets start init events) ++ record_text (packet_of event)
+recorded-session start init events event =
+    ap recorded (session-more start init events (event ∷ []))
+    ∙ recorded-more init (start.version ∷ map packet_of events) (packet_of event)
 
 -- what the client sent, what the server sent, and the record, with a request more
-pub record AskedSession (init : Packet) (events : List Event) (request : Request) : Type 0 where
-  pub client : sent_by Client (session_packets init (events ++ asked_event request ∷ []))
-      ≡ sent_by Client (session_packets init events) ++ spelling (request_packet request)
-  pub server : sent_by Server (session_packets init (events ++ asked_event request ∷ []))
-      ≡ sent_by Server (session_packets init events)
-  pub log : recorded (session_packets init (events ++ asked_event request ∷ []))
-      ≡ recorded (session_packets init events) ++ record_text (request_packet request)
+pub record AskedSession (start : Start) (init : Packet) (events : List Event) (request : Request) : Type 0 where
+  pub client : sent_by Client (session_packets start init (events ++ asked_event request ∷ []))
+      ≡ sent_by Client (session_packets start init events) ++ spelling (request_packet request)
+  pub server : sent_by Server (session_packets start init (events ++ asked_event request ∷ []))
+      ≡ sent_by Server (session_packets start init events)
+  pub log : recorded (session_packets start init (events ++ asked_event request ∷ []))
+      ≡ recorded (session_packets start init events) ++ record_text (request_packet request)
 
-pub asked-session : (init : Packet) (events : List Event) (request : Request) → AskedSession init events request
-asked-session init events request = record {
-  client = sent-session Client init events (asked_event request);
+pub asked-session : (start : Start) (init : Packet) (events : List Event) (request : Request) → AskedSession start init events request
+asked-session start init events request = record {
+  client = sent-session start Client init events (asked_event request);
   server =
-      sent-session Server init events (asked_event request) ∙ append-nil (sent_by Server (session_packets init events));
-  log = recorded-session init events (asked_event request);
+      sent-session start Server init events (asked_event request) ∙ append-nil (sent_by Server (session_packets start init events));
+  log = recorded-session start init events (asked_event request);
 }
 
 -- the same with a reply more
-pub record RepliedSession (init : Packet) (events : List Event) (reply : Reply) : Type 0 where
-  pub client : sent_by Client (session_packets init (events ++ replied_event reply ∷ []))
-      ≡ sent_by Client (session_packets init events)
-  pub server : sent_by Server (session_packets init (events ++ replied_event reply ∷ []))
-      ≡ sent_by Server (session_packets init events) ++ spelling (reply_packet reply)
-  pub log : recorded (session_packets init (events ++ replied_event reply ∷ []))
-      ≡ recorded (session_packets init events) ++ record_text (reply_packet reply)
+pub record RepliedSession (start : Start) (init : Packet) (events : List Event) (reply : Reply) : Type 0 where
+  pub client : sent_by Client (session_packets start init (events ++ replied_event reply ∷ []))
+      ≡ sent_by Client (session_packets start init events)
+  pub server : sent_by Server (session_packets start init (events ++ replied_event reply ∷ []))
+      ≡ sent_by Server (session_packets start init events) ++ spelling (reply_packet reply)
+  pub log : recorded (session_packets start init (events ++ replied_event reply ∷ []))
+      ≡ recorded (session_packets start init events) ++ record_text (reply_packet reply)
 
-pub replied-session : (init : Packet) (events : List Event) (reply : Reply) → RepliedSession init events reply
-replied-session init events reply = record {
+pub replied-session : (start : Start) (init : Packet) (events : List Event) (reply : Reply) → RepliedSession start init events reply
+replied-session start init events reply = record {
   client =
-      sent-session Client init events (replied_event reply) ∙ append-nil (sent_by Client (session_packets init events));
-  server = sent-session Server init events (replied_event reply);
-  log = recorded-session init events (replied_event reply);
+      sent-session start Client init events (replied_event reply) ∙ append-nil (sent_by Client (session_packets start init events));
+  server = sent-session start Server init events (replied_event reply);
+  log = recorded-session start init events (replied_event reply);
 }
 
 -- ==== A session that stops where a stream fails or memory runs out.
@@ -111,11 +111,11 @@ replied-session init events reply = record {
 -- ---- a session that runs on as it is
 
 -- the same core, at other streams, with other bytes ahead or another fault
-abbrev pub running-on : {start : Tree} {past mid now : StreamBytes} {ahead0 ahead1 : Ahead} {core : Machine State}
+abbrev pub running-on : {start : Start} {past mid now : StreamBytes} {ahead0 ahead1 : Ahead} {core : Machine State}
     {fault0 fault1 : Option SessionFault} → (running : IsRunning start past mid ahead0 core fault0)
-    → Passed past now (sent_by Client (session_packets running.init running.events) ++ ahead1.held)
-    (sent_by Server (session_packets running.init running.events))
-    (recorded (session_packets running.init running.events)) → ahead1.place ≡ ahead0.place
+    → Passed past now (sent_by Client (session_packets start running.init running.events) ++ ahead1.held)
+    (sent_by Server (session_packets start running.init running.events))
+    (recorded (session_packets start running.init running.events)) → ahead1.place ≡ ahead0.place
     → IsFaultAhead running.events core.queue ahead1.held ahead1.place fault1
     → IsRunning start past now ahead1 core fault1
 running-on running passed place found = record {
@@ -140,7 +140,7 @@ passed-kept {past} {mid} {now} {input} {output} {log} passed left written logged
   logged = Appends-kept past.logged mid.logged now.logged log passed.logged logged;
 }
 
-pub running-kept : {start : Tree} {past mid now : StreamBytes} {ahead : Ahead} {core : Machine State}
+pub running-kept : {start : Start} {past mid now : StreamBytes} {ahead : Ahead} {core : Machine State}
     {fault : Option SessionFault} → IsRunning start past mid ahead core fault → Keeps mid.left now.left
     → Keeps mid.written now.written → Keeps mid.logged now.logged → IsRunning start past now ahead core fault
 running-kept running left written logged =
@@ -162,18 +162,18 @@ stays-good s request reply end good fit =
 pub each-answered : core_laws.IsTotal
 each-answered = some-allowed paths-lead
 
-pub reached-begins : (start : Tree) (events : List Event) (core : Machine State) → Good (started start)
-    → IsReached (started start) window events core → BeginsFrom Allowed (settled start []) events
+pub reached-begins : (start : Start) (events : List Event) (core : Machine State) → Good (started start.tree)
+    → IsReached (started start.tree) window events core → BeginsFrom Allowed (settled start.tree []) events
 reached-begins start events core good reached =
-    core_laws.begun stays-good each-answered (started start) window events core good (omega arith) reached
+    core_laws.begun stays-good each-answered (started start.tree) window events core good (omega arith) reached
 
-pub begun : {start : Tree} {past now : StreamBytes} {ahead : Ahead} {core : Machine State} {fault : Option SessionFault}
-    → (running : IsRunning start past now ahead core fault) → BeginsFrom Allowed (settled start []) running.events
+pub begun : {start : Start} {past now : StreamBytes} {ahead : Ahead} {core : Machine State} {fault : Option SessionFault}
+    → (running : IsRunning start past now ahead core fault) → BeginsFrom Allowed (settled start.tree []) running.events
 begun {start = start} {core = core} running = reached-begins start running.events core running.good running.reached
 
-pub running-listed : {start : Tree} {past now : StreamBytes} {ahead : Ahead} {core : Machine State}
+pub running-listed : {start : Start} {past now : StreamBytes} {ahead : Ahead} {core : Machine State}
     {fault : Option SessionFault} → (running : IsRunning start past now ahead core fault)
-    → IsListed start (session_packets running.init running.events)
+    → IsListed start (session_packets start running.init running.events)
 running-listed running =
     (running.greeting, refl, running.events, refl, running.spelled, begun running)
 
@@ -209,18 +209,18 @@ cut-whole (first ∷ packets) =
 
 -- ---- the tree of the requests done
 
-pub after-done : (start : Tree) (events : List Event) (core : Machine State) → Good (started start)
-    → IsReached (started start) window events core → IsAfterDone start events (closed_tree core.state)
+pub after-done : (start : Start) (events : List Event) (core : Machine State) → Good (started start.tree)
+    → IsReached (started start.tree) window events core → IsAfterDone start.tree events (closed_tree core.state)
 after-done start events core good reached =
     record {
       last = core.state;
-      leads = core_laws.leads-to stays-good each-answered (started start) window events core good (omega arith) reached;
+      leads = core_laws.leads-to stays-good each-answered (started start.tree) window events core good (omega arith) reached;
       end_is = refl;
     }
 
 -- a core that was reached leaves this tree
-pub reached-leaves : (start : Tree) (init : Packet) (events : List Event) (core : Machine State) → Good (started start)
-    → IsReached (started start) window events core → IsLeftAfter start (session_packets init events) (tree_left core)
+pub reached-leaves : (start : Start) (init : Packet) (events : List Event) (core : Machine State) → Good (started start.tree)
+    → IsReached (started start.tree) window events core → IsLeftAfter start.tree (session_packets start init events) (tree_left core)
 reached-leaves start init events core good reached = (events, refl, after-done start events core good reached)
 
 -- ---- a session that stops, by the packets that it read, wrote and logged
@@ -229,16 +229,16 @@ reached-leaves start init events core good reached = (events, refl, after-done s
 pub is-beginning : (whole : List ℕ) → IsBeginning whole whole
 is-beginning whole = ([], sym (append-nil whole))
 
-served-stopped : (start : Tree) (input output log : List ℕ) (over : Type 0) (stop : Stop)
-    → IsStopped start input output log (ended_by stop) → Served start input over output log (ended_by stop)
+served-stopped : (start : Start) (input output log : List ℕ) (over : Type 0) (stop : Stop)
+    → IsStopped start input output log (ended_by stop) → ServedFrom start input over output log (ended_by stop)
 served-stopped start input output log over (stops.Io stream) is = is
 served-stopped start input output log over stops.NoMemory is = is
 
-module _ {start : Tree} {past now : StreamBytes} {input output log : List ℕ} (passed : Passed past now input output log)
+module _ {start : Start} {past now : StreamBytes} {input output log : List ℕ} (passed : Passed past now input output log)
   where
     pub leaves-by : {left : Option Tree} (packets : List Packet) (rest : List ℕ) → IsListed start packets
         → input ≡ sent_by Client packets ++ rest → IsBeginning output (sent_by Server packets)
-        → IsCutInLast packets log → IsLeftAfter start packets left → Leaves start past now left
+        → IsCutInLast packets log → IsLeftAfter start.tree packets left → Leaves start past now left
     leaves-by packets rest listed read written logged tree = record {
       input = input;
       output = output;
@@ -272,10 +272,10 @@ module _ {start : Tree} {past now : StreamBytes} {input output log : List ℕ} (
 
 -- ---- a session that stops between packets
 
-module _ {start : Tree} {past now : StreamBytes} {ahead : Ahead} {core : Machine State} {fault : Option SessionFault}
+module _ {start : Start} {past now : StreamBytes} {ahead : Ahead} {core : Machine State} {fault : Option SessionFault}
     (running : IsRunning start past now ahead core fault) where
   abbrev packets : List Packet
-  packets = session_packets running.init running.events
+  packets = session_packets start running.init running.events
 
   stopped : {stop : Stop}
       → IsWrittenSoFar start packets (sent_by Server packets) (recorded packets) (ended_by stop)
@@ -328,13 +328,13 @@ part-written packets packet part side begins = (
 )
 
 -- some packets were written and logged, and the next could not be; the tree left is that after each of them
-module _ (start : Tree) (past : StreamBytes) (left written0 written1 : Option (List ℕ)) (log0 log1 : Log)
+module _ (start : Start) (past : StreamBytes) (left written0 written1 : Option (List ℕ)) (log0 log1 : Log)
     (first : Packet) (others : List Packet) (packet : Packet) (rest : List ℕ) (tree : Option Tree)
     (logging : IsLogging log0) (listed : IsListed start (first ∷ others))
     (more : IsListed start ((first ∷ others) ++ packet ∷ [])) (side : side_of packet ≡ Server)
     (passed : Passed past (stream_bytes left written0 log0.bytes) (sent_by Client (first ∷ others) ++ rest)
-    (sent_by Server (first ∷ others)) (recorded (first ∷ others))) (leaves : IsLeftAfter start (first ∷ others) tree)
-    (leaves_more : IsLeftAfter start ((first ∷ others) ++ packet ∷ []) tree) where
+    (sent_by Server (first ∷ others)) (recorded (first ∷ others))) (leaves : IsLeftAfter start.tree (first ∷ others) tree)
+    (leaves_more : IsLeftAfter start.tree ((first ∷ others) ++ packet ∷ []) tree) where
   abbrev so_far : List Packet
   so_far = first ∷ others
 

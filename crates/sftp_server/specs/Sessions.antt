@@ -36,9 +36,9 @@ use Rattle.sftp_server.specs.declared.queue.Entry.{Entry}
 use Rattle.sftp_server.specs.Machine.{Machine, is_unsent}
 use Rattle.sftp_server.specs.Machine.{IsReached}
 use Rattle.sftp_server.specs.Served.{session_packets, sent_by, recorded, IsGreeting, answered_last, BeginsWithId}
-use Rattle.sftp_server.specs.Served.{BeginsWithInit, EndsSession, StreamBytes, stream_bytes, Passed, Serves}
-use Rattle.sftp_server.specs.Served.{is_same_stream, failures_if}
-use Rattle.sftp_server.specs.Left.{Leaves, LeavesAt}
+use Rattle.sftp_server.specs.Served.{BeginsWithInit, EndsSession, StreamBytes, stream_bytes, Passed}
+use Rattle.sftp_server.specs.Served.{Start, ServesFrom, is_same_stream, failures_if}
+use Rattle.sftp_server.specs.Left.{Leaves, LeavesFrom}
 
 -- ==== What the requests of a queue touch, and where. What a request touches and its span stay while requests are done
 -- that do not touch everything, and so a note may keep both. The range that it keeps to is its span, if its file is as
@@ -122,9 +122,9 @@ abbrev pub input_limit : ℕ
 input_limit = packet_limit
 
 -- a session ended so, and left this tree, if any
-abbrev pub IsSessionEnd : Tree → StreamBytes → StreamBytes → SessionEnd → Type 0
+abbrev pub IsSessionEnd : Start → StreamBytes → StreamBytes → SessionEnd → Type 0
 IsSessionEnd start past now end =
-    Serves start past now end.ended × LeavesAt start past now end.ended end.left
+    ServesFrom start past now end.ended × LeavesFrom start past now end.ended end.left
 
 -- ---- what stops a session before its end
 
@@ -133,8 +133,8 @@ ended_by (stops.Io stream) = ends.Io stream
 ended_by stops.NoMemory = ends.NoMemory
 
 -- a session was stopped so, and left this tree, if any
-pub record Stops (start : Tree) (past now : StreamBytes) (stop : Stop) (left : Option Tree) : Type 0 where
-  pub served : Serves start past now (ended_by stop)
+pub record Stops (start : Start) (past now : StreamBytes) (stop : Stop) (left : Option Tree) : Type 0 where
+  pub served : ServesFrom start past now (ended_by stop)
   pub leaves : Leaves start past now left
 
 -- the tree that a core leaves, once nothing is open
@@ -184,17 +184,17 @@ ahead_without count a = record { held = drop count a.held; place = place_after a
 -- A session on this tree is open. Since it began the client's packets were read, and then what is held; the server's
 -- packets were written; and both were logged. The core was reached by the events. `fault`: what was found in front of
 -- the bytes held, if a fault was.
-pub record IsRunning (start : Tree) (past now : StreamBytes) (ahead : Ahead) (core : Machine State)
+pub record IsRunning (start : Start) (past now : StreamBytes) (ahead : Ahead) (core : Machine State)
     (fault : Option SessionFault) : Type 0 where
   pub init : Packet
   pub events : List Event
-  pub good : Good (started start)
+  pub good : Good (started start.tree)
   pub greeting : IsGreeting init
   pub spelled : AllByRecursion IsEvent events
-  pub reached : IsReached (started start) window events core
-  pub passed : Passed past now (sent_by Client (session_packets init events) ++ ahead.held)
-      (sent_by Server (session_packets init events)) (recorded (session_packets init events))
-  pub place : ahead.place ≡ place_after 0 (length (sent_by Client (session_packets init events)))
+  pub reached : IsReached (started start.tree) window events core
+  pub passed : Passed past now (sent_by Client (session_packets start init events) ++ ahead.held)
+      (sent_by Server (session_packets start init events)) (recorded (session_packets start init events))
+  pub place : ahead.place ≡ place_after 0 (length (sent_by Client (session_packets start init events)))
   pub found : IsFaultAhead events core.queue ahead.held ahead.place fault
 
 -- ---- a session that was not opened yet
@@ -219,7 +219,7 @@ IsEnd events rest place over None = over × (rest ≡ [])
 IsEnd events rest place over (Some fault) = EndsSession events rest place over fault
 
 -- the session is open, each request is answered, and it ends so
-pub record IsEnding (start : Tree) (past now : StreamBytes) (core : Machine State) (fault : Option SessionFault)
+pub record IsEnding (start : Start) (past now : StreamBytes) (core : Machine State) (fault : Option SessionFault)
     : Type 0 where
   pub ahead : Ahead
   pub running : IsRunning start past now ahead core None
@@ -245,7 +245,7 @@ FailsToSend packet written0 written1 log0 log1 stops.NoMemory =
 abbrev pub SendsOn : Machine State → Machine State → Option (List ℕ) → Option (List ℕ) → Option (List ℕ)
     → Option (List ℕ) → Result (Unit {0}) Stop → Type 0
 SendsOn core0 core1 written0 written1 logged0 logged1 result =
-    (start : Tree) (past : StreamBytes) (left : Option (List ℕ)) (ahead : Ahead) (fault : Option SessionFault)
+    (start : Start) (past : StreamBytes) (left : Option (List ℕ)) (ahead : Ahead) (fault : Option SessionFault)
     → IsRunning start past (stream_bytes left written0 logged0) ahead core0 fault
     → MatchResult result (λ _. IsRunning start past (stream_bytes left written1 logged1) ahead core1 fault)
     (λ stop. Stops start past (stream_bytes left written1 logged1) stop (tree_left core1))

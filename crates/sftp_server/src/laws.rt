@@ -7,9 +7,10 @@ ghost use Rattle.sftp_handles.specs.State.{State, Good};
 ghost use Rattle.sftp_handles.specs.Allowed.{Allowed};
 ghost use Rattle.sftp_server.specs.Machine.{Machine};
 ghost use Rattle.sftp_packets.specs.declared.packets.Packet.{Packet};
-ghost use Rattle.sftp_transcript.specs.Transcript.{IsRecord};
+ghost use Rattle.sftp_packets.specs.Packets.{HasSpelling};
+ghost use Rattle.sftp_transcript.specs.Transcript.{IsRecord, IsVersion};
 ghost use Rattle.sftp_server.specs.Machine.{IsReached};
-ghost use Rattle.sftp_server.specs.Served.{IsOpened};
+ghost use Rattle.sftp_server.specs.Served.{Start, IsOpened};
 ghost use Rattle.sftp_server.specs.Left.{LeadsTo};
 
 use sftp_handles::laws::{good_stays_good, some_reply};
@@ -35,8 +36,9 @@ pub fn sessions_are_explained()
     some_reply();
 }
 
-/// The log of a session that was opened is the transcript of its events.
+/// The log of a session that was opened is the transcript of its events, whatever pairs its VERSION 3 announced.
 pub fn logs_are_transcripts()
-    ensures { (input output log : List ℕ) (init : Packet) (events : List Event) (rest : List ℕ) →
-        IsOpened input output log init events rest → IsRecord events log }
+    ensures { (start : Start) (input output log : List ℕ) (init : Packet) (events : List Event) (rest : List ℕ) →
+        IsVersion start.version → HasSpelling start.version → IsOpened start input output log init events rest →
+        IsRecord events log }
 {}

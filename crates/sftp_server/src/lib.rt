@@ -30,4 +30,4 @@ pub use ends::{Ended, SessionEnd, SessionFault, Stream};
 pub use refusals::{Did, Refuse};
 pub use schedules::{InOrder, Schedule, Shuffle, Step};
 pub use scripts::run_script;
-pub use serving::{serve, serve_as, serve_keeping_tree};
+pub use serving::{serve, serve_announcing, serve_as, serve_keeping_tree};

@@ -3,10 +3,10 @@ ghost use Rattle.std.specs.Prelude.{◌≡◌, take, IfOk, IfErr, OnOk, MatchRes
 ghost use Rattle.std.specs.Io.KnownBytes.{Appends, IsAtEnd};
 ghost use Rattle.sftp_packets.specs.declared.packets.Packet.{Packet};
 ghost use Rattle.sftp_packets.specs.declared.packets.Side.TheVariants.{Client};
-ghost use Rattle.sftp_packets.specs.Packets.{spelling, side_of};
+ghost use Rattle.sftp_packets.specs.Packets.{spelling, side_of, HasSpelling};
 ghost use Rattle.sftp_streams.specs.Streams.{AppendsPart};
 ghost use Rattle.sftp_transcript.specs.Log.{opened_text};
-ghost use Rattle.sftp_transcript.specs.Transcript.{record_text};
+ghost use Rattle.sftp_transcript.specs.Transcript.{record_text, IsVersion};
 ghost use Rattle.sftp_server.specs.declared.ends.Stop.TheVariants as stops;
 ghost use Rattle.sftp_server.specs.declared.ends.Stream.TheVariants as streams;
 ghost use Rattle.sftp_server.specs.Served.{IsUnused};
@@ -16,7 +16,6 @@ ghost use Rattle.sftp_server.specs.Ending.{IsFirst, IsInFront, IsGreetingOf, Ope
 use crate::ends::{SessionFault, Stop, Stream};
 use crate::input::Input;
 use crate::sending::send;
-use crate::version::our_version;
 use sftp_transcript::{Sink, Source, Writer};
 use sftp_wire::{Packet, Side, WireError, front};
 use std::alloc::Global;
@@ -113,23 +112,25 @@ fn log_init<L: Sink>(input: &mut Input, count: usize, log: &mut Writer<L>) -> Re
     }
 }
 
-/// Opens the session by the INIT in front, `count` bytes long: logs it, and sends VERSION. `output` is room for a
+/// Opens the session by the INIT in front, `count` bytes long: logs it, and sends this VERSION. `output` is room for a
 /// packet.
 ///
 /// # Errors
 ///
 /// `NoMemory` if memory runs out; `Io` if the writer or the log fails.
 pub(crate) fn greet<W: Sink, L: Sink>(
-    alloc: Global,
     input: &mut Input,
     count: usize,
+    version: &Packet,
     output: &mut Vec<u8>,
     writer: &mut W,
     log: &mut Writer<L>,
 ) -> Result<(), Stop>
     requires unused { IsUnused log.old }
     requires whole { BeginsWithGreeting input.old.held count }
-    ensures running { OpensOn input.old input.new (W.written writer.old) (W.written writer.new) log.old.bytes
+    requires version { IsVersion version.now }
+    requires spelled { HasSpelling version.now }
+    ensures running { OpensOn version.now input.old input.new (W.written writer.old) (W.written writer.new) log.old.bytes
         log.new.bytes result }
     ensures logging { OnOk result (IsLogging log.new) }
     ensures counts_writer { CountsCall streams.Writer result (W.failures writer.old) (W.failures writer.new) }
@@ -137,8 +138,5 @@ pub(crate) fn greet<W: Sink, L: Sink>(
     ensures spares { Spares streams.Reader result }
 {
     log_init(input, count, log)?;
-    let version = our_version(alloc)?;
-    let sent = send(&version, output, writer, log);
-    drop(version);
-    sent
+    send(version, output, writer, log)
 }

@@ -5,8 +5,10 @@ ghost use Rattle.sftp_wire.specs.Fronts.{front_of};
 ghost use Rattle.sftp_server.specs.declared.ends.Stream.TheVariants as streams;
 ghost use Rattle.sftp_server.specs.declared.taking.Front.TheVariants as fronts;
 ghost use Rattle.sftp_server.specs.declared.serving.Next.TheVariants as nexts;
-ghost use Rattle.sftp_server.specs.Served.{stream_bytes, IsUnused, Serves, CountsEnd, StreamBytes};
-ghost use Rattle.sftp_server.specs.Left.{LeavesAt};
+ghost use Rattle.sftp_packets.specs.Packets.{HasSpelling};
+ghost use Rattle.sftp_transcript.specs.Transcript.{IsVersion};
+ghost use Rattle.sftp_server.specs.Served.{announcing, stream_bytes, IsUnused, Serves, ServesFrom, CountsEnd, StreamBytes};
+ghost use Rattle.sftp_server.specs.Left.{LeavesAt, LeavesFrom};
 ghost use Rattle.sftp_server.specs.Sessions.{IsLogging, CountsCall, input_limit, IsUnopenedYet, BeginsWithGreeting};
 ghost use Rattle.sftp_server.specs.Sessions.{IsSessionEnd};
 ghost use Rattle.sftp_server.specs.Ending.{closed_end, EndsOn, ReadsOn, RunsOut, GoesOn};
@@ -20,11 +22,12 @@ use crate::schedules::Schedule;
 use crate::scripted::follow_script;
 use crate::sending::{flush, flush_log};
 use crate::taking::{Front, take_requests};
+use crate::version::our_version;
 use crate::working::work_off;
 use sftp_handles::{HandleTable, SlabTable};
 use sftp_transcript::{Sink, Source, WINDOW, Writer};
 use sftp_tree::Tree;
-use sftp_wire::PACKET_LIMIT;
+use sftp_wire::{PACKET_LIMIT, Packet};
 use std::alloc::Global;
 
 /// What an open session does after a batch of requests.
@@ -116,6 +119,47 @@ pub fn serve_as<R: Source, W: Sink, L: Sink, S: Schedule, T: HandleTable, A: Ans
     ensures counts_writer { CountsEnd streams.Writer result.ended (W.failures writer.old) (W.failures writer.new) }
     ensures counts_log { CountsEnd streams.Log result.ended log.old.failures log.new.failures }
 {
+    let version = match our_version(tree.allocator()) {
+        Ok(version) => version,
+        Err(stop) => {
+            drop(tree);
+            return stop.leaving(None);
+        }
+    };
+    let end = serve_announcing::<R, W, L, S, T, A>(
+        tree, reader, writer, log, schedule, answerer, &version,
+    );
+    drop(version);
+    end
+}
+
+/// Serves a session as `serve_as` does, and announces this VERSION 3, of any pairs (draft, section 4), in place of the
+/// usual one.
+///
+/// `log` has no records yet, and no call on it failed. Failures are counted up to 2^64 - 1.
+pub fn serve_announcing<R: Source, W: Sink, L: Sink, S: Schedule, T: HandleTable, A: Answerer<T>>(
+    tree: Tree,
+    reader: &mut R,
+    writer: &mut W,
+    log: &mut Writer<L>,
+    schedule: &mut S,
+    answerer: &mut A,
+    version: &Packet,
+) -> SessionEnd
+    requires unused { IsUnused log.old }
+    requires version { IsVersion version.now }
+    requires spelled { HasSpelling version.now }
+    ensures served { ServesFrom (announcing tree version.now)
+        (stream_bytes (R.left reader.old) (W.written writer.old) log.old.bytes)
+        (stream_bytes (R.left reader.new) (W.written writer.new) log.new.bytes) result.ended }
+    ensures left { LeavesFrom (announcing tree version.now)
+        (stream_bytes (R.left reader.old) (W.written writer.old) log.old.bytes)
+        (stream_bytes (R.left reader.new) (W.written writer.new) log.new.bytes) result.ended result.left }
+    // A stream fails once if the session ends because of it, and otherwise never.
+    ensures counts_reader { CountsEnd streams.Reader result.ended (R.failures reader.old) (R.failures reader.new) }
+    ensures counts_writer { CountsEnd streams.Writer result.ended (W.failures writer.old) (W.failures writer.new) }
+    ensures counts_log { CountsEnd streams.Log result.ended log.old.failures log.new.failures }
+{
     // Slow to prove: the tree, or what was read, is dropped at each exit.
     let alloc = tree.allocator();
     let mut input = match Input::new(alloc) {
@@ -127,7 +171,7 @@ pub fn serve_as<R: Source, W: Sink, L: Sink, S: Schedule, T: HandleTable, A: Ans
     };
     match await_init(alloc, &mut input, reader) {
         Ok(First::Init(count)) => serve_from(
-            tree, &mut input, count, reader, writer, log, schedule, answerer,
+            tree, &mut input, count, reader, writer, log, schedule, answerer, version,
         ),
         Ok(First::Fault(fault)) => SessionEnd {
             ended: Ended::Fault(tree, fault),
@@ -150,13 +194,16 @@ fn serve_from<R: Source, W: Sink, L: Sink, S: Schedule, T: HandleTable, A: Answe
     log: &mut Writer<L>,
     schedule: &mut S,
     answerer: &mut A,
+    version: &Packet,
 ) -> SessionEnd
     requires unused { IsUnused log.old }
+    requires version { IsVersion version.now }
+    requires spelled { HasSpelling version.now }
     requires whole { BeginsWithGreeting input.old.held count }
     // For any session that has only read so far.
     ensures served { (past : StreamBytes)
         → IsUnopenedYet past (stream_bytes (R.left reader.old) (W.written writer.old) log.old.bytes) input.old
-        → IsSessionEnd tree past (stream_bytes (R.left reader.new) (W.written writer.new) log.new.bytes) result }
+        → IsSessionEnd (announcing tree version.now) past (stream_bytes (R.left reader.new) (W.written writer.new) log.new.bytes) result }
     ensures counts_reader { CountsEnd streams.Reader result.ended (R.failures reader.old) (R.failures reader.new) }
     ensures counts_writer { CountsEnd streams.Writer result.ended (W.failures writer.old) (W.failures writer.new) }
     ensures counts_log { CountsEnd streams.Log result.ended log.old.failures log.new.failures }
@@ -170,7 +217,7 @@ fn serve_from<R: Source, W: Sink, L: Sink, S: Schedule, T: HandleTable, A: Answe
         drop(core);
         return Stop::NoMemory.leaving(None);
     };
-    match greet(alloc, input, count, &mut output, writer, log) {
+    match greet(input, count, version, &mut output, writer, log) {
         Ok(()) => {}
         Err(stop) => return stop.leaving(Some(core.into_tree())),
     }

@@ -10,7 +10,9 @@ use Rattle.sftp_handles.specs.Allowed.{Allowed}
 use Rattle.sftp_handles.proofs.Judged.{allowed-one_end}
 use Rattle.std.specs.Io.KnownBytes.{Appends, IsAtEnd}
 use Rattle.sftp_transcript.specs.declared.events.Event.{Event}
-use Rattle.sftp_transcript.specs.Transcript.{IsRecord}
+use Rattle.sftp_transcript.specs.Transcript.{IsRecord, IsVersion}
+use Rattle.sftp_packets.specs.Packets.{HasSpelling}
+use Rattle.sftp_packets.proofs.PacketLaws.{version_spelled}
 use Rattle.sftp_transcript.specs.Explained.{Explained}
 use Rattle.sftp_transcript.proofs.transcripts.{records_are_one_lem}
 use Rattle.sftp_tree.specs.Tree.{Tree}
@@ -20,8 +22,8 @@ use Rattle.sftp_server.specs.declared.ends.Ended.{Ended}
 use Rattle.sftp_server.specs.declared.ends.Ended.TheVariants.{Finished, Fault}
 use Rattle.sftp_server.specs.declared.ends.Ended.TheVariants as ends
 use Rattle.sftp_server.specs.declared.ends.SessionFault.{SessionFault}
-use Rattle.sftp_server.specs.Served.{IsFinished, IsFaulty, IsUnopened, IsOpened, IsServed, Served, StreamBytes}
-use Rattle.sftp_server.specs.Served.{stream_bytes, Serves}
+use Rattle.sftp_server.specs.Served.{IsFinished, IsFaulty, IsUnopened, IsOpened, IsServed, StreamBytes}
+use Rattle.sftp_server.specs.Served.{Start, usual, stream_bytes, Serves, ServesFrom}
 use Rattle.sftp_server.proofs.Sessions.Closed.{log-is-transcript}
 use Rattle.sftp_audit.specs.declared.audits.Accepted.{Accepted}
 use Rattle.sftp_audit.specs.declared.errors.AuditError.{AuditError}
@@ -57,37 +59,55 @@ logged-of old new log appended before now appends =
     subst (λ (o : Option (List ℕ)). Appends (Some []) o appended) now
     (subst (λ (o : Option (List ℕ)). Appends o new appended) before appends)
 
-accounts : (start end : Tree) (bytes log input output logged : List ℕ) (init : _) (events : List Event) (rest : List ℕ)
-    → IsStart start bytes → log ≡ logged → IsOpened input output logged init events rest
-    → IsServed start events end → Accounts bytes log start events end
-accounts start end bytes log input output logged init events rest is same opened served = record {
+accounts : (start : Start) (end : Tree) (bytes log input output logged : List ℕ) (init : _) (events : List Event)
+    (rest : List ℕ) → IsVersion start.version → HasSpelling start.version → IsStart start.tree bytes → log ≡ logged
+    → IsOpened start input output logged init events rest → IsServed start.tree events end
+    → Accounts bytes log start.tree events end
+accounts start end bytes log input output logged init events rest version spelled is same opened served = record {
   start_is = is;
   events_are = subst (λ (l : List ℕ). IsRecord events l) (sym same)
-      (log-is-transcript input output logged init events rest opened);
+      (log-is-transcript start input output logged init events rest version spelled opened);
   last = served.last;
   explained = served.explained;
   end_is = served.end_is;
 }
 
+-- ---- a session that announced any VERSION 3
+
+pub announced-finished : (start : Start) (end : Tree) (bytes log : List ℕ) (past now : StreamBytes)
+    → IsVersion start.version → HasSpelling start.version → IsStart start.tree bytes → IsLogged past now log
+    → ServesFrom start past now (Finished end) → (events : List Event) × Accounts bytes log start.tree events end
+announced-finished start end bytes log past now version spelled is logged serves =
+    let same = logged-of past.logged now.logged log serves.log logged.nothing_before logged.all_now serves.passed.logged in
+    let of : IsFinished start serves.input (IsAtEnd now.left) serves.output serves.log end = serves.served in
+    (of.events, accounts start end bytes log serves.input serves.output serves.log of.init of.events [] version spelled is same of.opened of.served)
+
+pub announced-faulty : (start : Start) (end : Tree) (fault : SessionFault) (bytes log : List ℕ) (past now : StreamBytes)
+    → IsVersion start.version → HasSpelling start.version → IsStart start.tree bytes → IsLogged past now log
+    → ServesFrom start past now (Fault end fault)
+    → ((log ≡ []) × (end ≡ start.tree)) ⊎ ((events : List Event) × Accounts bytes log start.tree events end)
+announced-faulty start end fault bytes log past now version spelled is logged serves =
+    let same = logged-of past.logged now.logged log serves.log logged.nothing_before logged.all_now serves.passed.logged in
+    let of : IsUnopened start.tree serves.input (IsAtEnd now.left) serves.output serves.log end fault
+    ⊎ IsFaulty start serves.input (IsAtEnd now.left) serves.output serves.log end fault = serves.served in
+    elim of [
+      | inl un ↦ inl (same ∙ un.nothing_logged, un.end_is)
+      | inr is_faulty ↦ inr (is_faulty.events, accounts start end bytes log serves.input serves.output serves.log is_faulty.init is_faulty.events is_faulty.rest version spelled is same is_faulty.opened is_faulty.served)
+    ]
+
+-- ---- the usual VERSION
+
 pub finished : (start end : Tree) (bytes log : List ℕ) (past now : StreamBytes) → IsStart start bytes
     → IsLogged past now log → Serves start past now (Finished end)
     → (events : List Event) × Accounts bytes log start events end
 finished start end bytes log past now is logged serves =
-    let same = logged-of past.logged now.logged log serves.log logged.nothing_before logged.all_now serves.passed.logged in
-    let of : IsFinished start serves.input (IsAtEnd now.left) serves.output serves.log end = serves.served in
-    (of.events, accounts start end bytes log serves.input serves.output serves.log of.init of.events [] is same of.opened of.served)
+    announced-finished (usual start) end bytes log past now refl version_spelled is logged serves
 
 pub faulty : (start end : Tree) (fault : SessionFault) (bytes log : List ℕ) (past now : StreamBytes) → IsStart start bytes
     → IsLogged past now log → Serves start past now (Fault end fault)
     → ((log ≡ []) × (end ≡ start)) ⊎ ((events : List Event) × Accounts bytes log start events end)
 faulty start end fault bytes log past now is logged serves =
-    let same = logged-of past.logged now.logged log serves.log logged.nothing_before logged.all_now serves.passed.logged in
-    let of : IsUnopened start serves.input (IsAtEnd now.left) serves.output serves.log end fault
-    ⊎ IsFaulty start serves.input (IsAtEnd now.left) serves.output serves.log end fault = serves.served in
-    elim of [
-      | inl un ↦ inl (same ∙ un.nothing_logged, un.end_is)
-      | inr is_faulty ↦ inr (is_faulty.events, accounts start end bytes log serves.input serves.output serves.log is_faulty.init is_faulty.events is_faulty.rest is same is_faulty.opened is_faulty.served)
-    ]
+    announced-faulty (usual start) end fault bytes log past now refl version_spelled is logged serves
 
 -- ---- the audit
 

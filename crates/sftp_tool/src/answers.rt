@@ -4,10 +4,10 @@ ghost use Rattle.sftp_server.specs.Served.{IsUnused};
 use crate::recorded::Recorded;
 use sftp_files::{Failure, ServeOptions, System};
 use sftp_handles::{GivenTable, SlabTable};
-use sftp_server::{Plain, Schedule, SessionEnd, serve_as, serve_keeping_tree};
+use sftp_server::{Plain, Schedule, SessionEnd, serve_announcing, serve_as, serve_keeping_tree};
 use sftp_transcript::{Sink, Source, Writer};
 use sftp_tree::Tree;
-use sftp_vary::{Freedoms, Proposed, Style, Variation, Vary, Worded};
+use sftp_vary::{Freedoms, Proposed, Style, Variation, Vary, Worded, any_version};
 
 /// The answerer of sessions some of whose replies are proposed: first those of a record, then varied ones. Each is
 /// given if it is allowed; the session's own replies, and the varied ones, get words for people.
@@ -48,14 +48,7 @@ pub(crate) fn served<R: Source, W: Sink, L: Sink, S: Schedule>(
     let style = answers.style;
     let words = style.words;
     if style.varies_replies() || answers.recorded.has_more() {
-        return serve_as::<R, W, L, S, GivenTable, Proposing>(
-            tree,
-            reader,
-            writer,
-            log,
-            schedule,
-            &mut proposing(answers),
-        );
+        return serve_proposing(tree, reader, writer, log, schedule, answers);
     }
     drop(answers);
     if words.has_any() {
@@ -69,6 +62,33 @@ pub(crate) fn served<R: Source, W: Sink, L: Sink, S: Schedule>(
         );
     }
     serve_keeping_tree(tree, reader, writer, log, schedule)
+}
+
+/// Serves a session some of whose replies are proposed. Its VERSION has any pairs if they are free.
+fn serve_proposing<R: Source, W: Sink, L: Sink, S: Schedule>(
+    tree: Tree,
+    reader: &mut R,
+    writer: &mut W,
+    log: &mut Writer<L>,
+    schedule: &mut S,
+    answers: Answers,
+) -> SessionEnd
+    requires { IsUnused log.old }
+{
+    let version = any_version(tree.allocator(), answers.style.variation);
+    let answerer = &mut proposing(answers);
+    match version {
+        Some(version) => {
+            let end = serve_announcing::<R, W, L, S, GivenTable, Proposing>(
+                tree, reader, writer, log, schedule, answerer, &version,
+            );
+            drop(version);
+            end
+        }
+        None => serve_as::<R, W, L, S, GivenTable, Proposing>(
+            tree, reader, writer, log, schedule, answerer,
+        ),
+    }
 }
 
 /// The answerer of a session some of whose replies are proposed.

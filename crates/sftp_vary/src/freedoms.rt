@@ -23,6 +23,8 @@ pub enum Freedom {
     Texts,
     /// Where the output is cut into writes (section 3: packets come in a stream).
     Cuts,
+    /// The pairs of names and data in VERSION (section 4).
+    Versions,
 }
 
 /// The names of the freedoms on the command line, in the order of their variants.
@@ -36,6 +38,7 @@ pub const NAMES: &[&str] = &[
     "codes",
     "texts",
     "cuts",
+    "versions",
 ];
 
 /// How a session is varied.
@@ -67,6 +70,7 @@ impl Freedom {
             Freedom::Codes => 64,
             Freedom::Texts => 128,
             Freedom::Cuts => 256,
+            Freedom::Versions => 512,
         }
     }
 }
@@ -94,7 +98,7 @@ impl Freedoms {
     /// All of them.
     pub fn all() -> Freedoms {
         Freedoms {
-            bits: 511,
+            bits: 1023,
             wild: false,
         }
     }

@@ -16,6 +16,7 @@ mod proposed;
 mod spelled;
 mod texts;
 mod vary;
+mod versions;
 mod worded;
 mod words;
 
@@ -23,4 +24,5 @@ pub use cuts::Cuts;
 pub use freedoms::{Freedom, Freedoms, NAMES, Variation};
 pub use proposed::{Proposed, Proposer};
 pub use vary::Vary;
+pub use versions::any_version;
 pub use worded::{Style, Worded, Words};

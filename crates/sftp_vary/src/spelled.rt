@@ -22,7 +22,7 @@ pub(crate) fn spelled(alloc: Global, reply: Reply) -> Option<Reply>
 }
 
 /// Whether a packet can be encoded, and there is memory to see that.
-fn is_spelled(alloc: Global, packet: &Packet) -> bool
+pub(crate) fn is_spelled(alloc: Global, packet: &Packet) -> bool
     ensures { result ≡ true → HasSpelling packet.now }
 {
     let mut bytes = Vec::new(alloc);

@@ -21,6 +21,7 @@ use Rattle.sftp_server.proofs.Machines.Laws.{reached-taken}
 use Rattle.sftp_server.proofs.Sessions.{asked-session, session-more}
 use Rattle.sftp_server.proofs.Sessions.{no-opening, reached-begins, reached-leaves, is-beginning}
 use Rattle.sftp_server.proofs.Sessions.{stopped-no-memory, running-on, stops-by, leaves-by}
+use Rattle.sftp_server.specs.Served.{Start}
 
 -- what holds of a request that can be encoded
 pub request-value : (request : Request) → HasSpelling (request_packet request) → IsValue request
@@ -51,7 +52,7 @@ appended log0 log1 text logging is =
 
 -- ---- a request
 
-module _ (start : Tree) (past : StreamBytes) (left written : Option (List ℕ)) (log0 log1 : Log) (ahead : Ahead)
+module _ (start : Start) (past : StreamBytes) (left written : Option (List ℕ)) (log0 log1 : Log) (ahead : Ahead)
     (core : Machine State) (request : Request) (count : ℕ)
     (running : IsRunning start past (stream_bytes left written log0.bytes) ahead core None)
     (front : StandsInFront Client ahead.held (request_packet request) count) (can : IsTrue (can_take core request))
@@ -60,17 +61,17 @@ module _ (start : Tree) (past : StreamBytes) (left written : Option (List ℕ)) 
   events = running.events ++ Asked request ∷ []
 
   abbrev before : List Packet
-  before = session_packets running.init running.events
+  before = session_packets start running.init running.events
 
   abbrev after : List Packet
-  after = session_packets running.init events
+  after = session_packets start running.init events
 
   spelled-more : AllByRecursion IsEvent events
   spelled-more = all_more running.events (Asked request) running.spelled front.has_spelling
 
-  reached-more : IsReached (started start) window events (taken core request)
+  reached-more : IsReached (started start.tree) window events (taken core request)
   reached-more =
-      reached-taken (started start) window running.events core request running.reached
+      reached-taken (started start.tree) window running.events core request running.reached
       (request-value request front.has_spelling) can
 
   -- the packets of the client and the rest are the same bytes as before
@@ -80,14 +81,14 @@ module _ (start : Tree) (past : StreamBytes) (left written : Option (List ℕ)) 
       let rest : List ℕ = drop count ahead.held in
       ap (λ (l : List ℕ). sent_by Client before ++ l) front.is_spelled
       ∙ sym (append_assoc (sent_by Client before) spelled rest)
-      ∙ ap (λ (l : List ℕ). l ++ rest) (sym (asked-session running.init running.events request).client)
+      ∙ ap (λ (l : List ℕ). l ++ rest) (sym (asked-session start running.init running.events request).client)
 
   -- a request was taken
   pub asked : IsAppended log0 (record_text (request_packet request)) log1
       → IsRunning start past (stream_bytes left written log1.bytes) (ahead_without count ahead) (taken core request)
       None
   asked logged =
-      let session = asked-session running.init running.events request in
+      let session = asked-session start running.init running.events request in
       record {
         init = running.init;
         events = events;
@@ -122,7 +123,7 @@ module _ (start : Tree) (past : StreamBytes) (left written : Option (List ℕ)) 
   pub asked-in-part : AppendsPart log0.bytes log1.bytes (record_text (request_packet request))
       → Stops start past (stream_bytes left written log1.bytes) (stops.Io streams.Log) (tree_left core)
   asked-in-part fails =
-      let session = asked-session running.init running.events request in
+      let session = asked-session start running.init running.events request in
       let passed : Passed past (stream_bytes left written log1.bytes) (sent_by Client before ++ ahead.held)
       (sent_by Server before) (recorded before ++ fails.part) =
       record {
@@ -145,7 +146,7 @@ module _ (start : Tree) (past : StreamBytes) (left written : Option (List ℕ)) 
         before,
         request_packet request,
         fails.part,
-        session-more running.init running.events (Asked request ∷ []),
+        session-more start running.init running.events (Asked request ∷ []),
         (fails.rest, fails.parts),
         refl,
       ) in

@@ -5,10 +5,11 @@ use Rattle.sftp_server.proofs.Imports.{append-nil, inl, inr, true≢false, arith
 use Rattle.sftp_server.proofs.Imports.{Consumes-trans, Unreadable, Client, Server, front_of, Event, window, Tree}
 use Rattle.sftp_server.proofs.Imports.{State, SessionFault, Stop, Entry, Machine, is_unsent, started, session_packets}
 use Rattle.sftp_server.proofs.Imports.{sent_by, recorded, EndsSession, IsUnopenedBy, IsOpened, IsServed, closed_tree}
-use Rattle.sftp_server.proofs.Imports.{StreamBytes, stream_bytes, Passed, Serves, Leaves, LeavesAt, Ahead, IsRunning}
+use Rattle.sftp_server.proofs.Imports.{StreamBytes, stream_bytes, Passed, Leaves, Ahead, IsRunning}
 use Rattle.sftp_server.proofs.Imports.{IsFaultAhead, IsUnopenedYet, Stops, tree_left, Keeps-refl, input_limit, ◌≤◌}
-use Rattle.sftp_server.proofs.Imports.{map, flat_map, Packet, Init, HasSpelling, version_spelled, server_extensions}
-use Rattle.sftp_server.proofs.Imports.{packet_of, record_text, our_version, IsGreeting, ◌<◌, Err, SendsOn}
+use Rattle.sftp_server.proofs.Imports.{map, flat_map, Packet, Init, HasSpelling}
+use Rattle.sftp_server.proofs.Imports.{packet_of, record_text, IsGreeting, ◌<◌, Err, SendsOn}
+use Rattle.sftp_packets.specs.declared.packets.Packet.TheVariants.{Version}
 use Rattle.sftp_server.specs.Ending.{closed_end}
 use Rattle.std.proofs.KnownBytes.{Consumes-nil, Appends-nil}
 use Rattle.sftp_server.specs.Sessions.{IsEnding, ended_by, IsSessionEnd}
@@ -22,8 +23,9 @@ use Rattle.sftp_server.proofs.Machines.Laws.{explained}
 use Rattle.sftp_server.proofs.Sessions.{stays-good, each-answered, running-on, running-kept, stopped-reader}
 use Rattle.sftp_server.proofs.Sessions.{stopped-writer, stopped-log}
 use Rattle.sftp_server.proofs.Sessions.Opened.{unopened-stopped}
-use Rattle.sftp_server.specs.Served.{Served}
-use Rattle.sftp_transcript.specs.Transcript.{event_record, IsRecord}
+use Rattle.sftp_server.specs.Served.{Start, ServedFrom, ServesFrom}
+use Rattle.sftp_server.specs.Left.{LeavesFrom}
+use Rattle.sftp_transcript.specs.Transcript.{event_record, IsRecord, IsVersion}
 use Rattle.sftp_server.specs.Ending.{Works, bytes_ahead}
 use Rattle.sftp_server.proofs.Sessions.Replied.{sends-nothing}
 
@@ -42,12 +44,12 @@ abbrev ahead_of : List ℕ → ℕ → Ahead
 ahead_of held place = record { held = held; place = place }
 
 -- more was read
-pub running-read : {start : Tree} {past : StreamBytes} {left0 left1 written logged : Option (List ℕ)} {ahead : Ahead}
+pub running-read : {start : Start} {past : StreamBytes} {left0 left1 written logged : Option (List ℕ)} {ahead : Ahead}
     {core : Machine State} (more : List ℕ) → IsRunning start past (stream_bytes left0 written logged) ahead core None
     → Consumes left0 left1 more
     → IsRunning start past (stream_bytes left1 written logged) (ahead_of (ahead.held ++ more) ahead.place) core None
 running-read {start} {past} {left0} {left1} {written} {logged} {ahead} more running read =
-    let sent = sent_by Client (session_packets running.init running.events) in
+    let sent = sent_by Client (session_packets start running.init running.events) in
     running-on running (record {
       read = subst (Consumes past.left left1) (append_assoc sent ahead.held more)
           (Consumes-trans past.left left0 left1 (sent ++ ahead.held) more running.passed.read read);
@@ -72,7 +74,7 @@ nothing-read left0 left1 {ahead0} read none =
     ∙ ap (λ (held : List ℕ). ahead_of held ahead0.place) (append-nil ahead0.held)
 
 -- a stream kept its bytes, and did not fail, or did
-module _ {start : Tree} {past : StreamBytes} {left written logged : Option (List ℕ)} {ahead : Ahead}
+module _ {start : Start} {past : StreamBytes} {left written logged : Option (List ℕ)} {ahead : Ahead}
     {core : Machine State} {fault : Option SessionFault}
     (running : IsRunning start past (stream_bytes left written logged) ahead core fault) where
   pub running-written : {later : Option (List ℕ)} → Keeps written later
@@ -102,7 +104,7 @@ module _ {start : Tree} {past : StreamBytes} {left written logged : Option (List
       (stopped-log (running-logged kept))
 
 -- what was written was passed on, and then bytes were read
-pub running-more : {start : Tree} {past : StreamBytes} {left0 left1 written0 written1 logged : Option (List ℕ)}
+pub running-more : {start : Start} {past : StreamBytes} {left0 left1 written0 written1 logged : Option (List ℕ)}
     {ahead0 ahead1 : Ahead} {core : Machine State} {count : ℕ}
     → IsRunning start past (stream_bytes left0 written0 logged) ahead0 core None → Keeps written0 written1
     → HasRead left0 left1 ahead0 ahead1 count
@@ -123,7 +125,7 @@ fault-ends events rest place over (faults.IdInUse id) found =
 fault-ends events rest place over faults.BadInit found = found
 fault-ends events rest place over other found = absurd found
 
-module _ {start : Tree} {past now : StreamBytes} {ahead : Ahead} {core : Machine State} where
+module _ {start : Start} {past now : StreamBytes} {ahead : Ahead} {core : Machine State} where
   -- the session that found this fault ends, once each request is answered
   pub ending-fault : {fault : SessionFault} → IsRunning start past now ahead core (Some fault) → core.queue ≡ []
       → IsEnding start past now core (Some fault)
@@ -161,23 +163,23 @@ held-some held got empty same is false_is none =
 
 -- ---- a session that has ended
 
-module _ {start : Tree} {past now : StreamBytes} {core : Machine State} where
+module _ {start : Start} {past now : StreamBytes} {core : Machine State} where
   served-by : {fault : Option SessionFault} (ending : IsEnding start past now core fault)
-      → IsServed start ending.running.events (closed_tree core.state)
+      → IsServed start.tree ending.running.events (closed_tree core.state)
   served-by ending =
       let running = ending.running in
       record {
         last = core.state;
         explained =
-            explained stays-good each-answered (started start) window running.events core running.good (omega arith)
+            explained stays-good each-answered (started start.tree) window running.events core running.good (omega arith)
             running.reached ending.answered;
         end_is = refl;
       }
 
   opened-by : {ahead : Ahead} {fault : Option SessionFault} (running : IsRunning start past now ahead core fault)
-      → IsOpened (sent_by Client (session_packets running.init running.events) ++ ahead.held)
-      (sent_by Server (session_packets running.init running.events))
-      (recorded (session_packets running.init running.events)) running.init running.events ahead.held
+      → IsOpened (sent_by Client (session_packets start running.init running.events) ++ ahead.held)
+      (sent_by Server (session_packets start running.init running.events))
+      (recorded (session_packets start running.init running.events)) running.init running.events ahead.held
   opened-by running = record {
     greeting = running.greeting;
     spelled = running.spelled;
@@ -187,12 +189,12 @@ module _ {start : Tree} {past now : StreamBytes} {core : Machine State} where
   }
 
   served-closed : (fault : Option SessionFault) (ending : IsEnding start past now core fault)
-      → let packets = session_packets ending.running.init ending.running.events in
-      Served start (sent_by Client packets ++ ending.ahead.held) (IsAtEnd now.left) (sent_by Server packets)
+      → let packets = session_packets start ending.running.init ending.running.events in
+      ServedFrom start (sent_by Client packets ++ ending.ahead.held) (IsAtEnd now.left) (sent_by Server packets)
       (recorded packets) (closed_end core.state fault)
   served-closed None ending =
       let running = ending.running in
-      let packets = session_packets running.init running.events in
+      let packets = session_packets start running.init running.events in
       record {
         init = running.init;
         events = running.events;
@@ -214,9 +216,9 @@ module _ {start : Tree} {past now : StreamBytes} {core : Machine State} where
       }
 
   pub closed : {fault : Option SessionFault} → IsEnding start past now core fault
-      → Serves start past now (closed_end core.state fault)
+      → ServesFrom start past now (closed_end core.state fault)
   closed {fault} ending =
-      let packets = session_packets ending.running.init ending.running.events in
+      let packets = session_packets start ending.running.init ending.running.events in
       record {
         input = sent_by Client packets ++ ending.ahead.held;
         output = sent_by Server packets;
@@ -227,9 +229,9 @@ module _ {start : Tree} {past now : StreamBytes} {core : Machine State} where
 
 -- ---- a session that was not opened
 
-pub unopened : (start : Tree) (past now : StreamBytes) (ahead : Ahead) (fault : SessionFault)
+pub unopened : (start : Start) (past now : StreamBytes) (ahead : Ahead) (fault : SessionFault)
     → IsUnopenedYet past now ahead → IsUnopenedBy ahead.held (IsAtEnd now.left) fault
-    → Serves start past now (ends.Fault start fault)
+    → ServesFrom start past now (ends.Fault start.tree fault)
 unopened start past now ahead fault yet by = record {
   input = ahead.held;
   output = [];
@@ -239,37 +241,37 @@ unopened start past now ahead fault yet by = record {
 }
 
 -- memory ran out before the first packet was logged
-pub unopened-stops : {start : Tree} {past now : StreamBytes} {ahead : Ahead} {stop : Stop}
+pub unopened-stops : {start : Start} {past now : StreamBytes} {ahead : Ahead} {stop : Stop}
     → IsUnopenedYet past now ahead → stop ≡ stops.NoMemory → Stops start past now stop None
 unopened-stops yet is = unopened-stopped yet (inl is)
 
 -- ---- what a session leaves
 
-leaves-at : {start : Tree} {past now : StreamBytes} {left : Option Tree} (stop : Stop) → Leaves start past now left
-    → LeavesAt start past now (ended_by stop) left
+leaves-at : {start : Start} {past now : StreamBytes} {left : Option Tree} (stop : Stop) → Leaves start past now left
+    → LeavesFrom start past now (ended_by stop) left
 leaves-at (stops.Io stream) leaves = leaves
 leaves-at stops.NoMemory leaves = leaves
 
 -- the session was stopped
-pub stopped-end : {start : Tree} {past now : StreamBytes} {stop : Stop} {left : Option Tree} {end : SessionEnd}
+pub stopped-end : {start : Start} {past now : StreamBytes} {stop : Stop} {left : Option Tree} {end : SessionEnd}
     → end.ended ≡ ended_by stop → end.left ≡ left → Stops start past now stop left → IsSessionEnd start past now end
 stopped-end {start} {past} {now} {stop} ended is stopped = (
-  subst (Serves start past now) (sym ended) stopped.served,
-  subst₂ (LeavesAt start past now) (sym ended) (sym is) (leaves-at stop stopped.leaves),
+  subst (ServesFrom start past now) (sym ended) stopped.served,
+  subst₂ (LeavesFrom start past now) (sym ended) (sym is) (leaves-at stop stopped.leaves),
 )
 
-closed-leaves : (start : Tree) (past now : StreamBytes) (last : State) (fault : Option SessionFault)
-    → LeavesAt start past now (closed_end last fault) None
+closed-leaves : (start : Start) (past now : StreamBytes) (last : State) (fault : Option SessionFault)
+    → LeavesFrom start past now (closed_end last fault) None
 closed-leaves start past now last None = refl
 closed-leaves start past now last (Some fault) = refl
 
 -- the session ended by itself
-pub closed-session : {start : Tree} {past now : StreamBytes} {core : Machine State} {fault : Option SessionFault}
+pub closed-session : {start : Start} {past now : StreamBytes} {core : Machine State} {fault : Option SessionFault}
     {ended : Ended} → ended ≡ closed_end core.state fault → IsEnding start past now core fault
     → IsSessionEnd start past now (record { ended = ended; left = None })
 closed-session {start} {past} {now} {core} {fault} is ending = (
-  subst (Serves start past now) (sym is) (closed ending),
-  subst (λ (e : Ended). LeavesAt start past now e None) (sym is) (closed-leaves start past now core.state fault),
+  subst (ServesFrom start past now) (sym is) (closed ending),
+  subst (λ (e : Ended). LeavesFrom start past now e None) (sym is) (closed-leaves start past now core.state fault),
 )
 
 -- nothing was read yet
@@ -300,11 +302,27 @@ greeting-parts (Init version extensions) greeting =
     record { version = version; extensions = extensions; high_enough = greeting.0; init_is = refl }
 greeting-parts other greeting = absurd greeting.0
 
-pub log-is-transcript : (input output log : List ℕ) (init : Packet) (events : List Event) (rest : List ℕ)
-    → IsOpened input output log init events rest → IsRecord events log
-log-is-transcript input output log init events rest opened =
+-- a VERSION 3 by its part
+record VersionParts (version : Packet) : Type 0 where
+  extensions : List (List ℕ × List ℕ)
+  version_is : version ≡ Version 3 extensions
+
+version-parts : (version : Packet) → IsVersion version → VersionParts version
+version-parts (Version number extensions) is =
+    record {
+      extensions = extensions;
+      version_is = ap (λ (n : ℕ). Version n extensions) (eqb-true is);
+    }
+version-parts other is = absurd is
+
+pub log-is-transcript : (start : Start) (input output log : List ℕ) (init : Packet) (events : List Event)
+    (rest : List ℕ) → IsVersion start.version → HasSpelling start.version
+    → IsOpened start input output log init events rest → IsRecord events log
+log-is-transcript start input output log init events rest is spelled opened =
     let parts = greeting-parts init opened.greeting in
-    let packets = our_version ∷ map packet_of events in
+    let announced = version-parts start.version is in
+    let packets = start.version ∷ map packet_of events in
+    let more = flat_map record_text (map packet_of events) in
     record {
       opened = flat_map record_text (init ∷ packets);
       records = flat_map event_record events;
@@ -312,12 +330,14 @@ log-is-transcript input output log init events rest opened =
       handshake = record {
         version = parts.version;
         asked = parts.extensions;
-        told = server_extensions;
+        told = announced.extensions;
         high_enough = parts.high_enough;
         init = subst HasSpelling parts.init_is opened.greeting.1;
-        answer = version_spelled;
-        bytes_are = ap (λ (p : Packet). record_text p ++ (record_text our_version ++ flat_map record_text (map packet_of events))) parts.init_is
-            ∙ ap (λ (bytes : List ℕ). record_text (Init parts.version parts.extensions) ++ (record_text our_version ++ bytes)) (records-are events);
+        answer = subst HasSpelling announced.version_is spelled;
+        bytes_are = ap (λ (p : Packet). record_text p ++ (record_text start.version ++ more)) parts.init_is
+            ∙ ap (λ (p : Packet). record_text (Init parts.version parts.extensions) ++ (record_text p ++ more)) announced.version_is
+            ∙ ap (λ (bytes : List ℕ). record_text (Init parts.version parts.extensions)
+            ++ (record_text (Version 3 announced.extensions) ++ bytes)) (records-are events);
       };
       spelled = opened.spelled;
       records_are = sym (append-nil (flat_map event_record events));
@@ -332,7 +352,7 @@ works-nothing core0 core1 same written logged =
     (sends-nothing core0 written logged)
 
 -- the session goes on whatever fault was found in front
-pub running-sound : {start : Tree} {past now : StreamBytes} {ahead : Ahead} {core : Machine State}
+pub running-sound : {start : Start} {past now : StreamBytes} {ahead : Ahead} {core : Machine State}
     {fault : Option SessionFault} → IsRunning start past now ahead core fault
     → IsRunning start past now ahead core None
 running-sound running = running-on running running.passed refl tt

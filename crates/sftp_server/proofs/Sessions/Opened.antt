@@ -6,7 +6,7 @@ use Rattle.sftp_server.proofs.Imports.{Appends-trans, Packet, Init, Side, Client
 use Rattle.sftp_server.proofs.Imports.{StandsInFront, place_after, none-leaves_room, AppendsPart, Log, opened_text}
 use Rattle.sftp_server.proofs.Imports.{record_text, transcript_opening, BeginsFrom, turn_after, in_window, exchanges_of}
 use Rattle.sftp_server.proofs.Imports.{leading_pairs, window, Tree, State, Good, settled, Allowed, Stop, at_start}
-use Rattle.sftp_server.proofs.Imports.{started, our_version, sent_by, spelled_if, recorded, IsGreeting, IsNoGreeting}
+use Rattle.sftp_server.proofs.Imports.{started, sent_by, spelled_if, recorded, IsGreeting, IsNoGreeting}
 use Rattle.sftp_server.proofs.Imports.{IsListed, IsCutInLast, StreamBytes, stream_bytes, Passed, AreDone, Stops}
 use Rattle.sftp_server.proofs.Imports.{tree_left, IsLogging, Ahead, IsRunning, IsUnopenedYet, FailsToSend, MatchResult}
 use Rattle.sftp_server.proofs.Imports.{drop_at, input_limit, ahead_without, BeginsWithGreeting, First, Keeps-refl}
@@ -14,7 +14,7 @@ use Rattle.sftp_server.proofs.Imports.{IsLeftAfter}
 use Rattle.sftp_packets.specs.declared.packets.Packet.TheVariants.{Version, Request, Reply}
 use Rattle.sftp_server.specs.Ending.{IsFirst, IsInFront, IsGreetingOf}
 use Rattle.std.specs.Result.{IsErrAnd}
-use Rattle.sftp_transcript.specs.Transcript.{IsInit}
+use Rattle.sftp_transcript.specs.Transcript.{IsInit, IsVersion}
 use Rattle.sftp_server.specs.declared.ends.SessionFault.TheVariants as faults
 use Rattle.sftp_server.specs.declared.ends.Stop.TheVariants as stops
 use Rattle.sftp_server.specs.declared.ends.Stream.TheVariants as streams
@@ -25,6 +25,7 @@ use Rattle.sftp_server.proofs.Sessions.{cut-whole, is-beginning, client-silent, 
 use Rattle.sftp_server.proofs.Sessions.{passed-kept, stops-by, leaves-by}
 use Rattle.sftp_server.specs.Served.{IsWrittenSoFar}
 use Rattle.sftp_server.specs.Sessions.{ended_by}
+use Rattle.sftp_server.specs.Served.{Start}
 
 -- ---- before the first packet is complete
 
@@ -42,7 +43,7 @@ pub record OnlyReads (left0 left1 : Option (List ℕ)) (ahead0 ahead1 : Ahead) (
   pub failures : failures1 ≡ failures0
 
 -- a session that stops before it is opened
-pub unopened-stopped : {start : Tree} {past now : StreamBytes} {ahead : Ahead} {stop : Stop}
+pub unopened-stopped : {start : Start} {past now : StreamBytes} {ahead : Ahead} {stop : Stop}
     → IsUnopenedYet past now ahead → (stop ≡ stops.NoMemory) ⊎ (stop ≡ stops.Io streams.Reader)
     → Stops start past now stop None
 unfolding sent_by
@@ -156,19 +157,19 @@ init-logged {past} {left} {written} {logged0} {logged1} {ahead} {count} greets u
     }
 
 -- the tree of a session in which no request was done
-abbrev pub first_left : Tree → Option Tree
-first_left start = tree_left (at_start (started start) window)
+abbrev pub first_left : Start → Option Tree
+first_left start = tree_left (at_start (started start.tree) window)
 
-nothing-done : (start : Tree) (init : Packet) → IsLeftAfter start (init ∷ []) (first_left start)
+nothing-done : (start : Start) (init : Packet) → IsLeftAfter start.tree (init ∷ []) (first_left start)
 unfolding AreDone exchanges_of
 nothing-done start init = (
   [],
   refl,
-  record { last = started start; leads = record { done = []; are_done = refl; run = refl }; end_is = refl },
+  record { last = started start.tree; leads = record { done = []; are_done = refl; run = refl }; end_is = refl },
 )
 
 -- the log fails in its record
-pub init-unlogged : {start : Tree} {past : StreamBytes} {left written logged0 logged1 : Option (List ℕ)} {ahead : Ahead}
+pub init-unlogged : {start : Start} {past : StreamBytes} {left written logged0 logged1 : Option (List ℕ)} {ahead : Ahead}
     {count : ℕ} → (greets : BeginsWithGreeting ahead.held count)
     → IsUnopenedYet past (stream_bytes left written logged0) ahead
     → AppendsPart logged0 logged1 (opened_text 0 (record_text greets.init))
@@ -190,7 +191,7 @@ init-unlogged {start} {past} {left} {written} {logged0} {logged1} {ahead} {count
     (leaves-by passed (init ∷ []) rest greets.greeting read ([], silent) cut (nothing-done start init))
 
 -- memory runs out after it
-pub init-no_memory : {start : Tree} {init : Packet} {past now : StreamBytes} {ahead : Ahead}
+pub init-no_memory : {start : Start} {init : Packet} {past now : StreamBytes} {ahead : Ahead}
     → IsInitLogged init past now ahead → Stops start past now stops.NoMemory (first_left start)
 init-no_memory {start} {init} {ahead = ahead} logged =
     stops-by logged.passed (init ∷ []) ahead.held logged.greeting refl (refl, cut-whole (init ∷ []))
@@ -199,8 +200,11 @@ init-no_memory {start} {init} {ahead = ahead} logged =
 
 -- ---- VERSION
 
-pub version-server : side_of our_version ≡ Server
-version-server = refl
+pub version-server : (packet : Packet) → IsVersion packet → side_of packet ≡ Server
+version-server (Init version extensions) is = absurd is
+version-server (Version version extensions) is = refl
+version-server (Request request) is = absurd is
+version-server (Reply reply) is = absurd is
 
 -- no events begin an explained session
 pub none-begin : (start : State) → BeginsFrom Allowed start []
@@ -212,30 +216,30 @@ none-begin start = record {
   explained = record { matching = λ id. refl; within_window = refl; run = refl };
 }
 
-pub version-listed : (start : Tree) (init : Packet) → IsGreeting init → IsListed start (init ∷ our_version ∷ [])
-version-listed start init greeting = (greeting, refl, [], refl, tt, none-begin (settled start []))
+pub version-listed : (start : Start) (init : Packet) → IsGreeting init → IsListed start (init ∷ start.version ∷ [])
+version-listed start init greeting = (greeting, refl, [], refl, tt, none-begin (settled start.tree []))
 
 -- VERSION was sent
-version-sent : {start : Tree} {init : Packet} {past : StreamBytes}
-    {left written0 written1 logged0 logged1 : Option (List ℕ)} {ahead : Ahead} → Good (started start)
-    → IsInitLogged init past (stream_bytes left written0 logged0) ahead
-    → Appends written0 written1 (spelling our_version) → Appends logged0 logged1 (record_text our_version)
-    → IsRunning start past (stream_bytes left written1 logged1) ahead (at_start (started start) window) None
-version-sent {start} {init} {past} {left} {written0} {written1} {logged0} {logged1} {ahead} good logged written
+version-sent : {start : Start} {init : Packet} {past : StreamBytes}
+    {left written0 written1 logged0 logged1 : Option (List ℕ)} {ahead : Ahead} → side_of start.version ≡ Server
+    → Good (started start.tree) → IsInitLogged init past (stream_bytes left written0 logged0) ahead
+    → Appends written0 written1 (spelling start.version) → Appends logged0 logged1 (record_text start.version)
+    → IsRunning start past (stream_bytes left written1 logged1) ahead (at_start (started start.tree) window) None
+version-sent {start} {init} {past} {left} {written0} {written1} {logged0} {logged1} {ahead} server good logged written
     recorded_too =
-    let silent = sym (client-silent (init ∷ []) our_version refl) in
+    let silent = sym (client-silent (init ∷ []) start.version server) in
     record {
       init = init;
       events = [];
       good = good;
       greeting = logged.greeting;
       spelled = tt;
-      reached = reached-start (started start) window;
+      reached = reached-start (started start.tree) window;
       passed = record {
         read = subst (λ (input : List ℕ). Consumes past.left left (input ++ ahead.held)) silent logged.passed.read;
-        written = subst (Appends past.written written1) (sym (server-sent (init ∷ []) our_version refl))
+        written = subst (Appends past.written written1) (sym (server-sent (init ∷ []) start.version server))
             (Appends-trans past.written written0 written1 _ _ logged.passed.written written);
-        logged = subst (Appends past.logged logged1) (sym (recorded-more init [] our_version))
+        logged = subst (Appends past.logged logged1) (sym (recorded-more init [] start.version))
             (Appends-trans past.logged logged0 logged1 _ _ logged.passed.logged recorded_too);
       };
       place = logged.place ∙ ap (λ (sent : List ℕ). place_after 0 (length sent)) silent;
@@ -244,22 +248,22 @@ version-sent {start} {init} {past} {left} {written0} {written1} {logged0} {logge
 
 -- VERSION was sent, or could not be
 pub version-done : {init : Packet} {past : StreamBytes} {left written0 : Option (List ℕ)} {log0 : Log} {ahead : Ahead}
-    {packet : Packet} (start : Tree) (written1 : Option (List ℕ)) (log1 : Log) (result : Result (Unit {0}) Stop)
-    → Good (started start) → packet ≡ our_version → IsLogging log0
+    {packet : Packet} (start : Start) (written1 : Option (List ℕ)) (log1 : Log) (result : Result (Unit {0}) Stop)
+    → side_of start.version ≡ Server → Good (started start.tree) → packet ≡ start.version → IsLogging log0
     → IsInitLogged init past (stream_bytes left written0 log0.bytes) ahead
     → OnOk result (Appends written0 written1 (spelling packet))
     → OnOk result (Appends log0.bytes log1.bytes (record_text packet))
     → IfErr result (λ stop. FailsToSend packet written0 written1 log0 log1 stop)
     → MatchResult result
-    (λ _. IsRunning start past (stream_bytes left written1 log1.bytes) ahead (at_start (started start) window) None)
+    (λ _. IsRunning start past (stream_bytes left written1 log1.bytes) ahead (at_start (started start.tree) window) None)
     (λ stop. Stops start past (stream_bytes left written1 log1.bytes) stop (first_left start))
-version-done {written0 = written0} {log0 = log0} start written1 log1 (Ok done) good is logging logged written
+version-done {written0 = written0} {log0 = log0} start written1 log1 (Ok done) server good is logging logged written
     recorded_too fails =
-    version-sent good logged (subst (λ (p : Packet). Appends written0 written1 (spelling p)) is written)
+    version-sent server good logged (subst (λ (p : Packet). Appends written0 written1 (spelling p)) is written)
     (subst (λ (p : Packet). Appends log0.bytes log1.bytes (record_text p)) is recorded_too)
-version-done {init} {past} {left} {written0} {log0} {ahead} start written1 log1 (Err stop) good is logging logged
+version-done {init} {past} {left} {written0} {log0} {ahead} start written1 log1 (Err stop) server good is logging logged
     written recorded_too fails =
-    stopped-sending start past left written0 written1 log0 log1 init [] our_version ahead.held (first_left start)
-    logging logged.greeting (version-listed start init logged.greeting) version-server logged.passed
+    stopped-sending start past left written0 written1 log0 log1 init [] start.version ahead.held (first_left start)
+    logging logged.greeting (version-listed start init logged.greeting) server logged.passed
     (nothing-done start init) (nothing-done start init) stop
     (subst (λ (p : Packet). FailsToSend p written0 written1 log0 log1 stop) is fails)

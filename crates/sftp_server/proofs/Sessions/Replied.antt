@@ -7,7 +7,7 @@ use Rattle.sftp_server.proofs.Imports.{reply_packet, Request, Reply, place_after
 use Rattle.sftp_server.proofs.Imports.{Replied, Log, packet_of, record_text, IsEvent, window, Tree, State, Allowed}
 use Rattle.sftp_server.proofs.Imports.{SessionFault, Stop, Entry, Pending, Done, Sent, Machine, is_sent, is_unsent}
 use Rattle.sftp_server.proofs.Imports.{is_ready, reply_at, IsWorked, IsSent, server_clash, started, IsReached}
-use Rattle.sftp_server.proofs.Imports.{session_packets, our_version, answered_last, IsListed, StreamBytes, stream_bytes}
+use Rattle.sftp_server.proofs.Imports.{session_packets, answered_last, IsListed, StreamBytes, stream_bytes}
 use Rattle.sftp_server.proofs.Imports.{IsLeftAfter, IsLogging, Ahead, IsRunning, IsFaultAhead, FailsToSend, SendsOn}
 use Rattle.sftp_server.proofs.Imports.{tree_left, all_more}
 use Rattle.sftp_server.specs.declared.ends.SessionFault.TheVariants as faults
@@ -18,6 +18,7 @@ use Rattle.sftp_server.proofs.Machines.Laws.{reached-worked, reached-sent}
 use Rattle.sftp_server.proofs.Sessions.{session-more, replied-session}
 use Rattle.sftp_server.proofs.Sessions.{stays-good, each-answered, reached-begins, running-listed, reached-leaves}
 use Rattle.sftp_server.proofs.Sessions.{stopped-no-memory, stopped-sending}
+use Rattle.sftp_server.specs.Served.{Start}
 
 -- ---- the unsent requests
 
@@ -100,7 +101,7 @@ used-sent {core0} {core1} {k} {reply} sent events same id (inr answered) =
 
 -- ---- a request is done
 
-running-worked : {start : Tree} {past now : StreamBytes} {ahead : Ahead} {core0 core1 : Machine State} {k : ℕ}
+running-worked : {start : Start} {past now : StreamBytes} {ahead : Ahead} {core0 core1 : Machine State} {k : ℕ}
     {fault : Option SessionFault} → IsRunning start past now ahead core0 fault → is_ready server_clash core0 k ≡ true
     → IsWorked Allowed core0 k core1 → IsRunning start past now ahead core1 fault
 running-worked {start} {ahead = ahead} {core0} {core1} {k} {fault} running ready worked = record {
@@ -109,7 +110,7 @@ running-worked {start} {ahead = ahead} {core0} {core1} {k} {fault} running ready
   good = running.good;
   greeting = running.greeting;
   spelled = running.spelled;
-  reached = reached-worked (started start) window running.events core0 core1 k running.reached ready worked;
+  reached = reached-worked (started start.tree) window running.events core0 core1 k running.reached ready worked;
   passed = running.passed;
   place = running.place;
   found = fault-kept running.events running.events core0.queue core1.queue ahead.held ahead.place fault
@@ -130,44 +131,44 @@ sends-nothing core written logged start past left ahead fault running = stopped-
 -- ---- a reply is sent
 
 -- what is reached once a reply is sent, and that the reply can be encoded
-module _ {start : Tree} {past now : StreamBytes} {ahead : Ahead} {core0 core1 : Machine State}
+module _ {start : Start} {past now : StreamBytes} {ahead : Ahead} {core0 core1 : Machine State}
     {fault : Option SessionFault} {k : ℕ} {reply : Reply} (running : IsRunning start past now ahead core0 fault)
     (at : reply_at core0.queue k ≡ Some reply) (sent : IsSent core0 k reply core1) where
   for-request : (reply.id ≡ sent.request.id) × HasSpelling (reply_packet reply)
   for-request =
-      reply-for stays-good each-answered (started start) window running.events core0 k reply core1 running.good
+      reply-for stays-good each-answered (started start.tree) window running.events core0 k reply core1 running.good
       (omega arith) running.reached sent
 
   abbrev events : List Event
   events = running.events ++ Replied reply ∷ []
 
-  reached : IsReached (started start) window events core1
-  reached = reached-sent (started start) window running.events core0 core1 k reply running.reached at sent
+  reached : IsReached (started start.tree) window events core1
+  reached = reached-sent (started start.tree) window running.events core0 core1 k reply running.reached at sent
 
   spelled : AllByRecursion IsEvent events
   spelled = all_more running.events (Replied reply) running.spelled for-request.1
 
   -- the tree that the core leaves is that after the packets so far, and after the reply
-  leaves : IsLeftAfter start (session_packets running.init running.events) (tree_left core1)
+  leaves : IsLeftAfter start.tree (session_packets start running.init running.events) (tree_left core1)
   leaves =
-      subst (λ (m : Machine State). IsLeftAfter start (session_packets running.init running.events) (tree_left m))
+      subst (λ (m : Machine State). IsLeftAfter start.tree (session_packets start running.init running.events) (tree_left m))
       (sym sent.marked)
       (reached-leaves start running.init running.events core0 running.good running.reached)
 
-  leaves-replied : IsLeftAfter start (session_packets running.init running.events ++ reply_packet reply ∷ [])
+  leaves-replied : IsLeftAfter start.tree (session_packets start running.init running.events ++ reply_packet reply ∷ [])
       (tree_left core1)
   leaves-replied =
-      subst (λ (packets : List Packet). IsLeftAfter start packets (tree_left core1))
-      (session-more running.init running.events (Replied reply ∷ []))
+      subst (λ (packets : List Packet). IsLeftAfter start.tree packets (tree_left core1))
+      (session-more start running.init running.events (Replied reply ∷ []))
       (reached-leaves start running.init events core1 running.good reached)
 
   -- the packets so far and the reply
-  listed-replied : IsListed start (session_packets running.init running.events ++ reply_packet reply ∷ [])
+  listed-replied : IsListed start (session_packets start running.init running.events ++ reply_packet reply ∷ [])
   listed-replied =
-      subst (IsListed start) (session-more running.init running.events (Replied reply ∷ []))
+      subst (IsListed start) (session-more start running.init running.events (Replied reply ∷ []))
       (running.greeting, refl, events, refl, spelled, reached-begins start events core1 running.good reached)
 
-running-replied : {start : Tree} {past : StreamBytes} {left written0 written1 logged0 logged1 : Option (List ℕ)}
+running-replied : {start : Start} {past : StreamBytes} {left written0 written1 logged0 logged1 : Option (List ℕ)}
     {ahead : Ahead} {core0 core1 : Machine State} {k : ℕ} {reply : Reply} {fault : Option SessionFault}
     → IsRunning start past (stream_bytes left written0 logged0) ahead core0 fault
     → reply_at core0.queue k ≡ Some reply → IsSent core0 k reply core1
@@ -176,7 +177,7 @@ running-replied : {start : Tree} {past : StreamBytes} {left written0 written1 lo
     → IsRunning start past (stream_bytes left written1 logged1) ahead core1 fault
 running-replied {past = past} {left} {written0} {written1} {logged0} {logged1} {ahead} {core0} {core1} {k} {reply}
     {fault} running at sent written logged =
-    let more = replied-session running.init running.events reply in
+    let more = replied-session start running.init running.events reply in
     record {
       init = running.init;
       events = running.events ++ Replied reply ∷ [];
@@ -210,7 +211,7 @@ replied core0 core1 k reply written0 written1 log0 log1 (Ok done) at sent loggin
 replied core0 core1 k reply written0 written1 log0 log1 (Err stop) at sent logging written logged fails start past left
     ahead fault running =
     stopped-sending start past left written0 written1 log0 log1 running.init
-    (our_version ∷ map packet_of running.events) (reply_packet reply) ahead.held (tree_left core1) logging
+    (start.version ∷ map packet_of running.events) (reply_packet reply) ahead.held (tree_left core1) logging
     (running-listed running) (listed-replied running at sent) refl running.passed (leaves running at sent)
     (leaves-replied running at sent) stop fails
 

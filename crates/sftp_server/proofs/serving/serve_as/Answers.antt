@@ -1,62 +1,31 @@
--- The session begins with nothing read; it is opened, or its first packet ends it.
-use Rattle.sftp_server.proofs.Imports.{subst, sym, IsAtEnd, stream_bytes, IsUnopenedYet}
-use Rattle.sftp_server.specs.Ending.{IsFirst}
-use Rattle.sftp_server.proofs.Sessions.Closed.{unopened-at_start, unopened-stops, unopened, stopped-end}
+-- The VERSION is the usual one.
+use Rattle.sftp_server.proofs.Imports.{Packet, stream_bytes, subst}
+use Rattle.sftp_server.specs.Left.{LeavesFrom}
+use Rattle.sftp_server.specs.Served.{announcing, usual, ServesFrom}
+use Rattle.sftp_server.proofs.Sessions.Closed.{unopened-at_start, unopened-stops, stopped-end}
 use Rattle.sftp_server.proofs.serving.serve_as.Goals as goal
 
 pub returns-in-Err-clause-served : goal.returns-in-Err-clause-served
 returns-in-Err-clause-served g c =
     let past =
     stream_bytes (g.R.Source.left c.args.reader.now) (g.W.Sink.written c.args.writer.now) c.args.log.now.bytes in
-    (stopped-end {start = c.args.tree} c.leaving.ensures.ended c.leaving.ensures.left
+    (stopped-end {start = usual c.args.tree} c.leaving.ensures.ended c.leaving.ensures.left
     (unopened-stops (unopened-at_start past) c.in-Err.ensures.err)).0
 
 pub returns-in-Err-clause-left : goal.returns-in-Err-clause-left
 returns-in-Err-clause-left g c =
     let past =
     stream_bytes (g.R.Source.left c.args.reader.now) (g.W.Sink.written c.args.writer.now) c.args.log.now.bytes in
-    (stopped-end {start = c.args.tree} c.leaving.ensures.ended c.leaving.ensures.left
+    (stopped-end {start = usual c.args.tree} c.leaving.ensures.ended c.leaving.ensures.left
     (unopened-stops (unopened-at_start past) c.in-Err.ensures.err)).1
-
-pub returns-in-Ok-Init-clause-served : goal.returns-in-Ok-Init-clause-served
-returns-in-Ok-Init-clause-served g c =
-    let written = g.W.Sink.written c.args.writer.now in
-    let past = stream_bytes (g.R.Source.left c.args.reader.now) written c.args.log.now.bytes in
-    (c.serve_from.ensures.served past
-    (c.in-Ok-Init.ensures.unopened c.args.tree past written c.args.log.now.bytes
-    (subst (IsUnopenedYet past past) (sym c.in-Ok.ensures.empty) (unopened-at_start past)))).0
-
-pub returns-in-Ok-Init-clause-left : goal.returns-in-Ok-Init-clause-left
-returns-in-Ok-Init-clause-left g c =
-    let written = g.W.Sink.written c.args.writer.now in
-    let past = stream_bytes (g.R.Source.left c.args.reader.now) written c.args.log.now.bytes in
-    (c.serve_from.ensures.served past
-    (c.in-Ok-Init.ensures.unopened c.args.tree past written c.args.log.now.bytes
-    (subst (IsUnopenedYet past past) (sym c.in-Ok.ensures.empty) (unopened-at_start past)))).1
-
-pub returns-in-Ok-Fault-clause-served : goal.returns-in-Ok-Fault-clause-served
-returns-in-Ok-Fault-clause-served g c =
-    let written = g.W.Sink.written c.args.writer.now in
-    let past = stream_bytes (g.R.Source.left c.args.reader.now) written c.args.log.now.bytes in
-    let left = g.R.Source.left c.await_init.new.reader in
-    let now = stream_bytes left written c.args.log.now.bytes in
-    unopened c.args.tree past now c.await_init.new.input c.in-Ok-Fault.fault
-    (c.in-Ok-Fault.ensures.unopened c.args.tree past written c.args.log.now.bytes
-    (subst (IsUnopenedYet past past) (sym c.in-Ok.ensures.empty) (unopened-at_start past)))
-    (subst (IsFirst c.await_init.new.input.held (IsAtEnd left)) c.in-Ok-Fault.field-0-is c.in-Ok-Fault.ensures.first)
 
 pub returns-clause-served : goal.returns-clause-served
 returns-clause-served g c =
-    let written = g.W.Sink.written c.args.writer.now in
-    let past = stream_bytes (g.R.Source.left c.args.reader.now) written c.args.log.now.bytes in
-    (stopped-end c.leaving-in-Err-await_init.ensures.ended c.leaving-in-Err-await_init.ensures.left
-    (c.in-Err-await_init.ensures.unopened c.args.tree past written c.args.log.now.bytes
-    (subst (IsUnopenedYet past past) (sym c.in-Ok.ensures.empty) (unopened-at_start past)))).0
+    subst (λ (version : Packet). ServesFrom (announcing c.args.tree version) _ _ c.serve_announcing-end.result.ended)
+    c.in-Ok.ensures.ok c.serve_announcing-end.ensures.served
 
 pub returns-clause-left : goal.returns-clause-left
 returns-clause-left g c =
-    let written = g.W.Sink.written c.args.writer.now in
-    let past = stream_bytes (g.R.Source.left c.args.reader.now) written c.args.log.now.bytes in
-    (stopped-end c.leaving-in-Err-await_init.ensures.ended c.leaving-in-Err-await_init.ensures.left
-    (c.in-Err-await_init.ensures.unopened c.args.tree past written c.args.log.now.bytes
-    (subst (IsUnopenedYet past past) (sym c.in-Ok.ensures.empty) (unopened-at_start past)))).1
+    subst (λ (version : Packet). LeavesFrom (announcing c.args.tree version) _ _
+    c.serve_announcing-end.result.ended c.serve_announcing-end.result.left)
+    c.in-Ok.ensures.ok c.serve_announcing-end.ensures.left
