@@ -81,11 +81,13 @@ pub record AskedSession (start : Start) (init : Packet) (events : List Event) (r
   pub log : recorded (session_packets start init (events ++ asked_event request ∷ []))
       ≡ recorded (session_packets start init events) ++ record_text (request_packet request)
 
-pub asked-session : (start : Start) (init : Packet) (events : List Event) (request : Request) → AskedSession start init events request
+pub asked-session : (start : Start) (init : Packet) (events : List Event) (request : Request)
+    → AskedSession start init events request
 asked-session start init events request = record {
   client = sent-session start Client init events (asked_event request);
   server =
-      sent-session start Server init events (asked_event request) ∙ append-nil (sent_by Server (session_packets start init events));
+      sent-session start Server init events (asked_event request)
+      ∙ append-nil (sent_by Server (session_packets start init events));
   log = recorded-session start init events (asked_event request);
 }
 
@@ -98,10 +100,12 @@ pub record RepliedSession (start : Start) (init : Packet) (events : List Event) 
   pub log : recorded (session_packets start init (events ++ replied_event reply ∷ []))
       ≡ recorded (session_packets start init events) ++ record_text (reply_packet reply)
 
-pub replied-session : (start : Start) (init : Packet) (events : List Event) (reply : Reply) → RepliedSession start init events reply
+pub replied-session : (start : Start) (init : Packet) (events : List Event) (reply : Reply)
+    → RepliedSession start init events reply
 replied-session start init events reply = record {
   client =
-      sent-session start Client init events (replied_event reply) ∙ append-nil (sent_by Client (session_packets start init events));
+      sent-session start Client init events (replied_event reply)
+      ∙ append-nil (sent_by Client (session_packets start init events));
   server = sent-session start Server init events (replied_event reply);
   log = recorded-session start init events (replied_event reply);
 }
@@ -167,8 +171,8 @@ pub reached-begins : (start : Start) (events : List Event) (core : Machine State
 reached-begins start events core good reached =
     core_laws.begun stays-good each-answered (started start.tree) window events core good (omega arith) reached
 
-pub begun : {start : Start} {past now : StreamBytes} {ahead : Ahead} {core : Machine State} {fault : Option SessionFault}
-    → (running : IsRunning start past now ahead core fault) → BeginsFrom Allowed (settled start.tree []) running.events
+pub begun : {start : Start} {past now : StreamBytes} {ahead : Ahead} {core : Machine State}
+    {fault : Option SessionFault} → (running : IsRunning start past now ahead core fault) → BeginsFrom Allowed (settled start.tree []) running.events
 begun {start = start} {core = core} running = reached-begins start running.events core running.good running.reached
 
 pub running-listed : {start : Start} {past now : StreamBytes} {ahead : Ahead} {core : Machine State}
@@ -214,13 +218,15 @@ pub after-done : (start : Start) (events : List Event) (core : Machine State) �
 after-done start events core good reached =
     record {
       last = core.state;
-      leads = core_laws.leads-to stays-good each-answered (started start.tree) window events core good (omega arith) reached;
+      leads =
+          core_laws.leads-to stays-good each-answered (started start.tree) window events core good (omega arith) reached;
       end_is = refl;
     }
 
 -- a core that was reached leaves this tree
-pub reached-leaves : (start : Start) (init : Packet) (events : List Event) (core : Machine State) → Good (started start.tree)
-    → IsReached (started start.tree) window events core → IsLeftAfter start.tree (session_packets start init events) (tree_left core)
+pub reached-leaves : (start : Start) (init : Packet) (events : List Event) (core : Machine State)
+    → Good (started start.tree) → IsReached (started start.tree) window events core
+    → IsLeftAfter start.tree (session_packets start init events) (tree_left core)
 reached-leaves start init events core good reached = (events, refl, after-done start events core good reached)
 
 -- ---- a session that stops, by the packets that it read, wrote and logged
@@ -234,41 +240,41 @@ served-stopped : (start : Start) (input output log : List ℕ) (over : Type 0) (
 served-stopped start input output log over (stops.Io stream) is = is
 served-stopped start input output log over stops.NoMemory is = is
 
-module _ {start : Start} {past now : StreamBytes} {input output log : List ℕ} (passed : Passed past now input output log)
-  where
-    pub leaves-by : {left : Option Tree} (packets : List Packet) (rest : List ℕ) → IsListed start packets
-        → input ≡ sent_by Client packets ++ rest → IsBeginning output (sent_by Server packets)
-        → IsCutInLast packets log → IsLeftAfter start.tree packets left → Leaves start past now left
-    leaves-by packets rest listed read written logged tree = record {
+module _ {start : Start} {past now : StreamBytes} {input output log : List ℕ}
+    (passed : Passed past now input output log) where
+  pub leaves-by : {left : Option Tree} (packets : List Packet) (rest : List ℕ) → IsListed start packets
+      → input ≡ sent_by Client packets ++ rest → IsBeginning output (sent_by Server packets)
+      → IsCutInLast packets log → IsLeftAfter start.tree packets left → Leaves start past now left
+  leaves-by packets rest listed read written logged tree = record {
+    input = input;
+    output = output;
+    log = log;
+    passed = passed;
+    is_left = record {
+      packets = packets;
+      rest = rest;
+      listed = listed;
+      read = read;
+      written = written;
+      logged = logged;
+      tree = tree;
+    };
+  }
+
+  pub stops-by : {stop : Stop} {left : Option Tree} (packets : List Packet) (rest : List ℕ) → IsListed start packets
+      → input ≡ sent_by Client packets ++ rest → IsWrittenSoFar start packets output log (ended_by stop)
+      → Leaves start past now left → Stops start past now stop left
+  stops-by {stop} packets rest listed read so_far leaves = record {
+    served = record {
       input = input;
       output = output;
       log = log;
       passed = passed;
-      is_left = record {
-        packets = packets;
-        rest = rest;
-        listed = listed;
-        read = read;
-        written = written;
-        logged = logged;
-        tree = tree;
-      };
-    }
-
-    pub stops-by : {stop : Stop} {left : Option Tree} (packets : List Packet) (rest : List ℕ) → IsListed start packets
-        → input ≡ sent_by Client packets ++ rest → IsWrittenSoFar start packets output log (ended_by stop)
-        → Leaves start past now left → Stops start past now stop left
-    stops-by {stop} packets rest listed read so_far leaves = record {
-      served = record {
-        input = input;
-        output = output;
-        log = log;
-        passed = passed;
-        served = served-stopped start input output log (IsAtEnd now.left) stop
-            (record { packets = packets; rest = rest; listed = listed; read = read; left = so_far });
-      };
-      leaves = leaves;
-    }
+      served = served-stopped start input output log (IsAtEnd now.left) stop
+          (record { packets = packets; rest = rest; listed = listed; read = read; left = so_far });
+    };
+    leaves = leaves;
+  }
 
 -- ---- a session that stops between packets
 
@@ -333,7 +339,8 @@ module _ (start : Start) (past : StreamBytes) (left written0 written1 : Option (
     (logging : IsLogging log0) (listed : IsListed start (first ∷ others))
     (more : IsListed start ((first ∷ others) ++ packet ∷ [])) (side : side_of packet ≡ Server)
     (passed : Passed past (stream_bytes left written0 log0.bytes) (sent_by Client (first ∷ others) ++ rest)
-    (sent_by Server (first ∷ others)) (recorded (first ∷ others))) (leaves : IsLeftAfter start.tree (first ∷ others) tree)
+    (sent_by Server (first ∷ others)) (recorded (first ∷ others)))
+    (leaves : IsLeftAfter start.tree (first ∷ others) tree)
     (leaves_more : IsLeftAfter start.tree ((first ∷ others) ++ packet ∷ []) tree) where
   abbrev so_far : List Packet
   so_far = first ∷ others

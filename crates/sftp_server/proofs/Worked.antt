@@ -8,7 +8,7 @@ use Rattle.sftp_server.proofs.Imports.{Progress, Pending, Done, Sent, Machine, a
 use Rattle.sftp_server.proofs.Imports.{is_unsent, is_free_of, from_unsent, server_clash, started, no_attributes, ◌≡◌}
 use Rattle.sftp_server.proofs.Imports.{◌++◌, map, Some, Ok, sym, ap, ◌∙◌, arith, append_assoc, append-nil}
 use Rattle.sftp_server.proofs.Imports.{AllByRecursion, length-append, Packet, Init, Client, Server, front_of}
-use Rattle.sftp_server.specs.Served.{Start, usual}
+use Rattle.sftp_server.specs.Served.{usual}
 use Rattle.sftp_server.proofs.Imports.{place_after, hex, front_again, spellings-apart, length-spelling, Event, Asked}
 use Rattle.sftp_server.proofs.Imports.{Replied, packet_of, IsEvent, handshake_bytes, settled, our_version}
 use Rattle.sftp_server.proofs.Imports.{session_packets, sent_by, IsGreeting, IsOpened, IsServed, version_bytes}
@@ -262,7 +262,8 @@ unfolding spelling
 greeting = (lit≤ tt, record { fields = (lit< tt, tt); whole = lit≤ tt; handle = tt; canonical = refl })
 
 -- after VERSION nothing is asked
-pub opened : (rest : List ℕ) → IsOpened (usual start) (init_bytes ++ rest) version_bytes handshake_bytes (Init 3 []) [] rest
+pub opened : (rest : List ℕ)
+    → IsOpened (usual blank) (init_bytes ++ rest) version_bytes handshake_bytes (Init 3 []) [] rest
 unfolding sent_by spelling hex
 opened rest = record { greeting = greeting; spelled = tt; read = refl; written = refl; logged = refl }
 
@@ -317,9 +318,9 @@ no_events more rest (Asked request ∷ events) spelled none read written =
 no_events more rest (Replied reply ∷ events) spelled none read written =
     absurd (some_bytes (reply_packet reply) (sent_by Server (map packet_of events)) written)
 
-pub only_opens : {start : Tree} (more log rest : List ℕ) (init : Packet) (events : List Event)
+pub only_opens : (more log rest : List ℕ) (init : Packet) (events : List Event)
     → ((packet : Packet) (count : ℕ) → front_of Client more ≡ Ok (Some (packet, count)) → ⊥)
-    → IsOpened (usual start) (init_bytes ++ more) version_bytes log init events rest → OnlyOpens more init events rest
+    → IsOpened (usual blank) (init_bytes ++ more) version_bytes log init events rest → OnlyOpens more init events rest
 unfolding sent_by
 only_opens more log rest (Init version extensions) events none is =
     let init = Init version extensions in
@@ -337,7 +338,7 @@ version_written none =
     some_bytes our_version [] (append-nil (spelling our_version) ∙ sym version_is ∙ none)
 
 -- the place after the INIT
-pub place_is : {start : Start} (init : Packet) (events : List Event) → init ≡ Init 3 [] → events ≡ []
-    → place_after 0 (length (sent_by Client (session_packets start init events))) ≡ 9
+pub place_is : (init : Packet) (events : List Event) → init ≡ Init 3 [] → events ≡ []
+    → place_after 0 (length (sent_by Client (session_packets (usual blank) init events))) ≡ 9
 unfolding sent_by spelling
-place_is {start} init events first none = rw (first, none) refl
+place_is init events first none = rw (first, none) refl

@@ -83,7 +83,8 @@ IsGreeting packet = IsInit packet × HasSpelling packet
 
 -- The session that was opened: what was read is the client's packets and then the rest; what was written is the
 -- server's packets; and the log is the record of both in the order of the session. Each event can be encoded.
-pub record IsOpened (start : Start) (input output log : List ℕ) (init : Packet) (events : List Event) (rest : List ℕ) : Type 0 where
+pub record IsOpened (start : Start) (input output log : List ℕ) (init : Packet) (events : List Event) (rest : List ℕ)
+    : Type 0 where
   pub greeting : IsGreeting init
   pub spelled : AllByRecursion IsEvent events
   pub read : input ≡ sent_by Client (session_packets start init events) ++ rest

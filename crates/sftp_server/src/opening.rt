@@ -130,8 +130,8 @@ pub(crate) fn greet<W: Sink, L: Sink>(
     requires whole { BeginsWithGreeting input.old.held count }
     requires version { IsVersion version.now }
     requires spelled { HasSpelling version.now }
-    ensures running { OpensOn version.now input.old input.new (W.written writer.old) (W.written writer.new) log.old.bytes
-        log.new.bytes result }
+    ensures running { OpensOn version.now input.old input.new (W.written writer.old) (W.written writer.new)
+        log.old.bytes log.new.bytes result }
     ensures logging { OnOk result (IsLogging log.new) }
     ensures counts_writer { CountsCall streams.Writer result (W.failures writer.old) (W.failures writer.new) }
     ensures counts_log { CountsCall streams.Log result log.old.failures log.new.failures }

@@ -7,7 +7,8 @@ ghost use Rattle.sftp_server.specs.declared.taking.Front.TheVariants as fronts;
 ghost use Rattle.sftp_server.specs.declared.serving.Next.TheVariants as nexts;
 ghost use Rattle.sftp_packets.specs.Packets.{HasSpelling};
 ghost use Rattle.sftp_transcript.specs.Transcript.{IsVersion};
-ghost use Rattle.sftp_server.specs.Served.{announcing, stream_bytes, IsUnused, Serves, ServesFrom, CountsEnd, StreamBytes};
+ghost use Rattle.sftp_server.specs.Served.{announcing, stream_bytes, IsUnused, StreamBytes};
+ghost use Rattle.sftp_server.specs.Served.{Serves, ServesFrom, CountsEnd};
 ghost use Rattle.sftp_server.specs.Left.{LeavesAt, LeavesFrom};
 ghost use Rattle.sftp_server.specs.Sessions.{IsLogging, CountsCall, input_limit, IsUnopenedYet, BeginsWithGreeting};
 ghost use Rattle.sftp_server.specs.Sessions.{IsSessionEnd};
@@ -203,7 +204,8 @@ fn serve_from<R: Source, W: Sink, L: Sink, S: Schedule, T: HandleTable, A: Answe
     // For any session that has only read so far.
     ensures served { (past : StreamBytes)
         → IsUnopenedYet past (stream_bytes (R.left reader.old) (W.written writer.old) log.old.bytes) input.old
-        → IsSessionEnd (announcing tree version.now) past (stream_bytes (R.left reader.new) (W.written writer.new) log.new.bytes) result }
+        → IsSessionEnd (announcing tree version.now) past
+        (stream_bytes (R.left reader.new) (W.written writer.new) log.new.bytes) result }
     ensures counts_reader { CountsEnd streams.Reader result.ended (R.failures reader.old) (R.failures reader.new) }
     ensures counts_writer { CountsEnd streams.Writer result.ended (W.failures writer.old) (W.failures writer.new) }
     ensures counts_log { CountsEnd streams.Log result.ended log.old.failures log.new.failures }

@@ -78,21 +78,30 @@ pub announced-finished : (start : Start) (end : Tree) (bytes log : List ℕ) (pa
     → IsVersion start.version → HasSpelling start.version → IsStart start.tree bytes → IsLogged past now log
     → ServesFrom start past now (Finished end) → (events : List Event) × Accounts bytes log start.tree events end
 announced-finished start end bytes log past now version spelled is logged serves =
-    let same = logged-of past.logged now.logged log serves.log logged.nothing_before logged.all_now serves.passed.logged in
-    let of : IsFinished start serves.input (IsAtEnd now.left) serves.output serves.log end = serves.served in
-    (of.events, accounts start end bytes log serves.input serves.output serves.log of.init of.events [] version spelled is same of.opened of.served)
+    let same =
+    logged-of past.logged now.logged log serves.log logged.nothing_before logged.all_now serves.passed.logged in
+    let of : IsFinished start serves.input (IsAtEnd now.left) serves.output serves.log end = serves.served in (
+      of.events,
+      accounts start end bytes log serves.input serves.output serves.log of.init of.events [] version spelled
+          is same of.opened of.served,
+    )
 
 pub announced-faulty : (start : Start) (end : Tree) (fault : SessionFault) (bytes log : List ℕ) (past now : StreamBytes)
     → IsVersion start.version → HasSpelling start.version → IsStart start.tree bytes → IsLogged past now log
     → ServesFrom start past now (Fault end fault)
     → ((log ≡ []) × (end ≡ start.tree)) ⊎ ((events : List Event) × Accounts bytes log start.tree events end)
 announced-faulty start end fault bytes log past now version spelled is logged serves =
-    let same = logged-of past.logged now.logged log serves.log logged.nothing_before logged.all_now serves.passed.logged in
+    let same =
+    logged-of past.logged now.logged log serves.log logged.nothing_before logged.all_now serves.passed.logged in
     let of : IsUnopened start.tree serves.input (IsAtEnd now.left) serves.output serves.log end fault
     ⊎ IsFaulty start serves.input (IsAtEnd now.left) serves.output serves.log end fault = serves.served in
     elim of [
       | inl un ↦ inl (same ∙ un.nothing_logged, un.end_is)
-      | inr is_faulty ↦ inr (is_faulty.events, accounts start end bytes log serves.input serves.output serves.log is_faulty.init is_faulty.events is_faulty.rest version spelled is same is_faulty.opened is_faulty.served)
+      | inr is_faulty ↦ inr (
+        is_faulty.events,
+        accounts start end bytes log serves.input serves.output serves.log
+            is_faulty.init is_faulty.events is_faulty.rest version spelled is same is_faulty.opened is_faulty.served,
+      )
     ]
 
 -- ---- the usual VERSION
@@ -103,8 +112,8 @@ pub finished : (start end : Tree) (bytes log : List ℕ) (past now : StreamBytes
 finished start end bytes log past now is logged serves =
     announced-finished (usual start) end bytes log past now refl version_spelled is logged serves
 
-pub faulty : (start end : Tree) (fault : SessionFault) (bytes log : List ℕ) (past now : StreamBytes) → IsStart start bytes
-    → IsLogged past now log → Serves start past now (Fault end fault)
+pub faulty : (start end : Tree) (fault : SessionFault) (bytes log : List ℕ) (past now : StreamBytes)
+    → IsStart start bytes → IsLogged past now log → Serves start past now (Fault end fault)
     → ((log ≡ []) × (end ≡ start)) ⊎ ((events : List Event) × Accounts bytes log start events end)
 faulty start end fault bytes log past now is logged serves =
     announced-faulty (usual start) end fault bytes log past now refl version_spelled is logged serves

@@ -171,8 +171,8 @@ module _ {start : Start} {past now : StreamBytes} {core : Machine State} where
       record {
         last = core.state;
         explained =
-            explained stays-good each-answered (started start.tree) window running.events core running.good (omega arith)
-            running.reached ending.answered;
+            explained stays-good each-answered (started start.tree) window running.events core running.good
+            (omega arith) running.reached ending.answered;
         end_is = refl;
       }
 
@@ -335,7 +335,8 @@ log-is-transcript start input output log init events rest is spelled opened =
         init = subst HasSpelling parts.init_is opened.greeting.1;
         answer = subst HasSpelling announced.version_is spelled;
         bytes_are = ap (λ (p : Packet). record_text p ++ (record_text start.version ++ more)) parts.init_is
-            ∙ ap (λ (p : Packet). record_text (Init parts.version parts.extensions) ++ (record_text p ++ more)) announced.version_is
+            ∙ ap (λ (p : Packet). record_text (Init parts.version parts.extensions) ++ (record_text p ++ more))
+            announced.version_is
             ∙ ap (λ (bytes : List ℕ). record_text (Init parts.version parts.extensions)
             ++ (record_text (Version 3 announced.extensions) ++ bytes)) (records-are events);
       };

@@ -169,8 +169,8 @@ nothing-done start init = (
 )
 
 -- the log fails in its record
-pub init-unlogged : {start : Start} {past : StreamBytes} {left written logged0 logged1 : Option (List ℕ)} {ahead : Ahead}
-    {count : ℕ} → (greets : BeginsWithGreeting ahead.held count)
+pub init-unlogged : {start : Start} {past : StreamBytes} {left written logged0 logged1 : Option (List ℕ)}
+    {ahead : Ahead} {count : ℕ} → (greets : BeginsWithGreeting ahead.held count)
     → IsUnopenedYet past (stream_bytes left written logged0) ahead
     → AppendsPart logged0 logged1 (opened_text 0 (record_text greets.init))
     → Stops start past (stream_bytes left written logged1) (stops.Io streams.Log) (first_left start)
@@ -255,7 +255,8 @@ pub version-done : {init : Packet} {past : StreamBytes} {left written0 : Option 
     → OnOk result (Appends log0.bytes log1.bytes (record_text packet))
     → IfErr result (λ stop. FailsToSend packet written0 written1 log0 log1 stop)
     → MatchResult result
-    (λ _. IsRunning start past (stream_bytes left written1 log1.bytes) ahead (at_start (started start.tree) window) None)
+    (λ _. IsRunning start past (stream_bytes left written1 log1.bytes) ahead (at_start (started start.tree) window)
+    None)
     (λ stop. Stops start past (stream_bytes left written1 log1.bytes) stop (first_left start))
 version-done {written0 = written0} {log0 = log0} start written1 log1 (Ok done) server good is logging logged written
     recorded_too fails =

@@ -151,7 +151,8 @@ module _ {start : Start} {past now : StreamBytes} {ahead : Ahead} {core0 core1 :
   -- the tree that the core leaves is that after the packets so far, and after the reply
   leaves : IsLeftAfter start.tree (session_packets start running.init running.events) (tree_left core1)
   leaves =
-      subst (λ (m : Machine State). IsLeftAfter start.tree (session_packets start running.init running.events) (tree_left m))
+      subst
+      (λ (m : Machine State). IsLeftAfter start.tree (session_packets start running.init running.events) (tree_left m))
       (sym sent.marked)
       (reached-leaves start running.init running.events core0 running.good running.reached)
 

@@ -20,7 +20,8 @@ returns-clause-running g c = λ start past left same good unopened.
     let whole = c.requires.whole in
     let now = stream_bytes left (g.W.Sink.written c.args.writer.now) c.log_init.new.log.bytes in
     version-done start (g.W.Sink.written c.send.new.writer) c.send.new.log c.send.result
-    (ap side_of same ∙ version-server c.args.version.now c.requires.version) good (sym same) c.in_ok-log_init.ensures.logging
+    (ap side_of same ∙ version-server c.args.version.now c.requires.version) good (sym same)
+    c.in_ok-log_init.ensures.logging
     (subst (IsInitLogged whole.init past now) (sym c.in_ok-log_init.ensures.taken)
     (init-logged whole unopened
     (c.in_ok-log_init.ensures.logged whole.init (init-client whole.init whole.greeting.0)
