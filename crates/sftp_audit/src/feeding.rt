@@ -11,8 +11,8 @@ use sftp_transcript::{Event, Reader, Source};
 use sftp_tree::Tree;
 use std::alloc::Global;
 
-/// The bytes of a block that is freed at once; half of what is then kept.
-const FREED_BLOCK: usize = 4 * 1_048_576;
+/// How many bytes the allocator keeps for an audit after they were freed: two windows of WRITEs of 32 KiB, and more.
+const KEPT: usize = 8 * 1_048_576;
 
 /// An auditor that was fed a whole transcript, and how many requests that has, up to 2^64 - 1.
 #[derive(Drop)]
@@ -52,7 +52,7 @@ pub(crate) fn begin_and_feed<J: Judges, R: Source>(
     ensures followed { OnOk result (follows.new ≡ true) }
 {
     *follows = true;
-    keep_freed_memory(start.allocator());
+    keep_freed_memory(start.allocator(), KEPT);
     let mut auditor = Auditor::<J>::by(by, start)?;
     match feed_all(&mut auditor, records) {
         Ok(requests) => Ok(Fed { auditor, requests }),
@@ -64,14 +64,14 @@ pub(crate) fn begin_and_feed<J: Judges, R: Source>(
     }
 }
 
-/// Has the allocator keep up to 8 MiB that were freed, for later, in the place of giving them back to the system: it
-/// takes a block of memory and frees it. It takes no memory that stays, and needs none.
-// The GNU C library gives memory at the end of its heap back once that is twice the largest block of its own that was
-// freed, 128 KiB at first. WRITEs of 32 KiB wait for their replies 64 at a time: each window of them was given back,
-// and taken again page by page, which was half of the time of their audit. `mallopt` would say it, but is not to be
-// had.
-fn keep_freed_memory(alloc: Global) {
-    match Vec::<u8>::with_capacity(alloc, FREED_BLOCK) {
+/// Has the allocator keep up to so many bytes that were freed, for later, in the place of giving them back to the
+/// system: it takes a block of half of them and frees it. It takes no memory that stays, and needs none.
+// The GNU C library gives memory at the end of its heap back once that is twice the largest block mapped by itself that
+// was freed (M_TRIM_THRESHOLD of mallopt(3)), 128 KiB at first. WRITEs of 32 KiB wait for their replies 64 at a time:
+// each window of them was given back, and taken again page by page, which was half of the time of their audit.
+// `mallopt` would say it, but is not to be had.
+pub fn keep_freed_memory(alloc: Global, most: usize) {
+    match Vec::<u8>::with_capacity(alloc, most / 2) {
         Ok(block) => drop(block),
         Err(_no_memory) => {}
     }

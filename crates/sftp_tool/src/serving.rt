@@ -10,6 +10,7 @@ use crate::replaying::{Parting, Replay};
 use crate::summaries::{Close, Summary, Traffic};
 use crate::trees::read_tree;
 use crate::twice::is_lost;
+use sftp_audit::keep_freed_memory;
 use sftp_commands::write_tree;
 use sftp_files::{
     Announcing, Bounded, Ending, Failure, Keeping, Meter, Record, Recording, STANDARD_INPUT,
@@ -26,8 +27,9 @@ use std::io::{Read, Write};
 /// first names of files are kept in mind.
 const ROOM_TO_SAVE: usize = 33_816_576;
 
-/// The size of the block that is freed at the start.
-const FREED_BLOCK: usize = 1_048_576;
+/// How many bytes the allocator keeps for a session after they were freed. Else each larger packet takes its memory
+/// from the system anew and gives it back.
+const KEPT: usize = 2 * 1_048_576;
 
 /// Why there cannot be two orders.
 const TWO_ORDERS: &str = "'--shuffle' and '--replay' cannot be used together";
@@ -64,7 +66,7 @@ pub(crate) fn serve<'a, R: System, I: Read, O: Write, E: Write>(
     ensures { IfOk result (λ ending. ending ≡ endings.Done) }
 {
     require_place(rt, options)?;
-    keep_freed_memory(rt)?;
+    keep_freed_memory(rt.alloc(), KEPT);
     let mut meter = Meter::new(rt, options.memory)?;
     let setup = set_up(rt, options, style)?;
     let announcing = Announcing::new(output, errors, options.is_verbose);
@@ -206,14 +208,6 @@ fn room_to_save<'a, R: System>(rt: &R, options: &ServeOptions<'a>) -> Result<Vec
         _ => 0,
     };
     Ok(Vec::with_capacity(rt.alloc(), bytes)?)
-}
-
-/// Has malloc keep up to 2 MiB that were freed. Else each larger packet takes its memory from the system anew and gives
-/// it back: the bound is twice the largest block mapped by itself that was freed (M_TRIM_THRESHOLD of mallopt(3)).
-fn keep_freed_memory<'a, R: System>(rt: &R) -> Result<(), Failure<'a>> {
-    let block: Vec<u8> = Vec::with_capacity(rt.alloc(), FREED_BLOCK)?;
-    drop(block);
-    Ok(())
 }
 
 /// The tree that the session starts from.
