@@ -86,15 +86,12 @@ pub fn logs_account_for_runs()
     ensures fault { (start end : values.Tree) (fault : SessionFault) (bytes log : List ℕ) (past now : StreamBytes)
         → IsStart start bytes → IsLogged past now log → Serves start past now (Fault end fault)
         → ((log ≡ []) × (end ≡ start)) ⊎ ((events : List Event) × Accounts bytes log start events end) }
-{}
-
-/// The same of a session that announced any VERSION 3, as `serve_announcing` does.
-pub fn announced_logs_account_for_runs()
-    ensures finished { (start : Start) (end : values.Tree) (bytes log : List ℕ) (past now : StreamBytes)
+    // The same of a session that announced any VERSION 3, as `serve_announcing` does.
+    ensures announced_finished { (start : Start) (end : values.Tree) (bytes log : List ℕ) (past now : StreamBytes)
         → IsVersion start.version → HasSpelling start.version → IsStart start.tree bytes → IsLogged past now log
         → ServesFrom start past now (Finished end)
         → (events : List Event) × Accounts bytes log start.tree events end }
-    ensures fault { (start : Start) (end : values.Tree) (fault : SessionFault) (bytes log : List ℕ)
+    ensures announced_fault { (start : Start) (end : values.Tree) (fault : SessionFault) (bytes log : List ℕ)
         (past now : StreamBytes) → IsVersion start.version → HasSpelling start.version → IsStart start.tree bytes
         → IsLogged past now log → ServesFrom start past now (Fault end fault)
         → ((log ≡ []) × (end ≡ start.tree)) ⊎ ((events : List Event) × Accounts bytes log start.tree events end) }

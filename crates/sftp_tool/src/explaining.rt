@@ -1,5 +1,5 @@
 //! `audit --explain`: why a session is refused, as lines of text.
-use crate::feeding::feed_rest;
+use crate::going_on::feed_rest;
 use crate::newcomers::{Newcomer, find_newcomer};
 use crate::readings::{
     content_of, content_of_removed, status_of_set, taken_for, undue, wrong_piece,

@@ -5,13 +5,12 @@ ghost use Rattle.sftp_files.specs.Failures.{IsUnwritten};
 
 use crate::cut_sessions::Counts;
 use crate::explaining::{numbered, record_of};
-use crate::feeding::feed_rest;
 use crate::subcommands::{Finding, report_finding};
 use crate::totals::{End, Reason, Total, print_total};
 use crate::trees::Kept;
 use sftp_audit::{AuditError, Auditor, Refusal};
 use sftp_commands::{
-    Asked, Bearing, LeftOut, Outcome, Replied, find_reply, is_harmless, last_asked,
+    Asked, Bearing, LeftOut, Outcome, Replied, find_reply, is_harmless, is_request, last_asked,
 };
 use sftp_files::{Bounded, Ending, Failure, Meter, System, open};
 use sftp_options::AuditOptions;
@@ -395,4 +394,24 @@ fn ended(
             .saturating_sub(unanswered)
             .saturating_add(hanging as usize),
     })
+}
+
+/// Feeds an auditor the events that are not left out, and returns how many of them are requests, up to 2^64 - 1. The
+/// auditor has seen no event yet, and the reader has read nothing yet.
+///
+/// # Errors
+///
+/// Those of `feed_all`. The number of a refusal's record does not count what is left out; that of a fault does.
+pub(crate) fn feed_rest<R: Source>(
+    auditor: &mut Auditor<Judge>,
+    left_out: &mut LeftOut,
+    records: &mut Reader<R>,
+) -> Result<u64, AuditError> {
+    left_out.begin();
+    let mut requests: u64 = 0;
+    'events: while let Some(event) = left_out.next(records)? {
+        requests = requests.saturating_add(u64::from(is_request(&event)));
+        auditor.judge_event(event)?;
+    }
+    Ok(requests)
 }

@@ -7,7 +7,6 @@ ghost use Rattle.std.specs.Prelude.{◌≤◌};
 mod answers;
 mod cut_sessions;
 mod explaining;
-mod feeding;
 mod going_on;
 mod inferences;
 mod inferred_lines;
