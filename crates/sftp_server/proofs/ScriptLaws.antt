@@ -1,4 +1,5 @@
 -- What comes of an act of a script, and of the acts so far.
+use Rattle.sftp_server.specs.Served.{usual}
 use Rattle.sftp_server.proofs.Imports.{Ask, ◌≡◌, ◌≢◌, ◌<◌, ◌≤◌, ◌+◌, ◌^◌, ℕ, zero, suc, Bool, true, false, List, []}
 use Rattle.sftp_server.proofs.Imports.{◌∷◌, ◌++◌, Result, Ok, Err, length, take, get_or, refl, sym, ap, subst, ◌∙◌}
 use Rattle.sftp_server.proofs.Imports.{arith, append-nil, add-one, OnOk, le-ltb, Request, IsAsk, Tree, State, Good}
@@ -103,7 +104,7 @@ pub acts-begin : (start : Tree) (acts : List Act) (events : List Event) (core : 
     → AreActs Allowed server_clash (at_start (started start) window) acts events core → AreDeliverable acts
     → BeginsFrom Allowed (started start) events
 acts-begin start acts events core good steps values =
-    reached-begins start events core good record { acts = acts; deliverable = values; steps = steps }
+    reached-begins (usual start) events core good record { acts = acts; deliverable = values; steps = steps }
 
 pub acts-explained : (start : Tree) (acts : List Act) (events : List Event) (core : Machine State)
     → Good (started start) → AreActs Allowed server_clash (at_start (started start) window) acts events core

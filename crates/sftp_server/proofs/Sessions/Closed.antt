@@ -177,7 +177,7 @@ module _ {start : Start} {past now : StreamBytes} {core : Machine State} where
       }
 
   opened-by : {ahead : Ahead} {fault : Option SessionFault} (running : IsRunning start past now ahead core fault)
-      → IsOpened (sent_by Client (session_packets start running.init running.events) ++ ahead.held)
+      → IsOpened start (sent_by Client (session_packets start running.init running.events) ++ ahead.held)
       (sent_by Server (session_packets start running.init running.events))
       (recorded (session_packets start running.init running.events)) running.init running.events ahead.held
   opened-by running = record {
@@ -198,7 +198,7 @@ module _ {start : Start} {past now : StreamBytes} {core : Machine State} where
       record {
         init = running.init;
         events = running.events;
-        opened = subst (IsOpened (sent_by Client packets ++ ending.ahead.held) (sent_by Server packets)
+        opened = subst (IsOpened start (sent_by Client packets ++ ending.ahead.held) (sent_by Server packets)
             (recorded packets) running.init running.events) ending.why.1 (opened-by running);
         served = served-by ending;
         ended = ending.why.0;
@@ -311,7 +311,7 @@ version-parts : (version : Packet) → IsVersion version → VersionParts versio
 version-parts (Version number extensions) is =
     record {
       extensions = extensions;
-      version_is = ap (λ (n : ℕ). Version n extensions) (eqb-true is);
+      version_is = ap (λ (n : ℕ). Version n extensions) (eqb-true number 3 is);
     }
 version-parts other is = absurd is
 

@@ -176,7 +176,7 @@ running-replied : {start : Start} {past : StreamBytes} {left written0 written1 l
     → Appends written0 written1 (spelling (reply_packet reply))
     → Appends logged0 logged1 (record_text (reply_packet reply))
     → IsRunning start past (stream_bytes left written1 logged1) ahead core1 fault
-running-replied {past = past} {left} {written0} {written1} {logged0} {logged1} {ahead} {core0} {core1} {k} {reply}
+running-replied {start} {past} {left} {written0} {written1} {logged0} {logged1} {ahead} {core0} {core1} {k} {reply}
     {fault} running at sent written logged =
     let more = replied-session start running.init running.events reply in
     record {
