@@ -140,6 +140,13 @@ def wrong_completion(share):
             yield f"install: completing `sftpv3-probe --see` gives {printed!r}"
 
 
+def wrong_mode(prefix):
+    """The program can be read only by who installed it, if that is root: then its users do not trace it."""
+    mode, wanted = (prefix / "bin/sftpv3").stat().st_mode & 0o7777, 0o711 if os.geteuid() == 0 else 0o755
+    if mode != wanted:
+        yield f"install: the program has mode {mode:04o}, not {wanted:04o}"
+
+
 def wrong_recorder(prefix, room):
     """Records a session that only opens: an INIT and its VERSION are in the transcript."""
     words = [prefix / "bin/sftpv3-record", room / "opened", prefix / "bin/sftpv3", "serve", "--tree",
@@ -170,7 +177,7 @@ def wrong_removal(program, room):
             yield f"install: {' '.join(map(str, words))} ended with status {status}: {printed}"
     if files_below(prefix) or (prefix / "lib/sftpv3").exists():
         yield f"install: --uninstall leaves {files_below(prefix)}"
-    folders = {str(it.relative_to(prefix)) for it in prefix.rglob("*")} - {"bin", "lib", "share", "share/man"}
+    folders = [str(it.relative_to(prefix)) for it in prefix.rglob("*")]
     if folders:
         yield f"install: --uninstall leaves the folders {sorted(folders)}"
     plain.write_text("")
@@ -191,6 +198,8 @@ def wrong_package(program, room):
             yield f"install: packaging/deb ended with status {status}: {printed}"
     if len(packages) != 2 or packages[0].read_bytes() != packages[1].read_bytes():
         yield f"install: packaging/deb makes other packages of the same program: {packages}"
+    elif "-rwx--x--x root/root" not in called(["dpkg-deb", "-c", packages[0]], "")[1]:
+        yield "install: in the package the program can be read by every user"
     elif shutil.which("lintian"):
         printed = called(["lintian", "--allow-root", packages[0]], "")[1]
         if re.search("(?m)^[EW]: ", printed):
@@ -211,7 +220,7 @@ def wrong_installation(program, room):
     if status or printed:
         return [f"install: it ended with status {status}: {printed}"]
     share = prefix / "share"
-    return [*wrong_texts(program, share), *wrong_syntax(share), *wrong_completion(share),
+    return [*wrong_texts(program, share), *wrong_syntax(share), *wrong_completion(share), *wrong_mode(prefix),
             *wrong_script_texts(prefix, room), *wrong_scripts(prefix, room), *wrong_recorder(prefix, room),
             *wrong_serve(prefix, room), *wrong_removal(program, room), *wrong_package(program, room)]
 

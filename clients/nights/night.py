@@ -10,7 +10,7 @@ import time
 from contextlib import suppress
 from typing import List, Optional, Sequence
 
-from nights.records import Copy, Failed, NotTaken, Spool
+from nights.records import Copy, Failed, NotTaken, Numbers, Spool
 from paging import packets
 from probing import program
 from recording import ways
@@ -39,6 +39,13 @@ def usual(program_file):
     return ["--profile", profile] + ["--cut"] * ("--cut" in text)
 
 
+def named(lines, given, name):
+    """What the program said of a record, by its name and not by the one that the program was given."""
+    opening = f"sftpv3: {given} "
+    return [f"sftpv3: {name} {it[len(opening):]}" if it.startswith(opening) else it
+            for it in lines if it != f"sftpv3: file: {given}"]
+
+
 def said_beside(record, others):
     """What is said of the sessions that ran at the same time."""
     beside = [it.shown() for it in others if it.is_beside(record)]
@@ -57,6 +64,7 @@ class Night:
         self.spool = Spool(given.records, given.number)
         self.folders = [os.path.join(os.getcwd(), it) for it in given.folders]
         self.status = self.accepted = self.cut = 0
+        self.numbers = Numbers()
         self.held = ways.own_folder(os.path.join(given.state, given.user))
         # all that is kept is named from there, whatever becomes of the way to it
         os.fchdir(self.held)
@@ -101,8 +109,7 @@ class Night:
             self.give_up(copy, name, f": the audit did not end within {self.given.audit_seconds:g} seconds "
                          f"(--audit-seconds){note}")
             return
-        # the record is named below, and not by its descriptor
-        first, *more = [it for it in found.lines() if it != f"sftpv3: file: /proc/self/fd/{copy.file}"] or [""]
+        first, *more = named(found.lines(), f"/proc/self/fd/{copy.file}", name) or [""]
         if found.status == 0:
             self.say(f"{name}: {first}{note}")
             copy.keep("accepted")
@@ -166,7 +173,7 @@ class Night:
     def judge(self, record, note):
         """Audits a copy of a record, if there is a tree to start from."""
         try:
-            copy = Copy(self.folder, record)
+            copy = Copy(self.folder, record, self.numbers)
         except OSError as error:
             raise Failed(f"{record.shown()}: cannot be copied: {error.strerror}") from None
         try:
@@ -267,6 +274,8 @@ class Night:
         return self.status
 
 
+# After how many seconds a process is left behind that was killed.
+LEFT_BEHIND = 5
 # The most bytes of a line that are held, and the most that are read at a time.
 LONGEST, PIECE = 4096, 1 << 16
 
@@ -342,17 +351,26 @@ def run(words: Sequence[str], most: int, seconds: float, space: Optional[int] = 
     after so many seconds, when it is killed."""
     told, deadline = Told(most), time.monotonic() + seconds
     limit = None if space is None else lambda: within(space)
-    with subprocess.Popen(words, stdin=subprocess.DEVNULL, stdout=subprocess.PIPE, stderr=subprocess.STDOUT, bufsize=0,
-                          pass_fds=pass_fds, preexec_fn=limit) as running:
-        try:
-            while data := read(running.stdout.fileno(), deadline - time.monotonic(), words, seconds):
-                told.take(data)
-            told.status = running.wait(max(0, deadline - time.monotonic()))
-        except BaseException:
-            running.kill()
-            raise
+    running = subprocess.Popen(words, stdin=subprocess.DEVNULL, stdout=subprocess.PIPE, stderr=subprocess.STDOUT,
+                               bufsize=0, pass_fds=pass_fds, preexec_fn=limit)
+    try:
+        while data := read(running.stdout.fileno(), deadline - time.monotonic(), words, seconds):
+            told.take(data)
+        told.status = running.wait(max(0, deadline - time.monotonic()))
+    except BaseException:
+        kill(running)
+        raise
+    finally:
+        running.stdout.close()
     told.end()
     return told
+
+
+def kill(running: subprocess.Popen) -> None:
+    """Ends a process. One that the kernel does not let end, since a file system does not answer, is left behind."""
+    running.kill()
+    with suppress(subprocess.TimeoutExpired):
+        running.wait(LEFT_BEHIND)
 
 
 def read(file: int, left: float, words: Sequence[str], seconds: float) -> bytes:

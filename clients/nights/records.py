@@ -14,7 +14,7 @@ import time
 from contextlib import suppress
 
 from paging import packets
-from recording import naming, ways
+from recording import mounted, naming, ways
 
 RECORD = re.compile(r".*\.transcript(\.[0-9a-f]+)?", re.DOTALL)
 # The names that recorders give: none of them reads like a part of a line.
@@ -84,8 +84,7 @@ class Record:
         """Opens it, if it still is the file that was found: its user may put another one there. Raises NotTaken if it
         is no longer as a recorder makes it."""
         try:
-            self.file = os.open(self.name, os.O_RDONLY | os.O_NOFOLLOW | os.O_NONBLOCK | os.O_CLOEXEC,
-                                dir_fd=self.folder)
+            self.file = mounted.open_at(self.name, self.folder, os.O_RDONLY | os.O_NONBLOCK)
         except OSError as error:
             raise Failed(f"{self.shown()}: {error.strerror}") from None
         found = os.fstat(self.file)
@@ -110,8 +109,8 @@ class Record:
 
     def remove(self):
         """Removes it from its folder, unless something else has its name by now."""
-        with suppress(FileNotFoundError):
-            found = os.stat(self.name, dir_fd=self.folder, follow_symlinks=False)
+        with suppress(FileNotFoundError, mounted.OfAnother):
+            found = mounted.state_at(self.name, self.folder)
             if identity_of(found) == self.identity:
                 os.unlink(self.name, dir_fd=self.folder)
 
@@ -126,13 +125,14 @@ class Record:
 
 
 def found_in(folder):
-    """What has the name of a record in a folder that is open: pairs of the name and its state. What not even root may
-    look at is a file system that some user has mounted on a name of their own, and no record."""
+    """What has the name of a record in a folder that is open: pairs of the name and its state. What another user
+    mounted on a name of their own, or not even root may look at, is no record."""
+    beside = mounted.number_of(folder)
     with os.scandir(folder) as entries:
         for entry in entries:
             with suppress(FileNotFoundError, PermissionError):
                 if RECORD.fullmatch(entry.name):
-                    yield entry.name, entry.stat(follow_symlinks=False)
+                    yield entry.name, mounted.state_at(entry.name, folder, beside)
 
 
 def is_writable(state):
@@ -171,7 +171,7 @@ class Spool:
         if self.own is not None:
             return
         try:
-            own = os.open(self.user, ways.FOLDER, dir_fd=self.shared)
+            own = mounted.folder_at(self.user, self.shared)
         except FileNotFoundError:
             return
         except OSError as error:
@@ -198,7 +198,7 @@ class Spool:
         may take those of others away."""
         spool = os.fstat(self.shared)
         try:
-            owner = os.stat(self.user, dir_fd=self.shared, follow_symlinks=False).st_uid
+            owner = mounted.state_at(self.user, self.shared).st_uid
         except FileNotFoundError:
             return False
         except PermissionError:
@@ -234,6 +234,8 @@ class Spool:
 
 # The longest name under which a record is kept. A verdict has eight characters more, and a number may come behind both.
 LONGEST_NAME = 200
+# For how many names it is held how often they were taken.
+MOST_NUMBERS = 1000
 PIECE = 1 << 20
 MADE = os.O_RDWR | os.O_CREAT | os.O_TRUNC | os.O_NOFOLLOW | os.O_CLOEXEC
 
@@ -276,11 +278,33 @@ def copy(source, target):
     os.truncate(target, size)
 
 
+class Numbers:
+    """The numbers behind names that were taken, so that nobody's records are counted anew for each that has the name of
+    others."""
+
+    def __init__(self):
+        self.last = {}
+
+    def free(self, place):
+        """The name, or the first one with a number behind it that is not taken."""
+        number = self.last.get(place, 1)
+        found = place if number == 1 else f"{place}.{number}"
+        while os.path.lexists(found):
+            number += 1
+            found = f"{place}.{number}"
+        if len(self.last) >= MOST_NUMBERS:
+            self.last.clear()
+        if number > 1:
+            self.last[place] = number
+        return found
+
+
 class Copy:
     """The copy of a record, in a folder that only root can enter: under a name of its own until it is kept."""
 
-    def __init__(self, folder, record):
+    def __init__(self, folder, record, numbers):
         self.folder, self.record, self.place = folder, record, os.path.join(folder, "record.new")
+        self.numbers = numbers
         self.file = os.open(self.place, MADE, 0o600)
         try:
             copy(record.file, self.file)
@@ -293,11 +317,7 @@ class Copy:
         """Gives it its name in a folder of the state, and removes the record. Returns the name."""
         folder = os.path.join(self.folder, kind)
         os.makedirs(folder, mode=0o700, exist_ok=True)
-        name = kept_name(self.record.name)
-        place, number = os.path.join(folder, name), 1
-        while os.path.lexists(place):
-            number += 1
-            place = os.path.join(folder, f"{name}.{number}")
+        place = self.numbers.free(os.path.join(folder, kept_name(self.record.name)))
         os.rename(self.place, place)
         sync(folder)
         self.record.remove()

@@ -36,7 +36,8 @@ def folder(name):
 def is_foreign(name):
     """Whether something is there that `folder` does not take, which is better known before all is played."""
     try:
-        found = os.lstat(name)
+        with ways.location_of(name.rstrip("/")) as place:
+            found = place.state()
     except OSError:
         return False
-    return not (stat.S_ISDIR(found.st_mode) and ways.is_own(name, found))
+    return found is not None and not (stat.S_ISDIR(found.st_mode) and ways.is_own(place.by_descriptor(), found))

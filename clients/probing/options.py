@@ -1,13 +1,13 @@
 """The command line of the probe, and its exit statuses."""
 import argparse
 import os
+import stat
 import textwrap
 
 import sftp3
 from probing import features, files, program, refusals, sessions, shrinking, verdicts
 from recording.parsers import Parser
-from recording.ways import named_twice
-from recording.ways import refuse_way_of_another
+from recording.ways import Way, named_twice, names, text_of
 
 # The exit statuses: all sessions were accepted; there are differences; the command line is wrong, or plans nothing; the
 # server, the command of --reset or the program could not be started; no difference was found, and not all was played.
@@ -150,16 +150,30 @@ def read(option, name, reader):
         raise Wrong(f"{option}: {error}") from error
 
 
+def is_writable_at(path, is_made):
+    """Whether this user can write to the folder of a path; with `is_made`, to the last one that is there."""
+    with Way() as way:
+        for name in names(os.fsencode(os.path.dirname(path))):
+            place = (*way.place, name)
+            try:
+                way.go_through((name,))
+            except FileNotFoundError as error:
+                if not is_made or error.filename != text_of(place):
+                    raise
+                break
+        held = way.held[-1]
+        return stat.S_ISDIR(os.fstat(held).st_mode) and os.access(f"/proc/self/fd/{held}", os.W_OK)
+
+
 def can_write(option, name):
     """Refuses what could not be written after all has been played."""
     try:
-        refuse_way_of_another(name)
+        is_fit = is_writable_at(os.path.join(os.getcwd(), name.rstrip("/")), option == "--keep")
+    except (FileNotFoundError, NotADirectoryError):
+        is_fit = False
     except OSError as error:
         raise Wrong(f"{option}: {name!r}: {error.strerror}") from None
-    folder = os.path.dirname(os.path.abspath(name))
-    while not os.path.lexists(folder) and option == "--keep":
-        folder = os.path.dirname(folder)
-    if not os.path.isdir(folder) or not os.access(folder, os.W_OK):
+    if not is_fit:
         raise Wrong(f"{option}: {name!r} cannot be written")
     if option == "--keep" and files.is_foreign(name):
         raise Wrong(f"{option}: {name!r} is no folder of this user that no other can write to")

@@ -7,11 +7,13 @@ import shlex
 import subprocess
 import sys
 import time
+from contextlib import suppress
 from xml.sax import saxutils
 
 import sftp3
 from paging import document, packets
 from probing import files, printed, program
+from recording import ways
 from sftp3 import trees
 
 
@@ -26,8 +28,9 @@ def keep_server(place, difference):
     whole = os.path.join(place, "whole.transcript")
     if session.records != difference.records:
         files.write(whole, sftp3.put_records(session.records))
-    elif os.path.lexists(whole):
-        os.remove(whole)
+    else:
+        with ways.location_of(whole) as left, suppress(FileNotFoundError):
+            os.unlink(left.name, dir_fd=left.folder)
 
 
 def text_of(judge, name):

@@ -10,6 +10,34 @@ import time
 BEHIND = 16 << 20
 # How long the audit may take when the session has ended.
 SECONDS = 5
+# Whether, and from 1 on which, processes of one user may trace each other.
+SCOPE = "/proc/sys/kernel/yama/ptrace_scope"
+EXPOSED = ("the user can read {}, so a client of the server can write into the audit, whose verdict is no evidence: "
+           "give the program mode 0711, or set kernel.yama.ptrace_scope to 1")
+
+
+def is_scope_open():
+    """Whether all processes of one user may trace each other, and open each other's memory."""
+    try:
+        with open(SCOPE, encoding="ascii") as file:
+            return file.read().strip() == "0"
+    except OSError:
+        return True
+
+
+def place_of(program):
+    """The file that runs under this name, or None."""
+    folders = [""] if "/" in program else os.get_exec_path()
+    return next((it for it in (os.path.join(folder, program) for folder in folders) if os.access(it, os.X_OK)), None)
+
+
+def exposure(program):
+    """What is wrong if another process of the user may write into this program, as a server does for its client. The
+    system keeps all from one that its user cannot read. Root, and who owns the program, could do more anyway."""
+    place = place_of(program)
+    if os.getuid() == 0 or place is None or not os.access(place, os.R_OK):
+        return None
+    return EXPOSED.format(place) if os.stat(place).st_uid != os.getuid() and is_scope_open() else None
 
 
 class Audit:

@@ -8,6 +8,9 @@ together. It closes the connection if it does not record (any further). A batch 
 One user cannot hold up the others: a connection has one turn in each round, in which so much is read, so many batches
 are written and one reply is sent, and each user has so many connections. Users without an account have none, since one
 person may have thousands of them. `Shares` counts what each user has of the spool.
+
+A descriptor that a user passes may take long to close (SO_LINGER), so the daemon never drops the last reference to one.
+Linux 6.16 refuses them. Elsewhere all that comes is looked at first; a connection with one is `Closing`'s.
 """
 import errno
 import os
@@ -17,7 +20,7 @@ import stat
 import struct
 import time
 
-from recording import naming, ways
+from recording import mounted, naming, ways
 
 # How many files a file system has to have left for a new record.
 FILES_LEFT = 64
@@ -62,7 +65,7 @@ class Share:
             os.mkdir(self.name, 0o700, dir_fd=self.spool)
         except FileExistsError:
             pass
-        return os.open(self.name, ways.FOLDER, dir_fd=self.spool)
+        return os.open(self.name, mounted.FOLDER, dir_fd=self.spool)
 
     def look(self):
         """Counts what is in the folder, no more than as many records as there may be."""
@@ -158,11 +161,90 @@ class Unfit(Exception):
     """A spool or a socket that cannot be used."""
 
 
+# SO_PASSRIGHTS of Linux 6.16.
+PASS_RIGHTS = 83
+# How many processes may be at the close of connections.
+CLOSERS = 16
+
+
+def refuse_descriptors(link):
+    """Has the kernel refuse descriptors that others pass, if it can. What has been sent before stays."""
+    try:
+        link.setsockopt(socket.SOL_SOCKET, PASS_RIGHTS, 0)
+    except OSError:
+        # `received` finds them
+        pass
+
+
+def received(link):
+    """What has come, unless there is a descriptor with it: then all of it stays where it is."""
+    data, _, flags, _ = link.recvmsg(READ, 0, socket.MSG_PEEK)
+    if flags & socket.MSG_CTRUNC:
+        raise Refused("it passes descriptors")
+    return link.recv(len(data)) if data else data
+
+
+def is_emptied(link):
+    """Has no more come by a connection, and takes what came. Whether no descriptor is left in it."""
+    try:
+        link.shutdown(socket.SHUT_RDWR)
+        while received(link):
+            pass
+    except Refused:
+        return False
+    except OSError:
+        # the other side is gone, which is said when all has been taken
+        pass
+    return True
+
+
+class Closing:
+    """The connections with descriptors. They are closed by the end of other processes, for which nobody waits."""
+
+    def __init__(self):
+        self.waiting, self.processes = [], set()
+
+    def close(self, link):
+        if is_emptied(link):
+            link.close()
+        else:
+            self.waiting.append(link.detach())
+
+    def step(self):
+        """Gives those that wait to a process, unless too many processes have not ended."""
+        self.processes = {it for it in self.processes if os.waitpid(it, os.WNOHANG)[0] == 0}
+        if not self.waiting or len(self.processes) >= CLOSERS:
+            return
+        mine, others = os.pipe()
+        try:
+            child = os.fork()
+            if child == 0:
+                self.end_last(mine, others)
+            self.processes.add(child)
+            for it in self.waiting:
+                os.close(it)
+            self.waiting = []
+        except OSError:
+            # no process can be made now
+            pass
+        finally:
+            os.close(mine)
+            os.close(others)
+
+    def end_last(self, mine, others):
+        """Ends this process once the daemon has closed what it has here, too."""
+        try:
+            os.close(others)
+            os.read(mine, 1)
+        finally:
+            os._exit(0)
+
+
 class Connection:
     """A recorder that is connected, and its record."""
 
     def __init__(self, link, daemon):
-        self.link, self.shares = link, daemon.shares
+        self.link, self.shares, self.closing = link, daemon.shares, daemon.closing
         self.process, self.user, _ = PEER.unpack(link.getsockopt(socket.SOL_SOCKET, socket.SO_PEERCRED, PEER.size))
         self.since = time.monotonic()
         self.held, self.replies = bytearray(), b""
@@ -179,7 +261,7 @@ class Connection:
         """Takes what there is, unless there is work left. Returns whether the connection goes on."""
         if not self.is_ready():
             try:
-                data = self.link.recv(READ)
+                data = received(self.link)
             except BlockingIOError:
                 return True
             if not data:
@@ -260,7 +342,7 @@ class Connection:
             pass
 
     def close(self):
-        self.link.close()
+        self.closing.close(self.link)
         if self.file is not None:
             os.close(self.file)
 
@@ -276,6 +358,7 @@ def listening_at(place):
         listener.bind(new.by_descriptor())
     finally:
         os.umask(before)
+    refuse_descriptors(listener)
     listener.listen(BACKLOG)
     new.rename_to(place)
     return listener
@@ -287,7 +370,7 @@ class Daemon:
     def __init__(self, options, notices, signals):
         self.options, self.notices, self.signals = options, notices, signals
         self.shares = Shares(self.fit_spool(options.spool), os.path.abspath(options.spool), options)
-        self.accounts = Accounts()
+        self.accounts, self.closing = Accounts(), Closing()
         self.made = None
         self.listener = self.open_listener(options.socket)
         self.listener.setblocking(False)
@@ -314,7 +397,9 @@ class Daemon:
     def open_listener(self, name):
         """The socket that systemd opened, or one of this name."""
         if os.environ.get("LISTEN_PID") == str(os.getpid()) and os.environ.get("LISTEN_FDS", "0") != "0":
-            return socket.socket(fileno=3)
+            listener = socket.socket(fileno=3)
+            refuse_descriptors(listener)
+            return listener
         if not name:
             raise Unfit("--socket is needed, unless systemd opens the socket")
         try:
@@ -336,6 +421,9 @@ class Daemon:
 
     def add(self, link):
         link.setblocking(False)
+        refuse_descriptors(link)
+        # else such a byte is dropped unseen, with its descriptors
+        link.setsockopt(socket.SOL_SOCKET, socket.SO_OOBINLINE, 1)
         made = Connection(link, self)
         why = self.why_refused(made.user)
         if why:
@@ -419,12 +507,14 @@ class Daemon:
             elif file in self.connections:
                 self.act(self.connections[file], events)
         self.end_silent_ones()
+        self.closing.step()
 
     def run(self):
         """Keeps records until a signal comes. What connections have sent by then is kept."""
         while not self.signals.got:
             self.step()
-        self.listener.close()
+        # not closed before this process ends, when no close lingers: descriptors may be with those who wait there
+        self.listener.detach()
         if self.made:
             self.made.remove()
         for it in list(self.connections.values()):

@@ -13,8 +13,8 @@ from recording.packets import OPENING
 from recording.server import NotStarted, start
 from recording.sessions import OWN_FAILURE, Session, Signals
 from recording.sinks import Failed, FileSink, SpoolSink, TimesSink
-from recording.standard import open_standard_files
-from recording.ways import named_twice
+from recording.standard import begin
+from recording.ways import named_twice, refuse_link_of_another
 
 NAME = "sftpv3-record"
 
@@ -203,9 +203,15 @@ def shell_warning():
 
 
 def open_audit(options, notices):
-    from recording.auditing import Audit
+    from recording.auditing import Audit, exposure
     try:
-        return Audit(audit_words(options), notices)
+        if options.out:
+            refuse_link_of_another(options.out)
+        words = audit_words(options)
+        warning = exposure(words[0])
+        if warning:
+            notices.note(warning)
+        return Audit(words, notices)
     except OSError as error:
         notices.say(f"cannot run the audit: {error.strerror}; the session is not audited")
         return None
@@ -264,7 +270,7 @@ def run(act, name):
 
 
 def record(words=None):
-    open_standard_files()
+    begin()
     return run(lambda: record_session(read_options(sys.argv[1:] if words is None else words)), NAME)
 
 
@@ -293,7 +299,7 @@ def keep_records(options):
 
 
 def recordd(words=None):
-    open_standard_files()
+    begin()
     from recording.parsers import daemon_parser
     options = daemon_parser().parse_args(words)
     return run(lambda: keep_records(options), "sftpv3-recordd")

@@ -1,7 +1,17 @@
-"""The three standard descriptors of a script; and that other processes of the same user may neither trace it nor open
-its memory and files."""
+"""How every script begins, whatever started it: with three standard descriptors, and with signals as they are usually;
+and that other processes of the same user may neither trace it nor open its memory and files."""
 import os
 import sys
+
+from recording import signals
+
+
+def begin():
+    """To be called before all else."""
+    open_standard_files()
+    # where it is ignored, each process that the script starts seems to have ended with status 0
+    signals.signal(signals.SIGCHLD, signals.SIG_DFL)
+    signals.pthread_sigmask(signals.SIG_SETMASK, ())
 
 
 def open_standard_files():

@@ -1,5 +1,6 @@
 """The way to a file, one name at a time, each looked up in the folder before it, which is open: whatever others put
-there meanwhile, no link is followed that was not looked at, and none that another user may have put there.
+there meanwhile, no link is followed that was not looked at, and none that another user may have put there; and nothing
+is asked of what another user mounted (mounted.py).
 
 What is then done with the file is done by its name in the last folder, which stays open. A session waits for the start
 of the recorder, so this imports little. Here is, too, whether others could put another file in
@@ -13,12 +14,11 @@ import os
 import pwd
 import stat
 
+from recording import mounted
+from recording.mounted import HELD
+
 # The most links that lead to each other, as the system has it.
 MOST_LINKS = 40
-
-# What is held of the way need not be readable, and may be a link.
-HELD = os.O_PATH | os.O_NOFOLLOW | os.O_CLOEXEC
-FOLDER = os.O_RDONLY | os.O_DIRECTORY | os.O_NOFOLLOW | os.O_CLOEXEC
 
 
 def is_trusted(link: int, folder: os.stat_result, user: int) -> bool:
@@ -68,6 +68,8 @@ class Way:
         self.close()
         self.place = ()
         self.held.append(os.open(start, HELD))
+        if start != b"/" and mounted.is_of_another(self.held[0]):
+            raise self.of_another(())
 
     def lead(self, path: tuple[bytes, ...]):
         """Goes to where the path leads, and gives the directories and links on the way, and what is at its end."""
@@ -105,13 +107,13 @@ class Way:
             self.place = self.place[:-1]
             os.close(self.held.pop())
         else:
-            self.held.append(self.open_at(b"..", HELD, ()))
+            self.held.append(self.hold(b"..", ()))
             os.close(self.held.pop(0))
 
     def go(self, name: bytes) -> Step:
         """Goes on to a name. A link leads on from where it is, or from the root."""
         place = (*self.place, name)
-        file = self.open_at(name, HELD, place)
+        file = self.hold(name, place)
         state = os.fstat(file)
         if not stat.S_ISLNK(state.st_mode):
             self.place = place
@@ -135,10 +137,24 @@ class Way:
             self.go_back()
         return step.target
 
-    def open_at(self, name: bytes, flags: int, place: tuple[bytes, ...]) -> int:
-        """Opens a name in the directory to which it came."""
+    def hold(self, name: bytes, place: tuple[bytes, ...]) -> int:
+        """Holds a name in the directory to which it came."""
         try:
-            return os.open(name, flags, dir_fd=self.held[-1])
+            return mounted.hold(name, self.held[-1])
+        except mounted.OfAnother:
+            raise self.of_another(place) from None
+        except OSError as error:
+            raise self.error(error.errno, error.strerror, place) from None
+
+    def of_another(self, place: tuple[bytes, ...]) -> OSError:
+        return self.error(errno.EPERM, "a file system that another user mounted is on the way", place)
+
+    def open_folder(self, name: bytes, place: tuple[bytes, ...]) -> int:
+        """Opens a directory in the one to which it came, to read it."""
+        try:
+            return mounted.folder_at(name, self.held[-1])
+        except mounted.OfAnother:
+            raise self.of_another(place) from None
         except OSError as error:
             raise self.error(error.errno, error.strerror, place) from None
 
@@ -151,12 +167,16 @@ class Way:
             raise self.error(errno.ELOOP, os.strerror(errno.ELOOP), place)
         return os.readlink(b"", dir_fd=link)
 
+    def states(self) -> list[tuple[str, os.stat_result]]:
+        """The states of the directories on a way from the root on, each with its whole path."""
+        return [(text_of(self.place[:at]), os.fstat(it)) for at, it in enumerate(self.held)]
+
     def error(self, number: int, why: str, place: tuple[bytes, ...]) -> OSError:
         return OSError(number, why, text_of(place) if self.given is None else self.given)
 
     def open(self) -> int:
         """Opens the directory to which it came, to read it."""
-        return self.open_at(b".", FOLDER, self.place)
+        return self.open_folder(b".", self.place)
 
     def make(self, name: bytes):
         """Makes a directory for its user alone, if there is nothing of its name."""
@@ -203,7 +223,7 @@ class Location:
     def state(self) -> os.stat_result | None:
         """What `lstat` says of what has the name, or None if nothing has."""
         try:
-            return os.stat(self.name, dir_fd=self.folder, follow_symlinks=False)
+            return mounted.state_at(self.name, self.folder)
         except FileNotFoundError:
             return None
 
@@ -213,7 +233,7 @@ class Location:
 
     def open(self, flags: int, mode: int = 0o600) -> int:
         """Opens it, and no link."""
-        return os.open(self.name, flags | os.O_NOFOLLOW | os.O_CLOEXEC, mode, dir_fd=self.folder)
+        return mounted.open_at(self.name, self.folder, flags, mode)
 
     def make(self) -> int:
         """Makes a file of this name for its user alone, to be read and written. Nothing may have the name."""
@@ -238,7 +258,7 @@ class Location:
     def sync(self):
         """Has the names of the folder on the disk, as far as the system can say."""
         try:
-            folder = os.open(".", FOLDER, dir_fd=self.folder)
+            folder = mounted.folder_at(".", self.folder)
         except OSError:
             return
         try:
@@ -289,7 +309,7 @@ def led_to(name: str) -> tuple[Location, bool]:
     with Way(given=name) as way:
         last = way.lead_before_last(path, True)
         found = Location(os.dup(way.held[-1]), os.fsdecode(last), text_of((*way.place, last)))
-        found.above = [(text_of(way.place[:at]), os.fstat(it)) for at, it in enumerate(way.held)]
+        found.above = way.states()
         return found, way.is_led_on
 
 
@@ -307,16 +327,6 @@ def refuse_link_of_another(name: str):
     names is given to a program, which looks by itself."""
     try:
         led_to(name)[0].close()
-    except (FileNotFoundError, NotADirectoryError):
-        pass
-
-
-def refuse_way_of_another(name: str):
-    """So for the folders of a name whose last part is never followed."""
-    path = os.fsencode(name)
-    try:
-        with way_of(path, name) as way:
-            way.go_through(names(path.rpartition(b"/")[0]))
     except (FileNotFoundError, NotADirectoryError):
         pass
 
@@ -339,7 +349,7 @@ def own_folder(name: str) -> int:
             way.make(it)
             way.go_through((it,))
         way.make(last)
-        held = way.open_at(last, FOLDER, (*way.place, last))
+        held = way.open_folder(last, (*way.place, last))
     if not is_own(held, os.fstat(held)):
         os.close(held)
         raise OSError(errno.EPERM, "it belongs to another user, or others can write to it", name)
@@ -377,17 +387,21 @@ def is_writable(folder: int | str, found: os.stat_result, user: int) -> bool:
     return found.st_gid != 0 and not is_private(found.st_gid, user) or has_list(folder)
 
 
-def looked_at(path):
-    """The states of the folders on the way to a path, from the root on, and of what is there, each with its name; None
-    is that of the first which is not there. Links are followed."""
-    whole = os.path.join(os.path.realpath(os.path.dirname(path) or "."), os.path.basename(path))
-    found = []
-    for end in [1, *(at for at in range(1, len(whole)) if whole[at] == "/"), len(whole)]:
+def looked_at(name: str) -> list[tuple[str, os.stat_result | None]]:
+    """The states of the folders on the way to a name, from the root on, and of what has it, each with its whole path;
+    None is that of the first which is not there, or cannot be looked at. Raises OSError if a link of another user, or
+    what another one mounted, is on the way."""
+    with Way() as way:
         try:
-            found.append((whole[:end], os.lstat(whole[:end])))
-        except OSError:
-            return [*found, (whole[:end], None)]
-    return found
+            last = way.lead_before_last(os.path.join(os.fsencode(os.getcwd()), os.fsencode(name)), False)
+            held = way.hold(last, (*way.place, last))
+            behind = text_of((*way.place, last)), os.fstat(held)
+            os.close(held)
+        except OSError as error:
+            if error.errno not in (errno.ENOENT, errno.ENOTDIR, errno.EACCES):
+                raise
+            behind = error.filename, None
+        return [*way.states(), behind]
 
 
 def fault(states, owner=None):
@@ -412,21 +426,38 @@ def is_one_file(one: str, other: str) -> bool:
     """Whether both names lead to one regular file, or to one that is not there yet. A device may be named twice, and a
     name that leads through a link of another user leads nowhere."""
     try:
-        for name in (one, other):
-            refuse_link_of_another(name)
-        found, further = os.stat(one), os.stat(other)
+        (place, found), (further, state) = end_of(one), end_of(other)
     except FileNotFoundError:
-        return os.path.realpath(one) == os.path.realpath(other)
+        # a folder is not there
+        return os.path.abspath(one) == os.path.abspath(other)
     except OSError:
         return False
-    return stat.S_ISREG(found.st_mode) and (found.st_dev, found.st_ino) == (further.st_dev, further.st_ino)
+    if found is None or state is None:
+        return place == further
+    return stat.S_ISREG(found.st_mode) and (found.st_dev, found.st_ino) == (state.st_dev, state.st_ino)
+
+
+def end_of(name: str) -> tuple[str, os.stat_result | None]:
+    """Where a name leads, as a path without links, and the state of what is there, or None."""
+    with Inherited(name) if is_inherited(name) else led_to(name)[0] as place:
+        return place.path, place.state()
+
+
+def is_link(name: str) -> bool:
+    """Whether a name that can be looked at is a link."""
+    try:
+        with location_of(name) as place:
+            found = place.state()
+    except OSError:
+        return False
+    return found is not None and stat.S_ISLNK(found.st_mode)
 
 
 def named_twice(names: list[tuple[str, str | None]], may_be_one: tuple[str, ...] = (),
                 unfollowed: tuple[str, ...] = ()) -> tuple[str, str] | None:
     """The first two of these that name one file: pairs of what a name is for, and the name, if it is given. Those of
     `may_be_one` may name one file with each other, and of those of `unfollowed` a link leads nowhere."""
-    given = [(what, name) for what, name in names if name and not (what in unfollowed and os.path.islink(name))]
+    given = [(what, name) for what, name in names if name and not (what in unfollowed and is_link(name))]
     for place, (what, name) in enumerate(given):
         for other, further in given[place + 1:]:
             if not (what in may_be_one and other in may_be_one) and is_one_file(name, further):

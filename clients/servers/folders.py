@@ -20,10 +20,13 @@ from typing import NamedTuple
 import mounts
 import removing
 from probing import program
-from recording import temporary
+from recording import mounted, temporary
 
 PREFIX, ROOT = "sftpv3-root-", "root"
 SET_ID = stat.S_ISUID | stat.S_ISGID
+
+# As an owner or a group, the system understands by the number behind this one that it stays as it was.
+HIGHEST = 2 ** 32 - 2
 
 # How old, in seconds, a folder is at least that is taken for one that a killed run left.
 LEFT = 60
@@ -53,7 +56,7 @@ class Builder:
 
     def __init__(self, root, with_set_id):
         self.root, self.with_set_id = root, with_set_id
-        self.left_out = 0
+        self.left_out = self.lowered = 0
 
     def open(self, names):
         """A descriptor of the directory of these names."""
@@ -108,7 +111,8 @@ class Builder:
         if permissions & SET_ID and not self.with_set_id:
             permissions &= ~SET_ID
             self.left_out += 1
-        os.fchown(descriptor, member.uid, member.gid)
+        self.lowered += max(member.uid, member.gid) > HIGHEST
+        os.fchown(descriptor, min(member.uid, HIGHEST), min(member.gid, HIGHEST))
         os.fchmod(descriptor, permissions)
 
     def own_directory(self, member):
@@ -150,17 +154,18 @@ def put_all(builder, members):
 
 def remove_left(room):
     """Removes what killed runs of this user left in the folder of a descriptor: folders that no run holds locked, and
-    that have nothing but a root. What cannot be removed stays, and stops nothing."""
+    that have nothing but a root. What cannot be removed stays, and stops nothing; nothing is asked of what another user
+    mounted there."""
     for name in names_left(room):
         with contextlib.suppress(OSError):
-            if time.time() - os.lstat(name, dir_fd=room).st_mtime >= LEFT:
+            if time.time() - mounted.state_at(name, room).st_mtime >= LEFT:
                 remove_if_left(name, room)
 
 
 def names_left(room):
     names = []
     with contextlib.suppress(OSError):
-        readable = os.open(".", DIRECTORY, dir_fd=room)
+        readable = mounted.folder_at(".", room)
         try:
             names = os.listdir(readable)
         finally:
@@ -169,7 +174,7 @@ def names_left(room):
 
 
 def remove_if_left(name, room):
-    held = os.open(name, DIRECTORY, dir_fd=room)
+    held = mounted.folder_at(name, room)
     try:
         state = os.fstat(held)
         is_own = state.st_uid == os.geteuid() and stat.S_IMODE(state.st_mode) == 0o700
@@ -218,6 +223,8 @@ class Folder:
         fill(builder, tree_file)
         if builder.left_out:
             tell(f"set-id bits left out: {builder.left_out} (this system gives no mounts of one's own)")
+        if builder.lowered:
+            tell(f"{builder.lowered} with the owner or group {HIGHEST + 1}, which no file has: here it is {HIGHEST}")
 
     def mounted(self):
         """A path of the root, which goes by the folder that is open."""

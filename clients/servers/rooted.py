@@ -25,7 +25,7 @@ import removing  # noqa: E402
 import streams  # noqa: E402
 from recording import ending, temporary  # noqa: E402
 from recording.notices import printable  # noqa: E402
-from recording.standard import open_standard_files  # noqa: E402
+from recording.standard import begin  # noqa: E402
 
 LDD = "/usr/bin/ldd"
 # How many seconds it may take, and as whom it runs.
@@ -47,7 +47,7 @@ def fail(text, status=3):
 
 def read_words(about, least=1):
     """Ends the script if its words ask for help, which its text `about` has, or are fewer than it needs."""
-    open_standard_files()
+    begin()
     what, usage, more = (it.strip() for it in about.split("\n\n", 2))
     if sys.argv[1:2] in (["-h"], ["--help"]):
         print(f"usage: {usage}\n\n{what}\n\n{more}")

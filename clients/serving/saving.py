@@ -176,11 +176,11 @@ def look_at_folder(target: ways.Location, original: Original | None):
 def take_room(file: int, tree: str):
     """Takes as much of the disk as the tree of the start has, and gives it back. Raises OSError if there is less."""
     try:
-        size = os.stat(tree).st_size
+        _, found = ways.end_of(tree)
     except OSError:
         # that it cannot be read is for the program to say
-        size = 0
-    os.posix_fallocate(file, 0, max(size, 1))
+        found = None
+    os.posix_fallocate(file, 0, max(found.st_size if found else 0, 1))
     os.ftruncate(file, 0)
 
 

@@ -7,13 +7,12 @@ import stat
 from contextlib import ExitStack
 from typing import Dict, FrozenSet, Iterator, List, NamedTuple, Optional, Tuple
 
+from recording import mounted
 from recording.ways import Way, names
 from sftp3.trees import HIGHEST
 
 # What is mounted where, in the fifth word of each line; spaces and the like are written as octal numbers.
 MOUNTS = "/proc/self/mountinfo"
-
-DIRECTORY = os.O_RDONLY | os.O_DIRECTORY | os.O_NOFOLLOW
 
 Place = Tuple[bytes, ...]
 
@@ -26,11 +25,11 @@ class Trouble(Exception):
 
 
 class Entry(NamedTuple):
-    """An entry: its place as clients see it, what `lstat` says, and where it is: a name in a directory, which is open
-    until the next entry is asked for; of a link on the way to a folder, its target. What is below a mount is not looked
-    for."""
+    """An entry: its place as clients see it, what `lstat` says, or nothing if another user mounted it, and where it is:
+    a name in a directory, which is open until the next entry is asked for; of a link on the way to a folder, its
+    target. What is below a mount is not looked for."""
     place: Place
-    state: os.stat_result
+    state: Optional[os.stat_result]
     directory: Optional[int]
     name: bytes
     is_mount: bool = False
@@ -78,21 +77,30 @@ class Look:
 
     def below(self, directory: int, place: Place) -> Iterator[Entry]:
         """All below a directory, in the order of tree files."""
+        beside = mounted.number_of(directory)
         for name in self.names_in(directory, place):
-            state = os.stat(name, dir_fd=directory, follow_symlinks=False)
-            entry = Entry(place + (name,), state, directory, name, place + (name,) in self.mounts)
+            state = state_of(name, directory, beside)
+            entry = Entry(place + (name,), state, directory, name, place + (name,) in self.mounts or state is None)
             if len(entry.place) > DEEPEST:
                 raise Trouble(f"{shown(entry.place)}: more than {DEEPEST} names below the root")
             yield entry
-            if stat.S_ISDIR(state.st_mode) and not entry.is_mount:
+            if not entry.is_mount and stat.S_ISDIR(entry.state.st_mode):
                 yield from self.below_entry(entry)
 
     def below_entry(self, entry: Entry) -> Iterator[Entry]:
-        held = os.open(entry.name, DIRECTORY, dir_fd=entry.directory)
+        held = mounted.folder_at(entry.name, entry.directory)
         try:
             yield from self.below(held, entry.place)
         finally:
             os.close(held)
+
+
+def state_of(name: bytes, directory: int, beside: Optional[bytes]) -> Optional[os.stat_result]:
+    """What `lstat` says of a name in a directory on the mount `beside`, unless another user mounted what has it."""
+    try:
+        return mounted.state_at(name, directory, beside)
+    except mounted.OfAnother:
+        return None
 
 
 SPECIAL = {stat.S_IFSOCK: "a socket", stat.S_IFIFO: "a FIFO", stat.S_IFCHR: "a device", stat.S_IFBLK: "a device"}
@@ -104,8 +112,8 @@ def kind(entry: Entry) -> str:
 
 
 def is_mounted_over(entry: Entry) -> bool:
-    """Whether an entry is mounted and no directory."""
-    return entry.is_mount and not stat.S_ISDIR(entry.state.st_mode)
+    """Whether an entry is mounted and no directory, or another user mounted it."""
+    return entry.is_mount and (entry.state is None or not stat.S_ISDIR(entry.state.st_mode))
 
 
 class View:

@@ -3,6 +3,7 @@ import os
 import stat
 from typing import BinaryIO, Callable, Dict, NamedTuple, Tuple
 
+from recording import mounted
 from sftp3 import trees
 from sftp3.trees import HIGHEST, LONGEST_NAME, USUAL, text_of
 from snapshot.looking import Entry, Trouble, is_mounted_over, kind, shown
@@ -40,7 +41,7 @@ def tell_of(entry: Entry, wanted: Wanted, tell: Callable[[str], None]) -> None:
     """Names what is left out of a tree, and what is not there as it is."""
     if entry.is_mount:
         what = "it is" if wanted.leaves_out(entry) else "what it has is"
-        tell(f"{shown(entry.place)}: mounted: {what} left out")
+        tell(f"{shown(entry.place)}: mounted{' by another user' * (entry.state is None)}: {what} left out")
     elif kind(entry):
         tell(f"{shown(entry.place)}: {kind(entry)}, which no tree holds: {BECAME[wanted.special]}")
 
@@ -66,7 +67,7 @@ class Needs:
         named = FirstNames()
         for entry in view.entries():
             tell_of(entry, wanted, tell)
-            refused += wanted.special == "refuse" and bool(kind(entry)) and not entry.is_mount
+            refused += wanted.special == "refuse" and not entry.is_mount and bool(kind(entry))
             if wanted.leaves_out(entry):
                 self.left_out += 1
             else:
@@ -155,7 +156,7 @@ class Writer:
         if kind(entry):
             self.write(trees.file_of(path, owner_of(entry.state), 0))
             return
-        held = os.open(entry.name, os.O_RDONLY | os.O_NOFOLLOW | os.O_NONBLOCK, dir_fd=entry.directory)
+        held = mounted.open_at(entry.name, entry.directory, os.O_RDONLY | os.O_NONBLOCK)
         with open(held, "rb", buffering=0) as source:
             state = os.fstat(held)
             if not stat.S_ISREG(state.st_mode) or state.st_size != entry.state.st_size:

@@ -4,6 +4,7 @@ import os
 import pwd
 import re
 import shutil
+import signal
 import struct
 import subprocess
 import tempfile
@@ -12,7 +13,7 @@ from functools import cache
 from importlib import machinery, util
 
 from programs import program
-from recording import temporary
+from recording import ending, temporary
 from sftp3 import Request, encode
 
 SECONDS = 120
@@ -21,7 +22,7 @@ CLIENTS = os.path.join(os.path.dirname(os.path.realpath(__file__)), "../../clien
 
 class Attack:
     """A function that attacks, and yields what went wrong. `needs` has `user`, `fuse` (that users may mount file
-    systems of their own), and names of programs."""
+    systems of their own), `others` (which other users may look at), and names of programs."""
 
     def __init__(self, function, needs, is_small):
         self.function, self.needs, self.is_small = function, needs, is_small
@@ -34,12 +35,22 @@ class Attack:
                 return "needs root, to make another user"
             if need == "fuse" and not users_may_mount():
                 return "needs /dev/fuse to be every user's"
-            if need not in ("user", "fuse") and not shutil.which(need):
+            if need == "others" and not others_may_look():
+                return "needs user_allow_other in /etc/fuse.conf"
+            if need not in ("user", "fuse", "others") and not shutil.which(need):
                 return f"needs {need}"
         return None
 
     def run(self, ground):
-        """Attacks in a new folder, and returns what went wrong."""
+        """Attacks in a new folder, and returns what went wrong. What it does with signals is over then."""
+        before = {it: signal.getsignal(it) for it in ending.ENDING}
+        try:
+            return self.run_in_folder(ground)
+        finally:
+            for number, handler in before.items():
+                signal.signal(number, handler)
+
+    def run_in_folder(self, ground):
         with tempfile.TemporaryDirectory(dir=ground.folder) as folder:
             os.chmod(folder, 0o755)
             try:
@@ -51,6 +62,12 @@ class Attack:
 def users_may_mount():
     with suppress(OSError):
         return os.stat("/dev/fuse").st_mode & 0o6 == 0o6
+    return False
+
+
+def others_may_look():
+    with suppress(OSError), open("/etc/fuse.conf", encoding="utf-8") as file:
+        return any(line.strip() == "user_allow_other" for line in file)
     return False
 
 
@@ -100,7 +117,7 @@ class Field:
     """The folder of one attack."""
 
     def __init__(self, folder, ground):
-        self.folder, self.user, self.program = folder, ground.user, ground.program
+        self.folder, self.ground, self.user, self.program = folder, ground, ground.user, ground.program
 
     def path(self, name):
         return os.path.join(self.folder, name)

@@ -259,29 +259,6 @@ def a_strangers_name_spoils_the_status(field):
     yield from wrong(nights.run(), 0, good, without=[record_name(VICTIM)])
 
 
-@contextmanager
-def mounted(field, place):
-    """While a file system of the other user is there, which not even root may look at."""
-    server = field.put("server", f"#!/bin/sh\nexec '{program()}' serve --tree '{field.blank()}'\n".encode(), 0o755)
-    os.mkdir(place)
-    os.chown(place, field.user.pw_uid, field.user.pw_gid)
-    subprocess.run(["sshfs", "-o", f"ssh_command={server}", "x:/", place], user=field.user.pw_uid,
-                   group=field.user.pw_gid, extra_groups=[], check=True, capture_output=True, timeout=SECONDS)
-    try:
-        yield
-    finally:
-        subprocess.run(["umount", "-l", place], check=True)
-
-
-@attack("user", "fuse", "sshfs")
-def a_mount_keeps_a_verdict_away(field):
-    """A file system that a stranger mounts in the spool, where a record or the daemon's folder would be, stops none."""
-    nights = Nights(field, VICTIM)
-    for number, name in enumerate((record_name(field.user), record_name(VICTIM), VICTIM.pw_name)):
-        with mounted(field, os.path.join(nights.spool, name)):
-            yield from (f"{number}: {it}" for it in wrong(nights.run(), 0, "the folder is as they left it"))
-
-
 @attack("user")
 def a_name_reads_like_a_verdict(field):
     """What is not in the names that recorders give is printed in quotes."""
@@ -568,6 +545,51 @@ def many_records_take_all_memory(field):
         yield f"{nights.peak // MEBI} MiB"
     if not nights.kept("unjudged") and not nights.kept("refused"):
         yield "none is judged"
+
+
+def time_of_keeping(field, owner, number):
+    """How long a record is kept under a name whose beginning many others have, without the wait for the disk."""
+    name = f"{'x' * 200}{number}.transcript"
+    there = field.put(f"records/{name}", b"", 0o600)
+    os.chown(there, owner, owner)
+    folder = os.open(os.path.dirname(there), os.O_RDONLY)
+    record = records.Record(folder, name, os.stat(there), None)
+    record.open()
+    copied = field.copy_of(record)
+    start = time.thread_time()
+    copied.keep("unjudged")
+    passed = time.thread_time() - start
+    copied.close()
+    record.close()
+    os.close(folder)
+    return passed
+
+
+@attack("user")
+def many_names_with_one_beginning_take_all_time(field):
+    """The last of 1,200 records whose names begin alike takes no longer than the first."""
+    os.mkdir(field.path("records"))
+    os.mkdir(field.path("kept"))
+    numbers = records.Numbers()
+    field.copy_of = lambda record: records.Copy(field.path("kept"), record, numbers)
+    passed = [time_of_keeping(field, field.user.pw_uid, number) for number in range(1200)]
+    first, last = sum(passed[:150]), sum(passed[-150:])
+    if last > 3 * first:
+        yield f"{1000 * last:.0f} ms, and {1000 * first:.0f} ms at the start"
+    if len(os.listdir(field.path("kept/unjudged"))) != 1200:
+        yield f"{len(os.listdir(field.path('kept/unjudged')))} are kept"
+
+
+@attack("user")
+def an_empty_record_has_another_name(field):
+    """What is said of a record, and kept beside it, has its name, be it empty."""
+    nights, name = Nights(field, field.user), record_name(field.user)
+    nights.put(name, b"", field.user.pw_uid)
+    yield from wrong(nights.run(), 1, f"  sftpv3: {name} is empty", without=["/proc/"])
+    for kept in nights.kept("refused"):
+        with open(kept, "rb") as file:
+            if b"/proc/" in file.read():
+                yield f"{kept} names a descriptor"
 
 
 @attack("user", "mount")

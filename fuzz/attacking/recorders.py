@@ -2,9 +2,11 @@
 import os
 import shutil
 import signal
+import socket
+import struct
 import subprocess
 import time
-from contextlib import contextmanager
+from contextlib import contextmanager, suppress
 
 from attacking import hostile
 from attacking.ground import CLIENTS, SECONDS, attack, wrong_status
@@ -16,6 +18,7 @@ HELLO = init()
 ASKED = HELLO + encode(Request(1, "MKDIR", [b"/SECRET", {}]))
 # A user and a group that no account has, for whoever is attacked, and for the daemon.
 VICTIM, KEEPER = 64001, 64003
+PEER = struct.Struct("3i")
 
 
 @contextmanager
@@ -38,22 +41,22 @@ def record(field, *words, asked=ASKED, user=VICTIM):
 
 
 @contextmanager
-def daemon(field, *words):
+def daemon(field, *words, before=()):
     """A daemon of a user of its own. Gives its socket, and its spool. Those who are attacked have no account."""
-    with started(field, "--any-uid", *words) as found:
+    with started(field, "--any-uid", *words, before=before) as found:
         yield found
 
 
 @contextmanager
-def started(field, *words):
-    """The same for users with accounts."""
+def started(field, *words, before=()):
+    """The same for users with accounts. `before` is what starts it."""
     run, spool = field.path("run"), field.path("spool")
     for it in (run, spool):
         os.mkdir(it)
         os.chown(it, KEEPER, KEEPER)
     os.chmod(spool, 0o700)
-    with subprocess.Popen([field.script("recordd"), "--socket", f"{run}/s", *words, spool], user=KEEPER, group=KEEPER,
-                          extra_groups=[], stderr=subprocess.DEVNULL) as running:
+    with subprocess.Popen([*before, field.script("recordd"), "--socket", f"{run}/s", *words, spool], user=KEEPER,
+                          group=KEEPER, extra_groups=[], stderr=subprocess.DEVNULL) as running:
         try:
             while not os.path.exists(f"{run}/s"):
                 time.sleep(0.05)
@@ -144,6 +147,51 @@ def one_user_holds_up_the_daemon(field):
                     yield f"{function.__name__}: {it}"
                 if took > 4:
                     yield f"{function.__name__}: {took:.1f} seconds"
+
+
+# Runs a script as on a kernel before Linux 6.16, which knows no SO_PASSRIGHTS.
+OLDER = """
+import runpy, socket, sys
+class Older(socket.socket):
+    def setsockopt(self, level, option, *words):
+        if option == 83:
+            raise OSError(92, "Protocol not available")
+        super().setsockopt(level, option, *words)
+socket.socket = Older
+sys.argv[:1] = []
+runpy.run_path(sys.argv[0], run_name="__main__")
+"""
+
+
+def slow_ones(field, name, function):
+    """What is wrong, or slow, while the other user does this: a session of another one, and then the daemon's end."""
+    link = hostile.connected(name)
+    process = PEER.unpack(link.getsockopt(socket.SOL_SOCKET, socket.SO_PEERCRED, PEER.size))[0]
+    with beside(field, function, name):
+        time.sleep(1)
+        for _ in range(3):
+            start = time.monotonic()
+            yield from wrong_status(record(field, "--required", "--spool", name), 0)
+            if time.monotonic() - start > 4:
+                yield f"a session takes {time.monotonic() - start:.1f} seconds"
+        os.kill(process, signal.SIGTERM)
+        time.sleep(2)
+    with open(f"/proc/{process}/stat") as it:
+        if it.read().split()[2] != "Z":
+            yield "the daemon goes on for 2 seconds after its end is asked for"
+
+
+@attack("user")
+def one_user_passes_descriptors(field):
+    """What a user passes to the daemon, and takes long to close, holds up no other, with each age of kernel."""
+    for older in ((), ("/usr/bin/python3", "-ISc", OLDER)):
+        for function in (hostile.descriptors, hostile.descriptors_beyond):
+            field.blank()
+            with daemon(field, before=older) as (name, _):
+                for it in slow_ones(field, name, function):
+                    yield f"{function.__name__}{', older kernel' if older else ''}: {it}"
+            for it in ("run", "spool"):
+                shutil.rmtree(field.path(it))
 
 
 @attack("user")
@@ -244,3 +292,71 @@ def a_link_appears_where_root_makes_the_start(field):
     found = os.lstat(f"{place}/tree") if os.path.lexists(f"{place}/tree") else None
     if done.returncode or found is None or found.st_uid != user or found.st_size == 0:
         yield f"status {done.returncode}, {found}: {done.stderr[-300:]!r}"
+
+
+# What the other user does to a process that runs as the same user, as its SFTP server would for its client.
+OPEN_MEMORY = """import errno, os, sys
+for name, flags in (("mem", os.O_RDWR), ("maps", os.O_RDONLY)):
+    try:
+        os.close(os.open(f"/proc/{sys.argv[1]}/{name}", flags))
+        print(name, "opened")
+    except OSError as error:
+        print(name, errno.errorcode[error.errno])
+"""
+
+
+def child_of(process, word):
+    """The process with this word in its command that another one started, or None if it is not there in time."""
+    end = time.monotonic() + 10
+    while time.monotonic() < end:
+        with open(f"/proc/{process}/task/{process}/children", encoding="ascii") as file:
+            children = file.read().split()
+        for it in children:
+            with suppress(OSError), open(f"/proc/{it}/cmdline", "rb") as file:
+                if word in file.read().split(b"\0"):
+                    return it
+        time.sleep(0.02)
+    return None
+
+
+def memory_of_the_audit(field, *words):
+    """Starts a session of the other user with an audit, tries to open the memory of this one as the user, and ends the
+    session. Returns what the tries said, and the log."""
+    identity = {"user": field.user.pw_uid, "group": field.user.pw_gid, "extra_groups": []}
+    command = [field.path("installed/bin/sftpv3-record"), "--audit", "--overwrite", "--tree", field.path("start.tree"),
+               "--log", "log", *words, "record", field.program, "serve", "--tree", field.path("start.tree")]
+    with subprocess.Popen(command, cwd=field.path("own"), stdin=subprocess.PIPE, stdout=subprocess.PIPE,
+                          **identity) as session:
+        session.stdin.write(HELLO)
+        session.stdin.flush()
+        session.stdout.read(124)
+        audit = child_of(session.pid, b"audit")
+        said = subprocess.run(["/usr/bin/python3", "-IS", "-c", OPEN_MEMORY, str(audit)], capture_output=True,
+                              text=True, **identity).stdout
+        session.communicate(ASKED[len(HELLO):], timeout=SECONDS)
+    log = field.read("own/log").decode()
+    os.remove(field.path("own/log"))
+    return said, log
+
+
+WARNED = "a client of the server can write into the audit"
+
+
+@attack("user")
+def a_client_opens_the_memory_of_the_audit(field):
+    """An installed audit that reads along gives its memory to no other process of its user. Where the program can be
+    read, and the system lets processes of one user at each other, the log says that it does."""
+    field.blank()
+    os.mkdir(field.path("own"), 0o700)
+    os.chown(field.path("own"), field.user.pw_uid, field.user.pw_gid)
+    done = subprocess.run([os.path.join(CLIENTS, "../install"), "--prefix", field.path("installed")],
+                          env={**os.environ, "SFTPV3": program(), "DESTDIR": ""}, capture_output=True, timeout=SECONDS)
+    yield from wrong_status(done, 0)
+    said, log = memory_of_the_audit(field)
+    if said != "mem EACCES\nmaps EACCES\n":
+        yield f"the installed program: {said!r}"
+    if "audit: accepted" not in log or WARNED in log:
+        yield f"the installed program: the log is {log!r}"
+    said, log = memory_of_the_audit(field, "--program", field.program)
+    if "audit: accepted" not in log or (WARNED in log) != ("mem opened" in said):
+        yield f"a program that all can read: {said!r}, and the log is {log!r}"

@@ -1,10 +1,13 @@
 """Attacks on clients/servers/any, which runs as root, by the program of the server that it starts."""
 import os
 import pty
+import shutil
 import subprocess
 import time
+from contextlib import suppress
 
-from attacking.ground import SECONDS, attack
+from attacking.ground import CLIENTS, SECONDS, attack
+from attacking.links import shared
 from programs import program
 from sftp3 import init
 
@@ -68,6 +71,13 @@ int main(int count, char **words) {
     while (read(0, room, sizeof room) > 0);
     return 7;
 }
+"""
+
+GO_SOURCES = "/usr/share/gocode/src/github.com/pkg/sftp/server_standalone/main.go"
+# In place of Go: it notes that it was asked, and what it builds is another program.
+GO = """#!/bin/sh
+: >"$BUILT"
+exec cp /bin/false "$3"
 """
 
 # What types a line into the terminal of its session: a library for ld.so to run, or a server before its VERSION.
@@ -240,3 +250,36 @@ def a_program_runs_where_its_libraries_are_looked_for(field):
     done = session(field, f"{hidden}/plain")
     if done.returncode != 7:
         yield f"a program in a folder of root: status {done.returncode} {done.stderr[-300:]!r}"
+
+
+def go_server(field, variable, home):
+    """Starts the script that keeps its server below this folder. Gives how that ended, and whether one was built."""
+    built = field.path("built")
+    with suppress(FileNotFoundError):
+        os.remove(built)
+    done = subprocess.run([os.path.join(CLIENTS, "servers/go-pkg-sftp"), field.path("start.tree")], input=HELLO,
+                          capture_output=True, timeout=SECONDS,
+                          env={**os.environ, "SFTPV3": program(), "BUILT": built, variable: home,
+                               "PATH": f"{field.path('tools')}:{os.environ['PATH']}"})
+    return done, os.path.exists(built)
+
+
+@attack("user")
+def a_home_of_another_user_has_the_server_that_root_starts(field):
+    """Where another user can put a program in place of the one that is kept, none is started, and none is built."""
+    field.blank()
+    os.mkdir(field.path("tools"))
+    field.put("tools/go", GO.encode(), 0o755)
+    for variable, owner, mode in (("HOME", field.user.pw_uid, 0o755), ("HOME", 0, 0o777),
+                                  ("XDG_CACHE_HOME", field.user.pw_uid, 0o700), ("HOME", 0, 0o700)):
+        home = shared(field, f"{variable}-{owner}-{mode:o}", mode, owner)
+        cache = os.path.join(home, ".cache/sftpv3" if variable == "HOME" else "sftpv3")
+        if mode != 0o700 or owner:
+            os.makedirs(cache)
+            shutil.copy(program(), os.path.join(cache, "go-pkg-sftp"))
+        done, is_built = go_server(field, variable, home)
+        if mode == 0o700 and not owner:
+            if is_built != os.path.exists(GO_SOURCES) or b"HOME" in done.stderr:
+                yield f"a home of one's own: {done}"
+        elif done.returncode != 3 or done.stdout or is_built or b"HOME" not in done.stderr:
+            yield f"{variable} of {owner}, mode {mode:o}: {done}, built {is_built}"

@@ -2,14 +2,15 @@
 a link to a folder of root."""
 import argparse
 import os
+import signal
 from contextlib import suppress
 
-from attacking.ground import attack, script
+from attacking.ground import Attack, attack, script
 from attacking.looks import CALLS, MOST, acting_before, made
 from nights.night import Night
 from nights.records import Failed
 from probing import files
-from recording import keeping, naming, notices
+from recording import ending, keeping, naming, notices
 from serving import saving
 from snapshot.looking import Trouble
 from snapshot.writing import Owner
@@ -174,3 +175,14 @@ def a_folder_on_the_way_becomes_a_link(field):
     field.blank()
     for what, given in WRITERS.items():
         yield from attacked(field, what.replace(" ", "_"), given)
+
+
+@attack(is_small=True)
+def a_signal_does_not_end_the_attacks(field):
+    """What an attack does with signals, as the end of a script does, is over with it."""
+    Attack(lambda _: ending.hold_off() or (), (), True).run(field.ground)
+    try:
+        signal.raise_signal(signal.SIGTERM)
+        yield "SIGTERM does not"
+    except SystemExit:
+        pass

@@ -17,7 +17,7 @@ use Rattle.sftp_handles.proofs.TotalSteps.PathReplies.{some-allowed}
 use Rattle.sftp_server.specs.declared.ends.Stop.TheVariants as stops
 use Rattle.sftp_server.specs.declared.ends.Stream.TheVariants as streams
 use Rattle.sftp_server.proofs.Machines.Laws as core_laws
-use Rattle.sftp_server.specs.Served.{Start, IsStopped, IsWrittenSoFar, ServedFrom}
+use Rattle.sftp_server.specs.Served.{Setup, IsStopped, IsWrittenSoFar, ServedFrom}
 use Rattle.sftp_server.specs.Sessions.{ended_by}
 pub mod Asked
 pub mod Replied
@@ -52,12 +52,12 @@ recorded-more first packets packet = sym (flat_map_more record_text transcript_o
 
 -- ---- a session
 
-pub session-more : (start : Start) (init : Packet) (events more : List Event)
+pub session-more : (start : Setup) (init : Packet) (events more : List Event)
     → session_packets start init (events ++ more) ≡ session_packets start init events ++ map packet_of more
 session-more start init events more =
     ap (λ (l : List Packet). init ∷ start.version ∷ l) (map-append packet_of events more)
 
-pub sent-session : (start : Start) (side : Side) (init : Packet) (events : List Event) (event : Event)
+pub sent-session : (start : Setup) (side : Side) (init : Packet) (events : List Event) (event : Event)
     → sent_by side (session_packets start init (events ++ event ∷ []))
     ≡ sent_by side (session_packets start init events)
     ++ spelled_if side (side_of (packet_of event)) (spelling (packet_of event))
@@ -65,7 +65,7 @@ sent-session start side init events event =
     ap (sent_by side) (session-more start init events (event ∷ []))
     ∙ sent-more side (session_packets start init events) (packet_of event)
 
-pub recorded-session : (start : Start) (init : Packet) (events : List Event) (event : Event)
+pub recorded-session : (start : Setup) (init : Packet) (events : List Event) (event : Event)
     → recorded (session_packets start init (events ++ event ∷ []))
     ≡ recorded (session_packets start init events) ++ record_text (packet_of event)
 recorded-session start init events event =
@@ -73,7 +73,7 @@ recorded-session start init events event =
     ∙ recorded-more init (start.version ∷ map packet_of events) (packet_of event)
 
 -- what the client sent, what the server sent, and the record, with a request more
-pub record AskedSession (start : Start) (init : Packet) (events : List Event) (request : Request) : Type 0 where
+pub record AskedSession (start : Setup) (init : Packet) (events : List Event) (request : Request) : Type 0 where
   pub client : sent_by Client (session_packets start init (events ++ asked_event request ∷ []))
       ≡ sent_by Client (session_packets start init events) ++ spelling (request_packet request)
   pub server : sent_by Server (session_packets start init (events ++ asked_event request ∷ []))
@@ -81,7 +81,7 @@ pub record AskedSession (start : Start) (init : Packet) (events : List Event) (r
   pub log : recorded (session_packets start init (events ++ asked_event request ∷ []))
       ≡ recorded (session_packets start init events) ++ record_text (request_packet request)
 
-pub asked-session : (start : Start) (init : Packet) (events : List Event) (request : Request)
+pub asked-session : (start : Setup) (init : Packet) (events : List Event) (request : Request)
     → AskedSession start init events request
 asked-session start init events request = record {
   client = sent-session start Client init events (asked_event request);
@@ -92,7 +92,7 @@ asked-session start init events request = record {
 }
 
 -- the same with a reply more
-pub record RepliedSession (start : Start) (init : Packet) (events : List Event) (reply : Reply) : Type 0 where
+pub record RepliedSession (start : Setup) (init : Packet) (events : List Event) (reply : Reply) : Type 0 where
   pub client : sent_by Client (session_packets start init (events ++ replied_event reply ∷ []))
       ≡ sent_by Client (session_packets start init events)
   pub server : sent_by Server (session_packets start init (events ++ replied_event reply ∷ []))
@@ -100,7 +100,7 @@ pub record RepliedSession (start : Start) (init : Packet) (events : List Event) 
   pub log : recorded (session_packets start init (events ++ replied_event reply ∷ []))
       ≡ recorded (session_packets start init events) ++ record_text (reply_packet reply)
 
-pub replied-session : (start : Start) (init : Packet) (events : List Event) (reply : Reply)
+pub replied-session : (start : Setup) (init : Packet) (events : List Event) (reply : Reply)
     → RepliedSession start init events reply
 replied-session start init events reply = record {
   client =
@@ -115,7 +115,7 @@ replied-session start init events reply = record {
 -- ---- a session that runs on as it is
 
 -- the same core, at other streams, with other bytes ahead or another fault
-abbrev pub running-on : {start : Start} {past mid now : StreamBytes} {ahead0 ahead1 : Ahead} {core : Machine State}
+abbrev pub running-on : {start : Setup} {past mid now : StreamBytes} {ahead0 ahead1 : Ahead} {core : Machine State}
     {fault0 fault1 : Option SessionFault} → (running : IsRunning start past mid ahead0 core fault0)
     → Passed past now (sent_by Client (session_packets start running.init running.events) ++ ahead1.held)
     (sent_by Server (session_packets start running.init running.events))
@@ -144,7 +144,7 @@ passed-kept {past} {mid} {now} {input} {output} {log} passed left written logged
   logged = Appends-kept past.logged mid.logged now.logged log passed.logged logged;
 }
 
-pub running-kept : {start : Start} {past mid now : StreamBytes} {ahead : Ahead} {core : Machine State}
+pub running-kept : {start : Setup} {past mid now : StreamBytes} {ahead : Ahead} {core : Machine State}
     {fault : Option SessionFault} → IsRunning start past mid ahead core fault → Keeps mid.left now.left
     → Keeps mid.written now.written → Keeps mid.logged now.logged → IsRunning start past now ahead core fault
 running-kept running left written logged =
@@ -166,16 +166,17 @@ stays-good s request reply end good fit =
 pub each-answered : core_laws.IsTotal
 each-answered = some-allowed paths-lead
 
-pub reached-begins : (start : Start) (events : List Event) (core : Machine State) → Good (started start.tree)
+pub reached-begins : (start : Setup) (events : List Event) (core : Machine State) → Good (started start.tree)
     → IsReached (started start.tree) window events core → BeginsFrom Allowed (settled start.tree []) events
 reached-begins start events core good reached =
     core_laws.begun stays-good each-answered (started start.tree) window events core good (omega arith) reached
 
-pub begun : {start : Start} {past now : StreamBytes} {ahead : Ahead} {core : Machine State}
-    {fault : Option SessionFault} → (running : IsRunning start past now ahead core fault) → BeginsFrom Allowed (settled start.tree []) running.events
+pub begun : {start : Setup} {past now : StreamBytes} {ahead : Ahead} {core : Machine State}
+    {fault : Option SessionFault} → (running : IsRunning start past now ahead core fault)
+    → BeginsFrom Allowed (settled start.tree []) running.events
 begun {start = start} {core = core} running = reached-begins start running.events core running.good running.reached
 
-pub running-listed : {start : Start} {past now : StreamBytes} {ahead : Ahead} {core : Machine State}
+pub running-listed : {start : Setup} {past now : StreamBytes} {ahead : Ahead} {core : Machine State}
     {fault : Option SessionFault} → (running : IsRunning start past now ahead core fault)
     → IsListed start (session_packets start running.init running.events)
 running-listed running =
@@ -213,18 +214,19 @@ cut-whole (first ∷ packets) =
 
 -- ---- the tree of the requests done
 
-pub after-done : (start : Start) (events : List Event) (core : Machine State) → Good (started start.tree)
+pub after-done : (start : Setup) (events : List Event) (core : Machine State) → Good (started start.tree)
     → IsReached (started start.tree) window events core → IsAfterDone start.tree events (closed_tree core.state)
 after-done start events core good reached =
     record {
       last = core.state;
       leads =
-          core_laws.leads-to stays-good each-answered (started start.tree) window events core good (omega arith) reached;
+          core_laws.leads-to stays-good each-answered (started start.tree) window events core good (omega arith)
+          reached;
       end_is = refl;
     }
 
 -- a core that was reached leaves this tree
-pub reached-leaves : (start : Start) (init : Packet) (events : List Event) (core : Machine State)
+pub reached-leaves : (start : Setup) (init : Packet) (events : List Event) (core : Machine State)
     → Good (started start.tree) → IsReached (started start.tree) window events core
     → IsLeftAfter start.tree (session_packets start init events) (tree_left core)
 reached-leaves start init events core good reached = (events, refl, after-done start events core good reached)
@@ -235,12 +237,12 @@ reached-leaves start init events core good reached = (events, refl, after-done s
 pub is-beginning : (whole : List ℕ) → IsBeginning whole whole
 is-beginning whole = ([], sym (append-nil whole))
 
-served-stopped : (start : Start) (input output log : List ℕ) (over : Type 0) (stop : Stop)
+served-stopped : (start : Setup) (input output log : List ℕ) (over : Type 0) (stop : Stop)
     → IsStopped start input output log (ended_by stop) → ServedFrom start input over output log (ended_by stop)
 served-stopped start input output log over (stops.Io stream) is = is
 served-stopped start input output log over stops.NoMemory is = is
 
-module _ {start : Start} {past now : StreamBytes} {input output log : List ℕ}
+module _ {start : Setup} {past now : StreamBytes} {input output log : List ℕ}
     (passed : Passed past now input output log) where
   pub leaves-by : {left : Option Tree} (packets : List Packet) (rest : List ℕ) → IsListed start packets
       → input ≡ sent_by Client packets ++ rest → IsBeginning output (sent_by Server packets)
@@ -278,7 +280,7 @@ module _ {start : Start} {past now : StreamBytes} {input output log : List ℕ}
 
 -- ---- a session that stops between packets
 
-module _ {start : Start} {past now : StreamBytes} {ahead : Ahead} {core : Machine State} {fault : Option SessionFault}
+module _ {start : Setup} {past now : StreamBytes} {ahead : Ahead} {core : Machine State} {fault : Option SessionFault}
     (running : IsRunning start past now ahead core fault) where
   abbrev packets : List Packet
   packets = session_packets start running.init running.events
@@ -334,7 +336,7 @@ part-written packets packet part side begins = (
 )
 
 -- some packets were written and logged, and the next could not be; the tree left is that after each of them
-module _ (start : Start) (past : StreamBytes) (left written0 written1 : Option (List ℕ)) (log0 log1 : Log)
+module _ (start : Setup) (past : StreamBytes) (left written0 written1 : Option (List ℕ)) (log0 log1 : Log)
     (first : Packet) (others : List Packet) (packet : Packet) (rest : List ℕ) (tree : Option Tree)
     (logging : IsLogging log0) (listed : IsListed start (first ∷ others))
     (more : IsListed start ((first ∷ others) ++ packet ∷ [])) (side : side_of packet ≡ Server)

@@ -1,7 +1,6 @@
 -- How an open session goes on after a batch of requests, and how it ends.
 use Rattle.std.specs.Prelude.{◌≡◌, ◌≢◌, ◌<◌, ℕ, List, [], length, Option, Some, None, Result, Ok, Err, MatchResult}
 use Rattle.std.specs.Prelude.{◌≤◌, ◌+◌, ◌*◌, ◌++◌}
-use Rattle.sftp_tree.specs.Tree.{Tree}
 use Rattle.sftp_handles.specs.State.{State, closed_tree, Good, started}
 use Rattle.sftp_server.specs.declared.ends.Stop.{Stop}
 use Rattle.sftp_server.specs.declared.ends.Stop.TheVariants.{NoMemory}
@@ -13,7 +12,7 @@ use Rattle.sftp_server.specs.declared.refusals.Refuse.TheVariants as refusals
 use Rattle.sftp_server.specs.declared.taking.Front.{Front}
 use Rattle.sftp_server.specs.declared.taking.Front.TheVariants.{Taken, Full, Waiting, Fault}
 use Rattle.sftp_server.specs.Machine.{Machine, at_start, IsAct, Delivers}
-use Rattle.sftp_server.specs.Served.{Start, StreamBytes, stream_bytes, IsUnopenedBy}
+use Rattle.sftp_server.specs.Served.{Setup, StreamBytes, stream_bytes, IsUnopenedBy}
 use Rattle.sftp_server.specs.Sessions.{Ahead, IsRunning, Stops, tree_left, input_limit, IsEnding, SendsOn}
 use Rattle.sftp_server.specs.Sessions.{IsUnopenedYet, BeginsWithGreeting}
 use Rattle.sftp_server.specs.declared.ends.Ended.{Ended}
@@ -59,7 +58,7 @@ found_refused id refusals.NoMemory = Err NoMemory
 abbrev pub TakesOn : Ahead → Ahead → Machine State → Machine State → Option (List ℕ) → Option (List ℕ)
     → Result Front Stop → Type 0
 TakesOn ahead0 ahead1 core0 core1 logged0 logged1 result =
-    (start : Start) (past : StreamBytes) (left written : Option (List ℕ))
+    (start : Setup) (past : StreamBytes) (left written : Option (List ℕ))
     → IsRunning start past (stream_bytes left written logged0) ahead0 core0 None
     → MatchResult result
     (λ front. IsRunning start past (stream_bytes left written logged1) ahead1 core1 (fault_of front))
@@ -71,14 +70,14 @@ closed_end last None = ends.Finished (closed_tree last)
 closed_end last (Some fault) = ends.Fault (closed_tree last) fault
 
 -- the session goes on, or it comes to its end
-abbrev pub IsNext : Start → StreamBytes → StreamBytes → Ahead → Machine State → Next → Type 0
+abbrev pub IsNext : Setup → StreamBytes → StreamBytes → Ahead → Machine State → Next → Type 0
 IsNext start past now ahead core Batch = IsRunning start past now ahead core None
 IsNext start past now ahead core (End fault) = IsEnding start past now core fault
 
 -- From a session with no request unanswered and no fault in front, a call leads on, or to the end, or stops it.
 abbrev pub ReadsOn : StreamBytes → StreamBytes → Ahead → Ahead → Result Next Stop → Type 0
 ReadsOn then now ahead0 ahead1 result =
-    (start : Start) (past : StreamBytes) (core : Machine State) → IsRunning start past then ahead0 core None
+    (start : Setup) (past : StreamBytes) (core : Machine State) → IsRunning start past then ahead0 core None
     → core.queue ≡ []
     → MatchResult result (λ next. IsNext start past now ahead1 core next)
     (λ stop. Stops start past now stop (tree_left core))
@@ -86,7 +85,7 @@ ReadsOn then now ahead0 ahead1 result =
 -- the same, with what was found in front
 abbrev pub EndsOn : StreamBytes → StreamBytes → Ahead → Ahead → Front → Result Next Stop → Type 0
 EndsOn then now ahead0 ahead1 front result =
-    (start : Start) (past : StreamBytes) (core : Machine State)
+    (start : Setup) (past : StreamBytes) (core : Machine State)
     → IsRunning start past then ahead0 core (fault_of front) → core.queue ≡ []
     → MatchResult result (λ next. IsNext start past now ahead1 core next)
     (λ stop. Stops start past now stop (tree_left core))
@@ -95,7 +94,7 @@ EndsOn then now ahead0 ahead1 front result =
 abbrev pub RunsOut : StreamBytes → StreamBytes → Ahead → Machine State → Machine State
     → Result (Option SessionFault) Stop → Type 0
 RunsOut then now ahead core0 core1 result =
-    (start : Start) (past : StreamBytes) → IsRunning start past then ahead core0 None
+    (start : Setup) (past : StreamBytes) → IsRunning start past then ahead core0 None
     → MatchResult result (λ fault. IsEnding start past now core1 fault)
     (λ stop. Stops start past now stop (tree_left core1))
 
@@ -112,7 +111,7 @@ GoesOn (Fault fault) old new reads0 reads1 = ⊥
 abbrev pub RepliesOn : {A : Type 0} → Machine State → Machine State → Option (List ℕ) → Option (List ℕ)
     → Option (List ℕ) → Option (List ℕ) → Result A Stop → Type 0
 RepliesOn core0 core1 written0 written1 logged0 logged1 result =
-    (start : Start) (past : StreamBytes) (left : Option (List ℕ)) (ahead : Ahead) (fault : Option SessionFault)
+    (start : Setup) (past : StreamBytes) (left : Option (List ℕ)) (ahead : Ahead) (fault : Option SessionFault)
     → IsRunning start past (stream_bytes left written0 logged0) ahead core0 fault
     → MatchResult result (λ _. IsRunning start past (stream_bytes left written1 logged1) ahead core1 fault)
     (λ stop. Stops start past (stream_bytes left written1 logged1) stop (tree_left core1))
@@ -126,7 +125,7 @@ Works core0 core1 result =
 abbrev pub FollowsOn : {A : Type 0} → StreamBytes → StreamBytes → Ahead → Ahead → Machine State → Machine State
     → Result A Stop → Type 0
 FollowsOn then now ahead0 ahead1 core0 core1 result =
-    (start : Start) (past : StreamBytes) → IsRunning start past then ahead0 core0 None
+    (start : Setup) (past : StreamBytes) → IsRunning start past then ahead0 core0 None
     → MatchResult result (λ _. IsRunning start past now ahead1 core1 None)
     (λ stop. Stops start past now stop (tree_left core1))
 
@@ -156,7 +155,7 @@ IsGreetingOf packet count (Fault other) = ⊥
 -- that was not opened yet, or stops it.
 abbrev pub ReadsFirst : Option (List ℕ) → Option (List ℕ) → Ahead → Ahead → Result First Stop → Type 0
 ReadsFirst left0 left1 ahead0 ahead1 result =
-    (start : Start) (past : StreamBytes) (written logged : Option (List ℕ))
+    (start : Setup) (past : StreamBytes) (written logged : Option (List ℕ))
     → IsUnopenedYet past (stream_bytes left0 written logged) ahead0
     → MatchResult result (λ _. IsUnopenedYet past (stream_bytes left1 written logged) ahead1)
     (λ stop. Stops start past (stream_bytes left1 written logged) stop None)
@@ -165,7 +164,7 @@ ReadsFirst left0 left1 ahead0 ahead1 result =
 abbrev pub OpensOn : Packet → Ahead → Ahead → Option (List ℕ) → Option (List ℕ) → Option (List ℕ) → Option (List ℕ)
     → Result (Unit {0}) Stop → Type 0
 OpensOn version ahead0 ahead1 written0 written1 logged0 logged1 result =
-    (start : Start) (past : StreamBytes) (left : Option (List ℕ)) → start.version ≡ version → Good (started start.tree)
+    (start : Setup) (past : StreamBytes) (left : Option (List ℕ)) → start.version ≡ version → Good (started start.tree)
     → IsUnopenedYet past (stream_bytes left written0 logged0) ahead0
     → MatchResult result
     (λ _. IsRunning start past (stream_bytes left written1 logged1) ahead1 (at_start (started start.tree) window) None)

@@ -9,6 +9,7 @@ use Rattle.sftp_transcript.specs.Examples.{mkdir, rmdir, stat, status, attribute
 use Rattle.sftp_server.specs.declared.acts.Act.{Act}
 use Rattle.sftp_server.specs.declared.acts.Act.TheVariants.{Deliver, Work, Send}
 use Rattle.sftp_server.specs.declared.ends.Ended.{Ended}
+use Rattle.sftp_transcript.specs.Transcript.{transcript_opening}
 use Rattle.sftp_server.specs.Served.{Served}
 
 -- ---- acts
@@ -51,6 +52,13 @@ attrs_bytes = hex (codes "0000001d 69 00000007 00000007 0000000000000000 0000000
 -- the request is asked once, and answered
 abbrev pub stat_answered : List Event
 stat_answered = stat 7 (codes "/") ∷ attributes_reply 7 root_attributes ∷ []
+
+-- VERSION 3 without pairs, and the log of a session in which nothing was asked behind it
+abbrev pub plain_version_bytes : List ℕ
+plain_version_bytes = hex (codes "00000005 02 00000003")
+
+abbrev pub plain_handshake_bytes : List ℕ
+plain_handshake_bytes = transcript_opening ++ (67 ∷ init_bytes) ++ 83 ∷ plain_version_bytes
 
 -- ---- sessions
 

@@ -13,7 +13,7 @@ use Rattle.sftp_handles.specs.State.{State, started, closed_tree}
 use Rattle.sftp_handles.specs.Allowed.{Allowed}
 use Rattle.sftp_server.specs.declared.ends.Ended.{Ended}
 use Rattle.sftp_server.specs.declared.ends.Ended.TheVariants as ends
-use Rattle.sftp_server.specs.Served.{Start, usual, sent_by, IsListed, IsBeginning, IsCutInLast, StreamBytes, Passed}
+use Rattle.sftp_server.specs.Served.{Setup, usual, sent_by, IsListed, IsBeginning, IsCutInLast, StreamBytes, Passed}
 
 -- The requests that were done, with their replies, out of all requests in the order asked: each whose reply was sent,
 -- with that reply, and some of the others, each with a reply.
@@ -47,7 +47,7 @@ IsLeftAfter start (init ∷ packets) (Some end) =
 
 -- What a session read, wrote and logged, and the tree that it left. The packets are all that were read, written or
 -- logged; a beginning of the last may be all that was written or logged of it.
-pub record IsLeft (start : Start) (input output log : List ℕ) (left : Option Tree) : Type 0 where
+pub record IsLeft (start : Setup) (input output log : List ℕ) (left : Option Tree) : Type 0 where
   pub packets : List Packet
   pub rest : List ℕ
   pub listed : IsListed start packets
@@ -58,8 +58,8 @@ pub record IsLeft (start : Start) (input output log : List ℕ) (left : Option T
 
 -- ---- what is promised of a call of `serve_keeping_tree`, beside what `Serves` says
 
--- what was read, written and logged between two moments is that of a session on this tree that left this one, if any
-pub record Leaves (start : Start) (past now : StreamBytes) (left : Option Tree) : Type 0 where
+-- what was read, written and logged between two moments is that of a session that started so and left this tree, if any
+pub record Leaves (start : Setup) (past now : StreamBytes) (left : Option Tree) : Type 0 where
   pub input : List ℕ
   pub output : List ℕ
   pub log : List ℕ
@@ -67,12 +67,12 @@ pub record Leaves (start : Start) (past now : StreamBytes) (left : Option Tree) 
   pub is_left : IsLeft start input output log left
 
 -- The tree that a session left, beside its end: none if the end has a tree.
-abbrev pub LeavesFrom : Start → StreamBytes → StreamBytes → Ended → Option Tree → Type 0
+abbrev pub LeavesFrom : Setup → StreamBytes → StreamBytes → Ended → Option Tree → Type 0
 LeavesFrom start past now (ends.Finished end) left = left ≡ None
 LeavesFrom start past now (ends.Fault end fault) left = left ≡ None
 LeavesFrom start past now (ends.Io stream) left = Leaves start past now left
 LeavesFrom start past now ends.NoMemory left = Leaves start past now left
 
--- with the usual VERSION
+-- the same, with the VERSION of this server
 abbrev pub LeavesAt : Tree → StreamBytes → StreamBytes → Ended → Option Tree → Type 0
 LeavesAt start past now ended left = LeavesFrom (usual start) past now ended left

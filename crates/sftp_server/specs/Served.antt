@@ -39,20 +39,21 @@ abbrev pub our_version : Packet
 our_version =
     Version 3 server_extensions
 
--- what a session starts from: a tree, and the VERSION 3 that the server announces, of any pairs (draft, section 4)
-pub record Start : Type 0 where
+-- What a session starts from: a tree, and the packet that the server announces. Of this callers require that it is a
+-- VERSION 3 that can be encoded, with any pairs (draft, section 4).
+pub record Setup : Type 0 where
   pub tree : Tree
   pub version : Packet
 
-abbrev pub announcing : Tree → Packet → Start
+abbrev pub announcing : Tree → Packet → Setup
 announcing tree version = record { tree = tree; version = version }
 
--- with the VERSION of this server
-abbrev pub usual : Tree → Start
+-- the tree, with the VERSION of this server
+abbrev pub usual : Tree → Setup
 usual tree = announcing tree our_version
 
 -- the packets of a session with this INIT, once it is open
-abbrev pub session_packets : Start → Packet → List Event → List Packet
+abbrev pub session_packets : Setup → Packet → List Event → List Packet
 session_packets start init events = init ∷ start.version ∷ map packet_of events
 
 -- the bytes, if the packet is of the side that is asked for
@@ -81,9 +82,10 @@ opened_record (first ∷ others) packet = record_text packet
 abbrev pub IsGreeting : Packet → Type 0
 IsGreeting packet = IsInit packet × HasSpelling packet
 
--- The session that was opened: what was read is the client's packets and then the rest; what was written is the
--- server's packets; and the log is the record of both in the order of the session. Each event can be encoded.
-pub record IsOpened (start : Start) (input output log : List ℕ) (init : Packet) (events : List Event) (rest : List ℕ)
+-- The session that was opened, with the VERSION that it starts from: what was read is the client's packets and then
+-- the rest; what was written is the server's packets; and the log is the record of both in the order of the session.
+-- Each event can be encoded.
+pub record IsOpened (start : Setup) (input output log : List ℕ) (init : Packet) (events : List Event) (rest : List ℕ)
     : Type 0 where
   pub greeting : IsGreeting init
   pub spelled : AllByRecursion IsEvent events
@@ -133,14 +135,14 @@ pub record IsServed (start : Tree) (events : List Event) (end : Tree) : Type 0 w
   pub explained : Explained Allowed (started start) events last
   pub end_is : end ≡ closed_tree last
 
-pub record IsFinished (start : Start) (input : List ℕ) (over : Type 0) (output log : List ℕ) (end : Tree) : Type 0 where
+pub record IsFinished (start : Setup) (input : List ℕ) (over : Type 0) (output log : List ℕ) (end : Tree) : Type 0 where
   pub init : Packet
   pub events : List Event
   pub opened : IsOpened start input output log init events []
   pub served : IsServed start.tree events end
   pub ended : over
 
-pub record IsFaulty (start : Start) (input : List ℕ) (over : Type 0) (output log : List ℕ) (end : Tree)
+pub record IsFaulty (start : Setup) (input : List ℕ) (over : Type 0) (output log : List ℕ) (end : Tree)
     (fault : SessionFault) : Type 0 where
   pub init : Packet
   pub events : List Event
@@ -177,7 +179,7 @@ pub record IsUnopened (start : Tree) (input : List ℕ) (over : Type 0) (output 
 -- ---- a session that ended because a stream failed or memory ran out
 
 -- what a session may have logged so far: nothing, its INIT, or its packets up to some event
-abbrev pub IsListed : Start → List Packet → Type 0
+abbrev pub IsListed : Setup → List Packet → Type 0
 IsListed start [] = Unit {0}
 IsListed start (init ∷ []) = IsGreeting init
 IsListed start (init ∷ version ∷ packets) =
@@ -196,7 +198,7 @@ IsCutInLast packets log =
     × IsBeginning cut (opened_record front last) × (log ≡ recorded front ++ cut))
 
 -- what was written and logged of the packets
-abbrev pub IsWrittenSoFar : Start → List Packet → List ℕ → List ℕ → Ended → Type 0
+abbrev pub IsWrittenSoFar : Setup → List Packet → List ℕ → List ℕ → Ended → Type 0
 IsWrittenSoFar start packets output log (ends.Io streams.Reader) =
     (output ≡ sent_by Server packets) × (log ≡ recorded packets)
 IsWrittenSoFar start packets output log (ends.Io streams.Writer) =
@@ -209,7 +211,7 @@ IsWrittenSoFar start packets output log (ends.Io streams.Log) =
 IsWrittenSoFar start packets output log ends.NoMemory = (output ≡ sent_by Server packets) × IsCutInLast packets log
 IsWrittenSoFar start packets output log other = ⊥
 
-pub record IsStopped (start : Start) (input output log : List ℕ) (ended : Ended) : Type 0 where
+pub record IsStopped (start : Setup) (input output log : List ℕ) (ended : Ended) : Type 0 where
   pub packets : List Packet
   pub rest : List ℕ
   pub listed : IsListed start packets
@@ -220,14 +222,14 @@ pub record IsStopped (start : Start) (input output log : List ℕ) (ended : Ende
 
 -- What was read of the input, what was written and what was logged, and how the session ended. `over`: the input has
 -- ended. That a stream failed only where its name is returned is not said here.
-abbrev pub ServedFrom : Start → List ℕ → Type 0 → List ℕ → List ℕ → Ended → Type 0
+abbrev pub ServedFrom : Setup → List ℕ → Type 0 → List ℕ → List ℕ → Ended → Type 0
 ServedFrom start input over output log (ends.Finished end) = IsFinished start input over output log end
 ServedFrom start input over output log (ends.Fault end fault) =
     IsUnopened start.tree input over output log end fault ⊎ IsFaulty start input over output log end fault
 ServedFrom start input over output log (ends.Io stream) = IsStopped start input output log (ends.Io stream)
 ServedFrom start input over output log ends.NoMemory = IsStopped start input output log ends.NoMemory
 
--- with the usual VERSION
+-- the same, with the VERSION of this server
 abbrev pub Served : Tree → List ℕ → Type 0 → List ℕ → List ℕ → Ended → Type 0
 Served start input over output log ended = ServedFrom (usual start) input over output log ended
 
@@ -253,15 +255,15 @@ pub record Passed (past now : StreamBytes) (input output log : List ℕ) : Type 
   pub written : Appends past.written now.written output
   pub logged : Appends past.logged now.logged log
 
--- what was read, written and logged between two moments is that of a session on this tree that ended so
-pub record ServesFrom (start : Start) (past now : StreamBytes) (ended : Ended) : Type 0 where
+-- what was read, written and logged between two moments is that of a session that started so and ended so
+pub record ServesFrom (start : Setup) (past now : StreamBytes) (ended : Ended) : Type 0 where
   pub input : List ℕ
   pub output : List ℕ
   pub log : List ℕ
   pub passed : Passed past now input output log
   pub served : ServedFrom start input (IsAtEnd now.left) output log ended
 
--- with the usual VERSION
+-- the same, with the VERSION of this server
 abbrev pub Serves : Tree → StreamBytes → StreamBytes → Ended → Type 0
 Serves start past now ended = ServesFrom (usual start) past now ended
 

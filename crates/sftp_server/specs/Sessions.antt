@@ -37,7 +37,7 @@ use Rattle.sftp_server.specs.Machine.{Machine, is_unsent}
 use Rattle.sftp_server.specs.Machine.{IsReached}
 use Rattle.sftp_server.specs.Served.{session_packets, sent_by, recorded, IsGreeting, answered_last, BeginsWithId}
 use Rattle.sftp_server.specs.Served.{BeginsWithInit, EndsSession, StreamBytes, stream_bytes, Passed}
-use Rattle.sftp_server.specs.Served.{Start, ServesFrom, is_same_stream, failures_if}
+use Rattle.sftp_server.specs.Served.{Setup, ServesFrom, is_same_stream, failures_if}
 use Rattle.sftp_server.specs.Left.{Leaves, LeavesFrom}
 
 -- ==== What the requests of a queue touch, and where. What a request touches and its span stay while requests are done
@@ -122,7 +122,7 @@ abbrev pub input_limit : ℕ
 input_limit = packet_limit
 
 -- a session ended so, and left this tree, if any
-abbrev pub IsSessionEnd : Start → StreamBytes → StreamBytes → SessionEnd → Type 0
+abbrev pub IsSessionEnd : Setup → StreamBytes → StreamBytes → SessionEnd → Type 0
 IsSessionEnd start past now end =
     ServesFrom start past now end.ended × LeavesFrom start past now end.ended end.left
 
@@ -133,7 +133,7 @@ ended_by (stops.Io stream) = ends.Io stream
 ended_by stops.NoMemory = ends.NoMemory
 
 -- a session was stopped so, and left this tree, if any
-pub record Stops (start : Start) (past now : StreamBytes) (stop : Stop) (left : Option Tree) : Type 0 where
+pub record Stops (start : Setup) (past now : StreamBytes) (stop : Stop) (left : Option Tree) : Type 0 where
   pub served : ServesFrom start past now (ended_by stop)
   pub leaves : Leaves start past now left
 
@@ -181,10 +181,10 @@ pub record Ahead : Type 0 where
 abbrev pub ahead_without : ℕ → Ahead → Ahead
 ahead_without count a = record { held = drop count a.held; place = place_after a.place count }
 
--- A session on this tree is open. Since it began the client's packets were read, and then what is held; the server's
+-- A session that started so is open. Since it began the client's packets were read, and then what is held; the server's
 -- packets were written; and both were logged. The core was reached by the events. `fault`: what was found in front of
 -- the bytes held, if a fault was.
-pub record IsRunning (start : Start) (past now : StreamBytes) (ahead : Ahead) (core : Machine State)
+pub record IsRunning (start : Setup) (past now : StreamBytes) (ahead : Ahead) (core : Machine State)
     (fault : Option SessionFault) : Type 0 where
   pub init : Packet
   pub events : List Event
@@ -219,7 +219,7 @@ IsEnd events rest place over None = over × (rest ≡ [])
 IsEnd events rest place over (Some fault) = EndsSession events rest place over fault
 
 -- the session is open, each request is answered, and it ends so
-pub record IsEnding (start : Start) (past now : StreamBytes) (core : Machine State) (fault : Option SessionFault)
+pub record IsEnding (start : Setup) (past now : StreamBytes) (core : Machine State) (fault : Option SessionFault)
     : Type 0 where
   pub ahead : Ahead
   pub running : IsRunning start past now ahead core None
@@ -245,7 +245,7 @@ FailsToSend packet written0 written1 log0 log1 stops.NoMemory =
 abbrev pub SendsOn : Machine State → Machine State → Option (List ℕ) → Option (List ℕ) → Option (List ℕ)
     → Option (List ℕ) → Result (Unit {0}) Stop → Type 0
 SendsOn core0 core1 written0 written1 logged0 logged1 result =
-    (start : Start) (past : StreamBytes) (left : Option (List ℕ)) (ahead : Ahead) (fault : Option SessionFault)
+    (start : Setup) (past : StreamBytes) (left : Option (List ℕ)) (ahead : Ahead) (fault : Option SessionFault)
     → IsRunning start past (stream_bytes left written0 logged0) ahead core0 fault
     → MatchResult result (λ _. IsRunning start past (stream_bytes left written1 logged1) ahead core1 fault)
     (λ stop. Stops start past (stream_bytes left written1 logged1) stop (tree_left core1))

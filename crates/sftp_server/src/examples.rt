@@ -10,9 +10,11 @@ ghost use Rattle.sftp_tree.specs.Picture.{blank};
 ghost use Rattle.sftp_handles.specs.Allowed.{Allowed};
 ghost use Rattle.sftp_server.specs.Machine.{at_start, AreActs};
 ghost use Rattle.sftp_server.specs.Machine.{server_clash};
-ghost use Rattle.sftp_server.specs.Served.{Served};
+ghost use Rattle.sftp_server.specs.Served.{announcing, Served, ServedFrom};
+ghost use Rattle.sftp_packets.specs.declared.packets.Packet.TheVariants as Packet;
 ghost use Rattle.sftp_server.specs.Examples.{made_and_removed, answered_backwards, init_bytes, remove_and_byte};
 ghost use Rattle.sftp_server.specs.Examples.{mkdir_beginning, stat_bytes, attrs_bytes, EndsAfterVersion};
+ghost use Rattle.sftp_server.specs.Examples.{plain_version_bytes, plain_handshake_bytes};
 
 use crate::ends::{Ended, SessionFault};
 use sftp_wire::{Fault, WireError};
@@ -26,9 +28,13 @@ pub fn work_keeps_the_order()
 {}
 
 /// An INIT of version 3 and nothing else: VERSION is written, the tree stays as it came, and the log has 143 bytes.
+/// With a VERSION without pairs 9 bytes are written, and the log has 28.
 pub fn nothing_asked()
     ensures served { EndsAfterVersion [] (Unit {0}) (Ended.Finished blank) }
     ensures logged { length handshake_bytes ≡ 143 }
+    ensures announced { ServedFrom (announcing blank (Packet.Version 3 [])) init_bytes (Unit {0}) plain_version_bytes
+        plain_handshake_bytes (Ended.Finished blank) }
+    ensures announced_log { length plain_handshake_bytes ≡ 28 }
 {}
 
 /// An INIT, and then a request with a byte after its last field: VERSION is written, and the session ends with the

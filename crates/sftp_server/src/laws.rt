@@ -9,8 +9,9 @@ ghost use Rattle.sftp_server.specs.Machine.{Machine};
 ghost use Rattle.sftp_packets.specs.declared.packets.Packet.{Packet};
 ghost use Rattle.sftp_packets.specs.Packets.{HasSpelling};
 ghost use Rattle.sftp_transcript.specs.Transcript.{IsRecord, IsVersion};
+ghost use Rattle.sftp_tree.specs.Tree.{Tree};
 ghost use Rattle.sftp_server.specs.Machine.{IsReached};
-ghost use Rattle.sftp_server.specs.Served.{Start, IsOpened};
+ghost use Rattle.sftp_server.specs.Served.{Setup, usual, IsOpened};
 ghost use Rattle.sftp_server.specs.Left.{LeadsTo};
 
 use sftp_handles::laws::{good_stays_good, some_reply};
@@ -38,7 +39,9 @@ pub fn sessions_are_explained()
 
 /// The log of a session that was opened is the transcript of its events, whatever pairs its VERSION 3 announced.
 pub fn logs_are_transcripts()
-    ensures { (start : Start) (input output log : List ℕ) (init : Packet) (events : List Event) (rest : List ℕ) →
-        IsVersion start.version → HasSpelling start.version → IsOpened start input output log init events rest →
-        IsRecord events log }
+    ensures usual { (start : Tree) (input output log : List ℕ) (init : Packet) (events : List Event) (rest : List ℕ) →
+        IsOpened (usual start) input output log init events rest → IsRecord events log }
+    ensures announced { (start : Setup) (input output log : List ℕ) (init : Packet) (events : List Event)
+        (rest : List ℕ) → IsVersion start.version → HasSpelling start.version →
+        IsOpened start input output log init events rest → IsRecord events log }
 {}

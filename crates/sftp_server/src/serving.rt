@@ -73,9 +73,9 @@ pub fn serve<R: Source, W: Sink, L: Sink, S: Schedule>(
     ended
 }
 
-/// Serves a session as `serve` does, and returns the tree also if a stream failed or memory ran out, so that nothing
-/// that was uploaded is lost. That tree is the one to which the requests that were done lead, one at a time in the
-/// order asked; each request whose reply was written, even in part, is among them (draft, section 6.1).
+/// Serves a session as `serve` does. Once it is open, returns the tree also if a stream failed or memory ran out, so
+/// that nothing that was uploaded is lost. That tree is the one to which the requests that were done lead, one at a
+/// time in the order asked; each request whose reply was written, even in part, is among them (draft, section 6.1).
 ///
 /// `log` has no records yet, and no call on it failed. Failures are counted up to 2^64 - 1.
 pub fn serve_keeping_tree<R: Source, W: Sink, L: Sink, S: Schedule>(
@@ -134,8 +134,8 @@ pub fn serve_as<R: Source, W: Sink, L: Sink, S: Schedule, T: HandleTable, A: Ans
     end
 }
 
-/// Serves a session as `serve_as` does, and announces this VERSION 3, of any pairs (draft, section 4), in place of the
-/// usual one.
+/// Serves a session as `serve_as` does, and announces this VERSION 3, with any pairs (draft, section 4), in place of
+/// the usual one. What is answered does not depend on it. It has to be one that can be encoded.
 ///
 /// `log` has no records yet, and no call on it failed. Failures are counted up to 2^64 - 1.
 pub fn serve_announcing<R: Source, W: Sink, L: Sink, S: Schedule, T: HandleTable, A: Answerer<T>>(

@@ -23,7 +23,7 @@ use Rattle.sftp_server.specs.declared.ends.Ended.TheVariants.{Finished, Fault}
 use Rattle.sftp_server.specs.declared.ends.Ended.TheVariants as ends
 use Rattle.sftp_server.specs.declared.ends.SessionFault.{SessionFault}
 use Rattle.sftp_server.specs.Served.{IsFinished, IsFaulty, IsUnopened, IsOpened, IsServed, StreamBytes}
-use Rattle.sftp_server.specs.Served.{Start, usual, stream_bytes, Serves, ServesFrom}
+use Rattle.sftp_server.specs.Served.{Setup, usual, stream_bytes, Serves, ServesFrom}
 use Rattle.sftp_server.proofs.Sessions.Closed.{log-is-transcript}
 use Rattle.sftp_audit.specs.declared.audits.Accepted.{Accepted}
 use Rattle.sftp_audit.specs.declared.errors.AuditError.{AuditError}
@@ -59,7 +59,7 @@ logged-of old new log appended before now appends =
     subst (λ (o : Option (List ℕ)). Appends (Some []) o appended) now
     (subst (λ (o : Option (List ℕ)). Appends o new appended) before appends)
 
-accounts : (start : Start) (end : Tree) (bytes log input output logged : List ℕ) (init : _) (events : List Event)
+accounts : (start : Setup) (end : Tree) (bytes log input output logged : List ℕ) (init : _) (events : List Event)
     (rest : List ℕ) → IsVersion start.version → HasSpelling start.version → IsStart start.tree bytes → log ≡ logged
     → IsOpened start input output logged init events rest → IsServed start.tree events end
     → Accounts bytes log start.tree events end
@@ -74,7 +74,7 @@ accounts start end bytes log input output logged init events rest version spelle
 
 -- ---- a session that announced any VERSION 3
 
-pub announced-finished : (start : Start) (end : Tree) (bytes log : List ℕ) (past now : StreamBytes)
+pub announced-finished : (start : Setup) (end : Tree) (bytes log : List ℕ) (past now : StreamBytes)
     → IsVersion start.version → HasSpelling start.version → IsStart start.tree bytes → IsLogged past now log
     → ServesFrom start past now (Finished end) → (events : List Event) × Accounts bytes log start.tree events end
 announced-finished start end bytes log past now version spelled is logged serves =
@@ -86,7 +86,7 @@ announced-finished start end bytes log past now version spelled is logged serves
           is same of.opened of.served,
     )
 
-pub announced-faulty : (start : Start) (end : Tree) (fault : SessionFault) (bytes log : List ℕ) (past now : StreamBytes)
+pub announced-faulty : (start : Setup) (end : Tree) (fault : SessionFault) (bytes log : List ℕ) (past now : StreamBytes)
     → IsVersion start.version → HasSpelling start.version → IsStart start.tree bytes → IsLogged past now log
     → ServesFrom start past now (Fault end fault)
     → ((log ≡ []) × (end ≡ start.tree)) ⊎ ((events : List Event) × Accounts bytes log start.tree events end)

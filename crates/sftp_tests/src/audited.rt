@@ -8,7 +8,7 @@ ghost use Rattle.sftp_transcript.specs.declared.events.Event.{Event};
 ghost use Rattle.sftp_server.specs.declared.ends.Ended.TheVariants.{Finished, Fault};
 ghost use Rattle.sftp_server.specs.declared.ends.SessionFault.{SessionFault};
 ghost use Rattle.sftp_server.specs.declared.ends.Stream.TheVariants as streams;
-ghost use Rattle.sftp_server.specs.Served.{Start, StreamBytes, stream_bytes, Serves, ServesFrom, CountsEnd};
+ghost use Rattle.sftp_server.specs.Served.{Setup, StreamBytes, stream_bytes, Serves, ServesFrom, CountsEnd};
 ghost use Rattle.sftp_audit.specs.declared.errors.AuditError.TheVariants.{NoMemory};
 ghost use Rattle.sftp_audit.specs.Audit.{Accounts};
 ghost use Rattle.sftp_tests.specs.Audited.{IsLogged, Agrees};
@@ -87,11 +87,11 @@ pub fn logs_account_for_runs()
         → IsStart start bytes → IsLogged past now log → Serves start past now (Fault end fault)
         → ((log ≡ []) × (end ≡ start)) ⊎ ((events : List Event) × Accounts bytes log start events end) }
     // The same of a session that announced any VERSION 3, as `serve_announcing` does.
-    ensures announced_finished { (start : Start) (end : values.Tree) (bytes log : List ℕ) (past now : StreamBytes)
+    ensures announced_finished { (start : Setup) (end : values.Tree) (bytes log : List ℕ) (past now : StreamBytes)
         → IsVersion start.version → HasSpelling start.version → IsStart start.tree bytes → IsLogged past now log
         → ServesFrom start past now (Finished end)
         → (events : List Event) × Accounts bytes log start.tree events end }
-    ensures announced_fault { (start : Start) (end : values.Tree) (fault : SessionFault) (bytes log : List ℕ)
+    ensures announced_fault { (start : Setup) (end : values.Tree) (fault : SessionFault) (bytes log : List ℕ)
         (past now : StreamBytes) → IsVersion start.version → HasSpelling start.version → IsStart start.tree bytes
         → IsLogged past now log → ServesFrom start past now (Fault end fault)
         → ((log ≡ []) × (end ≡ start.tree)) ⊎ ((events : List Event) × Accounts bytes log start.tree events end) }

@@ -5,7 +5,7 @@ use Rattle.sftp_server.proofs.Imports.{sym, ap, ◌∙◌, subst, subst₂, arit
 use Rattle.sftp_server.proofs.Imports.{AllByRecursion, Appends-trans, length-append, take_at, Packet, request_packet}
 use Rattle.sftp_server.proofs.Imports.{Request, Client, Server, spelling, HasSpelling, place_after, StandsInFront}
 use Rattle.sftp_server.proofs.Imports.{length-spelling, TranscriptError, Io, Event, Asked, AppendsPart, Log, IsAppended}
-use Rattle.sftp_server.proofs.Imports.{FailsToRecord, record_text, IsEvent, window, Tree, State, SessionFault, Stop}
+use Rattle.sftp_server.proofs.Imports.{FailsToRecord, record_text, IsEvent, window, State, SessionFault, Stop}
 use Rattle.sftp_server.proofs.Imports.{Front, Refuse, Machine, taken, can_take, is_unsent, started, IsValue, IsReached}
 use Rattle.sftp_server.proofs.Imports.{fault_of, found_refused, TakesOn, session_packets, sent_by, recorded, IsListed}
 use Rattle.sftp_server.proofs.Imports.{IsBeginning, IsCutInLast, StreamBytes, stream_bytes, Passed, Stops, tree_left}
@@ -21,7 +21,7 @@ use Rattle.sftp_server.proofs.Machines.Laws.{reached-taken}
 use Rattle.sftp_server.proofs.Sessions.{asked-session, session-more}
 use Rattle.sftp_server.proofs.Sessions.{no-opening, reached-begins, reached-leaves, is-beginning}
 use Rattle.sftp_server.proofs.Sessions.{stopped-no-memory, running-on, stops-by, leaves-by}
-use Rattle.sftp_server.specs.Served.{Start}
+use Rattle.sftp_server.specs.Served.{Setup}
 
 -- what holds of a request that can be encoded
 pub request-value : (request : Request) → HasSpelling (request_packet request) → IsValue request
@@ -52,7 +52,7 @@ appended log0 log1 text logging is =
 
 -- ---- a request
 
-module _ (start : Start) (past : StreamBytes) (left written : Option (List ℕ)) (log0 log1 : Log) (ahead : Ahead)
+module _ (start : Setup) (past : StreamBytes) (left written : Option (List ℕ)) (log0 log1 : Log) (ahead : Ahead)
     (core : Machine State) (request : Request) (count : ℕ)
     (running : IsRunning start past (stream_bytes left written log0.bytes) ahead core None)
     (front : StandsInFront Client ahead.held (request_packet request) count) (can : IsTrue (can_take core request))

@@ -23,7 +23,7 @@ use Rattle.sftp_server.proofs.Machines.Laws.{explained}
 use Rattle.sftp_server.proofs.Sessions.{stays-good, each-answered, running-on, running-kept, stopped-reader}
 use Rattle.sftp_server.proofs.Sessions.{stopped-writer, stopped-log}
 use Rattle.sftp_server.proofs.Sessions.Opened.{unopened-stopped}
-use Rattle.sftp_server.specs.Served.{Start, ServedFrom, ServesFrom}
+use Rattle.sftp_server.specs.Served.{Setup, ServedFrom, ServesFrom}
 use Rattle.sftp_server.specs.Left.{LeavesFrom}
 use Rattle.sftp_transcript.specs.Transcript.{event_record, IsRecord, IsVersion}
 use Rattle.sftp_server.specs.Ending.{Works, bytes_ahead}
@@ -44,7 +44,7 @@ abbrev ahead_of : List ℕ → ℕ → Ahead
 ahead_of held place = record { held = held; place = place }
 
 -- more was read
-pub running-read : {start : Start} {past : StreamBytes} {left0 left1 written logged : Option (List ℕ)} {ahead : Ahead}
+pub running-read : {start : Setup} {past : StreamBytes} {left0 left1 written logged : Option (List ℕ)} {ahead : Ahead}
     {core : Machine State} (more : List ℕ) → IsRunning start past (stream_bytes left0 written logged) ahead core None
     → Consumes left0 left1 more
     → IsRunning start past (stream_bytes left1 written logged) (ahead_of (ahead.held ++ more) ahead.place) core None
@@ -74,7 +74,7 @@ nothing-read left0 left1 {ahead0} read none =
     ∙ ap (λ (held : List ℕ). ahead_of held ahead0.place) (append-nil ahead0.held)
 
 -- a stream kept its bytes, and did not fail, or did
-module _ {start : Start} {past : StreamBytes} {left written logged : Option (List ℕ)} {ahead : Ahead}
+module _ {start : Setup} {past : StreamBytes} {left written logged : Option (List ℕ)} {ahead : Ahead}
     {core : Machine State} {fault : Option SessionFault}
     (running : IsRunning start past (stream_bytes left written logged) ahead core fault) where
   pub running-written : {later : Option (List ℕ)} → Keeps written later
@@ -104,7 +104,7 @@ module _ {start : Start} {past : StreamBytes} {left written logged : Option (Lis
       (stopped-log (running-logged kept))
 
 -- what was written was passed on, and then bytes were read
-pub running-more : {start : Start} {past : StreamBytes} {left0 left1 written0 written1 logged : Option (List ℕ)}
+pub running-more : {start : Setup} {past : StreamBytes} {left0 left1 written0 written1 logged : Option (List ℕ)}
     {ahead0 ahead1 : Ahead} {core : Machine State} {count : ℕ}
     → IsRunning start past (stream_bytes left0 written0 logged) ahead0 core None → Keeps written0 written1
     → HasRead left0 left1 ahead0 ahead1 count
@@ -125,7 +125,7 @@ fault-ends events rest place over (faults.IdInUse id) found =
 fault-ends events rest place over faults.BadInit found = found
 fault-ends events rest place over other found = absurd found
 
-module _ {start : Start} {past now : StreamBytes} {ahead : Ahead} {core : Machine State} where
+module _ {start : Setup} {past now : StreamBytes} {ahead : Ahead} {core : Machine State} where
   -- the session that found this fault ends, once each request is answered
   pub ending-fault : {fault : SessionFault} → IsRunning start past now ahead core (Some fault) → core.queue ≡ []
       → IsEnding start past now core (Some fault)
@@ -163,7 +163,7 @@ held-some held got empty same is false_is none =
 
 -- ---- a session that has ended
 
-module _ {start : Start} {past now : StreamBytes} {core : Machine State} where
+module _ {start : Setup} {past now : StreamBytes} {core : Machine State} where
   served-by : {fault : Option SessionFault} (ending : IsEnding start past now core fault)
       → IsServed start.tree ending.running.events (closed_tree core.state)
   served-by ending =
@@ -229,7 +229,7 @@ module _ {start : Start} {past now : StreamBytes} {core : Machine State} where
 
 -- ---- a session that was not opened
 
-pub unopened : (start : Start) (past now : StreamBytes) (ahead : Ahead) (fault : SessionFault)
+pub unopened : (start : Setup) (past now : StreamBytes) (ahead : Ahead) (fault : SessionFault)
     → IsUnopenedYet past now ahead → IsUnopenedBy ahead.held (IsAtEnd now.left) fault
     → ServesFrom start past now (ends.Fault start.tree fault)
 unopened start past now ahead fault yet by = record {
@@ -241,32 +241,32 @@ unopened start past now ahead fault yet by = record {
 }
 
 -- memory ran out before the first packet was logged
-pub unopened-stops : {start : Start} {past now : StreamBytes} {ahead : Ahead} {stop : Stop}
+pub unopened-stops : {start : Setup} {past now : StreamBytes} {ahead : Ahead} {stop : Stop}
     → IsUnopenedYet past now ahead → stop ≡ stops.NoMemory → Stops start past now stop None
 unopened-stops yet is = unopened-stopped yet (inl is)
 
 -- ---- what a session leaves
 
-leaves-at : {start : Start} {past now : StreamBytes} {left : Option Tree} (stop : Stop) → Leaves start past now left
+leaves-at : {start : Setup} {past now : StreamBytes} {left : Option Tree} (stop : Stop) → Leaves start past now left
     → LeavesFrom start past now (ended_by stop) left
 leaves-at (stops.Io stream) leaves = leaves
 leaves-at stops.NoMemory leaves = leaves
 
 -- the session was stopped
-pub stopped-end : {start : Start} {past now : StreamBytes} {stop : Stop} {left : Option Tree} {end : SessionEnd}
+pub stopped-end : {start : Setup} {past now : StreamBytes} {stop : Stop} {left : Option Tree} {end : SessionEnd}
     → end.ended ≡ ended_by stop → end.left ≡ left → Stops start past now stop left → IsSessionEnd start past now end
 stopped-end {start} {past} {now} {stop} ended is stopped = (
   subst (ServesFrom start past now) (sym ended) stopped.served,
   subst₂ (LeavesFrom start past now) (sym ended) (sym is) (leaves-at stop stopped.leaves),
 )
 
-closed-leaves : (start : Start) (past now : StreamBytes) (last : State) (fault : Option SessionFault)
+closed-leaves : (start : Setup) (past now : StreamBytes) (last : State) (fault : Option SessionFault)
     → LeavesFrom start past now (closed_end last fault) None
 closed-leaves start past now last None = refl
 closed-leaves start past now last (Some fault) = refl
 
 -- the session ended by itself
-pub closed-session : {start : Start} {past now : StreamBytes} {core : Machine State} {fault : Option SessionFault}
+pub closed-session : {start : Setup} {past now : StreamBytes} {core : Machine State} {fault : Option SessionFault}
     {ended : Ended} → ended ≡ closed_end core.state fault → IsEnding start past now core fault
     → IsSessionEnd start past now (record { ended = ended; left = None })
 closed-session {start} {past} {now} {core} {fault} is ending = (
@@ -315,7 +315,7 @@ version-parts (Version number extensions) is =
     }
 version-parts other is = absurd is
 
-pub log-is-transcript : (start : Start) (input output log : List ℕ) (init : Packet) (events : List Event)
+pub log-is-transcript : (start : Setup) (input output log : List ℕ) (init : Packet) (events : List Event)
     (rest : List ℕ) → IsVersion start.version → HasSpelling start.version
     → IsOpened start input output log init events rest → IsRecord events log
 log-is-transcript start input output log init events rest is spelled opened =
@@ -353,7 +353,7 @@ works-nothing core0 core1 same written logged =
     (sends-nothing core0 written logged)
 
 -- the session goes on whatever fault was found in front
-pub running-sound : {start : Start} {past now : StreamBytes} {ahead : Ahead} {core : Machine State}
+pub running-sound : {start : Setup} {past now : StreamBytes} {ahead : Ahead} {core : Machine State}
     {fault : Option SessionFault} → IsRunning start past now ahead core fault
     → IsRunning start past now ahead core None
 running-sound running = running-on running running.passed refl tt

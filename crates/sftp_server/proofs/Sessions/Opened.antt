@@ -25,7 +25,7 @@ use Rattle.sftp_server.proofs.Sessions.{cut-whole, is-beginning, client-silent, 
 use Rattle.sftp_server.proofs.Sessions.{passed-kept, stops-by, leaves-by}
 use Rattle.sftp_server.specs.Served.{IsWrittenSoFar}
 use Rattle.sftp_server.specs.Sessions.{ended_by}
-use Rattle.sftp_server.specs.Served.{Start}
+use Rattle.sftp_server.specs.Served.{Setup}
 
 -- ---- before the first packet is complete
 
@@ -43,7 +43,7 @@ pub record OnlyReads (left0 left1 : Option (List ℕ)) (ahead0 ahead1 : Ahead) (
   pub failures : failures1 ≡ failures0
 
 -- a session that stops before it is opened
-pub unopened-stopped : {start : Start} {past now : StreamBytes} {ahead : Ahead} {stop : Stop}
+pub unopened-stopped : {start : Setup} {past now : StreamBytes} {ahead : Ahead} {stop : Stop}
     → IsUnopenedYet past now ahead → (stop ≡ stops.NoMemory) ⊎ (stop ≡ stops.Io streams.Reader)
     → Stops start past now stop None
 unfolding sent_by
@@ -157,10 +157,10 @@ init-logged {past} {left} {written} {logged0} {logged1} {ahead} {count} greets u
     }
 
 -- the tree of a session in which no request was done
-abbrev pub first_left : Start → Option Tree
+abbrev pub first_left : Setup → Option Tree
 first_left start = tree_left (at_start (started start.tree) window)
 
-nothing-done : (start : Start) (init : Packet) → IsLeftAfter start.tree (init ∷ []) (first_left start)
+nothing-done : (start : Setup) (init : Packet) → IsLeftAfter start.tree (init ∷ []) (first_left start)
 unfolding AreDone exchanges_of
 nothing-done start init = (
   [],
@@ -169,7 +169,7 @@ nothing-done start init = (
 )
 
 -- the log fails in its record
-pub init-unlogged : {start : Start} {past : StreamBytes} {left written logged0 logged1 : Option (List ℕ)}
+pub init-unlogged : {start : Setup} {past : StreamBytes} {left written logged0 logged1 : Option (List ℕ)}
     {ahead : Ahead} {count : ℕ} → (greets : BeginsWithGreeting ahead.held count)
     → IsUnopenedYet past (stream_bytes left written logged0) ahead
     → AppendsPart logged0 logged1 (opened_text 0 (record_text greets.init))
@@ -191,7 +191,7 @@ init-unlogged {start} {past} {left} {written} {logged0} {logged1} {ahead} {count
     (leaves-by passed (init ∷ []) rest greets.greeting read ([], silent) cut (nothing-done start init))
 
 -- memory runs out after it
-pub init-no_memory : {start : Start} {init : Packet} {past now : StreamBytes} {ahead : Ahead}
+pub init-no_memory : {start : Setup} {init : Packet} {past now : StreamBytes} {ahead : Ahead}
     → IsInitLogged init past now ahead → Stops start past now stops.NoMemory (first_left start)
 init-no_memory {start} {init} {ahead = ahead} logged =
     stops-by logged.passed (init ∷ []) ahead.held logged.greeting refl (refl, cut-whole (init ∷ []))
@@ -216,11 +216,11 @@ none-begin start = record {
   explained = record { matching = λ id. refl; within_window = refl; run = refl };
 }
 
-pub version-listed : (start : Start) (init : Packet) → IsGreeting init → IsListed start (init ∷ start.version ∷ [])
+pub version-listed : (start : Setup) (init : Packet) → IsGreeting init → IsListed start (init ∷ start.version ∷ [])
 version-listed start init greeting = (greeting, refl, [], refl, tt, none-begin (settled start.tree []))
 
 -- VERSION was sent
-version-sent : {start : Start} {init : Packet} {past : StreamBytes}
+version-sent : {start : Setup} {init : Packet} {past : StreamBytes}
     {left written0 written1 logged0 logged1 : Option (List ℕ)} {ahead : Ahead} → side_of start.version ≡ Server
     → Good (started start.tree) → IsInitLogged init past (stream_bytes left written0 logged0) ahead
     → Appends written0 written1 (spelling start.version) → Appends logged0 logged1 (record_text start.version)
@@ -248,7 +248,7 @@ version-sent {start} {init} {past} {left} {written0} {written1} {logged0} {logge
 
 -- VERSION was sent, or could not be
 pub version-done : {init : Packet} {past : StreamBytes} {left written0 : Option (List ℕ)} {log0 : Log} {ahead : Ahead}
-    {packet : Packet} (start : Start) (written1 : Option (List ℕ)) (log1 : Log) (result : Result (Unit {0}) Stop)
+    {packet : Packet} (start : Setup) (written1 : Option (List ℕ)) (log1 : Log) (result : Result (Unit {0}) Stop)
     → side_of start.version ≡ Server → Good (started start.tree) → packet ≡ start.version → IsLogging log0
     → IsInitLogged init past (stream_bytes left written0 log0.bytes) ahead
     → OnOk result (Appends written0 written1 (spelling packet))

@@ -4,7 +4,7 @@ use Rattle.sftp_server.proofs.Imports.{length, map, Option, Some, None, Result, 
 use Rattle.sftp_server.proofs.Imports.{inl, inr, refl, sym, ap, subst, subst₂, ◌∙◌, arith, Appends, Consumes}
 use Rattle.sftp_server.proofs.Imports.{Appends-trans, or_left, or_right, or_cases, AllByRecursion, Unreadable, Packet}
 use Rattle.sftp_server.proofs.Imports.{reply_packet, Request, Reply, place_after, spelling, HasSpelling, Event, Asked}
-use Rattle.sftp_server.proofs.Imports.{Replied, Log, packet_of, record_text, IsEvent, window, Tree, State, Allowed}
+use Rattle.sftp_server.proofs.Imports.{Replied, Log, packet_of, record_text, IsEvent, window, State, Allowed}
 use Rattle.sftp_server.proofs.Imports.{SessionFault, Stop, Entry, Pending, Done, Sent, Machine, is_sent, is_unsent}
 use Rattle.sftp_server.proofs.Imports.{is_ready, reply_at, IsWorked, IsSent, server_clash, started, IsReached}
 use Rattle.sftp_server.proofs.Imports.{session_packets, answered_last, IsListed, StreamBytes, stream_bytes}
@@ -18,7 +18,7 @@ use Rattle.sftp_server.proofs.Machines.Laws.{reached-worked, reached-sent}
 use Rattle.sftp_server.proofs.Sessions.{session-more, replied-session}
 use Rattle.sftp_server.proofs.Sessions.{stays-good, each-answered, reached-begins, running-listed, reached-leaves}
 use Rattle.sftp_server.proofs.Sessions.{stopped-no-memory, stopped-sending}
-use Rattle.sftp_server.specs.Served.{Start}
+use Rattle.sftp_server.specs.Served.{Setup}
 
 -- ---- the unsent requests
 
@@ -101,7 +101,7 @@ used-sent {core0} {core1} {k} {reply} sent events same id (inr answered) =
 
 -- ---- a request is done
 
-running-worked : {start : Start} {past now : StreamBytes} {ahead : Ahead} {core0 core1 : Machine State} {k : ℕ}
+running-worked : {start : Setup} {past now : StreamBytes} {ahead : Ahead} {core0 core1 : Machine State} {k : ℕ}
     {fault : Option SessionFault} → IsRunning start past now ahead core0 fault → is_ready server_clash core0 k ≡ true
     → IsWorked Allowed core0 k core1 → IsRunning start past now ahead core1 fault
 running-worked {start} {ahead = ahead} {core0} {core1} {k} {fault} running ready worked = record {
@@ -131,7 +131,7 @@ sends-nothing core written logged start past left ahead fault running = stopped-
 -- ---- a reply is sent
 
 -- what is reached once a reply is sent, and that the reply can be encoded
-module _ {start : Start} {past now : StreamBytes} {ahead : Ahead} {core0 core1 : Machine State}
+module _ {start : Setup} {past now : StreamBytes} {ahead : Ahead} {core0 core1 : Machine State}
     {fault : Option SessionFault} {k : ℕ} {reply : Reply} (running : IsRunning start past now ahead core0 fault)
     (at : reply_at core0.queue k ≡ Some reply) (sent : IsSent core0 k reply core1) where
   for-request : (reply.id ≡ sent.request.id) × HasSpelling (reply_packet reply)
@@ -169,7 +169,7 @@ module _ {start : Start} {past now : StreamBytes} {ahead : Ahead} {core0 core1 :
       subst (IsListed start) (session-more start running.init running.events (Replied reply ∷ []))
       (running.greeting, refl, events, refl, spelled, reached-begins start events core1 running.good reached)
 
-running-replied : {start : Start} {past : StreamBytes} {left written0 written1 logged0 logged1 : Option (List ℕ)}
+running-replied : {start : Setup} {past : StreamBytes} {left written0 written1 logged0 logged1 : Option (List ℕ)}
     {ahead : Ahead} {core0 core1 : Machine State} {k : ℕ} {reply : Reply} {fault : Option SessionFault}
     → IsRunning start past (stream_bytes left written0 logged0) ahead core0 fault
     → reply_at core0.queue k ≡ Some reply → IsSent core0 k reply core1

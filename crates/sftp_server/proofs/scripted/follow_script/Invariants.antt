@@ -1,12 +1,12 @@
 -- The session runs on since the first step, and no stream failed.
-use Rattle.sftp_server.proofs.Imports.{◌≡◌, None, Tree, StreamBytes, stream_bytes, IsLogging, IsRunning}
+use Rattle.sftp_server.proofs.Imports.{◌≡◌, None, StreamBytes, stream_bytes, IsLogging, IsRunning}
 use Rattle.sftp_server.specs.Ending.{bytes_ahead}
 use Rattle.sftp_server.proofs.scripted.follow_script.Given as goal
-use Rattle.sftp_server.specs.Served.{Start}
+use Rattle.sftp_server.specs.Served.{Setup}
 
 abbrev pub invariant-script : goal.invariant-script
 invariant-script g l = record {
-  running : (start : Start) (past : StreamBytes)
+  running : (start : Setup) (past : StreamBytes)
       → IsRunning start past
       (stream_bytes (g.R.Source.left l.initial.reader) (g.W.Sink.written l.initial.writer) l.initial.log.bytes)
       l.initial.input l.initial.core None

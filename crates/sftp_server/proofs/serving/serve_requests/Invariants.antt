@@ -1,12 +1,12 @@
 -- The session is open, each request is answered, and no stream failed.
-use Rattle.sftp_server.proofs.Imports.{◌≡◌, [], None, length, Tree, StreamBytes, stream_bytes, IsLogging, IsRunning}
+use Rattle.sftp_server.proofs.Imports.{◌≡◌, [], None, length, StreamBytes, stream_bytes, IsLogging, IsRunning}
 use Rattle.sftp_server.proofs.Sessions.Closed.{bytes_left}
 use Rattle.sftp_server.proofs.serving.serve_requests.Given as goal
-use Rattle.sftp_server.specs.Served.{Start}
+use Rattle.sftp_server.specs.Served.{Setup}
 
 abbrev pub invariant-batch : goal.invariant-batch
 invariant-batch g l = record {
-  running : (start : Start) (past : StreamBytes)
+  running : (start : Setup) (past : StreamBytes)
       → IsRunning start past
       (stream_bytes (g.R.Source.left l.initial.reader) (g.W.Sink.written l.initial.writer) l.initial.log.bytes)
       l.initial.input l.initial.core None
