@@ -2,32 +2,40 @@
 ghost use Rattle.sftp_server.specs.Served.{IsUnused};
 
 use crate::recorded::Recorded;
+use sftp_clock::{Clocked, SystemClock};
 use sftp_files::{Failure, ServeOptions, System};
 use sftp_handles::{GivenTable, SlabTable};
 use sftp_server::{Plain, Schedule, SessionEnd, serve_as, serve_keeping_tree};
 use sftp_transcript::{Sink, Source, Writer};
 use sftp_tree::Tree;
 use sftp_vary::{Freedoms, Proposed, Style, Variation, Vary, Worded};
+use std::alloc::Global;
+use std::time::Clock;
 
 /// The answerer of sessions some of whose replies are proposed: first those of a record, then varied ones. Each is
 /// given if it is allowed; the session's own replies, and the varied ones, get words for people.
 type Proposing = Proposed<Recorded, Worded<Proposed<Vary, Plain>>>;
 
+/// The answerer of sessions whose replies have times. They get words for people, if some are asked for.
+type Dated<'r, C> = Worded<Clocked<SystemClock<'r, C>>>;
+
 /// What the replies of a session are like.
 #[derive(Drop)]
-pub(crate) struct Answers {
+pub(crate) struct Answers<'r, C> {
+    clock: SystemClock<'r, C>,
     style: Style,
     recorded: Recorded,
 }
 
-impl Answers {
+impl<'r, C: System + Clock> Answers<'r, C> {
     /// The replies that the options ask for. The start of the record is read, if there is one.
-    pub(crate) fn new<'a, R: System>(
-        rt: &R,
+    pub(crate) fn new<'a>(
+        rt: &'r C,
         options: &ServeOptions<'a>,
         style: Style,
-    ) -> Result<Answers, Failure<'a>> {
+    ) -> Result<Answers<'r, C>, Failure<'a>> {
         Ok(Answers {
+            clock: SystemClock::new(rt),
             style,
             recorded: Recorded::new(rt, options.replay)?,
         })
@@ -35,13 +43,13 @@ impl Answers {
 }
 
 /// Serves a session with such replies.
-pub(crate) fn served<R: Source, W: Sink, L: Sink, S: Schedule>(
+pub(crate) fn served<C: Clock, R: Source, W: Sink, L: Sink, S: Schedule>(
     tree: Tree,
     reader: &mut R,
     writer: &mut W,
     log: &mut Writer<L>,
     schedule: &mut S,
-    answers: Answers,
+    answers: Answers<'_, C>,
 ) -> SessionEnd
     requires { IsUnused log.old }
 {
@@ -55,6 +63,17 @@ pub(crate) fn served<R: Source, W: Sink, L: Sink, S: Schedule>(
             log,
             schedule,
             &mut proposing(answers),
+        );
+    }
+    if style.has_times {
+        let alloc = tree.allocator();
+        return serve_as::<R, W, L, S, SlabTable, Dated<C>>(
+            tree,
+            reader,
+            writer,
+            log,
+            schedule,
+            &mut dated(alloc, answers),
         );
     }
     drop(answers);
@@ -71,8 +90,14 @@ pub(crate) fn served<R: Source, W: Sink, L: Sink, S: Schedule>(
     serve_keeping_tree(tree, reader, writer, log, schedule)
 }
 
+/// The answerer of a session whose replies have times.
+fn dated<C: Clock>(alloc: Global, answers: Answers<'_, C>) -> Dated<'_, C> {
+    let words = answers.style.words;
+    Worded::new(Clocked::new(alloc, answers.clock), words)
+}
+
 /// The answerer of a session some of whose replies are proposed.
-fn proposing(answers: Answers) -> Proposing {
+fn proposing<C: Clock>(answers: Answers<'_, C>) -> Proposing {
     // Without freedoms, new handles look as those of a plain session.
     let variation = answers.style.variation.unwrap_or(Variation {
         seed: 0,

@@ -21,6 +21,7 @@ use sftp_tree::Tree;
 use sftp_vary::Style;
 use sftp_wire::Request;
 use std::io::{Read, Write};
+use std::time::Clock;
 
 /// How many bytes are set aside for saving: buffers, and 32 bytes for each entry that a tree has at most, since the
 /// first names of files are kept in mind.
@@ -53,7 +54,7 @@ impl<'a> From<Failure<'a>> for Unserved<'a> {
 }
 
 /// Serves a session. The tree file is read and judged before the file of the record is made.
-pub(crate) fn serve<'a, R: System, I: Read, O: Write, E: Write>(
+pub(crate) fn serve<'a, R: System + Clock, I: Read, O: Write, E: Write>(
     rt: &R,
     options: &ServeOptions<'a>,
     style: Style,
@@ -74,9 +75,9 @@ pub(crate) fn serve<'a, R: System, I: Read, O: Write, E: Write>(
 }
 
 /// What a session needs besides its streams.
-struct Setup {
+struct Setup<'r, C> {
     start: Start,
-    conduct: Conduct,
+    conduct: Conduct<'r, C>,
     log: Writer<Tally<Record>>,
 }
 
@@ -89,17 +90,17 @@ struct Start {
 
 /// How requests are answered: in which order, and with which replies.
 #[derive(Drop)]
-struct Conduct {
+struct Conduct<'r, C> {
     order: Order,
-    answers: Answers,
+    answers: Answers<'r, C>,
 }
 
 /// Sets up a session. The file of the record is made last, when all else is read and judged.
-fn set_up<'a, R: System>(
-    rt: &R,
+fn set_up<'a, 'r, R: System + Clock>(
+    rt: &'r R,
     options: &ServeOptions<'a>,
     style: Style,
-) -> Result<Setup, Failure<'a>>
+) -> Result<Setup<'r, R>, Failure<'a>>
     ensures { IfOk result (λ setup. IsUnused setup.log) }
 {
     let conduct = Conduct::new(rt, options, style)?;
@@ -113,12 +114,12 @@ fn set_up<'a, R: System>(
 }
 
 /// The setup of a session with a new record.
-fn record<'a, R: System>(
+fn record<'a, 'r, R: System + Clock>(
     rt: &R,
     options: &ServeOptions<'a>,
     start: Start,
-    conduct: Conduct,
-) -> Result<Setup, Failure<'a>>
+    conduct: Conduct<'r, R>,
+) -> Result<Setup<'r, R>, Failure<'a>>
     ensures { IfOk result (λ setup. IsUnused setup.log) }
 {
     match new_log(rt, options) {
@@ -148,12 +149,12 @@ impl Start {
     }
 }
 
-impl Conduct {
-    fn new<'a, R: System>(
-        rt: &R,
+impl<'r, C: System + Clock> Conduct<'r, C> {
+    fn new<'a>(
+        rt: &'r C,
         options: &ServeOptions<'a>,
         style: Style,
-    ) -> Result<Conduct, Failure<'a>> {
+    ) -> Result<Conduct<'r, C>, Failure<'a>> {
         let order = Order::new(rt, options)?;
         match Answers::new(rt, options, style) {
             Ok(answers) => Ok(Conduct { order, answers }),
@@ -167,8 +168,8 @@ impl Conduct {
 
 /// Serves a session that is set up, and returns how it ended and what went through its streams. What is set aside is
 /// free then.
-fn run_session<I: Read, O: Write + Drop>(
-    setup: Setup,
+fn run_session<C: Clock, I: Read, O: Write + Drop>(
+    setup: Setup<'_, C>,
     meter: &mut Meter,
     input: &mut I,
     output: O,
@@ -237,11 +238,11 @@ fn new_log<'a, R: System>(
 
 /// Serves a session on a tree, and returns how it ended and what went through its streams.
 // Slow to prove: each stream is put together of layers, and taken apart again.
-fn session<I: Read, O: Write + Drop>(
+fn session<C: Clock, I: Read, O: Write + Drop>(
     tree: Tree,
     mut log: Writer<Tally<Record>>,
     mut order: Order,
-    answers: Answers,
+    answers: Answers<'_, C>,
     meter: &mut Meter,
     input: &mut I,
     output: O,

@@ -2,7 +2,7 @@
 //! 4.3 and 4.5): first what there is to say of each, which is its paths, the causes of its own bytes, the causes at the
 //! places that the paths lead to, whether there is room, and its plan; then what it does to a tree and what it returns.
 //! A bad path has the cause `BadPath`, and one that leads nowhere the walk's: `NoEntry`, `NotDir` or `Loop`.
-ghost use Rattle.std.specs.Prelude.{◌≡◌, Some, is_some, IfOk, IfErr, IsTrue, OnOk, OnErr, MatchOption, option_copied};
+ghost use Rattle.std.specs.Prelude.{◌≡◌, Ok, Some, is_some, IfOk, IfErr, IsTrue, OnOk, OnErr, MatchOption, option_copied};
 ghost use Rattle.sftp_packets.specs.declared.requests.Ask.TheVariants.{Setstat, Remove, Mkdir, Rmdir, Realpath, Rename};
 ghost use Rattle.sftp_packets.specs.declared.requests.Ask.TheVariants.{Readlink, Symlink, PosixRename, Hardlink, Open};
 ghost use Rattle.sftp_treefile.specs.TreeFile.{is_target};
@@ -626,13 +626,37 @@ impl Tree {
         ensures refused { IfErr result (λ refused. IsRefusal self.now (stat_ask follow path.now) refused) }
         ensures kept { OnOk result (tree.IsKept self.now) }
     {
+        let (attrs, found) = self.stat_found(path, follow)?;
+        drop(found);
+        Ok(attrs)
+    }
+
+    /// STAT and LSTAT, as `stat`, and what was found.
+    ///
+    /// # Errors
+    ///
+    /// Those of `stat`.
+    #[inline(always)]
+    pub(crate) fn stat_found<'a>(
+        &'a self,
+        path: &'a [u8],
+        follow: bool,
+    ) -> Result<(Attrs, Found<'a>), Refused>
+        ensures free { OnOk result (IsFree self.now (stat_ask follow path.now)) }
+        ensures shown { IfOk result (λ r. told.shown_to self.now (stat_ask follow path.now) ≡ Some r.0) }
+        ensures led { IfOk result (λ r. requests.led self.now (stat_ask follow path.now) ≡ Some (Ok r.1.place)) }
+        ensures there { IfOk result (λ r. IsThere self.now.names r.1) }
+        ensures refused { IfErr result (λ refused. IsRefusal self.now (stat_ask follow path.now) refused) }
+        ensures kept { OnOk result (tree.IsKept self.now) }
+    {
         let ask = if follow {
             PathAsk::Stat(path)
         } else {
             PathAsk::Lstat(path)
         };
         let places = self.free_places(ask)?;
-        Ok(self.shown_at(&places.old))
+        let attrs = self.shown_at(&places.old);
+        Ok((attrs, places.old))
     }
 
     /// The attributes that LSTAT shows of the node at a place; `None` if the place is free. Does not allocate.
