@@ -1,6 +1,5 @@
 use Rattle.sftp_handles.proofs.Imports.{◌≡◌, Some, refl, subst, IsFree, stat_ask, State, Good}
 use Rattle.sftp_packets.specs.declared.replies.Answer.TheVariants as replies
-use Rattle.sftp_tree.specs.Told as of_tree
 use Rattle.sftp_tree.specs.Told as told
 use Rattle.sftp_handles.specs.declared.payloads.Payload.TheVariants as payloads
 use Rattle.sftp_handles.proofs.Judged.QueryReplies.{answered-query, carries-stat, stat-refusal, stat-query}
@@ -22,4 +21,4 @@ pub returns-in-Err-clause-refused : goal.returns-in-Err-clause-refused
 returns-in-Err-clause-refused g c =
     let ask = stat_ask c.args.follow c.args.path.now in
     stat-refusal c.args.self.now c.args.follow c.args.path.now c.in-Err.refused
-    (subst (λ (s : State). of_tree.IsRefusal s.tree ask c.in-Err.refused) c.self.view_is c.in-Err.ensures.refused)
+    (subst (λ (s : State). told.IsRefusal s.tree ask c.in-Err.refused) c.self.view_is c.in-Err.ensures.refused)
