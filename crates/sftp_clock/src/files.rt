@@ -3,19 +3,19 @@
 use crate::times::Times;
 use sftp_tree::{FileNo, NoMemory};
 use std::alloc::Global;
-use std::collections::HashMap;
+use std::collections::BTreeMap;
 
 /// The times of the files that have some of their own.
 #[derive(Drop)]
 pub(crate) struct FileTimes {
-    by_number: HashMap<u32, Times>,
+    by_number: BTreeMap<FileNo, Times>,
 }
 
 impl FileTimes {
     /// No file has times of its own. Does not allocate.
     pub(crate) fn new(alloc: Global) -> FileTimes {
         FileTimes {
-            by_number: HashMap::new(alloc),
+            by_number: BTreeMap::new(alloc),
         }
     }
 
@@ -26,7 +26,7 @@ impl FileTimes {
 
     /// The times of a file, if it has some of its own.
     pub(crate) fn get(&self, number: FileNo) -> Option<Times> {
-        match self.by_number.get(&number.get()) {
+        match self.by_number.get(&number) {
             Some(times) => Some(*times),
             None => None,
         }
@@ -38,12 +38,12 @@ impl FileTimes {
     ///
     /// `NoMemory` if memory runs out.
     pub(crate) fn set(&mut self, number: FileNo, times: Times) -> Result<(), NoMemory> {
-        self.by_number.insert(number.get(), times)?;
+        self.by_number.insert(number, times)?;
         Ok(())
     }
 
     /// Forgets the times of a file.
     pub(crate) fn forget(&mut self, number: FileNo) {
-        self.by_number.remove(&number.get());
+        self.by_number.remove(&number);
     }
 }

@@ -3,6 +3,7 @@
 #![tactic(auto)]
 
 mod clocked;
+mod ends;
 mod files;
 mod listings;
 mod moments;
@@ -16,5 +17,3 @@ mod touches;
 
 pub use clocked::Clocked;
 pub use moments::{Moments, SystemClock};
-pub use tables::TimeTable;
-pub use times::Times;

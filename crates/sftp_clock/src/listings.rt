@@ -2,8 +2,10 @@
 
 use crate::tables::TimeTable;
 use crate::times::Times;
-use sftp_path::Place;
+use sftp_handles::{HandleTable, Session};
+use sftp_path::Name;
 use sftp_tree::{NoMemory, Tree};
+use sftp_wire::ByteString;
 use std::alloc::Global;
 use std::collections::HashMap;
 
@@ -29,25 +31,21 @@ impl OpenListings {
         }
     }
 
-    /// The directory at a place was opened under a handle.
+    /// The directory to which these names lead was opened under a handle.
     ///
     /// # Errors
     ///
     /// `NoMemory` if memory runs out; then its names have no times.
-    pub(crate) fn open(
+    pub(crate) fn open<T: HandleTable>(
         &mut self,
-        handle: &[u8],
-        tree: &Tree,
+        session: &Session<T>,
         table: &TimeTable,
-        place: &Place,
+        names: Vec<Name>,
+        handle: &[u8],
     ) -> Result<(), NoMemory> {
-        let alloc = tree.allocator();
-        let listed = Listed {
-            times: times_in(tree, table, place)?,
-            given: 0,
-        };
-        let handle = Vec::from_slice(alloc, handle)?;
-        self.by_handle.insert(handle, listed)?;
+        let times = times_in(session, table, names, handle)?;
+        let handle = Vec::from_slice(session.tree().allocator(), handle)?;
+        self.by_handle.insert(handle, Listed { times, given: 0 })?;
         Ok(())
     }
 
@@ -74,21 +72,66 @@ impl OpenListings {
     }
 }
 
-/// The times of the names in the directory at a place, in rising order of the names.
-fn times_in(tree: &Tree, table: &TimeTable, place: &Place) -> Result<Vec<Times>, NoMemory> {
-    let mut times = Vec::new(tree.allocator());
-    let Some(mut inside) = tree.inside(place) else {
-        return Ok(times);
+/// The times of the names that a directory has still to give under a handle, in rising order of the names.
+fn times_in<T: HandleTable>(
+    session: &Session<T>,
+    table: &TimeTable,
+    directory: Vec<Name>,
+    handle: &[u8],
+) -> Result<Vec<Times>, NoMemory> {
+    let alloc = session.tree().allocator();
+    let Some(listing) = session.listing(handle) else {
+        drop(directory);
+        return Ok(Vec::new(alloc));
     };
-    let count = inside.len();
     if table.is_untouched() {
-        times.resize(count, table.start())?;
-        return Ok(times);
+        drop(directory);
+        return all_alike(alloc, listing.len(), table.start());
     }
-    times.reserve(count)?;
-    let directory = table.directory(place);
-    while let Some((name, standing)) = inside.next_entry() {
-        times.push(table.of_name(directory, name, standing))?;
+    let names = listing.first_names(alloc, listing.len())?;
+    times_of(session.tree(), table, directory, names.as_slice())
+}
+
+/// So many times that are alike.
+fn all_alike(alloc: Global, count: usize, times: Times) -> Result<Vec<Times>, NoMemory> {
+    let mut all = Vec::new(alloc);
+    all.resize(count, times)?;
+    Ok(all)
+}
+
+/// The times of what these names of a directory lead to.
+fn times_of(
+    tree: &Tree,
+    table: &TimeTable,
+    directory: Vec<Name>,
+    names: &[ByteString],
+) -> Result<Vec<Times>, NoMemory> {
+    let mut place = directory;
+    let number = table.directory(place.as_slice());
+    let mut all = Vec::with_capacity(tree.allocator(), names.len())?;
+    for name in names {
+        all.push(times_at(tree, table, &mut place, number, name.as_slice())?)?;
     }
-    Ok(times)
+    Ok(all)
+}
+
+/// The times of what a name of a directory leads to. The table has the directory under this number.
+fn times_at(
+    tree: &Tree,
+    table: &TimeTable,
+    directory: &mut Vec<Name>,
+    number: Option<u64>,
+    name: &[u8],
+) -> Result<Times, NoMemory> {
+    let Some(name) = Name::from_slice(tree.allocator(), name)? else {
+        return Ok(table.start());
+    };
+    let other = table.of_name(number, &name);
+    directory.push(name)?;
+    let file = tree.file_at(directory.as_slice());
+    directory.pop();
+    Ok(match file {
+        Some(number) => table.of_file(number),
+        None => other,
+    })
 }

@@ -4,7 +4,7 @@
 //! directory moves with it, however much that is.
 
 use crate::times::Times;
-use sftp_path::{Name, Place};
+use sftp_path::Name;
 use sftp_tree::NoMemory;
 use std::alloc::Global;
 use std::collections::HashMap;
@@ -82,9 +82,9 @@ impl PlaceTimes {
         self.root.is_none() && self.below.is_empty()
     }
 
-    /// The times of what is at a place, if it has some of its own. Looks up each of its names.
-    pub(crate) fn get(&self, place: &Place) -> Option<Times> {
-        match place.names().split_last() {
+    /// The times of that to which these names lead, if it has some of its own. Looks up each of them.
+    pub(crate) fn get(&self, names: &[Name]) -> Option<Times> {
+        match names.split_last() {
             Some((name, above)) => self.get_in(self.number_of(above)?, name),
             None => self.root,
         }
@@ -107,13 +107,13 @@ impl PlaceTimes {
         self.entry(directory, name)?.times
     }
 
-    /// Gives what is at a place times of its own. Looks up each of its names, and may make an entry for each.
+    /// Gives that to which these names lead times of its own. Looks up each of them, and may make an entry for each.
     ///
     /// # Errors
     ///
     /// `NoMemory` if memory runs out; all have the times that they had.
-    pub(crate) fn set(&mut self, place: &Place, times: Times) -> Result<(), NoMemory> {
-        match place.names().split_last() {
+    pub(crate) fn set(&mut self, names: &[Name], times: Times) -> Result<(), NoMemory> {
+        match names.split_last() {
             Some((name, above)) => self.set_below(above, name, times),
             None => {
                 self.root = Some(times);
@@ -129,13 +129,17 @@ impl PlaceTimes {
         self.put(directory, name, Entry { number, times })
     }
 
-    /// Forgets what was at a place.
-    pub(crate) fn forget(&mut self, place: &Place) {
-        if let Some((name, above)) = place.names().split_last() {
-            if let Some(directory) = self.number_of(above) {
-                let key = Key::new(directory, name);
-                self.below.remove(key.as_slice());
-            }
+    /// Forgets that to which these names lead.
+    pub(crate) fn forget(&mut self, names: &[Name]) {
+        if let Some((name, above)) = names.split_last() {
+            self.forget_below(above, name);
+        }
+    }
+
+    fn forget_below(&mut self, above: &[Name], name: &Name) {
+        if let Some(directory) = self.number_of(above) {
+            let key = Key::new(directory, name);
+            self.below.remove(key.as_slice());
         }
     }
 
@@ -144,22 +148,24 @@ impl PlaceTimes {
     /// # Errors
     ///
     /// `NoMemory` if memory runs out; then both are forgotten.
-    pub(crate) fn rename(&mut self, old: &Place, new: &Place) -> Result<(), NoMemory> {
+    pub(crate) fn rename(&mut self, old: &[Name], new: &[Name]) -> Result<(), NoMemory> {
         let moved = self.entry_at(old);
         self.forget(old);
         self.forget(new);
-        match (moved, new.names().split_last()) {
-            (Some(entry), Some((name, above))) => {
-                let directory = self.make_number(above)?;
-                self.put(directory, name, entry)
-            }
+        match (moved, new.split_last()) {
+            (Some(entry), Some((name, above))) => self.put_below(above, name, entry),
             _ => Ok(()),
         }
     }
 
-    fn entry_at(&self, place: &Place) -> Option<Entry> {
-        let (name, above) = place.names().split_last()?;
+    fn entry_at(&self, names: &[Name]) -> Option<Entry> {
+        let (name, above) = names.split_last()?;
         self.entry(self.number_of(above)?, name)
+    }
+
+    fn put_below(&mut self, above: &[Name], name: &Name, entry: Entry) -> Result<(), NoMemory> {
+        let directory = self.make_number(above)?;
+        self.put(directory, name, entry)
     }
 
     fn entry(&self, directory: u64, name: &Name) -> Option<Entry> {

@@ -1,11 +1,11 @@
 //! The times of a tree's entries.
 
+use crate::ends::{End, end_of};
 use crate::files::FileTimes;
 use crate::places::PlaceTimes;
 use crate::times::Times;
-use sftp_path::{Name, Place};
-use sftp_tree::{FileNo, NoMemory, PathEnd, Refused, Standing, Tree};
-use sftp_wire::ByteString;
+use sftp_path::Name;
+use sftp_tree::{FileNo, NoMemory, Tree};
 use std::alloc::Global;
 
 /// The times of the entries of a tree: of files by their numbers, of directories and links by their places. What was
@@ -14,7 +14,7 @@ use std::alloc::Global;
 /// It takes some 30 bytes for each file that was given times, and some 60 and the length of the name for each directory
 /// and link that was, and for each directory above one. A call looks up each name of a place at most three times.
 #[derive(Drop)]
-pub struct TimeTable {
+pub(crate) struct TimeTable {
     files: FileTimes,
     places: PlaceTimes,
     start: Times,
@@ -22,52 +22,11 @@ pub struct TimeTable {
 
 impl TimeTable {
     /// The table in which all have the times of the start. Does not allocate.
-    pub fn new(alloc: Global, start: Times) -> TimeTable {
+    pub(crate) fn new(alloc: Global, start: Times) -> TimeTable {
         TimeTable {
             files: FileTimes::new(alloc),
             places: PlaceTimes::new(alloc),
             start,
-        }
-    }
-
-    /// The table of a tree whose entries, named by their paths, have these times. What is not among them has the times
-    /// of the start, and of several names of a file the last one counts.
-    ///
-    /// # Errors
-    ///
-    /// `NoMemory` if memory runs out.
-    pub fn of_entries(
-        tree: &Tree,
-        start: Times,
-        entries: &[(ByteString, Times)],
-    ) -> Result<TimeTable, NoMemory> {
-        let mut table = TimeTable::new(tree.allocator(), start);
-        for (path, times) in entries {
-            table.set_entry(tree, path.as_slice(), *times)?;
-        }
-        Ok(table)
-    }
-
-    /// Gives the entry of a path times, if there is one.
-    fn set_entry(&mut self, tree: &Tree, path: &[u8], times: Times) -> Result<(), NoMemory> {
-        match tree.path_end(path, false) {
-            Ok(end) => self.set(&end, times),
-            Err(Refused::Cause(_)) => Ok(()),
-            Err(Refused::NoMemory) => Err(NoMemory),
-        }
-    }
-
-    /// The times of the tree's entry of a path, which follows no last link; `None` if it has no such entry. So the
-    /// times of all entries are had in any order.
-    ///
-    /// # Errors
-    ///
-    /// `NoMemory` if memory runs out.
-    pub fn of_entry(&self, tree: &Tree, path: &[u8]) -> Result<Option<Times>, NoMemory> {
-        match tree.path_end(path, false) {
-            Ok(end) => Ok(self.get(&end)),
-            Err(Refused::Cause(_)) => Ok(None),
-            Err(Refused::NoMemory) => Err(NoMemory),
         }
     }
 
@@ -81,13 +40,23 @@ impl TimeTable {
         self.files.is_empty() && self.places.is_empty()
     }
 
-    /// The times of what a path leads to; `None` if that is nothing.
-    pub(crate) fn get(&self, end: &PathEnd) -> Option<Times> {
-        match end.standing {
-            Standing::Nothing => None,
-            Standing::File(number) => Some(self.of_file(number)),
-            Standing::Directory => Some(self.of_place(&end.place)),
-            Standing::Link => Some(self.of_place(&end.place)),
+    /// The times of what a path leads to; `None` if it leads nowhere, or if memory runs out.
+    pub(crate) fn of_path(&self, tree: &Tree, path: &[u8], follow: bool) -> Option<Times> {
+        if self.is_untouched() {
+            return Some(self.start);
+        }
+        match end_of(tree, path, follow) {
+            Ok(Some(end)) => Some(self.of_end(&end)),
+            Ok(None) => None,
+            Err(_) => None,
+        }
+    }
+
+    /// The times of what a path leads to.
+    fn of_end(&self, end: &End) -> Times {
+        match end.file {
+            Some(number) => self.of_file(number),
+            None => self.of_place(end.names.as_slice()),
         }
     }
 
@@ -96,36 +65,21 @@ impl TimeTable {
         self.files.get(number).unwrap_or(self.start)
     }
 
-    /// The times of the directory or link at a place.
-    pub(crate) fn of_place(&self, place: &Place) -> Times {
-        self.places.get(place).unwrap_or(self.start)
+    /// The times of the directory or link to which these names lead.
+    pub(crate) fn of_place(&self, names: &[Name]) -> Times {
+        self.places.get(names).unwrap_or(self.start)
     }
 
     /// The number of the directory to which these names lead, if something in it was given times.
-    pub(crate) fn directory(&self, place: &Place) -> Option<u64> {
-        self.places.number_of(place.names())
+    pub(crate) fn directory(&self, names: &[Name]) -> Option<u64> {
+        self.places.number_of(names)
     }
 
-    /// The times of what stands at a name of a directory, of which the number is known if it has one.
-    pub(crate) fn of_name(&self, directory: Option<u64>, name: &Name, standing: Standing) -> Times {
-        match (standing, directory) {
-            (Standing::File(number), _) => self.of_file(number),
-            (_, Some(directory)) => self.places.get_in(directory, name).unwrap_or(self.start),
-            (_, None) => self.start,
-        }
-    }
-
-    /// Gives what a path leads to times, if there is something.
-    ///
-    /// # Errors
-    ///
-    /// `NoMemory` if memory runs out; all have the times that they had.
-    pub(crate) fn set(&mut self, end: &PathEnd, times: Times) -> Result<(), NoMemory> {
-        match end.standing {
-            Standing::Nothing => Ok(()),
-            Standing::File(number) => self.files.set(number, times),
-            Standing::Directory => self.places.set(&end.place, times),
-            Standing::Link => self.places.set(&end.place, times),
+    /// The times of the directory or link of a name in the directory of this number, if it has one.
+    pub(crate) fn of_name(&self, directory: Option<u64>, name: &Name) -> Times {
+        match directory {
+            Some(directory) => self.places.get_in(directory, name).unwrap_or(self.start),
+            None => self.start,
         }
     }
 
@@ -138,27 +92,20 @@ impl TimeTable {
         self.files.set(number, times)
     }
 
-    /// Gives the directory or link at a place times.
+    /// Gives the directory or link to which these names lead times.
     ///
     /// # Errors
     ///
     /// `NoMemory` if memory runs out; all have the times that they had.
-    pub(crate) fn set_place(&mut self, place: &Place, times: Times) -> Result<(), NoMemory> {
-        self.places.set(place, times)
+    pub(crate) fn set_place(&mut self, names: &[Name], times: Times) -> Result<(), NoMemory> {
+        self.places.set(names, times)
     }
 
-    /// Forgets a file.
-    pub(crate) fn forget_file(&mut self, number: FileNo) {
-        self.files.forget(number);
-    }
-
-    /// Forgets what was at a place, and the file, if the place was a name of one and the tree has it no more.
-    pub(crate) fn forget(&mut self, tree: &Tree, end: &PathEnd) {
-        match end.standing {
-            Standing::Nothing => {}
-            Standing::File(number) => self.forget_gone(tree, number),
-            Standing::Directory => self.places.forget(&end.place),
-            Standing::Link => self.places.forget(&end.place),
+    /// Forgets what a path led to: the directory or link, or the file, if the tree has it no more.
+    pub(crate) fn forget(&mut self, tree: &Tree, end: &End) {
+        match end.file {
+            Some(number) => self.forget_gone(tree, number),
+            None => self.places.forget(end.names.as_slice()),
         }
     }
 
@@ -174,7 +121,7 @@ impl TimeTable {
     /// # Errors
     ///
     /// `NoMemory` if memory runs out; then what was there has the times of the start.
-    pub(crate) fn rename(&mut self, old: &Place, new: &Place) -> Result<(), NoMemory> {
+    pub(crate) fn rename(&mut self, old: &[Name], new: &[Name]) -> Result<(), NoMemory> {
         self.places.rename(old, new)
     }
 }

@@ -3,17 +3,17 @@ ghost use Rattle.sftp_packets.specs.Spelling.{FitsTwo};
 
 /// The times of a file, a directory or a link, in seconds since the start of 1970, as packets have them (draft,
 /// section 5).
-#[derive(Clone, Copy, Debug, PartialEq, Eq)]
-pub struct Times {
+#[derive(Clone, Copy)]
+pub(crate) struct Times {
     /// The time of the last access.
-    pub accessed: u32,
+    accessed: u32,
     /// The time of the last modification.
-    pub modified: u32,
+    modified: u32,
 }
 
 impl Times {
     /// Both at this moment.
-    pub fn at(moment: u32) -> Times {
+    pub(crate) fn at(moment: u32) -> Times {
         Times {
             accessed: moment,
             modified: moment,
@@ -27,10 +27,16 @@ impl Times {
         (self.accessed, self.modified)
     }
 
+    /// The times that attributes give: of access, and of modification.
+    pub(crate) fn given(pair: (u32, u32)) -> Times {
+        let (accessed, modified) = pair;
+        Times { accessed, modified }
+    }
+
     /// The times that attributes give, or else both at this moment.
     pub(crate) fn given_or(given: Option<(u32, u32)>, moment: u32) -> Times {
         match given {
-            Some((accessed, modified)) => Times { accessed, modified },
+            Some(pair) => Times::given(pair),
             None => Times::at(moment),
         }
     }

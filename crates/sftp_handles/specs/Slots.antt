@@ -68,12 +68,6 @@ listing_in (Some (Listing left)) = Some left
 listing_in (Some (File number flags)) = None
 listing_in None = None
 
--- the number of the file, if one is open
-abbrev pub file_in : Option Open → Option ℕ
-file_in (Some (File number flags)) = Some number
-file_in (Some (Listing left)) = None
-file_in None = None
-
 -- what is open is a listing, and its names are in order
 abbrev pub IsListing : Option Open → Type 0
 IsListing (Some (Listing left)) = InOrder name_cmp left

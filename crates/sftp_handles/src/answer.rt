@@ -92,7 +92,7 @@ impl<T: HandleTable> Session<T> {
 }
 
 /// The reply with this id.
-pub(crate) fn reply_with(id: u32, answer: Answer) -> Reply
+fn reply_with(id: u32, answer: Answer) -> Reply
     ensures reply { result ≡ record { id = id; answer = answer } }
     ensures fits { id < 2 ^ 32 }
 {

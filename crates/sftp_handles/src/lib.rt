@@ -34,7 +34,6 @@ mod requests;
 mod sessions;
 mod slab_table;
 mod slots;
-mod stat_replies;
 mod tables;
 mod touch;
 

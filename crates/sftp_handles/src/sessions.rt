@@ -2,13 +2,13 @@
 ghost use Rattle.std.specs.Prelude.{◌≡◌, [], Ok, option_copied};
 ghost use Rattle.sftp_tree.specs.Tree.{trim};
 ghost use Rattle.sftp_handles.specs.State.{open_at};
-ghost use Rattle.sftp_handles.specs.Slots.{listing_in, file_in};
+ghost use Rattle.sftp_handles.specs.Slots.{listing_in};
 ghost use Rattle.sftp_handles.specs.State.{settled};
 
 use crate::opens::Open;
 use crate::tables::HandleTable;
 use sftp_listing::Listing;
-use sftp_tree::{FileNo, NoMemory, Tree};
+use sftp_tree::{NoMemory, Tree};
 use std::marker::Model;
 
 /// A tree, and the handles that are open on it. Each file is pinned as often as it is open.
@@ -60,17 +60,6 @@ impl<T: HandleTable> Session<T> {
         match self.table.find(handle) {
             Some(Open::Listing { left }) => Some(left),
             Some(Open::File { .. }) => None,
-            None => None,
-        }
-    }
-
-    /// The number of the file that is open under a handle, if it is a file's. Does not allocate.
-    pub fn file(&self, handle: &[u8]) -> Option<FileNo>
-        ensures { result ≡ file_in (open_at self.now.handles handle.now) }
-    {
-        match self.table.find(handle) {
-            Some(Open::File { file, .. }) => Some(*file),
-            Some(Open::Listing { .. }) => None,
             None => None,
         }
     }

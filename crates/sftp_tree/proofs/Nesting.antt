@@ -19,7 +19,6 @@ use Rattle.sftp_tree.proofs.PlaceTables.{sorted_before}
 use Rattle.sftp_tree.proofs.TreeFiles.{root_first}
 pub mod Changes
 pub mod NodesBelow
-pub mod StandingsBelow
 pub mod Entries
 pub mod Reach
 

@@ -5,7 +5,6 @@ pub mod StoredFiles
 pub mod Walk
 pub mod WalkRules
 pub mod Attributes
-pub mod Standings
 pub mod Items
 pub mod PlaceCauses
 pub mod Changes

@@ -2,10 +2,11 @@
 //! 4.3 and 4.5): first what there is to say of each, which is its paths, the causes of its own bytes, the causes at the
 //! places that the paths lead to, whether there is room, and its plan; then what it does to a tree and what it returns.
 //! A bad path has the cause `BadPath`, and one that leads nowhere the walk's: `NoEntry`, `NotDir` or `Loop`.
-ghost use Rattle.std.specs.Prelude.{◌≡◌, Ok, Some, is_some, IfOk, IfErr, IsTrue, OnOk, OnErr, MatchOption, option_copied};
+ghost use Rattle.std.specs.Prelude.{◌≡◌, Some, is_some, IfOk, IfErr, IsTrue, OnOk, OnErr, MatchOption, option_copied};
 ghost use Rattle.sftp_packets.specs.declared.requests.Ask.TheVariants.{Setstat, Remove, Mkdir, Rmdir, Realpath, Rename};
 ghost use Rattle.sftp_packets.specs.declared.requests.Ask.TheVariants.{Readlink, Symlink, PosixRename, Hardlink, Open};
 ghost use Rattle.sftp_treefile.specs.TreeFile.{is_target};
+ghost use Rattle.sftp_tree.specs.StoredFiles.{file_named};
 ghost use Rattle.sftp_tree.specs.Tree as tree;
 ghost use Rattle.sftp_tree.specs.Requests as requests;
 ghost use Rattle.sftp_tree.specs.Requests.{asked};
@@ -25,7 +26,7 @@ use crate::place_causes::{
 use crate::plans::{Plan, file_of};
 use crate::room::move_fits;
 use crate::trees::Tree;
-use sftp_path::{NoMemory, Place, absolute, good_path};
+use sftp_path::{Name, NoMemory, Place, absolute, good_path};
 use sftp_wire::{Ask, Attrs};
 
 /// A request that is judged by the paths that it names: its fields in the order of its packet.
@@ -626,37 +627,13 @@ impl Tree {
         ensures refused { IfErr result (λ refused. IsRefusal self.now (stat_ask follow path.now) refused) }
         ensures kept { OnOk result (tree.IsKept self.now) }
     {
-        let (attrs, found) = self.stat_found(path, follow)?;
-        drop(found);
-        Ok(attrs)
-    }
-
-    /// STAT and LSTAT, as `stat`, and what was found.
-    ///
-    /// # Errors
-    ///
-    /// Those of `stat`.
-    #[inline(always)]
-    pub(crate) fn stat_found<'a>(
-        &'a self,
-        path: &'a [u8],
-        follow: bool,
-    ) -> Result<(Attrs, Found<'a>), Refused>
-        ensures free { OnOk result (IsFree self.now (stat_ask follow path.now)) }
-        ensures shown { IfOk result (λ r. told.shown_to self.now (stat_ask follow path.now) ≡ Some r.0) }
-        ensures led { IfOk result (λ r. requests.led self.now (stat_ask follow path.now) ≡ Some (Ok r.1.place)) }
-        ensures there { IfOk result (λ r. IsThere self.now.names r.1) }
-        ensures refused { IfErr result (λ refused. IsRefusal self.now (stat_ask follow path.now) refused) }
-        ensures kept { OnOk result (tree.IsKept self.now) }
-    {
         let ask = if follow {
             PathAsk::Stat(path)
         } else {
             PathAsk::Lstat(path)
         };
         let places = self.free_places(ask)?;
-        let attrs = self.shown_at(&places.old);
-        Ok((attrs, places.old))
+        Ok(self.shown_at(&places.old))
     }
 
     /// The attributes that LSTAT shows of the node at a place; `None` if the place is free. Does not allocate.
@@ -665,6 +642,19 @@ impl Tree {
     {
         match self.names().root_directory().at(place.names()) {
             Some(node) => Some(self.shown(&node)),
+            None => None,
+        }
+    }
+
+    /// The number of the file that the place to which these names lead is a name of; `None` if it is not one. Does not
+    /// allocate.
+    pub fn file_at(&self, names: &[Name]) -> Option<FileNo>
+        ensures { result ≡ file_named (tree.node_at self.now.names names.now) }
+    {
+        match self.names().root_directory().at(names) {
+            Some(Seen::File(number)) => Some(number),
+            Some(Seen::Dir(..)) => None,
+            Some(Seen::Link(_)) => None,
             None => None,
         }
     }

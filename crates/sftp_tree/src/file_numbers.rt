@@ -29,13 +29,6 @@ impl FileNo {
     {
         FileNo { number }
     }
-
-    /// The number.
-    pub fn get(self) -> u32
-        ensures { result ≡ self }
-    {
-        self.number
-    }
 }
 
 impl PartialEq for FileNo {

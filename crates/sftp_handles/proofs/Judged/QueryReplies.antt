@@ -107,10 +107,6 @@ stat-told t true path shown is =
 stat-told t false path shown is =
     led-attributes (led t (asks.Lstat path)) (λ place. shown_at t (node_at t.names place)) shown is
 
-pub stat-query : (follow : Bool) (path : List ℕ) → purpose_of (stat_ask follow path) ≡ Query
-stat-query true path = refl
-stat-query false path = refl
-
 pub carries-stat : (s : State) (follow : Bool) (path : List ℕ) (shown : Attrs) → Good s
     → IsFree s.tree (stat_ask follow path) → shown_to s.tree (stat_ask follow path) ≡ Some shown
     → Carries s (stat_ask follow path) (shows (Some shown))

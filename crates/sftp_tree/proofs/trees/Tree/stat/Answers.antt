@@ -1,7 +1,7 @@
 use Rattle.sftp_tree.proofs.Imports.{◌≡◌, sym, ◌∙◌, ap, asked, stat_ask}
 use Rattle.sftp_tree.proofs.Requests.Rows.{stat-taken, stat-shown}
-use Rattle.sftp_tree.proofs.trees.Tree.stat_found.Goals as goal
-use Rattle.sftp_tree.proofs.trees.Tree.stat_found.Goals.{then-follow, else-follow}
+use Rattle.sftp_tree.proofs.trees.Tree.stat.Goals as goal
+use Rattle.sftp_tree.proofs.trees.Tree.stat.Goals.{then-follow, else-follow}
 
 pub shown_at-requires-clause-taken : goal.shown_at-requires-clause-taken
 shown_at-requires-clause-taken c =
