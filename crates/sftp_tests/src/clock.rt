@@ -1,15 +1,12 @@
 //! Times of access and modification, by a clock that a test sets.
 use crate::wire::attributes;
-use sftp_clock::{Clocked, Moments, TimeTable, Times};
+use sftp_clock::{Clocked, Moments};
 use sftp_handles::{Session, SlabTable};
 use sftp_server::Answerer;
-use sftp_tree::{NoMemory, Refused, Tree};
+use sftp_tree::{NoMemory, Tree};
 use sftp_wire::{Answer, Ask, ByteString, Reply, Request};
-use std::alloc::{AllocError, Global};
+use std::alloc::Global;
 use std::test::Fail;
-
-/// WRITE and CREAT.
-const NEW: u32 = 0x0A;
 
 /// A clock that goes on by one second whenever somebody looks at it.
 #[derive(Drop)]
@@ -21,85 +18,6 @@ impl Moments for Ticking {
         self.0 = now.wrapping_add(1);
         now
     }
-}
-
-/// The directory `/d` with the file `/d/f`.
-fn grow(tree: &mut Tree) -> Result<(), Refused> {
-    tree.mkdir(b"/d", &attributes(None))?;
-    tree.open_file(b"/d/f", NEW, &attributes(None))?;
-    Ok(())
-}
-
-fn entry(alloc: Global, path: &[u8], times: Times) -> Result<(ByteString, Times), AllocError> {
-    Ok((ByteString::from_slice(alloc, path)?, times))
-}
-
-/// The times of three entries, and of what is none, by a table that is given those of two and of what is none.
-fn given_back(alloc: Global, tree: &Tree) -> Result<[Option<Times>; 4], NoMemory> {
-    let mut entries = Vec::new(alloc);
-    entries.push(entry(
-        alloc,
-        b"/d",
-        Times {
-            accessed: 1,
-            modified: 2,
-        },
-    )?)?;
-    entries.push(entry(
-        alloc,
-        b"/d/f",
-        Times {
-            accessed: 3,
-            modified: 4,
-        },
-    )?)?;
-    entries.push(entry(
-        alloc,
-        b"/absent",
-        Times {
-            accessed: 5,
-            modified: 6,
-        },
-    )?)?;
-    let table = TimeTable::of_entries(tree, Times::at(9), entries.as_slice())?;
-    Ok([
-        table.of_entry(tree, b"/")?,
-        table.of_entry(tree, b"/d")?,
-        table.of_entry(tree, b"/d/f")?,
-        table.of_entry(tree, b"/absent")?,
-    ])
-}
-
-/// A table gives back the times that it was given.
-#[test]
-fn tables_of_entries(rt: HostRuntime) -> Result<(), Fail> {
-    let mut tree = Tree::blank(rt.alloc())?;
-    let grown = grow(&mut tree);
-    let found = given_back(rt.alloc(), &tree);
-    drop(tree);
-    grown?;
-    let [root, directory, file, absent] = found?;
-    assert!(rt;
-        root == Some(Times {
-            accessed: 9,
-            modified: 9
-        })
-    );
-    assert!(rt;
-        directory
-            == Some(Times {
-                accessed: 1,
-                modified: 2
-            })
-    );
-    assert!(rt;
-        file == Some(Times {
-            accessed: 3,
-            modified: 4
-        })
-    );
-    assert!(rt; absent == None);
-    Ok(())
 }
 
 /// The times that a reply shows.
