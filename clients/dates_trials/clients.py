@@ -7,7 +7,7 @@ import time
 
 from dates_trials.rooms import OLD
 from serve_trials.steps import wait_until
-from trials.lftp import ServerOfLftp
+from trials.steps import ServerOfLftp
 
 # sshfs 3.7.3 opens what is there with TRUNC and without CREAT, which the draft does not allow; so nothing is opened so.
 MAKEFILE = "out: in\n\tcp --remove-destination in out\n"
