@@ -9,7 +9,6 @@ use sftp_server::{Plain, Schedule, SessionEnd, serve_as, serve_keeping_tree};
 use sftp_transcript::{Sink, Source, Writer};
 use sftp_tree::Tree;
 use sftp_vary::{Freedoms, Proposed, Style, Variation, Vary, Worded};
-use std::alloc::Global;
 use std::time::Clock;
 
 /// The answerer of sessions some of whose replies are proposed: first those of a record, then varied ones. Each is
@@ -21,21 +20,19 @@ type Dated<'r, C> = Worded<Clocked<SystemClock<'r, C>>>;
 
 /// What the replies of a session are like.
 #[derive(Drop)]
-pub(crate) struct Answers<'r, C> {
-    clock: SystemClock<'r, C>,
+pub(crate) struct Answers {
     style: Style,
     recorded: Recorded,
 }
 
-impl<'r, C: System + Clock> Answers<'r, C> {
+impl Answers {
     /// The replies that the options ask for. The start of the record is read, if there is one.
-    pub(crate) fn new<'a>(
-        rt: &'r C,
+    pub(crate) fn new<'a, R: System>(
+        rt: &R,
         options: &ServeOptions<'a>,
         style: Style,
-    ) -> Result<Answers<'r, C>, Failure<'a>> {
+    ) -> Result<Answers, Failure<'a>> {
         Ok(Answers {
-            clock: SystemClock::new(rt),
             style,
             recorded: Recorded::new(rt, options.replay)?,
         })
@@ -44,12 +41,13 @@ impl<'r, C: System + Clock> Answers<'r, C> {
 
 /// Serves a session with such replies.
 pub(crate) fn served<C: Clock, R: Source, W: Sink, L: Sink, S: Schedule>(
+    clock: &C,
     tree: Tree,
     reader: &mut R,
     writer: &mut W,
     log: &mut Writer<L>,
     schedule: &mut S,
-    answers: Answers<'_, C>,
+    answers: Answers,
 ) -> SessionEnd
     requires { IsUnused log.old }
 {
@@ -65,18 +63,18 @@ pub(crate) fn served<C: Clock, R: Source, W: Sink, L: Sink, S: Schedule>(
             &mut proposing(answers),
         );
     }
+    drop(answers);
     if style.has_times {
-        let alloc = tree.allocator();
+        let inner = Clocked::new(tree.allocator(), SystemClock::new(clock));
         return serve_as::<R, W, L, S, SlabTable, Dated<C>>(
             tree,
             reader,
             writer,
             log,
             schedule,
-            &mut dated(alloc, answers),
+            &mut Worded::new(inner, words),
         );
     }
-    drop(answers);
     if words.has_any() {
         return serve_as::<R, W, L, S, SlabTable, Worded<Plain>>(
             tree,
@@ -90,14 +88,8 @@ pub(crate) fn served<C: Clock, R: Source, W: Sink, L: Sink, S: Schedule>(
     serve_keeping_tree(tree, reader, writer, log, schedule)
 }
 
-/// The answerer of a session whose replies have times.
-fn dated<C: Clock>(alloc: Global, answers: Answers<'_, C>) -> Dated<'_, C> {
-    let words = answers.style.words;
-    Worded::new(Clocked::new(alloc, answers.clock), words)
-}
-
 /// The answerer of a session some of whose replies are proposed.
-fn proposing<C: Clock>(answers: Answers<'_, C>) -> Proposing {
+fn proposing(answers: Answers) -> Proposing {
     // Without freedoms, new handles look as those of a plain session.
     let variation = answers.style.variation.unwrap_or(Variation {
         seed: 0,

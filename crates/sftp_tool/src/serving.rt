@@ -70,14 +70,14 @@ pub(crate) fn serve<'a, R: System + Clock, I: Read, O: Write, E: Write>(
     let setup = set_up(rt, options, style)?;
     let announcing = Announcing::new(output, errors, options.is_verbose);
     let output = Pieces::new(announcing, style.cuts());
-    let (end, traffic) = run_session(setup, &mut meter, input, output);
+    let (end, traffic) = run_session(rt, setup, &mut meter, input, output);
     conclude(rt, end, traffic, options, errors)
 }
 
 /// What a session needs besides its streams.
-struct Setup<'r, C> {
+struct Setup {
     start: Start,
-    conduct: Conduct<'r, C>,
+    conduct: Conduct,
     log: Writer<Tally<Record>>,
 }
 
@@ -90,17 +90,17 @@ struct Start {
 
 /// How requests are answered: in which order, and with which replies.
 #[derive(Drop)]
-struct Conduct<'r, C> {
+struct Conduct {
     order: Order,
-    answers: Answers<'r, C>,
+    answers: Answers,
 }
 
 /// Sets up a session. The file of the record is made last, when all else is read and judged.
-fn set_up<'a, 'r, R: System + Clock>(
-    rt: &'r R,
+fn set_up<'a, R: System>(
+    rt: &R,
     options: &ServeOptions<'a>,
     style: Style,
-) -> Result<Setup<'r, R>, Failure<'a>>
+) -> Result<Setup, Failure<'a>>
     ensures { IfOk result (λ setup. IsUnused setup.log) }
 {
     let conduct = Conduct::new(rt, options, style)?;
@@ -114,12 +114,12 @@ fn set_up<'a, 'r, R: System + Clock>(
 }
 
 /// The setup of a session with a new record.
-fn record<'a, 'r, R: System + Clock>(
+fn record<'a, R: System>(
     rt: &R,
     options: &ServeOptions<'a>,
     start: Start,
-    conduct: Conduct<'r, R>,
-) -> Result<Setup<'r, R>, Failure<'a>>
+    conduct: Conduct,
+) -> Result<Setup, Failure<'a>>
     ensures { IfOk result (λ setup. IsUnused setup.log) }
 {
     match new_log(rt, options) {
@@ -149,12 +149,12 @@ impl Start {
     }
 }
 
-impl<'r, C: System + Clock> Conduct<'r, C> {
-    fn new<'a>(
-        rt: &'r C,
+impl Conduct {
+    fn new<'a, R: System>(
+        rt: &R,
         options: &ServeOptions<'a>,
         style: Style,
-    ) -> Result<Conduct<'r, C>, Failure<'a>> {
+    ) -> Result<Conduct, Failure<'a>> {
         let order = Order::new(rt, options)?;
         match Answers::new(rt, options, style) {
             Ok(answers) => Ok(Conduct { order, answers }),
@@ -169,7 +169,8 @@ impl<'r, C: System + Clock> Conduct<'r, C> {
 /// Serves a session that is set up, and returns how it ended and what went through its streams. What is set aside is
 /// free then.
 fn run_session<C: Clock, I: Read, O: Write + Drop>(
-    setup: Setup<'_, C>,
+    clock: &C,
+    setup: Setup,
     meter: &mut Meter,
     input: &mut I,
     output: O,
@@ -183,7 +184,7 @@ fn run_session<C: Clock, I: Read, O: Write + Drop>(
     } = setup;
     let Start { tree, room } = start;
     let Conduct { order, answers } = conduct;
-    let ended = session(tree, log, order, answers, meter, input, output);
+    let ended = session(clock, tree, log, order, answers, meter, input, output);
     drop(room);
     ended
 }
@@ -239,10 +240,11 @@ fn new_log<'a, R: System>(
 /// Serves a session on a tree, and returns how it ended and what went through its streams.
 // Slow to prove: each stream is put together of layers, and taken apart again.
 fn session<C: Clock, I: Read, O: Write + Drop>(
+    clock: &C,
     tree: Tree,
     mut log: Writer<Tally<Record>>,
     mut order: Order,
-    answers: Answers<'_, C>,
+    answers: Answers,
     meter: &mut Meter,
     input: &mut I,
     output: O,
@@ -252,6 +254,7 @@ fn session<C: Clock, I: Read, O: Write + Drop>(
     let mut reader = Tally::new(Watched::new(input));
     let mut writer = Tally::new(Watched::new(Bounded::new(output, meter)));
     let end = served(
+        clock,
         tree,
         &mut reader,
         &mut writer,
