@@ -9,7 +9,7 @@ NAME = "sftpv3-serve"
 # The options of the script, each with a value.
 OWN = ("--log", "--grace", "--program")
 # What `sftpv3 serve` is told besides, unless the option of the script with `no-` leaves it out.
-USUAL = ("--texts", "--long-names")
+USUAL = ("--texts", "--long-names", "--times")
 # The options of `sftpv3 serve` whose values the script looks at.
 SEEN = ("--tree", "--save", "--record", "--replay", "--mode")
 # How long a client may take for the replies that it is still owed after a signal.

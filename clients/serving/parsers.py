@@ -37,6 +37,8 @@ def parser():
                                                               "given its option --texts")
     made.add_argument("--no-long-names", action="store_true", help="'ls -l' shows bare names: the server is not given "
                                                                    "its option --long-names")
+    made.add_argument("--no-times", action="store_true", help="no attributes have times: the server is not given its "
+                                                              "option --times")
     group = made.add_argument_group(
         "options that go on to 'sftpv3 serve', as any other of its options does")
     group.add_argument("--tree", metavar="FILE", help="the tree file: the tree at the start of the session")

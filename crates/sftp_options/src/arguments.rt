@@ -106,6 +106,11 @@ pub(crate) const SERVE: &[Argument] = &[
         "Give directories with lines as 'ls -l' writes them",
     ),
     (
+        "times",
+        Form::Flag,
+        "Keep times of access and modification, and show them",
+    ),
+    (
         "verbose",
         Form::Flag,
         "Print on standard error when the session opens and how it ends",

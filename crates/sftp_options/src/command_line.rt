@@ -303,6 +303,7 @@ fn serve_request<'a>(given: &ArgMatches<'a>) -> Option<Request<'a>> {
         Style {
             variation: variation_of(given),
             words,
+            has_times: given.get_flag("times"),
         },
     ))
 }

@@ -45,8 +45,12 @@ With --vary, the server uses what the draft leaves free; N fixes its choices, in
 --only uses some of these, by the same choices. --only or --wild without --vary takes 0 for N.
 
 With --texts, the message of each refusal says in English why, and which limit of the tree was met. With --long-names,
-'ls -l' of a client shows what it does on a folder, but for the count of names, which is 1, and the date, which is that
-of 1970: trees have neither. The freedoms texts and longnames of --vary come before them.
+'ls -l' of a client shows what it does on a folder, but for the count of names, which is 1, and the date, which has the
+year, and is that of 1970 without --times. The freedoms texts and longnames of --vary come before them.
+
+With --times, all attributes have times of access and modification. Requests give some; otherwise what is made has the
+time of then, and a file that is written to or truncated, and a directory whose names change, is modified then. At the
+start all have the time of the start, and no tree file keeps times. --vary and --replay come before it.
 
 With --verbose, standard error has a line when the session opens, and one when it ends: how, the number of requests, the
 bytes read and written, the number of entries in the tree, and whether the tree was saved.

@@ -16,6 +16,8 @@ pub mod audited;
 #[cfg(test)]
 mod client;
 #[cfg(test)]
+mod clock;
+#[cfg(test)]
 mod cores;
 pub mod from_memory;
 #[cfg(test)]

@@ -2,16 +2,21 @@
 ghost use Rattle.sftp_server.specs.Served.{IsUnused};
 
 use crate::recorded::Recorded;
+use sftp_clock::{Clocked, SystemClock};
 use sftp_files::{Failure, ServeOptions, System};
 use sftp_handles::{GivenTable, SlabTable};
 use sftp_server::{Plain, Schedule, SessionEnd, serve_announcing, serve_as, serve_keeping_tree};
 use sftp_transcript::{Sink, Source, Writer};
 use sftp_tree::Tree;
 use sftp_vary::{Freedoms, Proposed, Style, Variation, Vary, Worded, any_version};
+use std::time::Clock;
 
 /// The answerer of sessions some of whose replies are proposed: first those of a record, then varied ones. Each is
 /// given if it is allowed; the session's own replies, and the varied ones, get words for people.
 type Proposing = Proposed<Recorded, Worded<Proposed<Vary, Plain>>>;
+
+/// The answerer of sessions whose replies have times. They get words for people, if some are asked for.
+type Dated<'r, C> = Worded<Clocked<SystemClock<'r, C>>>;
 
 /// What the replies of a session are like.
 #[derive(Drop)]
@@ -35,7 +40,8 @@ impl Answers {
 }
 
 /// Serves a session with such replies.
-pub(crate) fn served<R: Source, W: Sink, L: Sink, S: Schedule>(
+pub(crate) fn served<C: Clock, R: Source, W: Sink, L: Sink, S: Schedule>(
+    clock: &C,
     tree: Tree,
     reader: &mut R,
     writer: &mut W,
@@ -51,6 +57,17 @@ pub(crate) fn served<R: Source, W: Sink, L: Sink, S: Schedule>(
         return serve_proposing(tree, reader, writer, log, schedule, answers);
     }
     drop(answers);
+    if style.has_times {
+        let inner = Clocked::new(tree.allocator(), SystemClock::new(clock));
+        return serve_as::<R, W, L, S, SlabTable, Dated<C>>(
+            tree,
+            reader,
+            writer,
+            log,
+            schedule,
+            &mut Worded::new(inner, words),
+        );
+    }
     if words.has_any() {
         return serve_as::<R, W, L, S, SlabTable, Worded<Plain>>(
             tree,

@@ -268,7 +268,7 @@ fn console<E>(errors: &mut E, says_progress: bool) -> Console<'_, E> {
 }
 
 /// Serves a session. If its client broke the protocol, `errors` now says how.
-fn serve<'a, R: System, I: Read, O: Write, E: Write>(
+fn serve<'a, R: System + Clock, I: Read, O: Write, E: Write>(
     rt: &R,
     options: &ServeOptions<'a>,
     style: Style,

@@ -22,6 +22,7 @@ use sftp_tree::Tree;
 use sftp_vary::Style;
 use sftp_wire::Request;
 use std::io::{Read, Write};
+use std::time::Clock;
 
 /// How many bytes are set aside for saving: buffers, and 32 bytes for each entry that a tree has at most, since the
 /// first names of files are kept in mind.
@@ -55,7 +56,7 @@ impl<'a> From<Failure<'a>> for Unserved<'a> {
 }
 
 /// Serves a session. The tree file is read and judged before the file of the record is made.
-pub(crate) fn serve<'a, R: System, I: Read, O: Write, E: Write>(
+pub(crate) fn serve<'a, R: System + Clock, I: Read, O: Write, E: Write>(
     rt: &R,
     options: &ServeOptions<'a>,
     style: Style,
@@ -71,7 +72,7 @@ pub(crate) fn serve<'a, R: System, I: Read, O: Write, E: Write>(
     let setup = set_up(rt, options, style)?;
     let announcing = Announcing::new(output, errors, options.is_verbose);
     let output = Pieces::new(announcing, style.cuts());
-    let (end, traffic) = run_session(setup, &mut meter, input, output);
+    let (end, traffic) = run_session(rt, setup, &mut meter, input, output);
     conclude(rt, end, traffic, options, errors)
 }
 
@@ -169,7 +170,8 @@ impl Conduct {
 
 /// Serves a session that is set up, and returns how it ended and what went through its streams. What is set aside is
 /// free then.
-fn run_session<I: Read, O: Write + Drop>(
+fn run_session<C: Clock, I: Read, O: Write + Drop>(
+    clock: &C,
     setup: Setup,
     meter: &mut Meter,
     input: &mut I,
@@ -184,7 +186,7 @@ fn run_session<I: Read, O: Write + Drop>(
     } = setup;
     let Start { tree, room } = start;
     let Conduct { order, answers } = conduct;
-    let ended = session(tree, log, order, answers, meter, input, output);
+    let ended = session(clock, tree, log, order, answers, meter, input, output);
     drop(room);
     ended
 }
@@ -231,7 +233,8 @@ fn new_log<'a, R: System>(
 
 /// Serves a session on a tree, and returns how it ended and what went through its streams.
 // Slow to prove: each stream is put together of layers, and taken apart again.
-fn session<I: Read, O: Write + Drop>(
+fn session<C: Clock, I: Read, O: Write + Drop>(
+    clock: &C,
     tree: Tree,
     mut log: Writer<Tally<Record>>,
     mut order: Order,
@@ -245,6 +248,7 @@ fn session<I: Read, O: Write + Drop>(
     let mut reader = Tally::new(Watched::new(input));
     let mut writer = Tally::new(Watched::new(Bounded::new(output, meter)));
     let end = served(
+        clock,
         tree,
         &mut reader,
         &mut writer,

@@ -3,9 +3,12 @@
 //! places that the paths lead to, whether there is room, and its plan; then what it does to a tree and what it returns.
 //! A bad path has the cause `BadPath`, and one that leads nowhere the walk's: `NoEntry`, `NotDir` or `Loop`.
 ghost use Rattle.std.specs.Prelude.{◌≡◌, Some, is_some, IfOk, IfErr, IsTrue, OnOk, OnErr, MatchOption, option_copied};
+ghost use Rattle.std.specs.Prelude.{option_map};
 ghost use Rattle.sftp_packets.specs.declared.requests.Ask.TheVariants.{Setstat, Remove, Mkdir, Rmdir, Realpath, Rename};
 ghost use Rattle.sftp_packets.specs.declared.requests.Ask.TheVariants.{Readlink, Symlink, PosixRename, Hardlink, Open};
 ghost use Rattle.sftp_treefile.specs.TreeFile.{is_target};
+ghost use Rattle.sftp_tree.specs.Nesting.{node_seen};
+ghost use Rattle.sftp_tree.specs.StoredFiles.{file_named};
 ghost use Rattle.sftp_tree.specs.Tree as tree;
 ghost use Rattle.sftp_tree.specs.Requests as requests;
 ghost use Rattle.sftp_tree.specs.Requests.{asked};
@@ -25,7 +28,7 @@ use crate::place_causes::{
 use crate::plans::{Plan, file_of};
 use crate::room::move_fits;
 use crate::trees::Tree;
-use sftp_path::{NoMemory, Place, absolute, good_path};
+use sftp_path::{Name, NoMemory, Place, absolute, good_path};
 use sftp_wire::{Ask, Attrs};
 
 /// A request that is judged by the paths that it names: its fields in the order of its packet.
@@ -645,6 +648,15 @@ impl Tree {
         }
     }
 
+    /// The number of the file that the place to which these names lead is a name of; `None` if it is not one. Does not
+    /// allocate.
+    pub fn file_at(&self, names: &[Name]) -> Option<FileNo>
+        ensures { result ≡ file_named (tree.node_at self.now.names names.now) }
+    {
+        let found = self.names().root_directory().at(names);
+        file_seen(&found)
+    }
+
     /// REALPATH: the absolute text of the place that the path leads to. Its last name need not exist.
     ///
     /// # Errors
@@ -725,5 +737,17 @@ fn target_of<'a>(found: &Found<'a>) -> &'a [u8]
         Some(Seen::Dir(..)) => unreachable!(),
         Some(Seen::File(_)) => unreachable!(),
         None => unreachable!(),
+    }
+}
+
+/// The number of the file that what is lent is a name of.
+fn file_seen(found: &Option<Seen<'_>>) -> Option<FileNo>
+    ensures { result ≡ file_named (option_map node_seen found.now) }
+{
+    match found {
+        Some(Seen::File(number)) => Some(*number),
+        Some(Seen::Dir(..)) => None,
+        Some(Seen::Link(_)) => None,
+        None => None,
     }
 }

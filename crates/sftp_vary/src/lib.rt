@@ -5,6 +5,7 @@
 
 mod attributes;
 mod cuts;
+mod dates;
 mod dice;
 mod freedoms;
 mod handles;

@@ -1,4 +1,5 @@
 //! Long names as `ls -l` writes them (draft-ietf-secsh-filexfer-02, section 7, has their columns).
+use crate::dates::date;
 use itoa::Buffer;
 use sftp_tree::NoMemory;
 use sftp_wire::{Attrs, ByteString};
@@ -15,21 +16,20 @@ const OWNER: usize = 15;
 /// Room for the columns before the date: those before the owner's, two numbers of ten digits, one of twenty, spaces.
 const ROOM: usize = 64;
 
-/// The date, which no reply knows.
-const DATE: &[u8] = b" Jan  1  1970 ";
-
 /// The line for a name with these attributes: type and permissions, the count of names, uid, gid, size, date, name. The
-/// count is 1 and the date the first of 1970, since the attributes have neither.
+/// count is 1, since the attributes have none, and the date the first of 1970, if they have no time of modification.
 pub(crate) fn long_name(alloc: Global, name: &[u8], attrs: &Attrs) -> Result<ByteString, NoMemory> {
     let (uid, gid) = attrs.owner.unwrap_or((0, 0));
     let mut columns = Columns::new(attrs.permissions.unwrap_or(0));
     columns.put_left(u64::from(uid));
     columns.put_left(u64::from(gid));
     columns.put_right(attrs.size.unwrap_or(0));
-    let length = name.len().saturating_add(ROOM + DATE.len());
+    let (_, modified) = attrs.times.unwrap_or((0, 0));
+    let date = date(modified);
+    let length = name.len().saturating_add(ROOM + date.len());
     let mut line = Vec::with_capacity(alloc, length)?;
     line.extend_from_slice(columns.written())?;
-    line.extend_from_slice(DATE)?;
+    line.extend_from_slice(&date)?;
     line.extend_from_slice(name)?;
     Ok(ByteString::new(line))
 }

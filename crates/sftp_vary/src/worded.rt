@@ -24,6 +24,8 @@ pub struct Style {
     pub variation: Option<Variation>,
     /// Which words for people replies have besides.
     pub words: Words,
+    /// Whether they have times of access and modification, if they are not varied.
+    pub has_times: bool,
 }
 
 impl Style {

@@ -1,0 +1,151 @@
+"""What people do with times: `make`, `touch`, `cp -p`, copies by size and time, lftp's mirror; on a tree with times and
+on one without."""
+import os
+import shutil
+import subprocess
+import time
+
+from dates_trials.rooms import OLD
+from serve_trials.steps import wait_until
+from trials.steps import ServerOfLftp
+
+# sshfs 3.7.3 opens what is there with TRUNC and without CREAT, which the draft does not allow; so nothing is opened so.
+MAKEFILE = "out: in\n\tcp --remove-destination in out\n"
+# How long a mount may remember attributes.
+FRESH = "cache=no"
+
+
+def run(words, **more):
+    return subprocess.run(list(map(str, words)), stdout=subprocess.PIPE, stderr=subprocess.STDOUT, text=True, **more)
+
+
+class Mount:
+    """A blank tree, mounted by sshfs."""
+
+    def __init__(self, room, *more):
+        room.clear()
+        self.place = room.folder / "mount"
+        self.place.mkdir(exist_ok=True)
+        self.server = subprocess.Popen(room.command(*more), stdin=subprocess.PIPE, stdout=subprocess.PIPE)
+        self.sshfs = subprocess.Popen(["sshfs", "-f", "-o", f"passive,{FRESH}", ":/", self.place],
+                                      stdin=self.server.stdout, stdout=self.server.stdin)
+        self.server.stdin.close()
+        self.server.stdout.close()
+
+    def __enter__(self):
+        if not wait_until(self.place.is_mount, 20):
+            raise AssertionError("the tree is not mounted")
+        return self.place
+
+    def __exit__(self, *_):
+        run(["fusermount3", "-u", self.place])
+        self.sshfs.wait(20)
+        self.server.wait(20)
+
+
+def has(steps, *names):
+    for name in names:
+        if shutil.which(name) is None:
+            steps.skip(name, "it is not installed")
+            return False
+    return True
+
+
+def can_mount(steps):
+    if not os.path.exists("/dev/fuse") or os.geteuid() != 0:
+        steps.skip("sshfs", "a mount needs /dev/fuse and root")
+        return False
+    return has(steps, "sshfs")
+
+
+def rewrite(file, text):
+    """Writes over a file, which keeps its size."""
+    with open(file, "r+", encoding="ascii") as opened:
+        opened.write(text)
+
+
+def made(place):
+    """What `make` says where the source changed after the program was made: twice of the same size."""
+    (place / "Makefile").write_text(MAKEFILE)
+    (place / "in").write_text("one")
+    run(["make", "-C", place])
+    time.sleep(1.1)
+    rewrite(place / "in", "two")
+    said = run(["make", "-C", place]).stdout
+    return "in out" in said and (place / "out").read_text() == "two"
+
+
+def with_make(steps, room):
+    if not can_mount(steps) or not has(steps, "make"):
+        return
+    for more in (["--times"], []):
+        with Mount(room, *more) as place:
+            is_made = made(place)
+        told = "with times" if more else "without times"
+        steps.check(f"make on sshfs, {told}: a changed source is {'' if more else 'not '}made again",
+                    is_made == bool(more))
+
+
+def with_touch(steps, room):
+    if not can_mount(steps):
+        return
+    for more in (["--times"], []):
+        with Mount(room, *more) as place:
+            (place / "f").write_text("text")
+            run(["touch", "-d", f"@{OLD}", place / "f"])
+            run(["cp", "-p", place / "f", place / "copy"])
+            found = [int(os.stat(place / name).st_mtime) for name in ("f", "copy")]
+        told = "with times" if more else "without times"
+        steps.check(f"touch -d and cp -p on sshfs, {told}", (found == [OLD, OLD]) == bool(more), found)
+
+
+def differ(one, other):
+    """Whether a copy by size and time, as rsync makes it, would copy the file."""
+    here, there = os.stat(one), os.stat(other)
+    return here.st_size != there.st_size or int(here.st_mtime) != int(there.st_mtime)
+
+
+def with_second_copies(steps, room):
+    """A second run by size and time copies nothing, and then what was changed, though its size stayed."""
+    if not can_mount(steps):
+        return
+    for more in (["--times"], []):
+        source = room.folder / "source"
+        source.write_text("one")
+        os.utime(source, (OLD, OLD))
+        with Mount(room, *more) as place:
+            shutil.copy2(source, place / "copy")
+            first = differ(source, place / "copy")
+            source.write_text("two")
+            second = differ(source, place / "copy")
+        told = "with times" if more else "without times"
+        steps.check(f"a second copy by size and time, {told}: it knows what is the same, and what changed",
+                    (not first and second) == bool(more), (first, second))
+
+
+def mirrored(room, more):
+    """What lftp's `mirror -R` leaves of a file that changed and kept its size between two runs in one session."""
+    room.clear()
+    local = room.folder / "local"
+    local.mkdir(exist_ok=True)
+    (local / "f").write_text("one")
+    os.utime(local / "f", (OLD, OLD))
+    server = ServerOfLftp(str(room.folder), room.script(*more))
+    mirror = f"mirror -R {local} /r"
+    words = [*server.settings(), mirror, f"!printf two >{local}/f", mirror, "cat /r/f", "bye"]
+    found = run(["lftp", "-c", "\n".join(words)]).stdout
+    server.wait()
+    return found
+
+
+def with_lftp(steps, room):
+    if not has(steps, "lftp"):
+        return
+    for more in ([], ["--no-times"]):
+        found = mirrored(room, more)
+        told = "without times" if more else "with times"
+        steps.check(f"lftp mirror -R, {told}: a changed file of the same size is {'not ' if more else ''}sent again",
+                    found == ("one" if more else "two"), found)
+
+
+TRIALS = (with_make, with_touch, with_second_copies, with_lftp)

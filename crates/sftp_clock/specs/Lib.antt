@@ -1,0 +1,2 @@
+-- Words of private contracts.
+pub mod Timed

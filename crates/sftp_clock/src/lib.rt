@@ -1,0 +1,19 @@
+//! Times of access and modification (draft-ietf-secsh-filexfer-02, sections 5 and 6), which a tree does not have: a
+//! table of them beside it, what each request does to them, and the answerer that puts them into replies.
+#![tactic(auto)]
+
+mod clocked;
+mod ends;
+mod files;
+mod listings;
+mod moments;
+mod noting;
+mod places;
+mod replies;
+mod tables;
+mod timed_names;
+mod times;
+mod touches;
+
+pub use clocked::Clocked;
+pub use moments::{Moments, SystemClock};

@@ -1,0 +1,127 @@
+//! The times of a tree's entries.
+
+use crate::ends::{End, end_of};
+use crate::files::FileTimes;
+use crate::places::PlaceTimes;
+use crate::times::Times;
+use sftp_path::Name;
+use sftp_tree::{FileNo, NoMemory, Tree};
+use std::alloc::Global;
+
+/// The times of the entries of a tree: of files by their numbers, of directories and links by their places. What was
+/// given no times has those of the start.
+///
+/// It takes some 30 bytes for each file that was given times, and some 60 and the length of the name for each directory
+/// and link that was, and for each directory above one. A call looks up each name of a place at most three times.
+#[derive(Drop)]
+pub(crate) struct TimeTable {
+    files: FileTimes,
+    places: PlaceTimes,
+    start: Times,
+}
+
+impl TimeTable {
+    /// The table in which all have the times of the start. Does not allocate.
+    pub(crate) fn new(alloc: Global, start: Times) -> TimeTable {
+        TimeTable {
+            files: FileTimes::new(alloc),
+            places: PlaceTimes::new(alloc),
+            start,
+        }
+    }
+
+    /// The times of what was given none.
+    pub(crate) fn start(&self) -> Times {
+        self.start
+    }
+
+    /// Whether nothing was given times.
+    pub(crate) fn is_untouched(&self) -> bool {
+        self.files.is_empty() && self.places.is_empty()
+    }
+
+    /// The times of what a path leads to; `None` if it leads nowhere, or if memory runs out.
+    pub(crate) fn of_path(&self, tree: &Tree, path: &[u8], follow: bool) -> Option<Times> {
+        if self.is_untouched() {
+            return Some(self.start);
+        }
+        match end_of(tree, path, follow) {
+            Ok(Some(end)) => Some(self.of_end(&end)),
+            Ok(None) => None,
+            Err(_) => None,
+        }
+    }
+
+    /// The times of what a path leads to.
+    fn of_end(&self, end: &End) -> Times {
+        match end.file {
+            Some(number) => self.of_file(number),
+            None => self.of_place(end.names.as_slice()),
+        }
+    }
+
+    /// The times of a file.
+    pub(crate) fn of_file(&self, number: FileNo) -> Times {
+        self.files.get(number).unwrap_or(self.start)
+    }
+
+    /// The times of the directory or link to which these names lead.
+    pub(crate) fn of_place(&self, names: &[Name]) -> Times {
+        self.places.get(names).unwrap_or(self.start)
+    }
+
+    /// The number of the directory to which these names lead, if something in it was given times.
+    pub(crate) fn directory(&self, names: &[Name]) -> Option<u64> {
+        self.places.number_of(names)
+    }
+
+    /// The times of the directory or link of a name in the directory of this number, if it has one.
+    pub(crate) fn of_name(&self, directory: Option<u64>, name: &Name) -> Times {
+        match directory {
+            Some(directory) => self.places.get_in(directory, name).unwrap_or(self.start),
+            None => self.start,
+        }
+    }
+
+    /// Gives a file times.
+    ///
+    /// # Errors
+    ///
+    /// `NoMemory` if memory runs out; all have the times that they had.
+    pub(crate) fn set_file(&mut self, number: FileNo, times: Times) -> Result<(), NoMemory> {
+        self.files.set(number, times)
+    }
+
+    /// Gives the directory or link to which these names lead times.
+    ///
+    /// # Errors
+    ///
+    /// `NoMemory` if memory runs out; all have the times that they had.
+    pub(crate) fn set_place(&mut self, names: &[Name], times: Times) -> Result<(), NoMemory> {
+        self.places.set(names, times)
+    }
+
+    /// Forgets what a path led to: the directory or link, or the file, if the tree has it no more.
+    pub(crate) fn forget(&mut self, tree: &Tree, end: &End) {
+        match end.file {
+            Some(number) => self.forget_gone(tree, number),
+            None => self.places.forget(end.names.as_slice()),
+        }
+    }
+
+    /// Forgets a file that the tree has no more.
+    pub(crate) fn forget_gone(&mut self, tree: &Tree, number: FileNo) {
+        if !tree.has_file(number) {
+            self.files.forget(number);
+        }
+    }
+
+    /// What was at the old place, with all below it, is at the new one.
+    ///
+    /// # Errors
+    ///
+    /// `NoMemory` if memory runs out; then what was there has the times of the start.
+    pub(crate) fn rename(&mut self, old: &[Name], new: &[Name]) -> Result<(), NoMemory> {
+        self.places.rename(old, new)
+    }
+}

@@ -1,0 +1,97 @@
+//! Times of access and modification, by a clock that a test sets.
+use crate::wire::attributes;
+use sftp_clock::{Clocked, Moments};
+use sftp_handles::{Session, SlabTable};
+use sftp_server::Answerer;
+use sftp_tree::{NoMemory, Tree};
+use sftp_wire::{Answer, Ask, ByteString, Reply, Request};
+use std::alloc::Global;
+use std::test::Fail;
+
+/// A clock that goes on by one second whenever somebody looks at it.
+#[derive(Drop)]
+struct Ticking(u32);
+
+impl Moments for Ticking {
+    fn now(&mut self) -> u32 {
+        let now = self.0;
+        self.0 = now.wrapping_add(1);
+        now
+    }
+}
+
+/// The times that a reply shows.
+fn shown(reply: Reply) -> Option<(u32, u32)> {
+    match reply.answer {
+        Answer::Attrs(attrs) => attrs.times,
+        other => {
+            drop(other);
+            None
+        }
+    }
+}
+
+fn ask(
+    clocked: &mut Clocked<Ticking>,
+    session: &mut Session<SlabTable>,
+    ask: Ask,
+) -> Result<Option<(u32, u32)>, NoMemory> {
+    let request = Request { id: 1, ask };
+    let reply = clocked.answer(session, &request);
+    drop(request);
+    match reply {
+        Ok(reply) => Ok(shown(reply)),
+        Err(error) => Err(error),
+    }
+}
+
+fn lstat(
+    alloc: Global,
+    clocked: &mut Clocked<Ticking>,
+    session: &mut Session<SlabTable>,
+    path: &[u8],
+) -> Result<Option<(u32, u32)>, NoMemory> {
+    let path = ByteString::from_slice(alloc, path)?;
+    ask(clocked, session, Ask::Lstat { path })
+}
+
+/// What the root and `/d` show before and after `/d` was made.
+fn by_the_clock(
+    alloc: Global,
+    session: &mut Session<SlabTable>,
+) -> Result<[Option<(u32, u32)>; 4], NoMemory> {
+    let mut clocked = Clocked::new(alloc, Ticking(10));
+    let before = [
+        lstat(alloc, &mut clocked, session, b"/")?,
+        lstat(alloc, &mut clocked, session, b"/d")?,
+    ];
+    let path = ByteString::from_slice(alloc, b"/d")?;
+    ask(
+        &mut clocked,
+        session,
+        Ask::Mkdir {
+            path,
+            attrs: attributes(None),
+        },
+    )?;
+    let [root, absent] = before;
+    Ok([
+        root,
+        absent,
+        lstat(alloc, &mut clocked, session, b"/")?,
+        lstat(alloc, &mut clocked, session, b"/d")?,
+    ])
+}
+
+/// At the start all have the time of then. What is made has the time of when it was made, and the directory above it is
+/// modified then.
+#[test]
+fn times_by_the_clock(rt: HostRuntime) -> Result<(), Fail> {
+    let mut session: Session<SlabTable> = Session::new(Tree::blank(rt.alloc())?)?;
+    let found = by_the_clock(rt.alloc(), &mut session);
+    drop(session);
+    let [root, absent, modified, made] = found?;
+    assert!(rt; root == Some((10, 10)) && absent == None);
+    assert!(rt; modified == Some((10, 11)) && made == Some((11, 11)));
+    Ok(())
+}
