@@ -1,5 +1,5 @@
-//! What requests do to times (POSIX, the descriptions of `write`, `ftruncate`, `open`, `mkdir` and others), by what their
-//! paths lead to.
+//! What requests do to times (POSIX, the descriptions of `write`, `ftruncate`, `open`, `mkdir` and others), by what
+//! their paths lead to.
 
 use crate::times::Times;
 use bitflags::Flags;
