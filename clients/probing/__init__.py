@@ -1,12 +1,12 @@
 """The parts of clients/probe. In the order in which they are used:
 
 starting    the tree that a probe starts from
-model       what the planner believes the server's tree to be
+model       what the planner believes the server's tree to be, and what requests do to it
 plans       the steps of a plan, or of a session that was recorded; the bytes in them; what a server has room for
 planner     the plan of a session: draws scenes, each as often as it says, spells paths in many ways, and reads all back
             at the end
 features    what `--skip` may name in a plan
-scenes      small scenes that make sense; refusals: requests that some cause refuses; effects: what they do to the model
+scenes      small scenes that make sense; refusals: requests that some cause refuses
 transfers   large scenes with much data, or with many names or handles
 servers     starts and ends the server, with packets to and from it, and ends what it leaves running
 sessions    plays a plan against a server, and records it

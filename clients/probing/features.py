@@ -1,8 +1,7 @@
 """What `--skip` may name, besides requests and causes: features that a request has by itself, and others that it has
 by what was planned before it."""
 import sftp3
-from probing import effects
-from probing.model import DIRECTORY, FAR, FILE, LINK
+from probing.model import DIRECTORY, EFFECTS, FAR, FILE, LINK
 
 # Features, and the words of the help.
 FEATURES = {
@@ -128,7 +127,7 @@ def of_move(planner, step, *_paths):
     if not any(opened.kind == DIRECTORY for opened in planner.opened.values()):
         return set()
     before, after, found = planner.model, planner.model.copy(), set()
-    effects.EFFECTS[step.name](planner, after, step, *step.fields)
+    EFFECTS[step.name](planner, after, step, *step.fields)
     for opened in planner.opened.values():
         old, new = before.place_of(opened.entry), after.place_of(opened.entry)
         if opened.kind != DIRECTORY or old is None or new is None:

@@ -12,8 +12,8 @@ A kind that was not shrunk goes behind another if in each of its sessions it cam
 import re
 
 import sftp3
-from probing import effects, shrinking
-from probing.model import Model
+from probing import shrinking
+from probing.model import Model, apply
 
 CODES = {0: "OK", 1: "EOF", 2: "NO_SUCH_FILE", 3: "PERMISSION_DENIED", 4: "FAILURE", 5: "BAD_MESSAGE",
          6: "NO_CONNECTION", 7: "CONNECTION_LOST", 8: "OP_UNSUPPORTED"}
@@ -280,7 +280,7 @@ class Things:
         self.by_number = {}
         for step in steps:
             found = self.of_step(step)
-            effects.apply(self, step)
+            apply(self, step)
             self.by_number[step.number] = found | self.of_step(step)
 
     def of_step(self, step):

@@ -13,9 +13,9 @@ import itertools
 import random
 
 import sftp3
-from probing import effects, features, refusals, scenes, transfers
+from probing import features, refusals, scenes, transfers
 from probing.transfers import listing
-from probing.model import DIRECTORY, FILE, LINK, Model
+from probing.model import DIRECTORY, FILE, LINK, Model, apply
 from probing.plans import Handle, Step
 
 RARE = 8
@@ -159,7 +159,7 @@ class Planner:
             step.tags |= features.of_plan(self, step) | known
         if step is None or step.tags & self.skip:
             return None
-        effects.apply(self, step)
+        apply(self, step)
         return step
 
     def ask(self, name, *fields, cause=None):

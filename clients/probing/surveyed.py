@@ -1,8 +1,7 @@
 """What the requests of a plan do, in words, for clients/test-probe. It is found from the requests and the planner's
 model of the tree, not from the scenes that they come from."""
 import sftp3
-from probing import effects
-from probing.model import FAR, FILE, Model
+from probing.model import FAR, FILE, Model, apply
 
 SIZES = {0: "0", 1: "1", 32767: "32,767", 32768: "32,768", 32769: "32,769"}
 
@@ -28,7 +27,7 @@ class Survey:
         self.marks, self.unread = set(), set()
         for step in plan:
             LOOKS.get(step.name, Survey.at_other)(self, *step.fields)
-            effects.apply(self, step)
+            apply(self, step)
             self.count()
 
     def of_handle(self, handle):

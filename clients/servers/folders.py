@@ -18,7 +18,6 @@ import time
 from typing import NamedTuple
 
 import mounts
-import removing
 from probing import program
 from recording import mounted, temporary
 
@@ -31,7 +30,7 @@ HIGHEST = 2 ** 32 - 2
 # How old, in seconds, a folder is at least that is taken for one that a killed run left.
 LEFT = 60
 
-DIRECTORY = removing.DIRECTORY
+DIRECTORY = os.O_RDONLY | os.O_DIRECTORY | os.O_NOFOLLOW | os.O_CLOEXEC
 NEW_FILE = os.O_WRONLY | os.O_CREAT | os.O_EXCL | os.O_NOFOLLOW
 
 
@@ -152,6 +151,54 @@ def put_all(builder, members):
     return directories
 
 
+def remove_directory(name, above=None):
+    """Removes the directory of this name, below that of a descriptor, with all that it has, however deep it is, through
+    descriptors and without following a link. Raises OSError if something of it stays, or if it is a link. Nothing may
+    be mounted there.
+
+    A server makes directories within each other as deep as it likes: more than a process may have open, and than a
+    function may call itself. So what stands deep is moved up first. Two descriptors are open at a time."""
+    top = os.open(name, DIRECTORY, dir_fd=above)
+    try:
+        empty(top)
+    finally:
+        os.close(top)
+    os.rmdir(name, dir_fd=above)
+
+
+def empty(top):
+    """Removes all that the directory of a descriptor has."""
+    while directories := remove_files(top):
+        move_all_up(top, directories)
+
+
+def move_all_up(top, names):
+    """Removes directories of another one, into which what they have of directories goes."""
+    for name in names:
+        move_up(top, name)
+        os.rmdir(name, dir_fd=top)
+
+
+def remove_files(directory):
+    """Removes what is no directory, and gives the names of those that are."""
+    with os.scandir(directory) as entries:
+        found = [(entry.name, entry.is_dir(follow_symlinks=False)) for entry in entries]
+    for name, is_directory in found:
+        if not is_directory:
+            os.unlink(name, dir_fd=directory)
+    return [name for name, is_directory in found if is_directory]
+
+
+def move_up(top, name):
+    """Empties a directory of another one: what it has of directories goes into that one, under names of their own."""
+    directory = os.open(name, DIRECTORY, dir_fd=top)
+    try:
+        for below in remove_files(directory):
+            os.rename(below, os.urandom(16).hex(), src_dir_fd=directory, dst_dir_fd=top)
+    finally:
+        os.close(directory)
+
+
 def remove_left(room):
     """Removes what killed runs of this user left in the folder of a descriptor: folders that no run holds locked, and
     that have nothing but a root. What cannot be removed stays, and stops nothing; nothing is asked of what another user
@@ -189,7 +236,7 @@ def remove_whole(held, name, room):
     """Removes the folder of a descriptor, which has this name in another one. Whatever ends this, the folder has no
     more than a root, so that the next run goes on."""
     with contextlib.suppress(FileNotFoundError):
-        removing.remove(ROOT, held)
+        remove_directory(ROOT, held)
     os.rmdir(name, dir_fd=room)
 
 

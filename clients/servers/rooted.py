@@ -21,7 +21,6 @@ sys.path.insert(0, os.path.dirname(HERE))
 import apart  # noqa: E402 (the folder above is not searched before)
 import folders  # noqa: E402
 import mounts  # noqa: E402
-import removing  # noqa: E402
 import streams  # noqa: E402
 from recording import ending, temporary  # noqa: E402
 from recording.notices import printable  # noqa: E402
@@ -259,7 +258,7 @@ def version_of(folder, server):
     except BrokenPipeError:
         return b""
     finally:
-        removing.remove(ASIDE, folder.root)
+        folders.remove_directory(ASIDE, folder.root)
 
 
 def run(folder, program, arguments):
