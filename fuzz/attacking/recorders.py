@@ -203,7 +203,7 @@ def one_user_takes_the_daemons_files(field):
         if status != [0, 0, 0, 3, 3] or len(lengths(spool)) != 3:
             yield f"{status}, {len(lengths(spool))} records"
         yield from wrong_status(record(field, "--required", "--spool", name, user=KEEPER + 1), 0)
-        folder = os.path.join(spool, str(VICTIM))
+        folder = os.path.join(spool, f"uid=={VICTIM}")
         for it in os.listdir(folder):
             os.remove(os.path.join(folder, it))
         time.sleep(10.5)

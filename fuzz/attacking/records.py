@@ -1,6 +1,8 @@
 """Attacks on the record of a session: other files of the session, and other sessions."""
 import os
+import pwd
 import subprocess
+from types import SimpleNamespace
 
 from attacking.ground import SECONDS, attack, wrong_status
 from nights.records import Spool
@@ -69,10 +71,13 @@ def a_user_has_the_folder_of_another(field):
     long = [naming.as_part(it) for it in ("", "u" * 300, "u" * 299 + "v", "u" * 101)]
     if len({*found.values(), *long}) != len(found) + len(long) or max(map(len, long)) > 255:
         yield f"{long}"
-    user_name = naming.user_name
-    naming.user_name = {4_000_001: "DOM\\bob", 4_000_002: "DOM_bob"}.__getitem__
+    # one of two users has the other's number as a name, and the other has no account
+    accounts = {4_000_001: "DOM\\bob", 4_000_002: "DOM_bob", 4_000_003: "4000004"}
+    folders = {4_000_001: "DOM=5cbob", 4_000_002: "DOM_bob", 4_000_003: "4000004", 4_000_004: "uid==4000004"}
+    asked = pwd.getpwuid
+    pwd.getpwuid = lambda number: SimpleNamespace(pw_name=accounts[number])
     try:
-        for number, name in ((4_000_001, "DOM=5cbob"), (4_000_002, "DOM_bob")):
+        for number, name in folders.items():
             spool = Spool(field.folder, number)
             spool.look()
             taken_before = spool.own is not None
@@ -81,4 +86,4 @@ def a_user_has_the_folder_of_another(field):
             if taken_before or spool.own is None:
                 yield f"{name}: {spool.refused}"
     finally:
-        naming.user_name = user_name
+        pwd.getpwuid = asked
