@@ -64,6 +64,9 @@ class Night:
         self.spool = Spool(given.records, given.number)
         self.folders = [os.path.join(os.getcwd(), it) for it in given.folders]
         self.status = self.accepted = self.cut = 0
+        # when the night is over, and whether a record was looked at in it
+        self.until, self.is_begun = time.monotonic() + given.night_seconds, False
+        self.has_running = False
         self.numbers = Numbers()
         self.held = ways.own_folder(os.path.join(given.state, given.user))
         # all that is kept is named from there, whatever becomes of the way to it
@@ -154,14 +157,24 @@ class Night:
         self.say("there are more records, which wait for the next run", 1)
         return True
 
+    def is_over(self):
+        """Whether the time of this night is over. Each judges one record, so that all are judged some night."""
+        return self.is_begun and time.monotonic() > self.until
+
     def audit_these(self, records):
-        """Audits these records. Returns whether one of them is of a session that still runs."""
+        """Audits these records. Returns whether one of them is of a session that still runs, or the night is over."""
         for place, record in enumerate(records):
+            if self.is_over():
+                self.say(f"{record.shown()}: it and what comes behind it wait for the next run, since this one took "
+                         f"{self.given.night_seconds:g} seconds (--night-seconds)", 1)
+                return True
+            self.is_begun = True
             try:
                 record.open()
                 if record.is_running():
                     self.say(f"{record.shown()}: still running; it and what comes behind it are audited when it has "
                              "ended")
+                    self.has_running = True
                     return True
                 self.judge(record, said_beside(record, records[max(0, place - NEAR):place + NEAR]))
             except NotTaken as why:
@@ -231,7 +244,8 @@ class Night:
             last = 0
         since = time.strftime(" since %Y-%m-%d %H:%M", time.localtime(last)) if last else ""
         is_late = not 0 <= time.time() - last < 3600 * self.given.longest
-        self.say(f"{self.counted()}; a session runs, so the folder is not compared{since}", int(is_late))
+        why = "a session runs, so " if self.has_running else ""
+        self.say(f"{self.counted()}; {why}the folder is not compared{since}", int(is_late))
 
     def counted(self):
         cut = f", {self.cut} of them cut" if self.cut else ""
@@ -262,6 +276,9 @@ class Night:
                 return False
             if self.compare():
                 return True
+            self.has_running = True
+            if self.is_over():
+                break
         return False
 
     def run(self):

@@ -162,7 +162,7 @@ class Spool:
     it, or is None; `strange` has what was passed over at the last look."""
 
     def __init__(self, path, number):
-        self.path, self.user, self.number = path, naming.as_part(naming.user_name(number)), number
+        self.path, self.user, self.number = path, naming.user_name(number), number
         self.shared, self.own, self.refused, self.strange = ways.folder_of(path), None, None, Strange()
 
     def look(self):

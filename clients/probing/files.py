@@ -6,7 +6,7 @@ there, and none of another user on the way.
 import os
 import stat
 
-from recording import naming, ways
+from recording import mounted, naming, ways
 from recording.replacing import Replacing
 
 
@@ -37,7 +37,11 @@ def is_foreign(name):
     """Whether something is there that `folder` does not take, which is better known before all is played."""
     try:
         with ways.location_of(name.rstrip("/")) as place:
-            found = place.state()
+            held = mounted.hold(place.name, place.folder)
     except OSError:
         return False
-    return found is not None and not (stat.S_ISDIR(found.st_mode) and ways.is_own(place.by_descriptor(), found))
+    try:
+        found = os.fstat(held)
+        return not (stat.S_ISDIR(found.st_mode) and ways.is_own(held, found))
+    finally:
+        os.close(held)

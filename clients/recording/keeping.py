@@ -104,7 +104,7 @@ class Shares:
 
     def share_of(self, user):
         if user not in self.by_user:
-            name = naming.as_part(naming.user_name(user))
+            name = naming.user_name(user)
             self.by_user[user] = Share(self.spool, name, self.options.records_per_user)
         return self.by_user[user]
 

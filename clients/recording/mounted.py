@@ -20,6 +20,8 @@ LONGEST = 256
 # it is that is said, which may be the number of the mount (Linux 5.8), and where that number is.
 EMPTY_PATH, DONT_SYNC, SAID = 0x1000, 0x4000, 256
 MASK, MOUNT, MOUNT_AT = 0, 0x1000, 144
+# The call openat2 (Linux 5.6) by its number, which is one on all machines, and how it is told to enter no mount.
+OPENAT2, NO_OTHER_MOUNT = 437, 1
 
 
 class OfAnother(PermissionError):
@@ -90,9 +92,43 @@ def is_of_another(file: int, beside: bytes | None = None) -> bool:
     return number is not None and number != beside and number not in trusted()
 
 
+# The function `syscall` of the C library, once it was looked for; of what it says only a failure is known.
+system_call: list = []
+# What it is told for these flags.
+told_for: dict[int, bytes] = {}
+
+
+def find_system_call():
+    """As standard.py finds a call, without the module ctypes."""
+    try:
+        from _ctypes import call_function, dlopen, dlsym
+        place = dlsym(dlopen(None, 2), "syscall")
+        system_call.append(lambda *words: call_function(place, words))
+    except (ImportError, OSError):
+        system_call.append(lambda *_: -1)
+
+
+def opened_within(name: bytes | str, folder: int, flags: int) -> int | None:
+    """Opens what is on the mount of an open folder. None if it is not there or cannot be opened, or is on another
+    mount, of which nothing is asked; or if the system has no such call."""
+    path = os.fsencode(name)
+    if b"\0" in path:
+        return None
+    if not system_call:
+        find_system_call()
+    if flags not in told_for:
+        told_for[flags] = b"".join(it.to_bytes(8, sys.byteorder) for it in (flags, 0, NO_OTHER_MOUNT))
+    told = told_for[flags]
+    file = system_call[0](OPENAT2, folder, path, told, len(told))
+    return None if file < 0 else file
+
+
 def hold(name: bytes | str, folder: int, beside: bytes | None = None) -> int:
     """Holds what has a name in an open folder, which is on the mount `beside`. Raises OfAnother if another user mounted
     it."""
+    within = opened_within(name, folder, HELD)
+    if within is not None:
+        return within
     file = os.open(name, HELD, dir_fd=folder)
     try:
         if is_of_another(file, beside or number_of(folder)):
@@ -114,6 +150,9 @@ def state_at(name: bytes | str, folder: int, beside: bytes | None = None) -> os.
 
 def folder_at(name: bytes | str, folder: int) -> int:
     """Opens a directory of this name in an open folder, to read it."""
+    within = opened_within(name, folder, FOLDER)
+    if within is not None:
+        return within
     file = hold(name, folder)
     try:
         return os.open(b".", FOLDER, dir_fd=file)
@@ -126,6 +165,9 @@ def open_at(name: bytes | str, folder: int, flags: int, mode: int = 0o600) -> in
     flags |= os.O_NOFOLLOW | os.O_CLOEXEC
     if flags & os.O_EXCL:
         return os.open(name, flags, mode, dir_fd=folder)
+    within = opened_within(name, folder, flags & ~os.O_CREAT)
+    if within is not None:
+        return within
     try:
         held = hold(name, folder)
     except FileNotFoundError:

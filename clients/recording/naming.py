@@ -25,10 +25,12 @@ class NotMade(Exception):
 
 
 def user_name(number):
+    """What a user is called in messages and as a part of a file's name: by the account; without one by the number, and
+    so that no account is, which may be named like a number."""
     try:
-        return pwd.getpwuid(number).pw_name
+        return as_part(pwd.getpwuid(number).pw_name)
     except KeyError:
-        return str(number)
+        return f"uid=={number}"
 
 
 def has_account(number):
@@ -71,7 +73,7 @@ def address(environment):
 
 def expand(name, environment=os.environ):
     """The name with %p (process), %u (user), %t (time of the start, UTC), %h (client's address), %% replaced."""
-    words = {"p": lambda: str(os.getpid()), "u": lambda: as_part(user_name(os.getuid())),
+    words = {"p": lambda: str(os.getpid()), "u": lambda: user_name(os.getuid()),
              "t": lambda: time.strftime("%Y%m%dT%H%M%SZ", time.gmtime()), "h": lambda: address(environment),
              "%": lambda: "%"}
 

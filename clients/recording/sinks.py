@@ -142,7 +142,7 @@ class SpoolSink:
         """Refuses a socket that another user could have made in place of the daemon's."""
         import socket
         _, user, _ = PEER.unpack(self.socket.getsockopt(socket.SOL_SOCKET, socket.SO_PEERCRED, PEER.size))
-        found = ways.fault([*place.above, (place.path, place.state())], user)
+        found = ways.fault([*place.above, (place.path, place.state(), False)], user)
         if not found and user not in (0, os.geteuid(), place.folder_state().st_uid):
             found = "it is of a user whom its folder does not belong to"
         if found:

@@ -26,7 +26,7 @@ def place(prefix: str) -> ways.Location:
         found, _ = ways.led_to(os.path.join(name, prefix + os.urandom(8).hex()))
     except OSError as error:
         raise Unfit(f"{name}: {error.strerror} (TMPDIR)") from None
-    if fault := ways.fault([*found.above, (found.path, None)]):
+    if fault := ways.fault([*found.above, (found.path, None, False)]):
         found.close()
         raise Unfit(f"{fault}, who can replace temporary files (TMPDIR)")
     return found

@@ -19,6 +19,9 @@ from recording.mounted import HELD
 
 # The most links that lead to each other, as the system has it.
 MOST_LINKS = 40
+# What was seen of a folder on a way, or at its end: its whole path, what `fstat` says of it, or None, and whether
+# others may write into it.
+Seen = tuple[str, "os.stat_result | None", bool]
 
 
 def is_trusted(link: int, folder: os.stat_result, user: int) -> bool:
@@ -167,9 +170,11 @@ class Way:
             raise self.error(errno.ELOOP, os.strerror(errno.ELOOP), place)
         return os.readlink(b"", dir_fd=link)
 
-    def states(self) -> list[tuple[str, os.stat_result]]:
-        """The states of the directories on a way from the root on, each with its whole path."""
-        return [(text_of(self.place[:at]), os.fstat(it)) for at, it in enumerate(self.held)]
+    def seen(self) -> list[Seen]:
+        """The directories on a way from the root on."""
+        states = [(it, os.fstat(it)) for it in self.held]
+        return [(text_of(self.place[:at]), state, is_writable(it, state, os.geteuid()))
+                for at, (it, state) in enumerate(states)]
 
     def error(self, number: int, why: str, place: tuple[bytes, ...]) -> OSError:
         return OSError(number, why, text_of(place) if self.given is None else self.given)
@@ -192,10 +197,10 @@ def way_of(path: bytes, given: str) -> Way:
 
 
 class Location:
-    """A name in a folder that is open; and what the two are called. Of a whole path, `above` has the states of the
-    folders on the way, each with its name."""
+    """A name in a folder that is open; and what the two are called. Of a whole path, `above` has the folders on the way
+    to it."""
     is_inherited = False
-    above: list[tuple[str, os.stat_result]] = []
+    above: list[Seen] = []
 
     def __init__(self, folder: int | None, name: str, path: str):
         self.folder, self.name, self.path = folder, name, path
@@ -309,7 +314,7 @@ def led_to(name: str) -> tuple[Location, bool]:
     with Way(given=name) as way:
         last = way.lead_before_last(path, True)
         found = Location(os.dup(way.held[-1]), os.fsdecode(last), text_of((*way.place, last)))
-        found.above = way.states()
+        found.above = way.seen()
         return found, way.is_led_on
 
 
@@ -356,8 +361,8 @@ def own_folder(name: str) -> int:
     return held
 
 
-def is_own(folder: int | str, state: os.stat_result) -> bool:
-    """Whether a folder is this user's, and no other can write to it."""
+def is_own(folder: int, state: os.stat_result) -> bool:
+    """Whether a folder that is open is this user's, and no other can write to it."""
     return state.st_uid == os.geteuid() and not is_writable(folder, state, os.geteuid())
 
 
@@ -370,16 +375,17 @@ def is_private(group, user):
     return found.gr_name == name and not set(found.gr_mem) - {name}
 
 
-def has_list(folder: int | str) -> bool:
-    """Whether an access list says who may use a folder; the group's permissions are the most that it gives."""
+def has_list(folder: int) -> bool:
+    """Whether an access list says who may use a folder that is open; the group's permissions are the most that it
+    gives. Where nobody can say, as without /proc, it counts as one that has a list."""
     try:
-        return bool(os.getxattr(folder, "system.posix_acl_access"))
-    except OSError:
-        return False
+        return bool(os.getxattr(f"/proc/self/fd/{folder}", "system.posix_acl_access"))
+    except OSError as error:
+        return error.errno not in (errno.ENODATA, errno.ENOTSUP)
 
 
-def is_writable(folder: int | str, found: os.stat_result, user: int) -> bool:
-    """Whether others than this user and the owner may write into the folder, which is a whole path or a descriptor."""
+def is_writable(folder: int, found: os.stat_result, user: int) -> bool:
+    """Whether others than this user and the owner may write into the folder, which is open."""
     if found.st_mode & stat.S_IWOTH:
         return True
     if not found.st_mode & stat.S_IWGRP:
@@ -387,37 +393,37 @@ def is_writable(folder: int | str, found: os.stat_result, user: int) -> bool:
     return found.st_gid != 0 and not is_private(found.st_gid, user) or has_list(folder)
 
 
-def looked_at(name: str) -> list[tuple[str, os.stat_result | None]]:
-    """The states of the folders on the way to a name, from the root on, and of what has it, each with its whole path;
-    None is that of the first which is not there, or cannot be looked at. Raises OSError if a link of another user, or
-    what another one mounted, is on the way."""
+def looked_at(name: str) -> list[Seen]:
+    """The folders on the way to a name, from the root on, and what has it; None is what is said of the first which is
+    not there, or cannot be looked at. Raises OSError if a link of another user, or what another one mounted, is on the
+    way."""
     with Way() as way:
         try:
             last = way.lead_before_last(os.path.join(os.fsencode(os.getcwd()), os.fsencode(name)), False)
             held = way.hold(last, (*way.place, last))
-            behind = text_of((*way.place, last)), os.fstat(held)
+            behind = text_of((*way.place, last)), os.fstat(held), False
             os.close(held)
         except OSError as error:
             if error.errno not in (errno.ENOENT, errno.ENOTDIR, errno.EACCES):
                 raise
-            behind = error.filename, None
-        return [*way.states(), behind]
+            behind = error.filename, None, False
+        return [*way.seen(), behind]
 
 
-def fault(states, owner=None):
-    """What is wrong with a folder on a way, or None: of the states on it, each with its name, of which the last one is
-    that of what is there, or None. The last folder may belong to `owner`, too.
+def fault(seen, owner=None):
+    """What is wrong with a folder on a way, or None: of what was seen there, the last of which is what it leads to. The
+    last folder may belong to `owner`, too.
 
     What root and the process's user own is theirs to change. In a folder with the sticky bit, others cannot replace
     what belongs to those two.
     """
     trusted = {0, os.geteuid()}
-    for at, (folder, found) in enumerate(states[:-1]):
-        behind = states[at + 1][1]
-        if found.st_uid not in trusted and not (found.st_uid == owner and at == len(states) - 2):
+    for at, (folder, found, is_open) in enumerate(seen[:-1]):
+        behind = seen[at + 1][1]
+        if found.st_uid not in trusted and not (found.st_uid == owner and at == len(seen) - 2):
             return f"the folder {folder} belongs to another user"
         is_kept = found.st_mode & stat.S_ISVTX and (behind is None or behind.st_uid in trusted)
-        if is_writable(folder, found, os.geteuid()) and not is_kept:
+        if is_open and not is_kept:
             return f"the folder {folder} is writable by others"
     return None
 

@@ -14,7 +14,7 @@ from attacking.ground import CLIENTS, SECONDS, attack, script
 from attacking.saving import HELLO
 from attacking.sessions import MEBI
 from programs import program
-from recording import naming
+from recording import mounted, naming
 from serving import saving
 from snapshot.looking import Trouble, View
 from walk_trials import hostile
@@ -30,7 +30,9 @@ MOST = 200
 @contextmanager
 def acting_before(number, act, watched=LOOKS):
     """In this block, `act` is called before the look of this number. Yields a list of the looks at what is there."""
-    before, looks = {it: getattr(os, it) for it in watched}, []
+    before, looks = {(os, it): getattr(os, it) for it in watched}, []
+    if "open" in watched:
+        before[mounted, "opened_within"] = mounted.opened_within
 
     def looking(look):
         def at(*words, **options):
@@ -40,13 +42,13 @@ def acting_before(number, act, watched=LOOKS):
             return look(*words, **options)
         return at
 
-    for name, look in before.items():
-        setattr(os, name, looking(look))
+    for place, look in before.items():
+        setattr(*place, looking(look))
     try:
         yield looks
     finally:
-        for name, look in before.items():
-            setattr(os, name, look)
+        for place, look in before.items():
+            setattr(*place, look)
 
 
 def made(path, data):

@@ -1,6 +1,7 @@
 """Attacks on the record of a session, by other files of the session and by other sessions; on the recorder and on the
 daemon that keeps records, by another user of the machine."""
 import os
+import pwd
 import shutil
 import signal
 import socket
@@ -8,6 +9,7 @@ import struct
 import subprocess
 import time
 from contextlib import contextmanager, suppress
+from types import SimpleNamespace
 
 from attacking import hostile
 from attacking.ground import CLIENTS, SECONDS, attack, wrong_status
@@ -82,10 +84,13 @@ def a_user_has_the_folder_of_another(field):
     long = [naming.as_part(it) for it in ("", "u" * 300, "u" * 299 + "v", "u" * 101)]
     if len({*found.values(), *long}) != len(found) + len(long) or max(map(len, long)) > 255:
         yield f"{long}"
-    user_name = naming.user_name
-    naming.user_name = {4_000_001: "DOM\\bob", 4_000_002: "DOM_bob"}.__getitem__
+    # one of two users has the other's number as a name, and the other has no account
+    accounts = {4_000_001: "DOM\\bob", 4_000_002: "DOM_bob", 4_000_003: "4000004"}
+    folders = {4_000_001: "DOM=5cbob", 4_000_002: "DOM_bob", 4_000_003: "4000004", 4_000_004: "uid==4000004"}
+    asked = pwd.getpwuid
+    pwd.getpwuid = lambda number: SimpleNamespace(pw_name=accounts[number])
     try:
-        for number, name in ((4_000_001, "DOM=5cbob"), (4_000_002, "DOM_bob")):
+        for number, name in folders.items():
             spool = Spool(field.folder, number)
             spool.look()
             taken_before = spool.own is not None
@@ -94,7 +99,7 @@ def a_user_has_the_folder_of_another(field):
             if taken_before or spool.own is None:
                 yield f"{name}: {spool.refused}"
     finally:
-        naming.user_name = user_name
+        pwd.getpwuid = asked
 
 
 @contextmanager
@@ -279,7 +284,7 @@ def one_user_takes_the_daemons_files(field):
         if status != [0, 0, 0, 3, 3] or len(lengths(spool)) != 3:
             yield f"{status}, {len(lengths(spool))} records"
         yield from wrong_status(record(field, "--required", "--spool", name, user=KEEPER + 1), 0)
-        folder = os.path.join(spool, str(VICTIM))
+        folder = os.path.join(spool, f"uid=={VICTIM}")
         for it in os.listdir(folder):
             os.remove(os.path.join(folder, it))
         time.sleep(10.5)
