@@ -155,8 +155,9 @@ def environment(steps, room):
         given = {"PATH": os.environ["PATH"], "LC_ALL": "C.UTF-8", **given}
         ran = subprocess.run([SERVE[0], "--program", str(program), "--tree", "t"], cwd=room.folder, env=given,
                              stdin=subprocess.DEVNULL, capture_output=True, text=True, timeout=10)
-        steps.check(f"GLIBC_TUNABLES, {name}: what the server gets", ran.returncode == 0 and
-                    ran.stdout == repr(sorted({**given, "GLIBC_TUNABLES": wanted}.items())), f"{ran.returncode}: {ran.stdout}")
+        found = sorted({**given, "GLIBC_TUNABLES": wanted}.items())
+        steps.check(f"GLIBC_TUNABLES, {name}: what the server gets", ran.returncode == 0 and ran.stdout == repr(found),
+                    f"{ran.returncode}: {ran.stdout}")
 
 
 TRIALS = (log, names, logs_that_cannot_be_opened, logs_of_others, full_log, usage, files_named_twice, passed_on,
