@@ -269,6 +269,23 @@ class data_for_all(Healthy):
         return packet
 
 
+class long_texts(Healthy):
+    """Each STATUS has a text of 250,000 bytes, which every reply may."""
+
+    def reply(self, asked, packet):
+        if packet[4] != sftp3.STATUS:
+            return packet
+        return sftp3.packet(sftp3.STATUS, packet[5:13] + sftp3.string(b"x" * 250_000) + sftp3.string(b""))
+
+
+class long_handles(Healthy):
+    """Each handle has 250,000 bytes."""
+
+    def reply(self, asked, packet):
+        return sftp3.packet(sftp3.HANDLE, packet[5:9] + sftp3.string(b"h" * 250_000)) \
+            if packet[4] == sftp3.HANDLE else packet
+
+
 class last_words(Healthy):
     """Bytes come after the last reply."""
 

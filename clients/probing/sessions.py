@@ -8,6 +8,7 @@ from typing import List, Optional, Tuple
 import sftp3
 from probing import plans, servers
 from probing.servers import NotStarted, Server, Stopped  # noqa: F401 (callers have them from here)
+from walking import bounds
 
 # Seconds to wait for a reply, and how many times as long for VERSION.
 TIMEOUT, OPENING = 10, 12
@@ -16,8 +17,9 @@ TIMEOUT, OPENING = 10, 12
 WINDOW = 1000
 
 
-# After how many replies to nothing a session ends.
-UNWANTED = 100
+# After how many replies to nothing a session ends, and after how many bytes of replies beside those that READs ask for:
+# a session is held, and so is each that has a difference of a new kind.
+UNWANTED, REPLIES = 100, 1 << 26
 
 
 # The signals that a program gets for its own mistakes.
@@ -92,6 +94,8 @@ class Player:
         self.session = Session(in_flight)
         self.unanswered, self.handles = {}, {}
         self.asked = self.unwanted = 0
+        self.most = REPLIES + sum(min(it.fields[2], servers.LARGEST) for it in self.waiting if it.name == "READ")
+        self.left = self.most
         self.streams = servers.Streams(running)
         # when a reply came that was waited for, or what is waited for was asked
         self.heard, self.patience = time.monotonic(), timeout * OPENING
@@ -191,7 +195,11 @@ class Player:
             packet = self.next_packet()
 
     def take(self, packet):
-        """Records a reply, and keeps the handle in it."""
+        """Records a reply, and keeps the handle in it. What is too much is not held, and so no reply."""
+        self.left -= len(packet)
+        if self.left < 0:
+            self.session.end = self.session.end or f"the replies have more than {self.most:,} bytes"
+            return
         self.record(b"S", packet)
         try:
             reply = sftp3.Reply(packet)
@@ -204,7 +212,10 @@ class Player:
             self.unwanted += 1
             if self.unwanted > UNWANTED:
                 self.session.end = self.session.end or f"{self.unwanted} replies are to no request"
-        if reply.handle is not None:
+        if reply.handle is not None and len(reply.handle) > bounds.HANDLE:
+            # requests would have it, too
+            self.session.end = self.session.end or f"a handle of the server has {len(reply.handle):,} bytes"
+        elif reply.handle is not None:
             self.handles[reply.number] = reply.handle
 
     def part(self):

@@ -10,19 +10,20 @@ import time
 BEHIND = 16 << 20
 # How long the audit may take when the session has ended.
 SECONDS = 5
-# Whether, and from 1 on which, processes of one user may trace each other.
-SCOPE = "/proc/sys/kernel/yama/ptrace_scope"
-EXPOSED = ("the user can read {}, so a client of the server can write into the audit, whose verdict is no evidence: "
-           "give the program mode 0711, or set kernel.yama.ptrace_scope to 1")
+# Whether, and from 1 on which, processes of one user may trace each other; and whether that holds, by 1, of a program
+# that the user cannot read.
+SCOPE, DUMPABLE = "/proc/sys/kernel/yama/ptrace_scope", "/proc/sys/fs/suid_dumpable"
+EXPOSED = ("{}, so a client of the server can write into the audit, whose verdict is no evidence: {}, or set "
+           "kernel.yama.ptrace_scope to 1")
 
 
-def is_scope_open():
-    """Whether all processes of one user may trace each other, and open each other's memory."""
+def setting(name, usual):
+    """What the system has in this file."""
     try:
-        with open(SCOPE, encoding="ascii") as file:
-            return file.read().strip() == "0"
+        with open(name, encoding="ascii") as file:
+            return file.read().strip()
     except OSError:
-        return True
+        return usual
 
 
 def place_of(program):
@@ -33,11 +34,14 @@ def place_of(program):
 
 def exposure(program):
     """What is wrong if another process of the user may write into this program, as a server does for its client. The
-    system keeps all from one that its user cannot read. Root, and who owns the program, could do more anyway."""
+    system keeps all from one that its user cannot read, unless it is told to. Root, and who owns the program, could do
+    more anyway."""
     place = place_of(program)
-    if os.getuid() == 0 or place is None or not os.access(place, os.R_OK):
+    if os.getuid() == 0 or place is None or os.stat(place).st_uid == os.getuid() or setting(SCOPE, "0") != "0":
         return None
-    return EXPOSED.format(place) if os.stat(place).st_uid != os.getuid() and is_scope_open() else None
+    if os.access(place, os.R_OK):
+        return EXPOSED.format(f"the user can read {place}", "give the program mode 0711")
+    return EXPOSED.format("fs.suid_dumpable is 1", "set it to 0") if setting(DUMPABLE, "0") == "1" else None
 
 
 class Audit:

@@ -103,13 +103,27 @@ def looked_for(file, name):
 
 
 def opened_program(program):
-    """Opens the program, which its owner may exchange from then on. No secret of root is one."""
+    """Opens the program, which its owner may exchange from then on. No secret of root is one that all may run."""
     held = os.open(program, os.O_RDONLY | os.O_NONBLOCK | os.O_CLOEXEC)
     state = os.fstat(held)
-    if not stat.S_ISREG(state.st_mode) or not state.st_mode & stat.S_IROTH:
+    if not stat.S_ISREG(state.st_mode) or not state.st_mode & (stat.S_IROTH | stat.S_IXOTH):
         os.close(held)
-        fail(f"{program} is no file that every user can read")
+        fail(f"{program} is no file that every user can read or run")
     return open(held, "rb")
+
+
+@contextlib.contextmanager
+def readable(file):
+    """The open program as `nobody` can read it: of one that every user may only run, as the installed one, a copy that
+    no name leads to."""
+    if os.fstat(file.fileno()).st_mode & stat.S_IROTH:
+        yield file
+        return
+    with open(os.memfd_create("program"), "wb") as copy:
+        size, at = min(os.fstat(file.fileno()).st_size, LARGEST), 0
+        while at < size and (sent := os.sendfile(copy.fileno(), file.fileno(), at, size - at)):
+            at += sent
+        yield copy
 
 
 def libraries_of(program, file):
@@ -170,7 +184,8 @@ def put_program(folder, program):
     except FileExistsError:
         fail(f"the tree has /{ASIDE}, where the server's program has to stand until it has answered INIT")
     with opened_program(program) as file, directory_below(folder.root, ASIDE) as aside:
-        libraries = libraries_of(program, file)
+        with readable(file) as given:
+            libraries = libraries_of(program, given)
         put_file(os.dup(file.fileno()), aside, "server")
         put_libraries(libraries, aside)
     loader = [os.path.basename(library) for library in libraries if "/ld-" in library]

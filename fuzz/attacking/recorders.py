@@ -15,7 +15,7 @@ from attacking import hostile
 from attacking.ground import CLIENTS, SECONDS, attack, wrong_status
 from nights.records import Spool
 from programs import program
-from recording import naming
+from recording import auditing, naming
 from sftp3 import Request, encode, init
 from sshd_trials import page
 
@@ -421,6 +421,24 @@ def memory_of_the_audit(field, *words):
 
 
 WARNED = "a client of the server can write into the audit"
+
+
+@attack(is_small=True)
+def a_system_opens_the_memory_of_what_cannot_be_read(field):
+    """By fs.suid_dumpable=1 a program that its user cannot read has no memory of its own, which the log says."""
+    at_first = auditing.SCOPE, auditing.DUMPABLE, os.getuid, os.access
+    auditing.SCOPE, auditing.DUMPABLE = field.path("scope"), field.path("dumpable")
+    os.getuid, os.access = lambda: VICTIM, lambda _, wanted: wanted != os.R_OK
+    try:
+        for scope, dumpable, is_warned in ((b"0", b"0", False), (b"0", b"1", True), (b"0", b"2", False),
+                                           (b"1", b"1", False)):
+            field.put("scope", scope + b"\n")
+            field.put("dumpable", dumpable + b"\n")
+            said = auditing.exposure("/bin/sh") or ""
+            if (WARNED in said and "fs.suid_dumpable" in said) != is_warned:
+                yield f"ptrace_scope {scope}, suid_dumpable {dumpable}: {said!r}"
+    finally:
+        auditing.SCOPE, auditing.DUMPABLE, os.getuid, os.access = at_first
 
 
 @attack("user")

@@ -247,9 +247,11 @@ def a_program_runs_where_its_libraries_are_looked_for(field):
     hidden = field.path("hidden")
     os.mkdir(hidden, 0o700)
     os.rename(built(field, "plain", SERVER), f"{hidden}/plain")
-    done = session(field, f"{hidden}/plain")
-    if done.returncode != 7:
-        yield f"a program in a folder of root: status {done.returncode} {done.stderr[-300:]!r}"
+    for mode, wanted in ((0o755, 7), (0o711, 7), (0o700, 3)):
+        os.chmod(f"{hidden}/plain", mode)
+        done = session(field, f"{hidden}/plain")
+        if done.returncode != wanted:
+            yield f"a program in a folder of root, mode {mode:o}: status {done.returncode} {done.stderr[-300:]!r}"
 
 
 def go_server(field, variable, home):
