@@ -150,13 +150,15 @@ def environment(steps, room):
     program.write_text("#!/usr/bin/python3 -IS\nimport os\nos.write(1, repr(sorted(os.environ.items())).encode())\n")
     program.chmod(0o755)
     for name, given, wanted in (("none", {}, "glibc.malloc.hugetlb=1"),
-                                ("one of the user", {"GLIBC_TUNABLES": "glibc.malloc.check=3"}, "glibc.malloc.check=3"),
+                                ("one of the user", {"GLIBC_TUNABLES": "glibc.malloc.check=3"},
+                                 "glibc.malloc.check=3"),
                                 ("an empty one", {"GLIBC_TUNABLES": ""}, "")):
         given = {"PATH": os.environ["PATH"], "LC_ALL": "C.UTF-8", **given}
         ran = subprocess.run([SERVE[0], "--program", str(program), "--tree", "t"], cwd=room.folder, env=given,
                              stdin=subprocess.DEVNULL, capture_output=True, text=True, timeout=10)
-        steps.check(f"GLIBC_TUNABLES, {name}: what the server gets", ran.returncode == 0 and
-                    ran.stdout == repr(sorted({**given, "GLIBC_TUNABLES": wanted}.items())), f"{ran.returncode}: {ran.stdout}")
+        expected = repr(sorted({**given, "GLIBC_TUNABLES": wanted}.items()))
+        steps.check(f"GLIBC_TUNABLES, {name}: what the server gets", ran.returncode == 0 and ran.stdout == expected,
+                    f"{ran.returncode}: {ran.stdout}")
 
 
 TRIALS = (log, names, logs_that_cannot_be_opened, logs_of_others, full_log, usage, files_named_twice, passed_on,

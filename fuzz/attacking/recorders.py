@@ -219,7 +219,7 @@ def one_user_fills_the_queue_of_a_daemon_that_ends(field):
             while not has_ended(process) and time.monotonic() < start + 8:
                 time.sleep(0.05)
             if time.monotonic() > start + 2:
-                yield f"the daemon goes on for {time.monotonic() - start:.0f} seconds{', older kernel' if older else ''}"
+                yield f"{time.monotonic() - start:.0f} seconds to its end{', older kernel' if older else ''}"
         for it in ("run", "spool"):
             shutil.rmtree(field.path(it))
 
