@@ -14,6 +14,7 @@ blank = record {
   gid = 0;
   root = record { uid = 0; gid = 0; permissions = 0o755 };
   rows = [];
+  times = [];
 }
 
 abbrev pub blank_bytes : List ℕ
@@ -45,6 +46,7 @@ linked = record {
   rows = record { path = codes "/d"; kind = Dir (record { uid = 3; gid = 4; permissions = 0o700 }) }
       ∷ record { path = codes "/d/e"; kind = Dir (record { uid = 5; gid = 6; permissions = 0o7777 }) }
       ∷ record { path = codes "/l"; kind = Link (codes "d/e") } ∷ [];
+  times = [];
 }
 
 abbrev pub linked_bytes : List ℕ
@@ -60,6 +62,7 @@ two_names = record {
   root = record { uid = 0; gid = 0; permissions = 0o755 };
   rows = record { path = codes "/f"; kind = First (record { uid = 0; gid = 0; permissions = 0o644 }) (codes "abc") }
       ∷ record { path = codes "/g"; kind = Further 1 } ∷ [];
+  times = [];
 }
 
 abbrev pub two_names_bytes : List ℕ
