@@ -30,7 +30,7 @@ pub use Rattle.sftp_treefile.specs.TreeFileParts.{front_text, root_text, KindHas
 pub use Rattle.sftp_treefile.specs.TreeFileParts.{AreGiven, IsGivenOwner, given_owner_text, IsGivenLength, IsKnownIn}
 pub use Rattle.sftp_treefile.specs.TreeFileParts.{directory_text, IsOwnedIn, AreTimesIn, IsLengthIn, IsOfOpening}
 pub use Rattle.sftp_treefile.specs.TreeFileParts.{IsTimedKind, IsEntry, AreEntries, paired, kept, kept_by, is_lowest}
-pub use Rattle.sftp_treefile.specs.TreeFileParts.{with_room, IsFirstAmong}
+pub use Rattle.sftp_treefile.specs.TreeFileParts.{with_room, IsFirstAmong, plain_owner_text}
 pub use Rattle.sftp_treefile.specs.declared.errors.TreeError.{TreeError}
 pub use Rattle.sftp_treefile.specs.declared.files.Kind.{Kind}
 pub use Rattle.sftp_treefile.specs.declared.files.Owner.{Owner}

@@ -18,6 +18,7 @@ pub mod Entries
 pub mod Heads
 pub mod Files
 pub mod Front
+pub mod Two
 
 -- ==== A field's text says what the field is and what follows it.
 

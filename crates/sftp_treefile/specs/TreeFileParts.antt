@@ -148,6 +148,10 @@ AreSet Usual limits = limits ≡ usual_limits
 AreSet Raised limits = AreRaised limits × (are_own limits ≡ true)
 AreSet Wide limits = AreLimits limits
 
+-- the owner alone, where there are no times
+abbrev pub plain_owner_text : Owner × Times → List ℕ
+plain_owner_text root = owner_text root.0
+
 -- how many entries there are, who owns the root, and its times
 abbrev pub IsRoot : Opening → TreeLimits → ℕ × (Owner × Times) → Type 0
 IsRoot opening limits root = IsCount limits root.0 × IsOwnedIn (is_wide opening) root.1

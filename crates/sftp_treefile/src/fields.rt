@@ -23,8 +23,8 @@ use std::alloc::{AllocError, Global};
 /// All the bits of permissions.
 const PERMISSIONS: u32 = 0o7777;
 
-/// The most bytes of a file whose length is a uint32.
-const MOST_SHORT: u64 = 4_294_967_295;
+/// The fewest bytes of a file whose length is no uint32.
+const LEAST_LONG: u64 = 4_294_967_296;
 
 /// Reads a number.
 pub(crate) fn number_at(entry: u32, bytes: &[u8]) -> Result<(u32, &[u8]), TreeError>
@@ -175,6 +175,31 @@ pub(crate) fn given_owner_at(
     Ok((owner, times, rest))
 }
 
+/// Reads a length that is a uint32.
+fn short_length_at(entry: u32, bytes: &[u8]) -> Result<(u64, &[u8]), TreeError>
+    ensures found { IfOk result
+        (λ taken. Reads (IsGivenLength false) (length_text false) bytes.now taken.0 taken.1.now) }
+    ensures none { IfErr result (λ _. ReadsNone (IsGivenLength false) (length_text false) bytes.now) }
+    ensures number { IfErr result (IsAt entry) }
+{
+    let (count, rest) = number_at(entry, bytes)?;
+    Ok((count as u64, rest))
+}
+
+/// Reads a length that is no uint32.
+fn long_length_at(entry: u32, bytes: &[u8]) -> Result<(u64, &[u8]), TreeError>
+    ensures found { IfOk result
+        (λ taken. Reads (IsGivenLength true) (length_text true) bytes.now taken.0 taken.1.now) }
+    ensures none { IfErr result (λ _. ReadsNone (IsGivenLength true) (length_text true) bytes.now) }
+    ensures number { IfErr result (IsAt entry) }
+{
+    let (count, rest) = long_number_at(entry, bytes)?;
+    if count < LEAST_LONG {
+        return Err(TreeError::Value { entry });
+    }
+    Ok((count, rest))
+}
+
 /// Reads the length of the bytes of a file: a long one, or any other.
 pub(crate) fn length_at(
     entry: u32,
@@ -186,15 +211,11 @@ pub(crate) fn length_at(
     ensures none { IfErr result (λ _. ReadsNone (IsGivenLength is_long) (length_text is_long) bytes.now) }
     ensures number { IfErr result (IsAt entry) }
 {
-    if !is_long {
-        let (count, rest) = number_at(entry, bytes)?;
-        return Ok((count as u64, rest));
+    if is_long {
+        long_length_at(entry, bytes)
+    } else {
+        short_length_at(entry, bytes)
     }
-    let (count, rest) = long_number_at(entry, bytes)?;
-    if count <= MOST_SHORT {
-        return Err(TreeError::Value { entry });
-    }
-    Ok((count, rest))
 }
 
 /// Whether this letter of a directory says that there are times; `None` if it is not one that the opening knows.
@@ -202,11 +223,13 @@ fn directory_letter(is_wide: bool, letter: u8) -> Option<bool>
     ensures some { IfSome result (λ timed. IsKnownIn is_wide timed × (letter ≡ letter_for timed 68)) }
     ensures none { IfNone result ((timed : Bool) → IsKnownIn is_wide timed → letter ≡ letter_for timed 68 → ⊥) }
 {
-    match letter {
-        b'D' => Some(false),
-        b'd' if is_wide => Some(true),
-        _ => None,
+    if letter == b'D' {
+        return Some(false);
     }
+    if letter == b'd' && is_wide {
+        return Some(true);
+    }
+    None
 }
 
 /// Reads what an entry says that is a directory: its letter, its owner, and its times if it has some.
@@ -224,7 +247,8 @@ pub(crate) fn directory_at(
     let Some(has_times) = directory_letter(is_wide, letter) else {
         return Err(TreeError::Value { entry });
     };
-    given_owner_at(entry, has_times, rest)
+    let (owner, times, rest) = given_owner_at(entry, has_times, rest)?;
+    Ok((owner, times, rest))
 }
 
 /// Whether an entry is the first name of a file.

@@ -7,7 +7,7 @@ ghost use Rattle.sftp_treefile.specs.TreeFile.{IsBetween, AreLimits, is_wide};
 ghost use Rattle.sftp_treefile.specs.TreeFile.{tree_opening, limits_text, root_owner_text, IsPlaceText};
 ghost use Rattle.sftp_treefile.specs.TreeFileParts.{Reads, ReadsNone, OutOfMemoryOr, IsAt, IsCount, head_bytes, IsHead};
 ghost use Rattle.sftp_treefile.specs.TreeFileParts.{IsFront, front_bytes, AreSet, AreRaised, IsRoot, root_text};
-ghost use Rattle.sftp_treefile.specs.TreeFileParts.{IsOwnedIn};
+ghost use Rattle.sftp_treefile.specs.TreeFileParts.{IsOwnedIn, plain_owner_text};
 
 use crate::errors::TreeError;
 use crate::fields::{directory_at, long_number_at, number_at, owner_at, place_at};
@@ -120,7 +120,7 @@ fn long_limit_at(lowest: u64, highest: u64, bytes: &[u8]) -> Result<(u64, &[u8])
     ensures number { IfErr result (IsAt 0) }
 {
     let (limit, rest) = long_number_at(0, bytes)?;
-    if limit < lowest || limit > highest {
+    if limit > highest || limit < lowest {
         return Err(TreeError::Value { entry: 0 });
     }
     Ok((limit, rest))
@@ -212,18 +212,29 @@ fn count_at(limits: TreeLimits, bytes: &[u8]) -> Result<(u32, &[u8]), TreeError>
     Ok((count, rest))
 }
 
-/// Reads the owner of the root, and its times and letter after the third opening.
+/// Reads the owner of a root that has no times.
+fn plain_owner_at(bytes: &[u8]) -> Result<(Owner, Times, &[u8]), TreeError>
+    ensures found { IfOk result
+        (λ taken. Reads (IsOwnedIn false) plain_owner_text bytes.now (taken.0, taken.1) taken.2.now) }
+    ensures none { IfErr result (λ _. ReadsNone (IsOwnedIn false) plain_owner_text bytes.now) }
+    ensures number { IfErr result (IsAt 0) }
+{
+    let (owner, rest) = owner_at(0, bytes)?;
+    Ok((owner, NO_TIMES, rest))
+}
+
+/// Reads the owner of the root, and after the third opening its letter, and its times if it has some.
 fn root_owner_at(opening: Opening, bytes: &[u8]) -> Result<(Owner, Times, &[u8]), TreeError>
     ensures found { IfOk result (λ taken. Reads (IsOwnedIn (is_wide opening)) (root_owner_text opening) bytes.now
         (taken.0, taken.1) taken.2.now) }
     ensures none { IfErr result (λ _. ReadsNone (IsOwnedIn (is_wide opening)) (root_owner_text opening) bytes.now) }
     ensures number { IfErr result (IsAt 0) }
 {
-    if opening.is_wide() {
-        return directory_at(0, true, bytes);
+    match opening {
+        Opening::Usual => plain_owner_at(bytes),
+        Opening::Raised => plain_owner_at(bytes),
+        Opening::Wide => directory_at(0, true, bytes),
     }
-    let (owner, rest) = owner_at(0, bytes)?;
-    Ok((owner, NO_TIMES, rest))
 }
 
 /// Reads the number of entries and what is said of the root.

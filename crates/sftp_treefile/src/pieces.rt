@@ -77,11 +77,16 @@ fn letter_of_file(is_wide: bool, letter: u8) -> Option<(bool, bool)>
     ensures none { IfNone result ((timed long : Bool) → IsKnownIn is_wide timed → IsKnownIn is_wide long
         → letter ≡ letter_for timed (file_letter long) → ⊥) }
 {
+    if letter == b'F' {
+        return Some((false, false));
+    }
+    if !is_wide {
+        return None;
+    }
     match letter {
-        b'F' => Some((false, false)),
-        b'f' if is_wide => Some((true, false)),
-        b'G' if is_wide => Some((false, true)),
-        b'g' if is_wide => Some((true, true)),
+        b'f' => Some((true, false)),
+        b'G' => Some((false, true)),
+        b'g' => Some((true, true)),
         _ => None,
     }
 }

@@ -156,10 +156,11 @@ pub(crate) fn put_limits(
     ensures { OnOk result (out.new.items ≡ out.old.items ++ limits_text opening limits) }
 {
     match opening {
-        Opening::Usual => Ok(()),
-        Opening::Raised => put_four_limits(out, limits),
-        Opening::Wide => put_five_limits(out, limits),
+        Opening::Usual => {}
+        Opening::Raised => put_four_limits(out, limits)?,
+        Opening::Wide => put_five_limits(out, limits)?,
     }
+    Ok(())
 }
 
 /// Appends who owns the root, and after the third opening its letter and its times.
@@ -172,10 +173,11 @@ fn put_root_owner(
     ensures { OnOk result (out.new.items ≡ out.old.items ++ root_owner_text opening (root.now, times)) }
 {
     match opening {
-        Opening::Usual => put_owner(out, root),
-        Opening::Raised => put_owner(out, root),
-        Opening::Wide => put_directory_owner(out, root, times),
+        Opening::Usual => put_owner(out, root)?,
+        Opening::Raised => put_owner(out, root)?,
+        Opening::Wide => put_directory_owner(out, root, times)?,
     }
+    Ok(())
 }
 
 /// Appends how many entries there are, and what is said of the root.
@@ -239,7 +241,8 @@ pub fn put_directory(out: &mut Vec<u8>, path: &[u8], owner: &Owner) -> Result<()
     ensures { OnOk result
         (out.new.items ≡ out.old.items ++ row_text (record { path = path.now; kind = Dir owner.now })) }
 {
-    put_timed_directory(out, path, owner, NO_TIMES)
+    put_timed_directory(out, path, owner, NO_TIMES)?;
+    Ok(())
 }
 
 /// Whether so many bytes of a file have a length that is no uint32.
@@ -254,10 +257,11 @@ fn put_length(out: &mut Vec<u8>, count: u64) -> Result<(), NoMemory>
     ensures { OnOk result (out.new.items ≡ out.old.items ++ length_text (spec.is_long count) count) }
 {
     if is_long(count) {
-        put_long_number(out, count)
+        put_long_number(out, count)?;
     } else {
-        put_number(out, count as u32)
+        put_number(out, count as u32)?;
     }
+    Ok(())
 }
 
 /// The letter of a first name without times.

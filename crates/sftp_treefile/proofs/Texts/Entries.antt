@@ -10,7 +10,8 @@ use Rattle.sftp_treefile.proofs.Imports.{owned_text, timed_text, AreTimes, AreGi
 use Rattle.sftp_treefile.proofs.Imports.{IsGivenLength, IsKnownIn, directory_text, IsOwnedIn, AreTimesIn, IsLengthIn}
 use Rattle.sftp_treefile.proofs.Imports.{IsOfOpening, IsTimedKind, IsFileStart, file_start_text, IsFile, file_text}
 use Rattle.std.specs.Prelude.{if◌then◌else◌}
-use Rattle.std.proofs.lemmas.Bool.{leb-false}
+use Rattle.sftp_treefile.proofs.Imports.{suc, zero, any_times}
+use Rattle.std.proofs.lemmas.Bool.{leb-false, le-leb, lt-leb}
 use Rattle.sftp_treefile.specs.declared.files.Kind.TheVariants.{Dir, First, Further, Link}
 use Rattle.sftp_treefile.proofs.Texts.{number_front, long_front, counted_front, string_front, target_length, owner_front}
 use Rattle.sftp_treefile.proofs.Texts.{IsOne, Both, both_text, no_first, no_second, both_one, both_read, none_as, one_as}
@@ -25,6 +26,31 @@ numbers_text = both_text uint32 (λ (first : ℕ). uint32)
 
 pub numbers_one : IsOne AreNumbers numbers_text
 numbers_one = both_one IsNumber uint32 (λ first. IsNumber) (λ first. uint32) number_front (λ first fits. number_front)
+
+-- ---- times that are known
+
+-- from this place on
+any_from : (times : List Times) (i : ℕ) (time : Times) → i < length times → time ≡ get_or times i time
+    → any_times (drop i times) ≡ has_times time || any_times (drop (suc i) times)
+any_from [] i time lt is = absurd (omega arith)
+any_from (t ∷ times) zero time lt is = ap (λ (x : Times). has_times x || any_times times) (sym is)
+any_from (t ∷ times) (suc i) time lt is = any_from times i time (omega arith) is
+
+pub any_here : (times : List Times) (i : ℕ) (time : Times) → i < length times → time ≡ get_or times i time
+    → has_times time ≡ true → any_times (drop i times) ≡ true
+any_here times i time lt is known =
+    any_from times i time lt is ∙ ap (λ (b : Bool). b || any_times (drop (suc i) times)) known
+
+pub any_next : (times : List Times) (i : ℕ) (time : Times) → i < length times → time ≡ get_or times i time
+    → has_times time ≡ false → any_times (drop (suc i) times) ≡ any_times (drop i times)
+any_next times i time lt is none =
+    sym (any_from times i time lt is ∙ ap (λ (b : Bool). b || any_times (drop (suc i) times)) none)
+
+pub any_end : (times : List Times) (i : ℕ) → length times ≤ i → any_times (drop i times) ≡ false
+any_end [] zero le = refl
+any_end [] (suc i) le = refl
+any_end (t ∷ times) zero le = absurd (omega arith)
+any_end (t ∷ times) (suc i) le = any_end times i (omega arith)
 
 -- ---- times, by whether there are some
 
@@ -126,7 +152,7 @@ pub short_read : (bytes rest : List ℕ) (count : ℕ) → Reads IsNumber uint32
 short_read bytes rest count read = ((omega (arith, read.0), is_short count read.0), read.1)
   where
     is_short : (count : ℕ) → count < 2 ^ 32 → is_long count ≡ false
-    is_short count lt = grind arith
+    is_short count lt = lt-leb (2 ^ 32) count lt
 
 pub short_none : (bytes : List ℕ) → ReadsNone IsNumber uint32 bytes
     → ReadsNone (IsGivenLength false) (length_text false) bytes
@@ -134,7 +160,7 @@ short_none bytes none count rest fits e = none count rest (leb-false (2 ^ 32) co
 
 pub long_read : (bytes rest : List ℕ) (count : ℕ) → Reads IsLongNumber uint64 bytes count rest → 2 ^ 32 ≤ count
     → Reads (IsGivenLength true) (length_text true) bytes count rest
-long_read bytes rest count read le = ((read.0, grind arith), read.1)
+long_read bytes rest count read le = ((read.0, le-leb (2 ^ 32) count le), read.1)
 
 pub long_none : (bytes : List ℕ) → ReadsNone IsLongNumber uint64 bytes
     → ReadsNone (IsGivenLength true) (length_text true) bytes
@@ -169,6 +195,12 @@ length_allowed false true count known fits = absurd (false≢true (known refl))
 -- ==== Letters, and what follows them.
 
 -- ---- directories
+
+-- no letter that an opening knows
+pub letter_unknown : (wide : Bool) (letter : ℕ) → (letter ≡ 68 → ⊥) → (letter ≡ 100 → wide ≡ true → ⊥)
+    → (timed : Bool) → IsKnownIn wide timed → letter ≡ letter_for timed 68 → ⊥
+letter_unknown wide letter no_plain no_timed false known e = no_plain e
+letter_unknown wide letter no_plain no_timed true known e = no_timed e (known refl)
 
 abbrev pub directory_mark : Bool → List ℕ
 directory_mark timed = letter_for timed 68 ∷ []
@@ -233,6 +265,14 @@ module _ (wide : Bool) (bytes rest : List ℕ) (letter : ℕ) (is : bytes ≡ le
         )
 
 -- ---- first names
+
+pub form_unknown : (wide : Bool) (letter : ℕ) → (letter ≡ 70 → ⊥)
+    → (wide ≡ true → (letter ≡ 102 → ⊥) × (letter ≡ 71 → ⊥) × (letter ≡ 103 → ⊥))
+    → (timed long : Bool) → IsKnownIn wide timed → IsKnownIn wide long → letter ≡ letter_for timed (file_letter long) → ⊥
+form_unknown wide letter no_plain none false false known also e = no_plain e
+form_unknown wide letter no_plain none true false known also e = (none (known refl)).0 e
+form_unknown wide letter no_plain none false true known also e = (none (also refl)).1 e
+form_unknown wide letter no_plain none true true known also e = (none (known refl)).2 e
 
 abbrev pub form_mark : Bool × Bool → List ℕ
 form_mark form = letter_for form.0 (file_letter form.1) ∷ []

@@ -26,7 +26,7 @@ use Rattle.sftp_treefile.specs.declared.files.Kind.TheVariants.{First, Link, Dir
 
 -- ---- openings
 
-wide_by : (far own : Bool) → is_wide (opening_by far own) ≡ far
+pub wide_by : (far own : Bool) → is_wide (opening_by far own) ≡ far
 wide_by true own = refl
 wide_by false true = refl
 wide_by false false = refl
@@ -141,7 +141,7 @@ pub spelled_plain : (file : TreeFile) → file.times ≡ []
 spelled_plain file none = spelled_start file
     ∙ ap (λ (ts : List Times). head_bytes (head_of file) ++ entries_text file.rows (times_of_rows ts)) none
 
-spelled_parts : (file : TreeFile) → spelled file ≡ head_bytes (head_of file) ++ flat_map entry_text (entries_of file)
+pub spelled_parts : (file : TreeFile) → spelled file ≡ head_bytes (head_of file) ++ flat_map entry_text (entries_of file)
 unfolding entries_of
 spelled_parts file = spelled_start file
     ∙ ap (λ (l : List ℕ). head_bytes (head_of file) ++ l) (entries_same file.rows (times_of_rows file.times))
@@ -261,7 +261,7 @@ bytes_parts : (file : TreeFile) (bytes : List ℕ) → IsSpelled file bytes
     → bytes ≡ head_bytes (head_of file) ++ flat_map entry_text (entries_of file)
 bytes_parts file bytes is = is.bytes_are ∙ spelled_parts file
 
-entries_length : (file : TreeFile) → length (entries_of file) ≡ length file.rows
+pub entries_length : (file : TreeFile) → length (entries_of file) ≡ length file.rows
 unfolding entries_of
 entries_length file = paired_length file.rows (times_of_rows file.times)
 

@@ -11,7 +11,7 @@ use Rattle.sftp_treefile.proofs.Imports.{TakesSome, TakesRows, LacksRows, TakesA
 use Rattle.sftp_treefile.proofs.Imports.{AreRead, IsHead, head_bytes, Head, suc, zero, get_or, flat_map, is_file_letter}
 use Rattle.sftp_treefile.proofs.Imports.{rows_in, times_in, kept, is_lowest, is_wide, contents_length, content_length}
 use Rattle.sftp_treefile.proofs.Imports.{letter_for, file_letter, has_times, is_long, no_times, paired, times_at}
-use Rattle.sftp_treefile.proofs.Imports.{times_of_rows, false≢true}
+use Rattle.sftp_treefile.proofs.Imports.{times_of_rows, times_of_root, false≢true}
 use Rattle.sftp_streams.proofs.Buffers.{ahead_parts}
 use Rattle.sftp_streams.proofs.Buffers.{known_kept, front_held, front_taken}
 use Rattle.sftp_treefile.specs.TreeFile.{is_first, are_bytes, IsTreeFile, IsSpelled, GivesFile, entries_text}
@@ -19,13 +19,14 @@ use Rattle.sftp_treefile.specs.declared.errors.TreeError.TheVariants.{NoMemory, 
 use Rattle.sftp_treefile.specs.declared.files.Kind.TheVariants.{Dir, First, Further, Link}
 use Rattle.sftp_treefile.proofs.Texts.Entries.{start_one, start_parts}
 use Rattle.sftp_treefile.proofs.Texts.Files.{kind_bound}
-use Rattle.sftp_treefile.proofs.Texts.Heads.{Entry, entry_read, no_path, no_kind, read_none, read_more, entry_none}
+use Rattle.sftp_treefile.proofs.Texts.Heads.{Entry, entry_fits, entry_read, no_path, no_kind, read_none, read_more, entry_none}
 use Rattle.sftp_treefile.proofs.Texts.Heads.{entries_push, entries_are_one}
 use Rattle.sftp_treefile.specs.declared.files.TreeFile.{TreeFile}
 use Rattle.std.specs.Prelude.{Result, Ok, Err, IfOk, IfErr, Some, Option, None, map}
 use Rattle.sftp_treefile.specs.TreeFileParts.{IsAt}
 use Rattle.sftp_treefile.specs.Streamed.{IsIn, IsAmong, MayFail, GivesUnless}
 use Rattle.sftp_treefile.proofs.Texts.Files.{no_file_head, no_file_entries, no_file_trailing, file_read, file_from}
+use Rattle.sftp_treefile.proofs.Texts.Files.{entries_of, entries_length}
 use Rattle.sftp_treefile.proofs.Texts.Files.{file_fits}
 use Rattle.std.specs.Io.KnownBytes.{Appends}
 use Rattle.sftp_streams.specs.Streams.{AppendsPart}
@@ -86,6 +87,11 @@ in_may may_fail entry other is = tt
 pub among_may : (may_fail : Bool) (count : ℕ) (error : TreeError) → IsAmong may_fail count error → MayFail may_fail error
 among_may may_fail count NoMemory is = tt
 among_may may_fail count other is = in_may may_fail is.0 other is.3
+
+pub among_in : (may_fail : Bool) (count n : ℕ) (error : TreeError) → 1 ≤ n → n ≤ count → IsIn may_fail n error
+    → IsAmong may_fail count error
+among_in may_fail count n NoMemory low high is = tt
+among_in may_fail count n other low high is = (n, low, high, is)
 
 pub or_excused : (error new : TreeError) (P : Type 0) → ExcuseOr error P → (IsExcuse error → IsExcuse new) → ExcuseOr new P
 or_excused error new P h f = elim h [ inl e ↦ inl (f e) | inr p ↦ inr p ]
@@ -291,12 +297,14 @@ module _ (wide : Bool) (limits : TreeLimits) (rows : List Row) (old : Ahead) whe
       (first : Takes (Follows rows) string old path mid) where
     pub entry_taken : (kind : Kind) (times : Times)
         → Takes (IsTimedKind wide (with_room limits (contents_length rows)) rows) timed_text mid (kind, times) new
-        → (before : List ℕ) → HasAhead old before
-        → (after : List ℕ) × HasAhead new after × Reads (IsEntry wide limits rows) entry_text before (record { path = path; kind = kind }, times) after
-    entry_taken kind times t before known =
-        let a = first.1 before known in
-        let b = t.1 a.0 a.1 in
-        (b.0, b.1, entry_read wide limits rows before within path a.0 (first.0, a.2) b.0 kind times (t.0, b.2))
+        → Takes (IsEntry wide limits rows) entry_text old (record { path = path; kind = kind }, times) new
+    entry_taken kind times t = (
+      entry_fits wide limits rows within path kind times first.0 t.0,
+      λ before known.
+          let a = first.1 before known in
+          let b = t.1 a.0 a.1 in
+          (b.0, b.1, (entry_read wide limits rows before within path a.0 (first.0, a.2) b.0 kind times (t.0, b.2)).1),
+    )
 
     pub kind_lacks : Lacks (IsTimedKind wide (with_room limits (contents_length rows)) rows) timed_text mid
         → Lacks (IsEntry wide limits rows) entry_text old
@@ -491,9 +499,23 @@ entry_here (r ∷ rows) (t ∷ times) zero row lt is = λ i. (is i, t)
 entry_here (r ∷ rows) [] (suc i) row lt is = entry_here rows [] i row (omega arith) is
 entry_here (r ∷ rows) (t ∷ times) (suc i) row lt is = entry_here rows times i row (omega arith) is
 
-times_behind : (times : List Times) (i : ℕ) → times_at times (suc i) ≡ times_at (times_of_rows times) i
+pub root_at : (times : List Times) → times_at times 0 ≡ times_of_root times
+root_at [] = refl
+root_at (t ∷ times) = refl
+
+pub times_behind : (times : List Times) (i : ℕ) → times_at times (suc i) ≡ times_at (times_of_rows times) i
 times_behind [] i = refl
 times_behind (t ∷ times) i = refl
+
+-- the same in the file that is written
+pub entry_of : (file : TreeFile) (i : ℕ) (row : Row) → i < length file.rows → row ≡ get_or file.rows i row
+    → (i < length (entries_of file)) × ((row, times_at file.times (suc i)) ≡ get_or (entries_of file) i (row, times_at file.times (suc i)))
+unfolding entries_of
+entry_of file i row lt is =
+    let behind = times_behind file.times i in
+    (omega (arith, lt, entries_length file),
+     subst (λ (t : Times). (row, t) ≡ get_or (paired file.rows (times_of_rows file.times)) i (row, t)) (sym behind)
+     (entry_here file.rows (times_of_rows file.times) i row lt is))
 
 -- the entries from one on are this one and those after it
 entries_split : (entries : List Entry) (i : ℕ) (entry : Entry) → i < length entries → entry ≡ get_or entries i entry

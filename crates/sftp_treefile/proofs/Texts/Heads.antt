@@ -9,7 +9,7 @@ use Rattle.sftp_treefile.proofs.Imports.{head_bytes, IsHead, ◌+◌, ◌≤◌,
 use Rattle.sftp_treefile.proofs.Imports.{flat_map, append-nil, length-append, TreeError, Kind, Row, entry_text}
 use Rattle.sftp_treefile.proofs.Imports.{timed_text, IsKind, IsTimedKind, IsEntry, AreEntries, OutOfMemoryOr, Follows}
 use Rattle.sftp_treefile.proofs.Imports.{AreRead, AreNone, IsLongNumber, root_owner_text, no_times, rows_in, with_room}
-use Rattle.sftp_treefile.proofs.Imports.{contents_length, content_length, IsNext}
+use Rattle.sftp_treefile.proofs.Imports.{contents_length, content_length, IsNext, plain_owner_text}
 use Rattle.sftp_treefile.specs.TreeFile.{IsBetween}
 use Rattle.sftp_treefile.specs.declared.limits.Opening.TheVariants.{Usual, Raised, Wide}
 use Rattle.sftp_treefile.specs.declared.files.Kind.TheVariants.{Dir, First, Further, Link}
@@ -364,10 +364,6 @@ usual_read bytes = (refl, refl)
 
 -- ---- the root
 
--- the owner alone, where there are no times
-abbrev pub plain_owner_text : Owner × Times → List ℕ
-plain_owner_text root = owner_text root.0
-
 pub plain_owner_read : (bytes rest : List ℕ) (owner : Owner) → Reads IsOwner owner_text bytes owner rest
     → Reads (IsOwnedIn false) plain_owner_text bytes (owner, no_times) rest
 plain_owner_read bytes rest owner read = ((read.0, refl), read.1)
@@ -510,7 +506,7 @@ pub path_absent : (earlier : List Row) (bytes : List ℕ) → ReadsNone IsPlaceT
     → ReadsNone (Follows earlier) string bytes
 path_absent earlier bytes none text rest follows e = none text rest follows.text e
 
-follows_next : (limits : TreeLimits) (earlier : List Row) (row : Row) → IsNext limits earlier row
+pub follows_next : (limits : TreeLimits) (earlier : List Row) (row : Row) → IsNext limits earlier row
     → Follows earlier row.path
 follows_next limits earlier row next = grind arith
 
@@ -534,6 +530,18 @@ room_left limits earlier (First owner bytes) fits within = (fits.0, omega (arith
 room_left limits earlier (Further number) fits within = fits
 room_left limits earlier (Link target) fits within = fits
 
+pub entry_fits : (wide : Bool) (limits : TreeLimits) (earlier : List Row) → contents_length earlier ≤ limits.total_bytes
+    → (text : List ℕ) (kind : Kind) (times : Times) → Follows earlier text
+    → IsTimedKind wide (with_room limits (contents_length earlier)) earlier (kind, times)
+    → IsEntry wide limits earlier (record { path = text; kind = kind }, times)
+entry_fits wide limits earlier within text kind times path what =
+    let room = room_kept limits earlier kind within what.0 in
+    record {
+      row = record { path = path.text; below_root = path.below_root; later = path.later; parent = path.parent; kind = room.0 };
+      room = room.1;
+      timed = what.1;
+    }
+
 module _ (wide : Bool) (limits : TreeLimits) (earlier : List Row) (bytes : List ℕ) where
   pub no_path : ReadsNone (Follows earlier) string bytes → ReadsNone (IsEntry wide limits earlier) entry_text bytes
   no_path none entry rest fits e = none entry.0.path (timed_text (entry.0.kind, entry.1) ++ rest)
@@ -544,16 +552,11 @@ module _ (wide : Bool) (limits : TreeLimits) (earlier : List Row) (bytes : List 
     pub entry_read : (rest : List ℕ) (kind : Kind) (times : Times)
         → Reads (IsTimedKind wide (with_room limits (contents_length earlier)) earlier) timed_text middle (kind, times) rest
         → Reads (IsEntry wide limits earlier) entry_text bytes (record { path = text; kind = kind }, times) rest
-    entry_read rest kind times what =
-        let room = room_kept limits earlier kind within what.0.0 in (
-          record {
-            row = record { path = path.0.text; below_root = path.0.below_root; later = path.0.later; parent = path.0.parent; kind = room.0 };
-            room = room.1;
-            timed = what.0.1;
-          },
-          path.1 ∙ ap (λ (l : List ℕ). string text ++ l) what.1
-              ∙ sym (entry_parts (record { path = text; kind = kind }, times) rest),
-        )
+    entry_read rest kind times what = (
+      entry_fits wide limits earlier within text kind times path.0 what.0,
+      path.1 ∙ ap (λ (l : List ℕ). string text ++ l) what.1
+          ∙ sym (entry_parts (record { path = text; kind = kind }, times) rest),
+    )
 
     pub no_kind : ReadsNone (IsTimedKind wide (with_room limits (contents_length earlier)) earlier) timed_text middle
         → ReadsNone (IsEntry wide limits earlier) entry_text bytes
