@@ -8,7 +8,7 @@ pub use Rattle.std.proofs.lemmas.Grind.{common_steps}
 pub use Rattle.std.proofs.lemmas.List.{append-nil, length-append, nil_from_length, take_all, length-take-le}
 pub use Rattle.std.proofs.lemmas.Result.{err_from_is_err_and}
 pub use Rattle.std.specs.List.{flat_map}
-pub use Rattle.std.specs.Prelude.{◌↔◌, IsTrue, nat_eq, nat_lt, nat_le, map, not, ◌==◌}
+pub use Rattle.std.specs.Prelude.{◌↔◌, IsTrue, nat_eq, nat_lt, nat_le, map, max, not, ◌==◌}
 pub use Rattle.sftp_packets.specs.Spelling.{string, uint32, uint64}
 unfoldable pub use Rattle.sftp_path.specs.Place.{components, is_good_path, parts}
 unfoldable pub use Rattle.sftp_wire.specs.Examples.{hex}

@@ -19,6 +19,7 @@ pub mod Heads
 pub mod Files
 pub mod Front
 pub mod Two
+pub mod Raised
 
 -- ==== A field's text says what the field is and what follows it.
 
@@ -179,13 +180,13 @@ not_far limits are near =
 
 pub raised_near : (limits : TreeLimits) → AreRaised limits → are_far limits ≡ false
 unfolding are_far
-raised_near limits are = rw (
-  le-ltb highest_limits.entries limits.entries are.entries.1,
-  le-ltb highest_limits.file_bytes limits.file_bytes are.file_bytes.1,
-  le-ltb highest_limits.read_bytes limits.read_bytes are.read_bytes.1,
-  le-ltb highest_limits.open_handles limits.open_handles are.open_handles.1,
-  le-ltb limits.total_bytes highest_limits.total_bytes are.total_bytes.0,
-) refl
+raised_near limits are =
+    let entries = le-ltb highest_limits.entries limits.entries are.entries.1 in
+    let file_bytes = le-ltb highest_limits.file_bytes limits.file_bytes are.file_bytes.1 in
+    let read_bytes = le-ltb highest_limits.read_bytes limits.read_bytes are.read_bytes.1 in
+    let open_handles = le-ltb highest_limits.open_handles limits.open_handles are.open_handles.1 in
+    let total_bytes = le-ltb limits.total_bytes highest_limits.total_bytes are.total_bytes.0 in
+    λ i. entries i || (file_bytes i || (read_bytes i || (open_handles i || total_bytes i)))
 
 kind_wider : (low high : TreeLimits) → low.file_bytes ≤ high.file_bytes → (earlier : List Row) (kind : Kind) → IsKind low earlier kind → IsKind high earlier kind
 kind_wider low high le earlier (kinds.Dir owner) fits = fits

@@ -1,6 +1,6 @@
 -- Tree files: what a tree is, as rows and as bytes. This profile's own.
 use Rattle.std.specs.Prelude.{◌==◌, ◌&&◌, not, ℕ, ◌≤◌, Bool, List, [], ◌∷◌, ◌≡◌, ◌||◌, nat_lt, nat_eq, zero, suc, ◌<◌}
-use Rattle.std.specs.Prelude.{nat_le, ◌+◌}
+use Rattle.std.specs.Prelude.{nat_le, ◌+◌, max}
 use Rattle.std.specs.Prelude.{◌^◌, true, false, ◌++◌, length, Option, Some, None, Result, MatchResult, IsTrue, codes}
 use Rattle.sftp_treefile.specs.declared.limits.TreeLimits.{TreeLimits}
 use Rattle.sftp_treefile.specs.declared.limits.Opening.{Opening}
@@ -313,6 +313,31 @@ content_length (Link target) = 0
 abbrev pub contents_length : List Row → ℕ
 contents_length [] = 0
 contents_length (row ∷ rows) = content_length row.kind + contents_length rows
+
+-- the bytes of the longest file
+abbrev pub longest : List Row → ℕ
+longest [] = 0
+longest (row ∷ rows) = max (content_length row.kind) (longest rows)
+
+-- the highest limits after the second opening, or those that there are where they are higher
+abbrev pub raised_limits : TreeLimits → TreeLimits
+raised_limits limits = record {
+  entries = max highest_limits.entries limits.entries;
+  file_bytes = max highest_limits.file_bytes limits.file_bytes;
+  read_bytes = max highest_limits.read_bytes limits.read_bytes;
+  open_handles = max highest_limits.open_handles limits.open_handles;
+  total_bytes = limits.total_bytes;
+}
+
+-- the lowest limits on entries and the bytes of a file that hold these rows; the others are the usual ones
+abbrev pub fitting_limits : List Row → TreeLimits
+fitting_limits rows = record {
+  entries = max usual_limits.entries (length rows);
+  file_bytes = max usual_limits.file_bytes (longest rows);
+  read_bytes = usual_limits.read_bytes;
+  open_handles = usual_limits.open_handles;
+  total_bytes = usual_limits.total_bytes;
+}
 
 -- times are numbers
 abbrev pub AreTimes : Times → Type 0

@@ -287,6 +287,7 @@ fn starts_file(bytes: &[u8]) -> bool
     }
 }
 
+/// Whether this is the letter of the first name of a file, after any opening.
 fn is_letter_of_file(letter: u8) -> bool
     ensures { result ≡ is_file_letter letter }
 {

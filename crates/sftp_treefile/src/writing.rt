@@ -266,7 +266,8 @@ fn put_length(out: &mut Vec<u8>, count: u64) -> Result<(), NoMemory>
 
 /// The letter of a first name without times.
 fn letter_of_file(count: u64) -> u8
-    ensures { result ≡ file_letter (spec.is_long count) }
+    ensures letter { result ≡ file_letter (spec.is_long count) }
+    ensures small { result < 128 }
 {
     if is_long(count) { b'G' } else { b'F' }
 }

@@ -341,17 +341,19 @@ fault_only error P h none = elim h [ inl e ↦ e | inr p ↦ absurd (none p) ]
 -- ---- where one is
 
 -- under an opening that is not the third none are known
+none_of : (kind : Kind) (times : Times) → IsOfOpening false (kind, times) → has_times times ≡ false
+none_of (Dir owner) times fits = ap has_times fits
+none_of (First owner bytes) times fits = ap has_times fits.0
+none_of (Further number) times fits = ap has_times fits
+none_of (Link target) times fits = ap has_times fits
+
 narrow_times : (limits : TreeLimits) (earlier : List Row) (entries : List Entry) → AreEntries false limits earlier entries
     → any_times (times_in entries) ≡ false
 narrow_times limits earlier [] fit = refl
 narrow_times limits earlier (e ∷ entries) fit =
-    rw (none_of e.0.kind e.1 fit.0.timed) (narrow_times limits (earlier ++ e.0 ∷ []) entries fit.1)
-  where
-    none_of : (kind : Kind) (times : Times) → IsOfOpening false (kind, times) → has_times times ≡ false
-    none_of (Dir owner) times fits = ap has_times fits
-    none_of (First owner bytes) times fits = ap has_times fits.0
-    none_of (Further number) times fits = ap has_times fits
-    none_of (Link target) times fits = ap has_times fits
+    let none = none_of e.0.kind e.1 fit.0.timed in
+    let rest = narrow_times limits (earlier ++ e.0 ∷ []) entries fit.1 in
+    λ i. none i || rest i
 
 any_kept_by : (b : Bool) (times : List Times) → any_times times ≡ b → any_times (kept_by b times) ≡ b
 any_kept_by true times is = is
@@ -377,16 +379,14 @@ opening_back : (opening : Opening) (limits : TreeLimits) (root : Times) (entries
     → IsTrue (is_lowest opening limits (kept (root ∷ times_in entries)))
     → opening_with (any_times (root ∷ times_in entries)) limits ≡ opening
 opening_back Usual limits root entries set none fit lowest =
-    let known : any_times (root ∷ times_in entries) ≡ false =
-    rw (ap has_times none) (narrow_times limits [] entries fit) in
+    let rest = narrow_times limits [] entries fit in
     let near : are_far limits ≡ false = ap are_far set ∙ raised_near usual_limits usual_are in
     let own : are_own limits ≡ false = ap are_own set ∙ usual_not_own in
-    λ i. opening_by (known i || near i) (own i)
+    λ i. opening_by ((has_times (none i) || rest i) || near i) (own i)
 opening_back Raised limits root entries set none fit lowest =
-    let known : any_times (root ∷ times_in entries) ≡ false =
-    rw (ap has_times none) (narrow_times limits [] entries fit) in
+    let rest = narrow_times limits [] entries fit in
     let near : are_far limits ≡ false = raised_near limits set.0 in
-    λ i. opening_by (known i || near i) (set.1 i)
+    λ i. opening_by ((has_times (none i) || rest i) || near i) (set.1 i)
 opening_back Wide limits root entries set none fit lowest =
     ap (λ (b : Bool). opening_by (b || are_far limits) (are_own limits)) (sym (any_kept (root ∷ times_in entries)))
     ∙ ap (λ (b : Bool). opening_by b (are_own limits)) lowest

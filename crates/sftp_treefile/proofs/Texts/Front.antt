@@ -340,6 +340,17 @@ module _ (wide : Bool) (limits : TreeLimits) (root : Times) where
       let a = so_far.taken before known in
       (a.0, a.1, record { entries_fit = so_far.fit; count_is = so_far.count_is; bytes_are = a.2 })
 
+  -- and with one more
+  more_read : (old mid new : Ahead) (rows : List Row) (times : List Times) (n m : ℕ)
+      → (so_far : TakesRows wide limits root old rows times n mid) (entry : Entry)
+      → Takes (IsEntry wide limits (rows_in so_far.entries)) entry_text mid entry new → m ≡ n + 1
+      → (before : List ℕ) → HasAhead old before
+      → (after : List ℕ) × HasAhead new after × AreRead wide limits before (so_far.entries ++ entry ∷ []) m after
+  more_read old mid new rows times n m so_far entry next more before known =
+      let a = so_read old mid rows times n so_far before known in
+      let b = next.1 a.0 a.1 in
+      (b.0, b.1, read_more wide limits before so_far.entries n m a.0 b.0 entry a.2 (next.0, b.2) more)
+
   pub rows_taken : (old mid new : Ahead) (rows longer : List Row) (times later : List Times) (n m : ℕ) (row : Row)
       (time : Times) → TakesRows wide limits root old rows times n mid
       → Takes (IsEntry wide limits rows) entry_text mid (row, time) new → longer ≡ rows ++ row ∷ []
@@ -347,20 +358,17 @@ module _ (wide : Bool) (limits : TreeLimits) (root : Times) where
   rows_taken old mid new rows longer times later n m row time so_far next put timed more =
       let entries = so_far.entries in
       let entry : Entry = (row, time) in
-      let fits : IsEntry wide limits (rows_in entries) entry =
-      subst (λ (l : List Row). IsEntry wide limits l entry) so_far.rows_are next.0 in
-      let read = λ (before : List ℕ) (known : HasAhead old before).
-      let a = so_read old mid rows times n so_far before known in
-      let b = next.1 a.0 a.1 in
-      (b.0, b.1, read_more wide limits before entries n m a.0 b.0 entry a.2 (fits, b.2) more) in
+      let here = subst (λ (l : List Row). Takes (IsEntry wide limits l) entry_text mid entry new) so_far.rows_are next in
       record {
         entries = entries ++ entry ∷ [];
-        fit = entries_push wide limits [] entries entry so_far.fit fits;
+        fit = entries_push wide limits [] entries entry so_far.fit here.0;
         count_is = length-append entries (entry ∷ []) ∙ ap (λ (k : ℕ). k + 1) so_far.count_is ∙ sym more;
         rows_are = put ∙ ap (λ (l : List Row). l ++ row ∷ []) so_far.rows_are ∙ sym (rows_push entries entry);
         times_are = timed ∙ ap (λ (l : List Times). l ++ time ∷ []) so_far.times_are
             ∙ ap (λ (l : List Times). root ∷ l) (sym (times_push entries entry));
-        taken = λ before known. let a = read before known in (a.0, a.1, a.2.bytes_are);
+        taken = λ before known.
+            let a = more_read old mid new rows times n m so_far entry here more before known in
+            (a.0, a.1, a.2.bytes_are);
       }
 
   pub row_lacks : (old mid : Ahead) (rows : List Row) (times : List Times) (n count : ℕ)
@@ -396,16 +404,11 @@ pub lower_lacks : (head : Head) (old new : Ahead) (rows : List Row) (times : Lis
     → is_lowest head.opening head.limits (kept times) ≡ false → LacksAll head old
 lower_lacks head old new rows times all lower before known entries rest fit count lowest e =
     let a = all.taken before known in
-    let same = one_list all.entries entries all.fit fit (all.count_is ∙ sym count) (sym a.2 ∙ e) in
+    let same = entries_are_one (is_wide head.opening) head.limits [] all.entries entries a.0 rest all.fit fit
+    (all.count_is ∙ sym count) (sym a.2 ∙ e) in
     let kept_same : kept times ≡ kept (head.root_times ∷ times_in entries) =
-    ap kept all.times_are ∙ ap (λ (es : List Entry). kept (head.root_times ∷ times_in es)) same in
+    ap kept all.times_are ∙ ap (λ (es : List Entry). kept (head.root_times ∷ times_in es)) same.0 in
     false≢true (sym lower ∙ ap (λ (ts : List Times). is_lowest head.opening head.limits ts) kept_same ∙ lowest)
-  where
-    one_list : (xs ys : List Entry) → AreEntries (is_wide head.opening) head.limits [] xs
-        → AreEntries (is_wide head.opening) head.limits [] ys → length xs ≡ length ys → {r s : List ℕ}
-        → flat_map entry_text xs ++ r ≡ flat_map entry_text ys ++ s → xs ≡ ys
-    one_list xs ys x-fits y-fits len {r} {s} e =
-        (entries_are_one (is_wide head.opening) head.limits [] xs ys r s x-fits y-fits len e).0
 
 -- ---- whole files
 
@@ -504,7 +507,8 @@ root_at [] = refl
 root_at (t ∷ times) = refl
 
 pub times_behind : (times : List Times) (i : ℕ) → times_at times (suc i) ≡ times_at (times_of_rows times) i
-times_behind [] i = refl
+times_behind [] zero = refl
+times_behind [] (suc i) = refl
 times_behind (t ∷ times) i = refl
 
 -- the same in the file that is written

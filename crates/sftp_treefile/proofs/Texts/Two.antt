@@ -9,7 +9,9 @@ use Rattle.std.proofs.lemmas.Bool.{lt-leb}
 use Rattle.sftp_treefile.specs.declared.files.TreeFile.{TreeFile}
 use Rattle.sftp_treefile.specs.declared.files.Kind.TheVariants.{Dir, First, Further, Link}
 use Rattle.sftp_treefile.specs.TreeFile.{IsTreeFile}
-use Rattle.sftp_treefile.specs.TwoOpenings.{IsOfTwo, two_spelled, two_kind_text, two_row_text}
+use Rattle.sftp_treefile.specs.TwoOpenings.{IsOfTwo, two_spelled, two_kind_text, two_row_text, two_opening}
+use Rattle.sftp_treefile.specs.TwoOpenings.{two_limits_text}
+use Rattle.sftp_treefile.proofs.Imports.{uint32, entries_text, times_of_rows}
 use Rattle.sftp_treefile.proofs.Texts.{or_false, not_far, raised_are, raised_near}
 use Rattle.sftp_treefile.proofs.Texts.Files.{wide_by}
 
@@ -89,16 +91,22 @@ two_rows limits bound earlier (row ∷ rows) fit =
     λ i. (string row.path ++ kind i) ++ rest i
 
 -- without times, after an opening that is not the third
-plain_after : (own : Bool) (file : TreeFile) → are_own file.limits ≡ own → file.times ≡ []
-    → flat_map row_text file.rows ≡ flat_map two_row_text file.rows
-    → spelled_after (opening_by false own) file ≡ two_spelled file
+abbrev pub two_text : Bool → TreeFile → List ℕ → List ℕ
+two_text own file rows =
+    two_opening own ++ (string file.home ++ (uint32 file.uid ++ (uint32 file.gid
+    ++ (two_limits_text own file.limits ++ (uint32 (length file.rows) ++ (owner_text file.root ++ rows))))))
+
+after_two : (own : Bool) (file : TreeFile) → spelled_after (opening_by false own) file
+    ≡ two_text own file (entries_text file.rows (times_of_rows file.times))
 unfolding spelled_after
-plain_after false file own none rows = rw (own, none, rows) refl
-plain_after true file own none rows = rw (own, none, rows) refl
+after_two false file = refl
+after_two true file = refl
 
 pub two_same : (file : TreeFile) → IsOfTwo file → spelled file ≡ two_spelled file
 unfolding spelled
 two_same file two =
+    let own = are_own file.limits in
     let rows = two_rows file.limits two.limits.file_bytes.1 [] file.rows two.rows in
-    ap (λ (far : Bool). spelled_after (opening_by far (are_own file.limits)) file) (two_near file two)
-    ∙ plain_after (are_own file.limits) file refl two.times rows
+    ap (λ (far : Bool). spelled_after (opening_by far own) file) (two_near file two) ∙ after_two own file
+    ∙ ap (λ (ts : List Times). two_text own file (entries_text file.rows (times_of_rows ts))) two.times
+    ∙ ap (two_text own file) rows

@@ -10,5 +10,5 @@ returns c =
     four_pieces (string c.args.path.now) (letter_for (has_times times) (file_letter (is_long count)) ∷ [])
     (owned_text c.args.owner.now times) (length_text (is_long count) count) c.args.out.now.items
     c.put_string.new.out.items c.push.new.self.items c.put_owned.new.out.items c.put_length.new.out.items
-    c.in_ok-put_string.ensures (rw (c.letter_of.ensures, c.letter_of_file.ensures) at c.in_ok-push.ensures.items)
+    c.in_ok-put_string.ensures (rw (c.letter_of.ensures, c.letter_of_file.ensures.letter) at c.in_ok-push.ensures.items)
     c.in_ok-put_owned.ensures c.in_ok-put_length.ensures
