@@ -232,7 +232,8 @@ fn are_octets(bytes: &[u8])
     ensures { IsTrue (are_bytes bytes.now) }
 {}
 
-/// Takes so many bytes. They get the memory that they take, and no more; up to `AT_ONCE` of it before they are there.
+/// Takes so many bytes. Up to `AT_ONCE` they get the memory that they take, and no more, at once. Longer ones get more
+/// as they come, so that a length alone takes no more than that.
 fn take_bytes<R: Source>(
     alloc: Global,
     input: &mut Input<R>,

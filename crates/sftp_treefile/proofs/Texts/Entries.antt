@@ -447,7 +447,7 @@ kind_one wide limits rows (Link x, t) (Link y, u) r s x-fits y-fits e =
     let same = string_front x y r s (target_length x x-fits.0) (target_length y y-fits.0) (ap (drop 1) e) in
     let times = x-fits.1 ∙ sym y-fits.1 in
     ((λ i. (Link (same.0 i), times i)), same.1)
-kind_one wide limits rows (x, t) (y, u) r s x-fits y-fits e = omega (arith, same_class (x, t) (y, u) r s e)
+kind_one wide limits rows (x, t) (y, u) r s x-fits y-fits e = absurd (omega (arith, same_class (x, t) (y, u) r s e))
 
 pub kind_absent : (wide : Bool) (limits : TreeLimits) (rows : List Row) (bytes : List ℕ) → bytes ≡ []
     → ReadsNone (IsTimedKind wide limits rows) timed_text bytes

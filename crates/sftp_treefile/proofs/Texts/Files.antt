@@ -13,7 +13,7 @@ use Rattle.sftp_treefile.proofs.Imports.{times_of_root, times_of_rows, root_owne
 use Rattle.sftp_treefile.proofs.Imports.{AreFileTimes, MayHaveTimes, IsLengthIn, IsOfOpening, IsEntry, AreEntries, paired}
 use Rattle.sftp_treefile.proofs.Imports.{kept, kept_by, rows_in, times_in, contents_length, content_length, IsOwnedIn}
 use Rattle.sftp_treefile.proofs.Imports.{IsTimedKind, length_text, is_long, is_file_letter, letter_for, file_letter, Front}
-use Rattle.sftp_treefile.proofs.Imports.{times_text, owned_text, uint64}
+use Rattle.sftp_treefile.proofs.Imports.{times_text, owned_text, uint64, OutOfMemoryOr}
 use Rattle.sftp_treefile.specs.declared.limits.Opening.TheVariants.{Usual, Raised, Wide}
 use Rattle.sftp_treefile.specs.declared.errors.TreeError.TheVariants.{NoMemory}
 use Rattle.sftp_treefile.specs.declared.files.TreeFile.{TreeFile}
@@ -122,7 +122,7 @@ eight : (a b c d l n r x : List ℕ) → a ++ (b ++ (c ++ (d ++ (l ++ (n ++ (r +
 eight a b c d l n r x = simp (append_assoc)
 
 -- the entries of a file
-pub entries_of : TreeFile → List Entry
+unfoldable pub entries_of : TreeFile → List Entry
 entries_of file = paired file.rows (times_of_rows file.times)
 
 -- a file is its head and what follows
@@ -213,8 +213,8 @@ module _ (wide : Bool) (limits : TreeLimits) (short : wide ≡ false → limits.
   entries_fit_by : (rows : List Row) (times : List Times) → (any_times times ≡ true → wide ≡ true)
       → AreRows limits [] rows → contents_length rows ≤ limits.total_bytes → AreFileTimes rows times
       → AreEntries wide limits [] (paired rows (times_of_rows times))
-  entries_fit_by rows [] is fit room are = plain_fit [] rows fit room
-  entries_fit_by rows (t ∷ times) is fit room are = timed_fit (is are.2) [] rows times fit room are.1
+  entries_fit_by rows [] is fit room are = plain_fit [] rows fit (omega (arith, room))
+  entries_fit_by rows (t ∷ times) is fit room are = timed_fit (is are.2) [] rows times fit (omega (arith, room)) are.1
 
 entries_fit : (file : TreeFile) → IsTreeFile file
     → AreEntries (is_wide (opening_of file)) file.limits [] (entries_of file)
@@ -229,7 +229,7 @@ entries_fit file fits =
 
 -- ---- and is made by these
 
-pub file_from : Head → List Entry → TreeFile
+unfoldable pub file_from : Head → List Entry → TreeFile
 file_from head entries = record {
   limits = head.limits;
   home = head.home;
@@ -335,7 +335,7 @@ no_file_trailing bytes rest more head entries read all left file is =
     omega (arith, left, ap length same.1)
 
 -- memory ran out where there is no other fault
-pub fault_only : (error : TreeError) (P : Type 0) → (error ≡ NoMemory) ⊎ P → (P → ⊥) → error ≡ NoMemory
+pub fault_only : (error : TreeError) (P : Type 0) → OutOfMemoryOr error P → (P → ⊥) → error ≡ NoMemory
 fault_only error P h none = elim h [ inl e ↦ e | inr p ↦ absurd (none p) ]
 
 -- ---- where one is
@@ -443,7 +443,7 @@ module _ (head : Head) (entries : List Entry) (fits : IsHead head)
     count = omega (arith, rows_length entries, count, fits.count);
     root = fits.root.0;
     rows = rows_fit (is_wide head.opening) head.limits [] entries fit;
-    total = total_fits (is_wide head.opening) head.limits [] entries (omega arith) fit;
+    total = omega (arith, total_fits (is_wide head.opening) head.limits [] entries (omega arith) fit);
     times = file_times_by (any_times (head.root_times ∷ times_in entries)) (rows_in entries) head.root_times
         (times_in entries) refl (any_in (is_wide head.opening) head.root_times fits.root.1)
         (times_fit (is_wide head.opening) head.limits [] entries fit);
@@ -561,7 +561,7 @@ root_length Wide root = omega (arith, owned_length root.0 root.1)
 pub head_bound : (head : Head) → IsHead head → length (head_bytes head) ≤ window
 head_bound head fits =
     let opening = head.opening in
-    let owned = (head.root, head.root_times) in
+    let owned : Owner × Times = (head.root, head.root_times) in
     let numbers = uint32 head.uid ++ uint32 head.gid in
     let root = root_text opening (head.count, owned) in
     omega (arith, length-append (front_text opening head.home head.uid head.gid) (limits_text opening head.limits ++ root), length-append (limits_text opening head.limits) root, length-append (uint32 head.count) (root_owner_text opening owned), length-append (tree_opening opening) (string head.home ++ numbers), length-append (string head.home) numbers, string_length head.home, path_short head.home fits.home, opening_length opening, limits_length opening head.limits, root_length opening owned)
