@@ -1,5 +1,5 @@
 //! The heads of tree files: what they say before their entries.
-ghost use Rattle.std.specs.Prelude.{◌≡◌, ◌++◌, ℕ, true, List, IfOk, IfErr};
+ghost use Rattle.std.specs.Prelude.{◌≡◌, ◌++◌, ℕ, false, List, IfOk, IfErr};
 ghost use Rattle.sftp_packets.specs.Spelling.{uint32, uint64, string};
 ghost use Rattle.sftp_treefile.specs.declared.limits.Opening.{Opening as kind_of_opening};
 ghost use Rattle.sftp_treefile.specs.declared.limits.Opening.TheVariants.{Raised, Wide};
