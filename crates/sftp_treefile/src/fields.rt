@@ -1,6 +1,7 @@
 //! The fields of tree files, read one by one. Each function reads what the bytes start with, and returns it and the
 //! bytes after it.
-ghost use Rattle.std.specs.Prelude.{◌≡◌, ◌<◌, ◌++◌, ℕ, Bool, List, true, false, [], ◌∷◌, length, IfOk, IfErr, IfSome, IfNone, IsTrue};
+ghost use Rattle.std.specs.Prelude.{◌≡◌, ◌<◌, ◌++◌, ℕ, Bool, List, true, false, [], ◌∷◌, length};
+ghost use Rattle.std.specs.Prelude.{IfOk, IfErr, IfSome, IfNone, IsTrue};
 ghost use Rattle.sftp_packets.specs.Spelling.{uint32, uint64, string};
 ghost use Rattle.sftp_treefile.specs.TreeFile.{place_of, owner_text, are_bytes, times_text, length_text, timed_text};
 ghost use Rattle.sftp_treefile.specs.TreeFile.{is_first_row, entry_at, IsPlaceText, IsOwner, letter_for};

@@ -1,5 +1,6 @@
 //! What a reader of tree files takes from its input, piece by piece: heads, paths and kinds.
-ghost use Rattle.std.specs.Prelude.{◌≡◌, ◌<◌, ◌≤◌, ℕ, List, Bool, ◌∷◌, length, IfOk, IfErr, IfSome, IfNone, OnOk, IsTrue};
+ghost use Rattle.std.specs.Prelude.{◌≡◌, ◌<◌, ◌≤◌, ℕ, List, Bool, ◌∷◌, length};
+ghost use Rattle.std.specs.Prelude.{IfOk, IfErr, IfSome, IfNone, OnOk, IsTrue};
 ghost use Rattle.std.specs.Prelude.{false};
 ghost use Rattle.sftp_packets.specs.Spelling.{uint32, string};
 ghost use Rattle.sftp_treefile.specs.TreeFile.{place_of, timed_text, are_bytes, letter_for, file_letter};

@@ -63,8 +63,8 @@ where
 ///
 /// `NoMemory` if memory runs out; otherwise the first fault from left to right, with the number of its entry: `Magic`,
 /// `Short`, `Value`, `Order`, `Parent` or `Trailing`. A field is read whole before its value is checked; a path is
-/// checked for `Value` first, then for `Order`, then for `Parent`, and then the kind is read. That a lower opening holds
-/// the file is found behind the last entry, as `Value`.
+/// checked for `Value` first, then for `Order`, then for `Parent`, and then the kind is read. That a lower opening
+/// holds the file is found behind the last entry, as `Value`.
 pub fn read_rows(alloc: Global, bytes: &[u8]) -> Result<TreeFile, TreeError>
     ensures found { IfOk result (λ f. IsSpelled f bytes.now) }
     ensures only { (f : file) → IsSpelled f bytes.now → GivesFile result f }
