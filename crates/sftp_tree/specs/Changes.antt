@@ -142,11 +142,14 @@ abbrev pub total_fits_with : Tree → ℕ → ℕ → Bool
 total_fits_with t number count =
     nat_le (total_of t.files - length_of (content_at t.files number) + count) t.limits.total_bytes
 
+-- whether the file of a number may have bytes up to this place: for itself, and with all others
+abbrev pub end_fits : Tree → ℕ → ℕ → Bool
+end_fits t number end =
+    nat_le end t.limits.file_bytes && total_fits_with t number (max (length_of (content_at t.files number)) end)
+
 -- whether a WRITE keeps to the limits of a file's bytes and of all
 abbrev pub write_fits : Tree → ℕ → ℕ → List ℕ → Bool
-write_fits t number offset new =
-    length new == 0 || (nat_le (offset + length new) t.limits.file_bytes
-    && total_fits_with t number (max (length_of (content_at t.files number)) (offset + length new)))
+write_fits t number offset new = length new == 0 || end_fits t number (offset + length new)
 
 -- the file after a WRITE
 abbrev pub written_content : ℕ → List ℕ → Content → Content
