@@ -2,7 +2,7 @@
 ghost use Rattle.std.specs.Prelude.{◌≡◌, ◌+◌, ◌<◌, ◌^◌, [], nat_lt, length, OnOk, OnErr, IfSome, option_copied};
 ghost use Rattle.std.specs.Prelude.{◌-◌, ◌≤◌};
 ghost use Rattle.std.specs.Ordering.{nat_cmp};
-ghost use Rattle.sftp_path.specs.Table.{get, put};
+ghost use Rattle.sftp_path.specs.Table.{get, put, InOrder};
 ghost use Rattle.sftp_treefile.specs.TreeFile.{IsOwner};
 ghost use Rattle.sftp_tree.specs.Tree.{content_at, total_of as bytes_of};
 ghost use Rattle.sftp_tree.specs.Attributes.{changed_owner, changed_content};
@@ -236,7 +236,8 @@ fn lessened(total: u64, before: u64, after: u64) -> u64
 /// How many bytes the files have together.
 fn total_of(files: &BTreeMap<FileNo, Stored>) -> u64
     requires { bytes_of (contents files.now.entries) < 2 ^ 64 }
-    ensures { result ≡ bytes_of (contents files.now.entries) }
+    ensures total { result ≡ bytes_of (contents files.now.entries) }
+    ensures ordered { InOrder nat_cmp files.now.entries }
 {
     let mut total = 0;
     for stored in files.values() {

@@ -30,7 +30,6 @@ use Rattle.sftp_tree.proofs.FileCounts.{at-number, at-entries, raised}
 use Rattle.sftp_tree.proofs.PlaceTables.{all_both, all_from_map, insert_last}
 use Rattle.sftp_tree.proofs.TreeFiles.{later_than_all, bare_names}
 use Rattle.sftp_tree.proofs.TreeFiles.{bare, names_bare}
-use Rattle.sftp_tree.proofs.Imports.{Kind}
 use Rattle.sftp_treefile.specs.TreeFile.{contents_length, content_length}
 use Rattle.sftp_tree.specs.Tree.{total_of}
 
