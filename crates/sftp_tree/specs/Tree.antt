@@ -118,7 +118,7 @@ pub record Tree : Type 0 where
   -- how many numbers were given to files; no number is given twice
   pub made : ℕ
   -- how often each file is pinned: the counts of who holds it open, which say only that it stays, and are no part of
-  -- what a tree means to a path, a limit or a tree file
+  -- what a tree means to a path or a tree file. The bytes of a file that stays so count for the limit on all
   pub pins : Pins
   -- how much the tree may hold
   pub limits : TreeLimits
