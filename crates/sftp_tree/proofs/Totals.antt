@@ -146,7 +146,7 @@ module _ (files after : Table ℕ Stored) (order : InOrder nat_cmp files) where
   length-changed P change number changed holds =
       let content : Stored → Content = λ s. s.content in
       let now : length_named after (Some number)
-          ≡ length_of (option_map content (option_and_then change (get nat_cmp files number))) =
+      ≡ length_of (option_map content (option_and_then change (get nat_cmp files number))) =
       ap length_of (get-with_values nat_cmp content after number ∙ ap (option_map content) changed.here) in
       let before : length_named files (Some number) ≡ length_of (option_map content (get nat_cmp files number)) =
       ap length_of (get-with_values nat_cmp content files number) in

@@ -115,7 +115,8 @@ impl Files {
     {
         let before = length_named(&self.by_number, named);
         forget_name(&mut self.by_number, named);
-        self.total = lessened(self.total, before, length_named(&self.by_number, named));
+        let after = length_named(&self.by_number, named);
+        self.total = lessened(self.total, before, after);
     }
 
     /// Sets the attributes of the file of a number, if there is one.
@@ -135,7 +136,8 @@ impl Files {
     {
         let before = length_named(&self.by_number, Some(number));
         change_at(&mut self.by_number, number, attrs)?;
-        self.total = exchanged(self.total, before, length_named(&self.by_number, Some(number)));
+        let after = length_named(&self.by_number, Some(number));
+        self.total = exchanged(self.total, before, after);
         Ok(())
     }
 
@@ -159,7 +161,8 @@ impl Files {
     {
         let before = length_named(&self.by_number, Some(number));
         write_at(&mut self.by_number, number, offset, new)?;
-        self.total = exchanged(self.total, before, length_named(&self.by_number, Some(number)));
+        let after = length_named(&self.by_number, Some(number));
+        self.total = exchanged(self.total, before, after);
         Ok(())
     }
 
@@ -190,7 +193,8 @@ impl Files {
     {
         let before = length_named(&self.by_number, Some(number));
         unpin(&mut self.by_number, number);
-        self.total = lessened(self.total, before, length_named(&self.by_number, Some(number)));
+        let after = length_named(&self.by_number, Some(number));
+        self.total = lessened(self.total, before, after);
     }
 
     /// Takes all pins away. A file is removed that has no name.

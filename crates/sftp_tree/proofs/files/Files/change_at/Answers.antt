@@ -23,7 +23,7 @@ exchanged-requires-clause-after c =
     (sym c.self.view_is) c.requires.count in
     omega (
       arith,
-      c.length_named.ensures,
+      c.length_named-after.ensures,
       changed-small c.self.inside.by_number.entries c.change_at.new.files.entries c.self.invariant.0 (changed_content c.args.attrs.now) c.args.number small
           c.in_ok-change_at.ensures.ok,
     )
@@ -32,4 +32,4 @@ pub invariant_of-self-2 : goal.invariant_of-self-2
 invariant_of-self-2 c =
     summed-where c.self.inside.by_number.entries c.change_at.new.files.entries c.self.invariant.0 (with_content_made (changed_content c.args.attrs.now))
     (Some c.args.number) c.self.inside.total c.exchanged.result c.self.invariant.1 c.in_ok-change_at.ensures.ok
-    (omega (arith, c.exchanged.ensures, c.length_named-before.ensures, c.length_named.ensures))
+    (omega (arith, c.exchanged.ensures, c.length_named-before.ensures, c.length_named-after.ensures))

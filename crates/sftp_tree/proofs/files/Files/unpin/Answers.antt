@@ -15,7 +15,7 @@ pub lessened-requires-clause-after : goal.lessened-requires-clause-after
 lessened-requires-clause-after c = omega (
   arith,
   c.length_named-before.ensures,
-  c.length_named.ensures,
+  c.length_named-after.ensures,
   shrunk c.self.inside.by_number.entries c.unpin.new.files.entries c.self.invariant.0 without_a_pin
       (λ s. held-less (record s { pins = s.pins - 1 })) (Some c.args.number) c.unpin.ensures,
 )
@@ -24,4 +24,4 @@ pub invariant_of-self : goal.invariant_of-self
 invariant_of-self c =
     summed-where c.self.inside.by_number.entries c.unpin.new.files.entries c.self.invariant.0 without_a_pin
     (Some c.args.number) c.self.inside.total c.lessened.result c.self.invariant.1 c.unpin.ensures
-    (omega (arith, c.lessened.ensures, c.length_named-before.ensures, c.length_named.ensures))
+    (omega (arith, c.lessened.ensures, c.length_named-before.ensures, c.length_named-after.ensures))
