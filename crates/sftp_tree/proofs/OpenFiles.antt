@@ -27,7 +27,7 @@ use Rattle.sftp_tree.proofs.KeptTrees.{kept-trim}
 use Rattle.sftp_tree.proofs.KeptTrees.Counts.{files-in_order, each-some}
 use Rattle.sftp_path.proofs.Table.Laws.{InOrder-empty}
 use Rattle.sftp_tree.proofs.FileCounts.{unpinned-pins, unpinned-counted, unpinned-contents}
-use Rattle.std.specs.Prelude.{◌&&◌, max, ◌*◌}
+use Rattle.std.specs.Prelude.{◌&&◌, max, min, ◌*◌}
 use Rattle.std.specs.List.Sorted.{IsStrictlySortedBy}
 use Rattle.std.specs.declared.cmp.Ordering.TheVariants.{Less, Equal, Greater}
 use Rattle.sftp_treefile.specs.TreeFileParts.{AreRaised}
@@ -36,7 +36,8 @@ use Rattle.sftp_tree.proofs.Imports.{and_parts, eqb-true, get-put_here, with_con
 use Rattle.sftp_tree.proofs.Imports.{with_new_file}
 use Rattle.sftp_tree.proofs.Imports.{◌∷◌, ◌≤◌, cond, keys_of, Files, leb-true, le-leb}
 use Rattle.sftp_tree.proofs.PlaceTables.{each-all}
-use Rattle.sftp_tree.specs.Tree.{content_fits, total_of}
+use Rattle.sftp_treefile.specs.TreeFile.{numbers}
+use Rattle.sftp_tree.specs.Tree.{content_fits, total_of, told_limits}
 use Rattle.sftp_tree.specs.Changes.{length_of, total_fits_with, end_fits}
 use Rattle.sftp_tree.proofs.Limits.{total-same}
 
@@ -587,3 +588,9 @@ narrow-write t number offset new kept are =
     by true is = narrow-with t number (max (length_of (content_at t.files number)) end) kept are
         (omega (arith, leb-true end (limits t).file_bytes is, file-bound t number kept))
     by false is = refl
+
+-- each of their limits has 32 bits
+pub narrow-told : (bounds : TreeLimits) → AreRaised bounds → told_limits bounds ≡ numbers bounds
+narrow-told bounds are =
+    let same : min bounds.file_bytes 4294967295 ≡ bounds.file_bytes = omega (arith, are.file_bytes.1) in
+    λ i. bounds.entries ∷ same i ∷ bounds.read_bytes ∷ bounds.open_handles ∷ []

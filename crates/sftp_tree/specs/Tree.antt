@@ -1,7 +1,7 @@
 -- The tree: the node at each place, the files that have names there or are pinned, where relative paths start, who owns
 -- what is made with no owner given, and how much the tree may hold. The limits are this profile's own.
 use Rattle.std.specs.Prelude.{◌&&◌, ◌||◌, ◌==◌, nat_lt, nat_le, if◌then◌else◌, ℕ, ◌+◌, ◌-◌, ◌<◌, ◌^◌}
-use Rattle.std.specs.Prelude.{◌∷◌, Bool, true, false, [], length, Option, Some, None, is_some, unwrap_or, IsTrue}
+use Rattle.std.specs.Prelude.{◌∷◌, List, min, Bool, true, false, [], length, Option, Some, None, is_some, unwrap_or, IsTrue}
 use Rattle.std.specs.Ordering.{nat_cmp}
 use Rattle.std.specs.List.{list_any, list_all, AllByRecursion}
 use Rattle.sftp_path.specs.Place.{Place, place_cmp, parent, is_below, are_names, depth_limit}
@@ -185,6 +185,12 @@ IsTrimmed t = AllByRecursion (λ e. IsTrue (is_held t e.0)) t.files
 
 abbrev pub limits : Tree → TreeLimits
 limits t = t.limits
+
+-- the four that a client may ask for, in the order of a tree file; a number of bytes that has no 32 bits is the highest
+-- that has
+abbrev pub told_limits : TreeLimits → List ℕ
+told_limits limits =
+    limits.entries ∷ min limits.file_bytes 4294967295 ∷ limits.read_bytes ∷ limits.open_handles ∷ []
 
 -- the same tree with its limits raised to the highest after the second opening, where they are not higher
 abbrev pub raised : Tree → Tree

@@ -6,13 +6,14 @@ ghost use Rattle.std.specs.List.{list_all};
 ghost use Rattle.sftp_path.specs.Place.{Place, place_cmp};
 ghost use Rattle.sftp_path.specs.Table.{InOrder};
 ghost use Rattle.sftp_path.specs.Table.{renamed, NothingFrom};
-ghost use Rattle.sftp_treefile.specs.TreeFile.{usual_limits, highest_limits};
+ghost use Rattle.sftp_treefile.specs.TreeFile.{usual_limits, highest_limits, numbers};
+ghost use Rattle.sftp_treefile.specs.declared.limits.TreeLimits.{TreeLimits};
 ghost use Rattle.sftp_treefile.specs.TreeFileParts.{AreRaised};
 ghost use Rattle.sftp_tree.specs.declared.file_contents.Content.{Content};
 ghost use Rattle.sftp_tree.specs.declared.nodes.Node.{Node};
 ghost use Rattle.sftp_packets.specs.declared.attributes.Attrs.{Attrs};
 ghost use Rattle.sftp_tree.specs.Tree.{Tree, IsKept, HasFile};
-ghost use Rattle.sftp_tree.specs.Tree.{limits, fits, entries_fit, depths_fit, home_fits, links_fit};
+ghost use Rattle.sftp_tree.specs.Tree.{limits, told_limits, fits, entries_fit, depths_fit, home_fits, links_fit};
 ghost use Rattle.sftp_tree.specs.Tree.{files_fit, total_fits, numbers_fit, depth_fits, link_fits, content_fits};
 ghost use Rattle.sftp_tree.specs.Tree.{node_at, with_node, without_node, content_at, with_content};
 ghost use Rattle.sftp_tree.specs.Changes.{moved};
@@ -110,4 +111,5 @@ pub fn narrow_trees_have_no_total()
         write_fits t number offset new ≡ (length new == 0 || nat_le (offset + length new) (limits t).file_bytes) }
     ensures set { (t : Tree) (number size : ℕ) → IsKept t → AreRaised (limits t) →
         size_fits t number (Some size) ≡ nat_le size (limits t).file_bytes }
+    ensures told { (l : TreeLimits) → AreRaised l → told_limits l ≡ numbers l }
 {}

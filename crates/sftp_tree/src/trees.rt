@@ -1,7 +1,6 @@
 //! The tree.
 ghost use Rattle.std.specs.Prelude.{◌≡◌, [], ◌<◌, ◌^◌, false, None, option_copied, OnOk, OnErr, IsTrue, ◌+◌, nat_lt};
 ghost use Rattle.sftp_path.specs.Place.{are_names, parent};
-ghost use Rattle.sftp_treefile.specs.TreeFile.{numbers};
 ghost use Rattle.sftp_treefile.specs.TreeFile.{IsOwner, is_root, same_place};
 
 use crate::entries::Entries;
@@ -133,7 +132,7 @@ impl Tree {
     /// The four limits of the tree in the order of a tree file: the most entries below the root, bytes of a file, bytes
     /// that one READ gives, and open handles. One of more than 2^32 - 1 bytes of a file is 2^32 - 1. Does not allocate.
     pub fn limits(&self) -> [u32; 4]
-        ensures { result ≡ numbers (tree.limits self.now) }
+        ensures { result ≡ tree.told_limits (tree.limits self.now) }
     {
         let limits = self.limits;
         [
