@@ -126,7 +126,9 @@ module _ (files after : Table ℕ Stored) (order : InOrder nat_cmp files) where
       → IsChangedWhereNamed change named files after
       → total - length_named files named + length_named after named ≡ total_of (contents after)
   exchanged-is change None total is same =
-      omega (arith, is, ap (λ (t : Table ℕ Stored). total_of (contents t)) same)
+      let alike : total_of (contents after) ≡ total_of (contents files) =
+      ap (λ (t : Table ℕ Stored). total_of (contents t)) same in
+      omega (arith, is, alike)
   exchanged-is change (Some number) total is changed =
       omega (arith, is, total-stored change number changed, part-summed total (Some number) is)
 
@@ -182,13 +184,16 @@ module _ (files after : Table ℕ Stored) (order : InOrder nat_cmp files) where
 
       by : (named : Option ℕ) → IsChangedWhereNamed change named files after → total ≡ total_of (contents after)
       by None unchanged = is ∙ ap (λ (t : Table ℕ Stored). total_of (contents t)) (sym unchanged)
-      by (Some number) changed = omega (
-        arith,
-        is,
-        exchanged-is change (Some number) total is changed,
-        part-summed total (Some number) is,
-        length-changed (λ now before. now ≡ before) change number changed (alike (get nat_cmp files number)),
-      )
+      by (Some number) changed =
+          let count : length_named after (Some number) ≡ length_named files (Some number) =
+          length-changed (λ now before. now ≡ before) change number changed (alike (get nat_cmp files number)) in
+          omega (
+            arith,
+            is,
+            exchanged-is change (Some number) total is changed,
+            part-summed total (Some number) is,
+            count,
+          )
 
   -- another content of a file has a size
   pub changed-small : (change : Content → Content) (number : ℕ)
@@ -216,17 +221,12 @@ held-less s = by (is_held_still s)
 pub summed-put : (files : Table ℕ Stored) (number : ℕ) (s : Stored) (total new : ℕ) → InOrder nat_cmp files
     → total ≡ total_of (contents files) → new ≡ total - length_named files (Some number) + length s.content.bytes
     → IsSummed (put nat_cmp files number s) new
-summed-put files number s total new order is new-is = (
-  InOrder-put nat_cmp nat_cmp_total files number s order,
-  omega (
-    arith,
-    is,
-    new-is,
-    ap total_of (with_values-put nat_cmp (λ (s : Stored). s.content) files number s),
-    total-with (contents files) number s.content
-        (InOrder-with_values nat_cmp (λ (s : Stored). s.content) files order),
-  ),
-)
+summed-put files number s total new order is new-is =
+    let content : Stored → Content = λ s. s.content in
+    let count : total_of (contents (put nat_cmp files number s)) ≡ total_of (with_content (contents files) number s.content) =
+    ap total_of (with_values-put nat_cmp content files number s) in
+    let all = total-with (contents files) number s.content (InOrder-with_values nat_cmp content files order) in
+    (InOrder-put nat_cmp nat_cmp_total files number s order, omega (arith, is, new-is, count, all))
 
 -- without pins there are no more
 pub unpinned-less : (files : Table ℕ Stored) → total_of (contents (unpinned files)) ≤ total_of (contents files)
