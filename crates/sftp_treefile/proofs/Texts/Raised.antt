@@ -30,7 +30,7 @@ most_hold file is = with_limits file most_limits is most_are (omega (arith, is.c
     (omega (arith, is.total, is.limits.total_bytes.1))
     (rows_wider file.limits most_limits is.limits.file_bytes.1 [] file.rows is.rows)
 
-raised_fit : (limits : TreeLimits) → AreLimits limits → AreLimits (raised_limits limits)
+pub raised_fit : (limits : TreeLimits) → AreLimits limits → AreLimits (raised_limits limits)
 raised_fit limits are = record {
   entries = (omega arith, omega (arith, are.entries.1));
   file_bytes = (omega arith, omega (arith, are.file_bytes.1));
