@@ -1,5 +1,5 @@
 //! Tree files with other limits, which hold what they held.
-ghost use Rattle.std.specs.Prelude.{◌≡◌, ℕ};
+ghost use Rattle.std.specs.Prelude.{◌≡◌, ◌<◌, ◌^◌, ℕ, length};
 ghost use Rattle.sftp_treefile.specs.declared.limits.TreeLimits.{TreeLimits as tree_limits};
 ghost use Rattle.sftp_treefile.specs.TreeFile as spec;
 ghost use Rattle.sftp_treefile.specs.TreeFile.{IsTreeFile};
@@ -38,6 +38,7 @@ fn longest(rows: &[Row]) -> u64
 
 /// The lowest limits on entries and on the bytes of a file that hold these rows; the others are the usual ones.
 fn fitting_limits(rows: &[Row]) -> TreeLimits
+    requires { length rows.now < 2 ^ 32 }
     ensures { result ≡ spec.fitting_limits rows.now }
 {
     let usual = usual_limits();

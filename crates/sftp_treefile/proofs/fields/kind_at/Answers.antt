@@ -9,22 +9,22 @@ returns-in_err-letter-clause-none c =
     let p = err_from_is_err_and c.from_residual.result c.from_residual.ensures.1 in
     rw p.1 (inr (kind_absent c.args.is_wide c.args.limits c.args.rows.now c.args.bytes.now c.in_err-letter.ensures.none))
 
-pub returns-in_err-number-clause-none : goal.returns-in_err-number-clause-none
-returns-in_err-number-clause-none c =
-    let p = err_from_is_err_and c.from_residual-in_err-number.result c.from_residual-in_err-number.ensures.1 in
+pub returns-in_err-number-in-72-clause-none : goal.returns-in_err-number-in-72-clause-none
+returns-in_err-number-in-72-clause-none c =
+    let p = err_from_is_err_and c.from_residual-in_err-number-in-72.result c.from_residual-in_err-number-in-72.ensures.1 in
     rw p.1 (inr (further_none c.args.is_wide c.args.limits c.args.rows.now c.args.bytes.now c.in_ok-letter.rest.now
-    c.in_ok-letter.letter c.in_ok-letter.ensures.found c.in-72.is c.in_err-number.ensures.none))
+    c.in_ok-letter.letter c.in_ok-letter.ensures.found c.in-72.is c.in_err-number-in-72.ensures.none))
 
-pub returns-in_err-target-clause-none : goal.returns-in_err-target-clause-none
-returns-in_err-target-clause-none c =
-    let p = err_from_is_err_and c.from_residual-in_err-target.result c.from_residual-in_err-target.ensures.1 in
-    rw (p.1, p.2) (or_fault _ _ _ c.in_err-target.ensures.none (link_none c.args.is_wide c.args.limits c.args.rows.now
+pub returns-in_err-target-in-76-clause-none : goal.returns-in_err-target-in-76-clause-none
+returns-in_err-target-in-76-clause-none c =
+    let p = err_from_is_err_and c.from_residual-in_err-target-in-76.result c.from_residual-in_err-target-in-76.ensures.1 in
+    rw (p.1, p.2) (or_fault _ _ _ c.in_err-target-in-76.ensures.none (link_none c.args.is_wide c.args.limits c.args.rows.now
     c.args.bytes.now c.in_ok-letter.rest.now c.in_ok-letter.letter c.in_ok-letter.ensures.found c.in-76.is))
 
-pub returns-in_err-owner-clause-none : goal.returns-in_err-owner-clause-none
-returns-in_err-owner-clause-none c =
-    let p = err_from_is_err_and c.from_residual-in_err-owner.result c.from_residual-in_err-owner.ensures.1 in
+pub returns-in_err-owner-in_default-clause-none : goal.returns-in_err-owner-in_default-clause-none
+returns-in_err-owner-in_default-clause-none c =
+    let p = err_from_is_err_and c.from_residual-in_err-owner-in_default.result c.from_residual-in_err-owner-in_default.ensures.1 in
     rw p.1 (inr (other_none c.args.is_wide c.args.limits c.args.rows.now c.args.bytes.now c.in_ok-letter.rest.now
     c.in_ok-letter.letter c.in_ok-letter.ensures.found
     (c.requires c.in_ok-letter.letter c.in_ok-letter.rest.now c.in_ok-letter.ensures.found)
-    (λ e. omega (arith, e, c.in_default.not-72)) (λ e. omega (arith, e, c.in_default.not-76)) c.in_err-owner.ensures.none))
+    (λ e. omega (arith, e, c.in_default.not-72)) (λ e. omega (arith, e, c.in_default.not-76)) c.in_err-owner-in_default.ensures.none))

@@ -5,4 +5,4 @@ use Rattle.sftp_treefile.specs.TreeFile as spec
 use Rattle.sftp_treefile.proofs.raising.longest.Given as goal
 
 abbrev pub invariant-loop-row : goal.invariant-loop-row
-invariant-loop-row l = max l.most (spec.longest (drop l.row-index l.rows.now)) ≡ spec.longest l.rows.now
+invariant-loop-row l = max l.most (spec.longest (drop l.row-index l.rows)) ≡ spec.longest l.rows

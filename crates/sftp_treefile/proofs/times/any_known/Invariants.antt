@@ -4,4 +4,4 @@ use Rattle.sftp_treefile.proofs.Imports.{drop, any_times}
 use Rattle.sftp_treefile.proofs.times.any_known.Given as goal
 
 abbrev pub invariant-loop-time : goal.invariant-loop-time
-invariant-loop-time l = any_times (drop l.time-index l.times.now) ≡ any_times l.times.now
+invariant-loop-time l = any_times (drop l.time-index l.times) ≡ any_times l.times
