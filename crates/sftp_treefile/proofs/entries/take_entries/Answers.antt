@@ -1,5 +1,5 @@
 -- All entries, and then the judgement that no lower opening would do.
-use Rattle.sftp_treefile.proofs.Imports.{inr, sym, err_from_is_err_and, is_wide, TakesRows}
+use Rattle.sftp_treefile.proofs.Imports.{inr, sym, ◌∙◌, err_from_is_err_and, is_wide, TakesRows}
 use Rattle.sftp_treefile.proofs.Texts.Front.{still_or, among_may, all_taken, rows_lack, lower_lacks}
 use Rattle.sftp_treefile.proofs.entries.take_entries.Goals as goal
 
@@ -26,4 +26,4 @@ returns-clause-found g c =
     let entries = c.in_ok-entries.entries in
     let found = rw c.is_wide-is_wide.ensures at c.in_ok-entries.ensures.found in
     rw (c.new.ensures, c.new-times.ensures) (all_taken c.args.head.now c.args.input.now c.take_rows.new.input
-    entries.rows.items entries.times.items found (rw c.new-times.ensures at (sym c.is_lowest.ensures)))
+    entries.rows.items entries.times.items found (rw c.new-times.ensures at (sym c.is_lowest.ensures ∙ c.if-not-is_lowest.false)))

@@ -14,11 +14,11 @@ more-init g c = record {
       (no_rows c.args.is_wide c.args.limits c.args.root c.args.input.now);
 }
 
-pub put_row-requires-next : goal.put_row-requires-next
-put_row-requires-next g c = follows_next c.args.limits c.more.entries.rows.items c.in_ok-taken.taken.row c.in_ok-taken.ensures.found.0.row
+pub put_row-requires-clause-next : goal.put_row-requires-clause-next
+put_row-requires-clause-next g c = follows_next c.args.limits c.more.entries.rows.items c.in_ok-taken.taken.row c.in_ok-taken.ensures.found.0.row
 
-pub put_row-requires-room : goal.put_row-requires-room
-put_row-requires-room g c = omega (arith, c.more.invariant.total, c.in_ok-taken.ensures.found.0.room)
+pub put_row-requires-clause-room : goal.put_row-requires-clause-room
+put_row-requires-clause-room g c = omega (arith, c.more.invariant.total, c.in_ok-taken.ensures.found.0.room)
 
 pub returns-in_err-taken-clause-none : goal.returns-in_err-taken-clause-none
 returns-in_err-taken-clause-none g c =

@@ -8,7 +8,7 @@ invariant-more g l = record {
   last : IsLast l.entries.rows.items l.entries.last l.entries.is_dir;
   total : l.entries.total ≡ contents_length l.entries.rows.items;
   room : l.entries.total ≤ l.limits.total_bytes;
-  taken : TakesRows l.is_wide l.limits l.root l.initial.input l.entries.rows.items l.entries.times.items l.done l.input;
+  taken : TakesRows l.is_wide l.limits l.fn.root l.initial.input l.entries.rows.items l.entries.times.items l.done l.input;
 }
 
 abbrev pub decreases-more : goal.decreases-more

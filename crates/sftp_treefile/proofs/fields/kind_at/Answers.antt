@@ -27,4 +27,4 @@ returns-in_err-owner-in_default-clause-none c =
     rw p.1 (inr (other_none c.args.is_wide c.args.limits c.args.rows.now c.args.bytes.now c.in_ok-letter.rest.now
     c.in_ok-letter.letter c.in_ok-letter.ensures.found
     (c.requires c.in_ok-letter.letter c.in_ok-letter.rest.now c.in_ok-letter.ensures.found)
-    (λ e. omega (arith, e, c.in_default.not-72)) (λ e. omega (arith, e, c.in_default.not-76)) c.in_err-owner-in_default.ensures.none))
+    (λ e. omega arith) (λ e. omega arith) c.in_err-owner-in_default.ensures.none))

@@ -1,5 +1,6 @@
 -- The first that is known, or none.
 use Rattle.sftp_treefile.proofs.Imports.{◌≡◌, ℕ, ◌<◌, List, [], ◌∷◌, length, get_or, refl, sym, ◌∙◌, arith, suc, zero, Times}
+use Rattle.std.proofs.Common.{add-one}
 use Rattle.sftp_treefile.proofs.Texts.Entries.{any_here, any_next, any_end}
 use Rattle.sftp_treefile.proofs.times.any_known.Goals as goal
 
@@ -18,9 +19,9 @@ returns-then-are_known c =
 
 pub loop-time-preserved : goal.loop-time-preserved
 loop-time-preserved c =
-    any_next c.args.times.now c.loop-time.time-index _ c.loop-time-test.true
+    rw add-one (any_next c.args.times.now c.loop-time.time-index _ c.loop-time-test.true
     (own c.args.times.now c.loop-time.time-index _ _ c.loop-time-test.true) (sym c.are_known.ensures ∙ c.if-are_known.false)
-    ∙ c.loop-time.invariant
+    ∙ c.loop-time.invariant)
 
 pub returns : goal.returns
 returns c = sym (any_end c.args.times.now c.loop-time.time-index c.loop-time-test.false) ∙ c.loop-time.invariant
