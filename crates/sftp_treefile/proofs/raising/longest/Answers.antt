@@ -9,7 +9,7 @@ loop-row-preserved c = rw add-one (omega (
   arith,
   longest_from c.args.rows.now c.loop-row.row-index c.row-item.result c.loop-row-test.true c.row-item.is,
   c.content_length.ensures,
-  c.max.ensures,
+  c.max-most.ensures,
   c.loop-row.invariant,
 ))
 
