@@ -37,9 +37,10 @@ long_front x y r s x-fits y-fits e = grind (arith, take_at, drop_at, from_be_byt
 
 -- of lists of one length, what they begin with, and what follows
 pub counted_front : (t u r s : List ℕ) → length t ≡ length u → t ++ r ≡ u ++ s → (t ≡ u) × (r ≡ s)
-counted_front t u r s same e =
-    (sym (take_at t r (length t) refl) ∙ ap (take (length t)) e ∙ take_at u s (length t) (sym same),
-     sym (drop_at t r (length t) refl) ∙ ap (drop (length t)) e ∙ drop_at u s (length t) (sym same))
+counted_front t u r s same e = (
+  sym (take_at t r (length t) refl) ∙ ap (take (length t)) e ∙ take_at u s (length t) (sym same),
+  sym (drop_at t r (length t) refl) ∙ ap (drop (length t)) e ∙ drop_at u s (length t) (sym same),
+)
 
 pub string_front : (t u r s : List ℕ) → length t < 2 ^ 32 → length u < 2 ^ 32 → string t ++ r ≡ string u ++ s
     → (t ≡ u) × (r ≡ s)

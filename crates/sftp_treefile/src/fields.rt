@@ -202,11 +202,7 @@ fn long_length_at(entry: u32, bytes: &[u8]) -> Result<(u64, &[u8]), TreeError>
 }
 
 /// Reads the length of the bytes of a file: a long one, or any other.
-pub(crate) fn length_at(
-    entry: u32,
-    is_long: bool,
-    bytes: &[u8],
-) -> Result<(u64, &[u8]), TreeError>
+pub(crate) fn length_at(entry: u32, is_long: bool, bytes: &[u8]) -> Result<(u64, &[u8]), TreeError>
     ensures found { IfOk result
         (λ taken. Reads (IsGivenLength is_long) (length_text is_long) bytes.now taken.0 taken.1.now) }
     ensures none { IfErr result (λ _. ReadsNone (IsGivenLength is_long) (length_text is_long) bytes.now) }

@@ -532,8 +532,12 @@ length_length true count = omega arith
 
 pub start_bound : (wide : Bool) (start : Owner × (Times × ℕ)) → IsFileStart wide start
     → length (file_start_text start) ≤ window
-start_bound wide start fits = omega (arith, owned_length start.0 start.1.0,
-    length_length (is_long start.1.1) start.1.1, length-append (owned_text start.0 start.1.0) (length_text (is_long start.1.1) start.1.1))
+start_bound wide start fits = omega (
+  arith,
+  owned_length start.0 start.1.0,
+  length_length (is_long start.1.1) start.1.1,
+  length-append (owned_text start.0 start.1.0) (length_text (is_long start.1.1) start.1.1),
+)
 
 pub kind_bound : (wide : Bool) (limits : TreeLimits) (rows : List Row) (timed : Kind × Times)
     → IsTimedKind wide limits rows timed → is_first timed.0 ≡ false → length (timed_text timed) ≤ window

@@ -254,9 +254,10 @@ module _ (wide : Bool) (limits : TreeLimits) (rows : List Row) where
   pub file_kind_taken : (old m new : Ahead) → IsSame old m → (owner : Owner) (times : Times) (bytes : List ℕ)
       → Takes (IsFile wide limits) file_text m (owner, (times, bytes)) new
       → Takes (IsTimedKind wide limits rows) timed_text old (First owner bytes, times) new
-  file_kind_taken old m new same owner times bytes t =
-      (((t.0.0.0, t.0.1.0, t.0.1.1), (t.0.0.1.0, t.0.0.1.1)),
-       λ before known. t.1 before (known_kept (bytes_ahead old) (bytes_ahead m) before same known))
+  file_kind_taken old m new same owner times bytes t = (
+    ((t.0.0.0, t.0.1.0, t.0.1.1), (t.0.0.1.0, t.0.0.1.1)),
+    λ before known. t.1 before (known_kept (bytes_ahead old) (bytes_ahead m) before same known),
+  )
 
   abbrev pub IsOther : Kind × Times → Type 0
   IsOther x = IsTimedKind wide limits rows x × (is_first x.0 ≡ false)
@@ -516,10 +517,11 @@ pub entry_of : (file : TreeFile) (i : ℕ) (row : Row) → i < length file.rows 
     → (i < length (entries_of file)) × ((row, times_at file.times (suc i)) ≡ get_or (entries_of file) i (row, times_at file.times (suc i)))
 unfolding entries_of
 entry_of file i row lt is =
-    let behind = times_behind file.times i in
-    (omega (arith, lt, entries_length file),
-     subst (λ (t : Times). (row, t) ≡ get_or (paired file.rows (times_of_rows file.times)) i (row, t)) (sym behind)
-     (entry_here file.rows (times_of_rows file.times) i row lt is))
+    let behind = times_behind file.times i in (
+      omega (arith, lt, entries_length file),
+      subst (λ (t : Times). (row, t) ≡ get_or (paired file.rows (times_of_rows file.times)) i (row, t)) (sym behind)
+          (entry_here file.rows (times_of_rows file.times) i row lt is),
+    )
 
 -- the entries from one on are this one and those after it
 entries_split : (entries : List Entry) (i : ℕ) (entry : Entry) → i < length entries → entry ≡ get_or entries i entry

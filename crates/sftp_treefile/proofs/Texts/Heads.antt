@@ -628,9 +628,11 @@ module _ (wide : Bool) (limits : TreeLimits) where
       → AreEntries wide limits earlier (entries ++ entry ∷ [])
   entries_push earlier [] entry fits next =
       (subst (λ (rows : List Row). IsEntry wide limits rows entry) (append-nil earlier) next, tt)
-  entries_push earlier (x ∷ entries) entry fits next =
-      (fits.0, entries_push (earlier ++ x.0 ∷ []) entries entry fits.1
-      (subst (λ (rows : List Row). IsEntry wide limits rows entry) (sym (append_assoc earlier (x.0 ∷ []) (rows_in entries))) next))
+  entries_push earlier (x ∷ entries) entry fits next = (
+    fits.0,
+    entries_push (earlier ++ x.0 ∷ []) entries entry fits.1
+        (subst (λ (rows : List Row). IsEntry wide limits rows entry) (sym (append_assoc earlier (x.0 ∷ []) (rows_in entries))) next),
+  )
 
   -- ---- reading, entry by entry
 

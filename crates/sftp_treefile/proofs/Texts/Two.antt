@@ -39,8 +39,13 @@ two_kept file two = record {
   count = two.count;
   root = two.root;
   rows = two.rows;
-  total = omega (arith, rows_small file.limits two.limits.file_bytes.1 [] file.rows two.rows, two.count,
-      two.limits.entries.1, two.limits.total_bytes.0);
+  total = omega (
+    arith,
+    rows_small file.limits two.limits.file_bytes.1 [] file.rows two.rows,
+    two.count,
+    two.limits.entries.1,
+    two.limits.total_bytes.0,
+  );
   times = subst (AreFileTimes file.rows) (sym two.times) tt;
 }
 
