@@ -1,5 +1,5 @@
 -- Tree files that are read from a source: what is taken of the bytes ahead.
-use Rattle.std.specs.Prelude.{◌≡◌, ◌==◌, ◌||◌, ℕ, ◌+◌, ◌<◌, ◌≤◌, ◌⊎◌, Bool, List, [], ◌∷◌, ◌++◌, length, IsTrue}
+use Rattle.std.specs.Prelude.{◌≡◌, ◌==◌, ◌||◌, ℕ, ◌<◌, ◌≤◌, ◌⊎◌, Bool, List, [], ◌∷◌, ◌++◌, length, IsTrue}
 use Rattle.std.specs.Prelude.{Result, MatchResult}
 use Rattle.std.specs.Prelude.{map}
 use Rattle.std.specs.List.{flat_map}

@@ -1,14 +1,14 @@
 -- The texts of what an entry says behind its path: owners and times, lengths, and whole kinds. A letter says which
 -- fields follow.
 use Rattle.sftp_treefile.proofs.Imports.{◌≡◌, ℕ, get_or, ◌<◌, ◌≤◌, ◌^◌, Bool, true, false, List, [], ◌∷◌, ◌++◌, length}
-use Rattle.sftp_treefile.proofs.Imports.{drop, refl, sym, ap, subst, ◌∙◌, append_assoc, arith, IsTrue, and_parts, eqb-true}
+use Rattle.sftp_treefile.proofs.Imports.{drop, refl, sym, ap, subst, ◌∙◌, append_assoc, arith, and_parts, eqb-true}
 use Rattle.sftp_treefile.proofs.Imports.{not-false, false≢true, uint32, uint64, string, nat_le, ◌==◌, ◌||◌, leb-true}
 use Rattle.sftp_treefile.proofs.Imports.{Owner, Kind, Row, Times, TreeLimits, owner_text, IsOwner, IsTarget, Reads}
-use Rattle.sftp_treefile.proofs.Imports.{ReadsNone, IsNumber, IsLongNumber, IsFileBytes, IsFirstAmong, is_file_letter}
+use Rattle.sftp_treefile.proofs.Imports.{ReadsNone, IsNumber, IsLongNumber, IsFirstAmong, is_file_letter}
 use Rattle.sftp_treefile.proofs.Imports.{has_times, no_times, times_text, letter_for, file_letter, is_long, length_text}
 use Rattle.sftp_treefile.proofs.Imports.{owned_text, timed_text, AreTimes, AreGiven, IsGivenOwner, given_owner_text}
 use Rattle.sftp_treefile.proofs.Imports.{IsGivenLength, IsKnownIn, directory_text, IsOwnedIn, AreTimesIn, IsLengthIn}
-use Rattle.sftp_treefile.proofs.Imports.{IsOfOpening, IsTimedKind, IsFileStart, file_start_text, IsFile, file_text}
+use Rattle.sftp_treefile.proofs.Imports.{IsTimedKind, IsFileStart, file_start_text, IsFile, file_text}
 use Rattle.std.specs.Prelude.{if◌then◌else◌}
 use Rattle.sftp_treefile.proofs.Imports.{suc, zero, any_times}
 use Rattle.std.proofs.lemmas.Bool.{leb-false, le-leb, lt-leb}

@@ -2,18 +2,18 @@
 use Rattle.sftp_treefile.proofs.Imports.{◌≡◌, ℕ, ◌<◌, List, [], ◌++◌, length, sym, ap, subst, ◌∙◌, append_assoc}
 use Rattle.sftp_treefile.proofs.Imports.{arith, inl, inr, flat_map, append-nil, nil_from_length, TreeError, Row, Head}
 use Rattle.sftp_treefile.proofs.Imports.{TreeLimits, Opening, Times, row_text, spelled, spelled_after, AreRows, Reads}
-use Rattle.sftp_treefile.proofs.Imports.{head_bytes, head_of, IsHead, AreRead, AreNone, suc, zero, ◌^◌, ◌∷◌, get_or}
+use Rattle.sftp_treefile.proofs.Imports.{head_bytes, head_of, IsHead, AreRead, suc, zero, ◌^◌, ◌∷◌, get_or}
 use Rattle.sftp_treefile.proofs.Imports.{Kind, IsKind, KindHasLengths, HasLengths, ◌+◌, ◌≤◌, Bool, true, false, refl}
-use Rattle.sftp_treefile.proofs.Imports.{length-append, string, uint32, Owner, owner_text, kind_text, IsPlaceText}
+use Rattle.sftp_treefile.proofs.Imports.{length-append, string, uint32, Owner, owner_text, kind_text}
 use Rattle.sftp_treefile.proofs.Imports.{tree_opening, limits_text, front_text, root_text, IsFileStart, IsTrue, ◌||◌}
-use Rattle.sftp_treefile.proofs.Imports.{file_start_text, Follows, window, are_own, are_far, false≢true, is_lowest}
-use Rattle.sftp_treefile.proofs.Imports.{AreLimits, AreRaised, AreSet, usual_limits, is_wide, opening_by, opening_with}
+use Rattle.sftp_treefile.proofs.Imports.{file_start_text, Follows, window, are_own, are_far, is_lowest}
+use Rattle.sftp_treefile.proofs.Imports.{AreLimits, AreSet, usual_limits, is_wide, opening_by, opening_with}
 use Rattle.sftp_treefile.proofs.Imports.{opening_of, has_times, no_times, any_times, entry_text, entries_text, timed_text}
 use Rattle.sftp_treefile.proofs.Imports.{times_of_root, times_of_rows, root_owner_text, AreTimes, AreTimesOf, AreTimesIn}
-use Rattle.sftp_treefile.proofs.Imports.{AreFileTimes, MayHaveTimes, IsLengthIn, IsOfOpening, IsEntry, AreEntries, paired}
-use Rattle.sftp_treefile.proofs.Imports.{kept, kept_by, rows_in, times_in, contents_length, content_length, IsOwnedIn}
-use Rattle.sftp_treefile.proofs.Imports.{IsTimedKind, length_text, is_long, is_file_letter, letter_for, file_letter, Front}
-use Rattle.sftp_treefile.proofs.Imports.{times_text, owned_text, uint64, OutOfMemoryOr}
+use Rattle.sftp_treefile.proofs.Imports.{AreFileTimes, MayHaveTimes, IsLengthIn, IsOfOpening, AreEntries, paired}
+use Rattle.sftp_treefile.proofs.Imports.{kept, kept_by, rows_in, times_in, contents_length}
+use Rattle.sftp_treefile.proofs.Imports.{IsTimedKind, length_text, is_long, file_letter}
+use Rattle.sftp_treefile.proofs.Imports.{times_text, owned_text, OutOfMemoryOr}
 use Rattle.sftp_treefile.specs.declared.limits.Opening.TheVariants.{Usual, Raised, Wide}
 use Rattle.sftp_treefile.specs.declared.errors.TreeError.TheVariants.{NoMemory}
 use Rattle.sftp_treefile.specs.declared.files.TreeFile.{TreeFile}

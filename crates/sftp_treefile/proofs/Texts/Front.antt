@@ -1,28 +1,28 @@
 -- What is read of the bytes held is read of the bytes ahead.
-use Rattle.sftp_treefile.proofs.Imports.{◌≡◌, ℕ, ◌+◌, ◌-◌, ◌<◌, ◌≤◌, ◌^◌, Bool, true, false, List, [], ◌∷◌, ◌++◌, length}
+use Rattle.sftp_treefile.proofs.Imports.{◌≡◌, ℕ, ◌+◌, ◌-◌, ◌<◌, ◌≤◌, Bool, true, false, List, [], ◌∷◌, ◌++◌, length}
 use Rattle.sftp_treefile.proofs.Imports.{drop, refl, sym, ap, subst, ◌∙◌, append_assoc, append-nil, arith, inl, inr}
 use Rattle.sftp_treefile.proofs.Imports.{length-append, IsAtEnd, min, take, nil_from_length, take-append-drop}
-use Rattle.sftp_treefile.proofs.Imports.{length-take-le, Ahead, bytes_ahead, HasAhead, ahead_without, string, uint32}
+use Rattle.sftp_treefile.proofs.Imports.{length-take-le, Ahead, bytes_ahead, HasAhead, ahead_without, string}
 use Rattle.sftp_treefile.proofs.Imports.{IsTrue, TreeError, Owner, Kind, Row, Times, TreeLimits, timed_text, entry_text}
 use Rattle.sftp_treefile.proofs.Imports.{Reads, ReadsNone, OutOfMemoryOr, IsFile, file_text, IsTimedKind, IsEntry}
 use Rattle.sftp_treefile.proofs.Imports.{Follows, IsExcuse, ExcuseOr, window, HoldsWindow, IsSame, Takes, Lacks}
 use Rattle.sftp_treefile.proofs.Imports.{AreCounted, plain, IsFileStart, file_start_text, IsNothing, with_room}
-use Rattle.sftp_treefile.proofs.Imports.{TakesSome, TakesRows, LacksRows, TakesAll, LacksAll, TakesText, AreEntries}
+use Rattle.sftp_treefile.proofs.Imports.{TakesSome, TakesRows, LacksRows, TakesAll, LacksAll}
 use Rattle.sftp_treefile.proofs.Imports.{AreRead, IsHead, head_bytes, Head, suc, zero, get_or, flat_map, is_file_letter}
-use Rattle.sftp_treefile.proofs.Imports.{rows_in, times_in, kept, is_lowest, is_wide, contents_length, content_length}
+use Rattle.sftp_treefile.proofs.Imports.{rows_in, times_in, kept, is_lowest, is_wide, contents_length}
 use Rattle.sftp_treefile.proofs.Imports.{letter_for, file_letter, has_times, is_long, no_times, paired, times_at}
 use Rattle.sftp_treefile.proofs.Imports.{times_of_rows, times_of_root, false≢true}
 use Rattle.sftp_streams.proofs.Buffers.{ahead_parts}
 use Rattle.sftp_streams.proofs.Buffers.{known_kept, front_held, front_taken}
-use Rattle.sftp_treefile.specs.TreeFile.{is_first, are_bytes, IsTreeFile, IsSpelled, GivesFile, entries_text}
+use Rattle.sftp_treefile.specs.TreeFile.{is_first, IsTreeFile, IsSpelled, GivesFile}
 use Rattle.sftp_treefile.specs.declared.errors.TreeError.TheVariants.{NoMemory, Io}
 use Rattle.sftp_treefile.specs.declared.files.Kind.TheVariants.{Dir, First, Further, Link}
 use Rattle.sftp_treefile.proofs.Texts.Entries.{start_one, start_parts}
 use Rattle.sftp_treefile.proofs.Texts.Files.{kind_bound}
-use Rattle.sftp_treefile.proofs.Texts.Heads.{Entry, entry_fits, entry_read, no_path, no_kind, read_none, read_more, entry_none}
+use Rattle.sftp_treefile.proofs.Texts.Heads.{Entry, entry_fits, entry_read, no_path, no_kind, read_more, entry_none}
 use Rattle.sftp_treefile.proofs.Texts.Heads.{entries_push, entries_are_one}
 use Rattle.sftp_treefile.specs.declared.files.TreeFile.{TreeFile}
-use Rattle.std.specs.Prelude.{Result, Ok, Err, IfOk, IfErr, Some, Option, None, map}
+use Rattle.std.specs.Prelude.{Result, Ok, Err, IfOk, IfErr, Some, Option, None}
 use Rattle.sftp_treefile.specs.TreeFileParts.{IsAt}
 use Rattle.sftp_treefile.specs.Streamed.{IsIn, IsAmong, MayFail, GivesUnless}
 use Rattle.sftp_treefile.proofs.Texts.Files.{no_file_head, no_file_entries, no_file_trailing, file_read, file_from}

@@ -8,7 +8,7 @@ use Rattle.sftp_treefile.proofs.Imports.{IsCount, IsFront, front_bytes, AreSet, 
 use Rattle.sftp_treefile.proofs.Imports.{head_bytes, IsHead, ◌+◌, ◌≤◌, [], ◌∷◌, length, append_assoc, inl, inr}
 use Rattle.sftp_treefile.proofs.Imports.{flat_map, append-nil, length-append, TreeError, Kind, Row, entry_text}
 use Rattle.sftp_treefile.proofs.Imports.{timed_text, IsKind, IsTimedKind, IsEntry, AreEntries, OutOfMemoryOr, Follows}
-use Rattle.sftp_treefile.proofs.Imports.{AreRead, AreNone, IsLongNumber, root_owner_text, no_times, rows_in, with_room}
+use Rattle.sftp_treefile.proofs.Imports.{AreRead, AreNone, root_owner_text, no_times, rows_in, with_room}
 use Rattle.sftp_treefile.proofs.Imports.{contents_length, content_length, IsNext, plain_owner_text}
 use Rattle.sftp_treefile.specs.TreeFile.{IsBetween}
 use Rattle.sftp_treefile.specs.declared.limits.Opening.TheVariants.{Usual, Raised, Wide}

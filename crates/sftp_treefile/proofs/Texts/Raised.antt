@@ -1,7 +1,7 @@
 -- Files with other limits.
-use Rattle.sftp_treefile.proofs.Imports.{◌≡◌, ℕ, ◌≤◌, ◌<◌, List, [], ◌∷◌, ◌++◌, length, sym, ap, refl, ◌∙◌, arith, suc, zero}
+use Rattle.sftp_treefile.proofs.Imports.{◌≡◌, ℕ, ◌≤◌, ◌<◌, List, [], ◌∷◌, ◌++◌, length, sym, ap, refl, arith, suc, zero}
 use Rattle.sftp_treefile.proofs.Imports.{drop, get_or, Row, Kind, TreeLimits, AreLimits, AreRaised, AreRows, IsKind}
-use Rattle.sftp_treefile.proofs.Imports.{contents_length, content_length, most_limits, highest_limits, usual_limits, max}
+use Rattle.sftp_treefile.proofs.Imports.{contents_length, content_length, most_limits, highest_limits, max}
 use Rattle.sftp_treefile.specs.declared.files.Kind.TheVariants.{Dir, First, Further, Link}
 use Rattle.sftp_treefile.specs.declared.files.TreeFile.{TreeFile}
 use Rattle.sftp_treefile.specs.TreeFile.{IsTreeFile, longest, raised_limits, fitting_limits}

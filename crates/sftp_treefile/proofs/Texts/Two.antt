@@ -1,7 +1,7 @@
 -- Files with the first and the second opening have the bytes that they would have if there were no third.
-use Rattle.sftp_treefile.proofs.Imports.{◌≡◌, ℕ, ◌<◌, ◌≤◌, ◌+◌, ◌*◌, ◌^◌, Bool, true, false, List, [], ◌∷◌, ◌++◌, length, sym}
-use Rattle.sftp_treefile.proofs.Imports.{ap, subst, refl, ◌∙◌, ◌||◌, append_assoc, arith, flat_map, Row, Kind, Times}
-use Rattle.sftp_treefile.proofs.Imports.{TreeLimits, Opening, AreLimits, AreRaised, AreRows, IsKind, row_text, kind_text}
+use Rattle.sftp_treefile.proofs.Imports.{◌≡◌, ℕ, ◌≤◌, ◌*◌, ◌^◌, Bool, true, false, List, [], ◌∷◌, ◌++◌, length, sym}
+use Rattle.sftp_treefile.proofs.Imports.{ap, subst, refl, ◌∙◌, ◌||◌, arith, flat_map, Row, Kind, Times}
+use Rattle.sftp_treefile.proofs.Imports.{TreeLimits, AreRows, IsKind, row_text, kind_text}
 use Rattle.sftp_treefile.proofs.Imports.{spelled, spelled_after, opening_of, opening_by, is_wide, is_long, length_text}
 use Rattle.sftp_treefile.proofs.Imports.{are_own, are_far, any_times, contents_length, content_length, file_letter}
 use Rattle.sftp_treefile.proofs.Imports.{owner_text, string, false≢true, AreFileTimes}

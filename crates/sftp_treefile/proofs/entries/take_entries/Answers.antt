@@ -1,5 +1,5 @@
 -- All entries, and then the judgement that no lower opening would do.
-use Rattle.sftp_treefile.proofs.Imports.{inr, sym, ◌∙◌, err_from_is_err_and, is_wide, TakesRows}
+use Rattle.sftp_treefile.proofs.Imports.{inr, sym, ◌∙◌, err_from_is_err_and}
 use Rattle.sftp_treefile.proofs.Texts.Front.{still_or, among_may, all_taken, rows_lack, lower_lacks}
 use Rattle.sftp_treefile.proofs.entries.take_entries.Goals as goal
 

@@ -1,5 +1,5 @@
 -- An entry is its path and its kind.
-use Rattle.sftp_treefile.proofs.Imports.{◌≤◌, arith, subst, contents_length, err_from_is_err_and, ℕ}
+use Rattle.sftp_treefile.proofs.Imports.{◌≤◌, arith, contents_length, err_from_is_err_and}
 use Rattle.sftp_treefile.proofs.Texts.Front.{still_or, or_excused, path_lacks, kind_lacks, entry_taken}
 use Rattle.sftp_treefile.proofs.entries.take_row.Goals as goal
 

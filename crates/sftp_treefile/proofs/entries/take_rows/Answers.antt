@@ -1,5 +1,5 @@
 -- One entry more, or none that may come next.
-use Rattle.sftp_treefile.proofs.Imports.{◌≡◌, ◌+◌, ◌∙◌, ap, sym, arith, err_from_is_err_and, contents_length, inl}
+use Rattle.sftp_treefile.proofs.Imports.{◌≡◌, ◌+◌, ◌∙◌, ap, sym, arith, err_from_is_err_and, contents_length}
 use Rattle.sftp_treefile.proofs.Texts.Heads.{contents_more, follows_next}
 use Rattle.sftp_treefile.proofs.Texts.Front.{still_or, among_in, no_rows, rows_taken, row_lacks}
 use Rattle.sftp_treefile.proofs.entries.take_rows.Goals as goal

@@ -1,7 +1,7 @@
 -- The head is read; no entries follow, and no time is known.
-use Rattle.sftp_treefile.proofs.Imports.{◌≡◌, ◌++◌, ◌||◌, [], ◌∷◌, List, ℕ, Bool, false, refl, sym, ap, subst, ◌∙◌, false≢true, arith, hex, components}
+use Rattle.sftp_treefile.proofs.Imports.{◌≡◌, [], ◌∷◌, List, refl, sym, subst, ◌∙◌, false≢true, arith, hex, components}
 use Rattle.sftp_treefile.proofs.Imports.{parts, Head, usual_limits, Reads, IsHead, head_bytes, nil_from_length, IsTrue}
-use Rattle.sftp_treefile.proofs.Imports.{is_lowest, kept, times_in, no_times, is_wide, AreEntries, flat_map, entry_text, length, are_far}
+use Rattle.sftp_treefile.proofs.Imports.{is_lowest, kept, times_in, no_times, length}
 use Rattle.sftp_treefile.specs.declared.limits.Opening.TheVariants.{Wide}
 use Rattle.sftp_treefile.specs.Examples.{lower_bytes}
 use Rattle.sftp_treefile.proofs.Texts.{usual_are, raised_are, raised_near}

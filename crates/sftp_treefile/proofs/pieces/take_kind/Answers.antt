@@ -1,5 +1,5 @@
 -- A file is told by its letter.
-use Rattle.sftp_treefile.proofs.Imports.{◌≡◌, ◌∷◌, List, ℕ, sym, ◌∙◌, err_from_is_err_and, IsTimedKind, timed_text}
+use Rattle.sftp_treefile.proofs.Imports.{sym, ◌∙◌, err_from_is_err_and, IsTimedKind, timed_text}
 use Rattle.sftp_treefile.proofs.Texts.Front.{still_or, or_excused, file_kind_lacks, file_kind_taken, kept_lacks, kept_takes}
 use Rattle.sftp_treefile.proofs.pieces.take_kind.Goals as goal
 

@@ -1,5 +1,5 @@
 -- The head, the entries and nothing else: what was written, and nothing different.
-use Rattle.sftp_treefile.proofs.Imports.{◌≡◌, List, ℕ, refl, arith, err_from_is_err_and, HasAhead}
+use Rattle.sftp_treefile.proofs.Imports.{refl, arith, err_from_is_err_and, HasAhead}
 use Rattle.sftp_treefile.proofs.Texts.Front.{in_may, excuse_only, tree_file_fits, no_head_taken, no_rows_taken, no_end_taken, file_taken_whole}
 use Rattle.sftp_treefile.proofs.Texts.Files.{one_file}
 use Rattle.sftp_treefile.proofs.Texts.Heads.{set_entries}

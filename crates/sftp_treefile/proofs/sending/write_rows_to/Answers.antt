@@ -1,7 +1,6 @@
 -- Each entry can be written, and all are; where one fails, a beginning of the file is written.
-use Rattle.sftp_treefile.proofs.Imports.{◌≡◌, ◌<◌, ℕ, suc, List, [], ◌++◌, ◌∙◌, ap, refl, sym, subst, arith, length, take, take_all}
+use Rattle.sftp_treefile.proofs.Imports.{◌≡◌, ◌<◌, suc, List, [], ◌++◌, ◌∙◌, ap, refl, sym, subst, arith, length, take, take_all}
 use Rattle.sftp_treefile.proofs.Imports.{get_or, flat_map, Row, Times, entry_text, head_text, spelled, AreRows, times_at}
-use Rattle.sftp_treefile.proofs.Imports.{times_of_rows}
 use Rattle.std.specs.Io.KnownBytes.{Appends}
 use Rattle.std.proofs.KnownBytes.{Appends-nil}
 use Rattle.sftp_streams.specs.Streams.{AppendsPart}

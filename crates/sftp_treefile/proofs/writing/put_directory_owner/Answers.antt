@@ -1,5 +1,5 @@
 -- The fields, one after the other.
-use Rattle.sftp_treefile.proofs.Imports.{[], ◌∷◌, ◌∙◌, ap, ◌++◌, List, ℕ, owned_text, letter_for, has_times}
+use Rattle.sftp_treefile.proofs.Imports.{[], ◌∷◌, owned_text, letter_for, has_times}
 use Rattle.sftp_treefile.proofs.Texts.Files.{two_pieces}
 use Rattle.sftp_treefile.proofs.writing.put_directory_owner.Goals as goal
 
