@@ -42,7 +42,22 @@ pub record Fits (t : Tree) : Type 0 where
 
 pub fits-parts : (t : Tree) → IsTrue (fits t) → Fits t
 unfolding fits
-fits-parts t h = search rules
+fits-parts t h =
+    let all = and_parts (entries_fit t) _ h in
+    let places = and_parts (depths_fit t) _ all.1 in
+    let home = and_parts (home_fits t) _ places.1 in
+    let links = and_parts (links_fit t) _ home.1 in
+    let files = and_parts (files_fit t) _ links.1 in
+    let total = and_parts (total_fits t) (numbers_fit t) files.1 in
+    record {
+      entries = all.0;
+      depths = places.0;
+      home = home.0;
+      links = links.0;
+      files = files.0;
+      total = total.0;
+      numbers = total.1;
+    }
 
 pub fits-from : (t : Tree) → Fits t → IsTrue (fits t)
 unfolding fits

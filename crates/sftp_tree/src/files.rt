@@ -113,10 +113,21 @@ impl Files {
         requires { IfSome named (λ number. IfSome (get nat_cmp self.old number) (λ s. 0 < s.names)) }
         ensures { IsChangedWhereNamed without_a_name named self.old self.new }
     {
-        let before = length_named(&self.by_number, named);
-        forget_name(&mut self.by_number, named);
-        let after = length_named(&self.by_number, named);
-        self.total = lessened(self.total, before, after);
+        if let Some(number) = named {
+            self.lower(number);
+        }
+    }
+
+    /// Counts one name less of the file of a number, if there is one. The file is removed with its last name if it has
+    /// no pin.
+    fn lower(&mut self, number: FileNo)
+        requires { IfSome (get nat_cmp self.old number) (λ s. 0 < s.names) }
+        ensures { IsChanged without_a_name number self.old self.new }
+    {
+        let before = length_named(&self.by_number, Some(number));
+        lower(&mut self.by_number, number);
+        let left = length_named(&self.by_number, Some(number));
+        self.total = lessened(self.total, before, left);
     }
 
     /// Sets the attributes of the file of a number, if there is one.
@@ -257,16 +268,6 @@ fn count_name(files: &mut BTreeMap<FileNo, Stored>, named: Option<FileNo>)
 {
     if let Some(number) = named {
         raise(files, number);
-    }
-}
-
-/// Counts one name less of a file, if one is named. The file is removed with its last name if it has no pin.
-fn forget_name(files: &mut BTreeMap<FileNo, Stored>, named: Option<FileNo>)
-    requires { IfSome named (λ number. IfSome (get nat_cmp files.old.entries number) (λ s. 0 < s.names)) }
-    ensures { IsChangedWhereNamed without_a_name named files.old.entries files.new.entries }
-{
-    if let Some(number) = named {
-        lower(files, number);
     }
 }
 

@@ -187,6 +187,7 @@ raised-kept t kept =
     }
 
 pub raised-start : (t : Tree) (bytes : List ℕ) → IsStart t bytes → IsStart (raised_tree t) (picture (raised_tree t))
+unfolding picture
 raised-start t bytes start =
     let kept = raised-kept t (record { well_formed = start.well_formed; within_limits = start.within_limits; trimmed = start.trimmed }) in
     record {
