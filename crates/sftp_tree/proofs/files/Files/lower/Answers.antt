@@ -2,8 +2,8 @@ use Rattle.sftp_tree.proofs.Imports.{◌-◌, arith, Some, Stored, without_a_nam
 use Rattle.sftp_tree.proofs.Totals.{part-summed, summed-where, shrunk, held-less}
 use Rattle.sftp_tree.proofs.files.Files.lower.Goals as goal
 
-pub lessened-requires-clause-before : goal.lessened-requires-clause-before
-lessened-requires-clause-before c =
+pub lessened-self-inside-requires-clause-before : goal.lessened-self-inside-requires-clause-before
+lessened-self-inside-requires-clause-before c =
     let files = c.self.inside.by_number.entries in
     omega (
       arith,
@@ -11,8 +11,8 @@ lessened-requires-clause-before c =
       part-summed files files c.self.invariant.0 c.self.inside.total (Some c.args.number) c.self.invariant.1,
     )
 
-pub lessened-requires-clause-after : goal.lessened-requires-clause-after
-lessened-requires-clause-after c = omega (
+pub lessened-self-inside-requires-clause-after : goal.lessened-self-inside-requires-clause-after
+lessened-self-inside-requires-clause-after c = omega (
   arith,
   c.length_named-before.ensures,
   c.length_named-left.ensures,
@@ -23,5 +23,5 @@ lessened-requires-clause-after c = omega (
 pub invariant_of-self : goal.invariant_of-self
 invariant_of-self c =
     summed-where c.self.inside.by_number.entries c.lower.new.files.entries c.self.invariant.0 without_a_name
-    (Some c.args.number) c.self.inside.total c.lessened.result c.self.invariant.1 c.lower.ensures
-    (omega (arith, c.lessened.ensures, c.length_named-before.ensures, c.length_named-left.ensures))
+    (Some c.args.number) c.self.inside.total c.lessened-self-inside.result c.self.invariant.1 c.lower.ensures
+    (omega (arith, c.lessened-self-inside.ensures, c.length_named-before.ensures, c.length_named-left.ensures))

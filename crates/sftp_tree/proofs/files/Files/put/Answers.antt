@@ -4,8 +4,8 @@ use Rattle.sftp_tree.specs.StoredFiles.{IsSummed}
 use Rattle.sftp_tree.proofs.Totals.{part-summed, summed-put}
 use Rattle.sftp_tree.proofs.files.Files.put.Goals as goal
 
-pub exchanged-requires-clause-before : goal.exchanged-requires-clause-before
-exchanged-requires-clause-before c =
+pub exchanged-self-inside-requires-clause-before : goal.exchanged-self-inside-requires-clause-before
+exchanged-self-inside-requires-clause-before c =
     let files = c.self.inside.by_number.entries in
     omega (
       arith,
@@ -13,17 +13,17 @@ exchanged-requires-clause-before c =
       part-summed files files c.self.invariant.0 c.self.inside.total (Some c.args.number) c.self.invariant.1,
     )
 
-pub exchanged-requires-clause-total : goal.exchanged-requires-clause-total
-exchanged-requires-clause-total c =
+pub exchanged-self-inside-requires-clause-total : goal.exchanged-self-inside-requires-clause-total
+exchanged-self-inside-requires-clause-total c =
     omega (arith, c.self.invariant.1, subst (λ (s : Stores). total_of (contents s) < 2 ^ 63) (sym c.self.view_is) c.requires.total)
 
-pub exchanged-requires-clause-after : goal.exchanged-requires-clause-after
-exchanged-requires-clause-after c = omega (arith, ap length c.as_slice.ensures, c.requires.count)
+pub exchanged-self-inside-requires-clause-after : goal.exchanged-self-inside-requires-clause-after
+exchanged-self-inside-requires-clause-after c = omega (arith, ap length c.as_slice.ensures, c.requires.count)
 
 pub invariant_of-self-2 : goal.invariant_of-self-2
 invariant_of-self-2 c =
     let files = c.self.inside.by_number.entries in
     let new : Stored = record { content = c.args.content; names = 1; pins = 0 } in
-    subst (λ (s : Stores). IsSummed s c.exchanged.result) (sym c.in_ok-insert.ensures.entries)
-    (summed-put files c.args.number new c.self.inside.total c.exchanged.result c.self.invariant.0 c.self.invariant.1
-    (omega (arith, c.exchanged.ensures, c.length_named-before.ensures, ap length c.as_slice.ensures)))
+    subst (λ (s : Stores). IsSummed s c.exchanged-self-inside.result) (sym c.in_ok-insert.ensures.entries)
+    (summed-put files c.args.number new c.self.inside.total c.exchanged-self-inside.result c.self.invariant.0 c.self.invariant.1
+    (omega (arith, c.exchanged-self-inside.ensures, c.length_named-before.ensures, ap length c.as_slice.ensures)))
