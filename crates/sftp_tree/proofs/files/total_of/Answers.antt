@@ -6,7 +6,7 @@ use Rattle.sftp_tree.proofs.files.total_of.Goals as goal
 pub loop-stored-init : goal.loop-stored-init
 loop-stored-init c = omega (
   arith,
-  ap left_of c.into_iter-stored-iterator.ensures.into_iter_gives.0,
+  ap left_of c.into_iter-stored-iterator.ensures.into_iter_gives,
   ap left_of c.values-stored-items.ensures.rest,
   left-all c.args.files.now.entries,
 )

@@ -21,6 +21,7 @@ pub exchanged-self-inside-requires-clause-after : goal.exchanged-self-inside-req
 exchanged-self-inside-requires-clause-after c = omega (arith, ap length c.as_slice.ensures, c.requires.count)
 
 pub invariant_of-self-2 : goal.invariant_of-self-2
+unfolding put
 invariant_of-self-2 c =
     let files = c.self.inside.by_number.entries in
     let new : Stored = record { content = c.args.content; names = 1; pins = 0 } in
