@@ -433,13 +433,15 @@ contents_append (x ∷ xs) ys = omega (arith, contents_append xs ys)
 
 pub numbered_total : (number : ℕ) (rows : List Row) → total_of (numbered_from number (contents_of rows)) ≡ contents_length rows
 numbered_total number [] = refl
-numbered_total number (row ∷ rows) = by row.kind
+numbered_total number (row ∷ rows) = by row.kind (numbered_total number rows) (numbered_total (suc number) rows)
   where
-    by : (kind : Kind) → total_of (numbered_from number (content_of kind ++ contents_of rows)) ≡ content_length kind + contents_length rows
-    by (kinds.Dir owner) = omega (arith, numbered_total number rows)
-    by (kinds.First owner bytes) = omega (arith, numbered_total (suc number) rows)
-    by (kinds.Further entry) = omega (arith, numbered_total number rows)
-    by (kinds.Link target) = omega (arith, numbered_total number rows)
+    by : (kind : Kind) → total_of (numbered_from number (contents_of rows)) ≡ contents_length rows
+        → total_of (numbered_from (suc number) (contents_of rows)) ≡ contents_length rows
+        → total_of (numbered_from number (content_of kind ++ contents_of rows)) ≡ content_length kind + contents_length rows
+    by (kinds.Dir owner) same next = omega (arith, same)
+    by (kinds.First owner bytes) same next = omega (arith, next)
+    by (kinds.Further entry) same next = omega (arith, same)
+    by (kinds.Link target) same next = omega (arith, same)
 
 pub grown_total : (root : Owner) (rows : List Row) (names : Names) (stores : Stores) → IsGrown root rows names stores → total_of (contents stores) ≡ contents_length rows
 grown_total root rows names stores grown = ap total_of grown.contents_are ∙ numbered_total 0 rows
