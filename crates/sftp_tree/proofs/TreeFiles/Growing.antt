@@ -154,7 +154,7 @@ unfolding picture spelled spelled_after are_own are_far get hex
 blank_picture = refl
 
 pub blank_start : IsStart blank blank_bytes
-unfolding picture
+unfolding spelled picture
 blank_start = record {
   well_formed = blank_kept.well_formed;
   within_limits = blank_kept.within_limits;
