@@ -1,7 +1,7 @@
 -- Four limits that are not all the usual ones.
 use Rattle.sftp_treefile.proofs.Imports.{sym, err_from_is_err_and}
 use Rattle.sftp_treefile.proofs.Texts.Heads.{no_limits, usual_none}
-use Rattle.sftp_treefile.proofs.heads.own_limits_at.Goals as goal
+use Rattle.sftp_treefile.proofs.heads.raised_limits_at.Goals as goal
 
 pub returns-in_err-limits-clause-none : goal.returns-in_err-limits-clause-none
 returns-in_err-limits-clause-none c =
