@@ -39,20 +39,32 @@ fn put_limits<W: fmt::Write>(
     if old == new {
         return Ok(());
     }
+    let are_far = old.are_far() || new.are_far();
     f.write_str(" limits ")?;
-    put_four(old, f)?;
+    put_numbers(old, are_far, f)?;
     f.write_str(" -> ")?;
-    put_four(new, f)
+    put_numbers(new, are_far, f)
 }
 
-fn put_four<W: fmt::Write>(limits: TreeLimits, f: &mut fmt::Formatter<W>) -> fmt::Result {
+/// Writes limits with commas between them: four, and that on the bytes of all files if one of the trees has limits
+/// which no other opening holds.
+fn put_numbers<W: fmt::Write>(
+    limits: TreeLimits,
+    are_far: bool,
+    f: &mut fmt::Formatter<W>,
+) -> fmt::Result {
     let TreeLimits {
         entries,
         file_bytes,
         read_bytes,
         open_handles,
+        total_bytes,
     } = limits;
-    write!(f, "{entries},{file_bytes},{read_bytes},{open_handles}")
+    write!(f, "{entries},{file_bytes},{read_bytes},{open_handles}")?;
+    if are_far {
+        write!(f, ",{total_bytes}")?;
+    }
+    Ok(())
 }
 
 /// Writes how a new tree file differs from an old one, in the order of the places: a line for the head if it differs,

@@ -33,26 +33,37 @@ fn put_head<O: Write>(old: &TreeFile, new: &TreeFile, json: &mut JsonLines<'_, O
     put_numbers("gid", u64::from(old.gid), u64::from(new.gid), json);
     if old.limits != new.limits {
         json.open_member("limits");
-        put_limits("old", old.limits, json);
-        put_limits("new", new.limits, json);
+        let are_far = old.limits.are_far() || new.limits.are_far();
+        put_limits("old", old.limits, are_far, json);
+        put_limits("new", new.limits, are_far, json);
         json.close();
     }
     json.end_line();
 }
 
-/// Writes limits as a member.
-fn put_limits<O: Write>(name: &str, limits: TreeLimits, json: &mut JsonLines<'_, O>) {
+/// Writes limits as a member, that on the bytes of all files among them if one of the trees has limits which no other
+/// opening holds.
+fn put_limits<O: Write>(
+    name: &str,
+    limits: TreeLimits,
+    are_far: bool,
+    json: &mut JsonLines<'_, O>,
+) {
     let TreeLimits {
         entries,
         file_bytes,
         read_bytes,
         open_handles,
+        total_bytes,
     } = limits;
     json.open_member(name);
     json.number("entries", u64::from(entries));
-    json.number("file_bytes", u64::from(file_bytes));
+    json.number("file_bytes", file_bytes);
     json.number("read_bytes", u64::from(read_bytes));
     json.number("open_handles", u64::from(open_handles));
+    if are_far {
+        json.number("total_bytes", total_bytes);
+    }
     json.close();
 }
 

@@ -36,7 +36,7 @@ fn put_head<O: Write>(file: &TreeFile, json: &mut JsonLines<'_, O>) {
 fn put_limits<O: Write>(limits: TreeLimits, json: &mut JsonLines<'_, O>) {
     json.open_member("limits");
     json.number("entries", u64::from(limits.entries));
-    json.number("file_bytes", u64::from(limits.file_bytes));
+    json.number("file_bytes", limits.file_bytes);
     json.number("read_bytes", u64::from(limits.read_bytes));
     json.number("open_handles", u64::from(limits.open_handles));
     json.close();
