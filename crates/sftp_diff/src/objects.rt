@@ -1,9 +1,10 @@
 //! What differs between two tree files, as JSON objects, one a line.
 
 use crate::differences::{Difference, OwnerDifference, apart, first_difference, letter};
+use crate::lines::root_times;
 use crate::steps::{Change, Steps};
 use sftp_json::JsonLines;
-use sftp_treefile::{Row, TreeFile, TreeLimits};
+use sftp_treefile::{Row, Times, TreeFile, TreeLimits};
 use std::io;
 use std::io::Write;
 
@@ -12,11 +13,17 @@ use std::io::Write;
 /// # Errors
 ///
 /// That of the output.
-pub fn put_objects<O: Write>(old: &TreeFile, new: &TreeFile, output: &mut O) -> io::Result<()> {
+pub fn put_objects<O: Write>(
+    old: &TreeFile,
+    new: &TreeFile,
+    with_times: bool,
+    output: &mut O,
+) -> io::Result<()> {
     let mut json = JsonLines::new(output, usize::MAX);
     put_head(old, new, &mut json);
-    put_root(OwnerDifference(old.root, new.root), &mut json);
-    put_rows(old.rows.as_slice(), new.rows.as_slice(), &mut json);
+    let times = root_times(old, new, with_times);
+    put_root(OwnerDifference(old.root, new.root), times, &mut json);
+    put_rows(old, new, with_times, &mut json);
     json.finish()
 }
 
@@ -68,19 +75,47 @@ fn put_limits<O: Write>(
 }
 
 /// Writes how the roots differ, if they do.
-fn put_root<O: Write>(owners: OwnerDifference, json: &mut JsonLines<'_, O>) {
-    if owners.is_none() {
+fn put_root<O: Write>(
+    owners: OwnerDifference,
+    times: Option<(Times, Times)>,
+    json: &mut JsonLines<'_, O>,
+) {
+    if owners.is_none() && times.is_none() {
         return;
     }
     json.open();
     put_entry("changed", b"/", 'D', json);
     put_owners(owners, json);
+    put_times(times, json);
     json.end_line();
 }
 
-/// Writes how the entries of two trees differ, which are these rows.
-fn put_rows<O: Write>(old_rows: &[Row], new_rows: &[Row], json: &mut JsonLines<'_, O>) {
-    let mut steps = Steps::new(old_rows, new_rows);
+/// Writes which times differ.
+fn put_times<O: Write>(times: Option<(Times, Times)>, json: &mut JsonLines<'_, O>) {
+    if let Some((old, new)) = times {
+        put_numbers(
+            "access",
+            u64::from(old.accessed),
+            u64::from(new.accessed),
+            json,
+        );
+        put_numbers(
+            "modification",
+            u64::from(old.modified),
+            u64::from(new.modified),
+            json,
+        );
+    }
+}
+
+/// Writes how the entries of two trees differ.
+fn put_rows<O: Write>(
+    old: &TreeFile,
+    new: &TreeFile,
+    with_times: bool,
+    json: &mut JsonLines<'_, O>,
+) {
+    let mut steps = Steps::new(old, new, with_times);
     for _ in 0..steps.count() {
         match steps.next() {
             Some(change) => put_change(change, json),
@@ -120,6 +155,7 @@ fn put_kept<O: Write>(row: &Row, difference: &Difference<'_>, json: &mut JsonLin
     if let Some(owners) = difference.owners {
         put_owners(owners, json);
     }
+    put_times(difference.times, json);
     put_content(difference.bytes, json);
     put_texts("target", difference.targets, json);
     json.end_line();
