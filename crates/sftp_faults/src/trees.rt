@@ -53,7 +53,10 @@ pub fn spot_in_tree(alloc: Global, bytes: &[u8], error: TreeError) -> Option<Spo
             Some(path_spot(&mut fields, entry))
         }
         TreeError::Trailing { entry } => Some(end_spot(&mut fields, entry)),
-        TreeError::Short { entry } => judge(alloc, bytes, entry).err(),
+        TreeError::Short { entry } => match judge(alloc, bytes, entry) {
+            Ok(()) => None,
+            Err(spot) => Some(spot),
+        },
         TreeError::Value { entry } => Some(value_spot(alloc, bytes, entry)),
     }
 }
@@ -372,7 +375,10 @@ fn is_first(bytes: &[u8], number: u32) -> bool {
     let mut fields = Fields::new(bytes);
     let kind = kind_at(&mut fields, number);
     match kind {
-        Ok(kind) => letter_of(Opening::Wide, kind).is_some_and(|letter| letter.is_file),
+        Ok(kind) => match letter_of(Opening::Wide, kind) {
+            Some(letter) => letter.is_file,
+            None => false,
+        },
         Err(_) => false,
     }
 }

@@ -347,7 +347,7 @@ fn read_plain_root(line: &mut &[u8], bytes: &mut Vec<u8>) -> Result<(), Stop>
 fn put_lettered_root(bytes: &mut &[u8], text: &mut Vec<u8>) -> Result<(), Stop>
     ensures { Moves result text.new.items bytes.new.now (trees.lettered_root.show text.old.items bytes.old.now) }
 {
-    let has_times = bytes.first() == Some(&b'd');
+    let has_times = bytes.first().copied() == Some(b'd');
     let letter = letter_of_root(has_times);
     read_word(&[letter], Expected::Root, bytes)?;
     text.push(letter)?;
@@ -358,7 +358,7 @@ fn put_lettered_root(bytes: &mut &[u8], text: &mut Vec<u8>) -> Result<(), Stop>
 fn read_lettered_root(line: &mut &[u8], bytes: &mut Vec<u8>) -> Result<(), Stop>
     ensures { Moves result bytes.new.items line.new.now (trees.lettered_root.read bytes.old.items line.old.now) }
 {
-    let has_times = line.first() == Some(&b'd');
+    let has_times = line.first().copied() == Some(b'd');
     let letter = letter_of_root(has_times);
     read_word(&[letter], Expected::AnyRoot, line)?;
     read_word(b" \"/\"", Expected::AnyRoot, line)?;
