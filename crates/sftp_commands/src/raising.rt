@@ -30,11 +30,7 @@ pub fn raise<'a, R: System>(
 }
 
 /// What the tree file `name` says, with these limits.
-fn read_raised<'a, R: System>(
-    rt: &R,
-    name: &'a str,
-    to: RaiseTo,
-) -> Result<TreeFile, Failure<'a>>
+fn read_raised<'a, R: System>(rt: &R, name: &'a str, to: RaiseTo) -> Result<TreeFile, Failure<'a>>
     ensures { IfOk result IsTreeFile }
 {
     let mut bytes = Watched::new(open(rt, name)?);

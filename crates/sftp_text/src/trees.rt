@@ -187,11 +187,7 @@ fn read_five_limits(line: &mut &[u8], bytes: &mut Vec<u8>) -> Result<(), Stop>
 }
 
 /// Shows the limits, if there are some, and the number of entries.
-fn put_behind_front(
-    opening: Opening,
-    bytes: &mut &[u8],
-    text: &mut Vec<u8>,
-) -> Result<(), Stop>
+fn put_behind_front(opening: Opening, bytes: &mut &[u8], text: &mut Vec<u8>) -> Result<(), Stop>
     ensures { Moves result text.new.items bytes.new.now
         ((trees.behind_front opening).show text.old.items bytes.old.now) }
 {
@@ -204,11 +200,7 @@ fn put_behind_front(
 }
 
 /// Reads the limits, if there are to be some, and the number of entries.
-fn read_behind_front(
-    opening: Opening,
-    line: &mut &[u8],
-    bytes: &mut Vec<u8>,
-) -> Result<(), Stop>
+fn read_behind_front(opening: Opening, line: &mut &[u8], bytes: &mut Vec<u8>) -> Result<(), Stop>
     ensures { Moves result bytes.new.items line.new.now
         ((trees.behind_front opening).read bytes.old.items line.old.now) }
 {
@@ -313,11 +305,7 @@ fn put_timed_owner(has_times: bool, bytes: &mut &[u8], text: &mut Vec<u8>) -> Re
     put_two_labelled(b" ", b" ", bytes, text)
 }
 
-fn read_timed_owner(
-    has_times: bool,
-    line: &mut &[u8],
-    bytes: &mut Vec<u8>,
-) -> Result<(), Stop>
+fn read_timed_owner(has_times: bool, line: &mut &[u8], bytes: &mut Vec<u8>) -> Result<(), Stop>
     ensures { Moves result bytes.new.items line.new.now
         ((trees.timed_owner has_times).read bytes.old.items line.old.now) }
 {

@@ -29,9 +29,7 @@ use serving::Unserved;
 use sftp_commands::{Faulty, ReadFiles};
 use sftp_faults::Spot;
 pub use sftp_files::System;
-use sftp_files::{
-    DiffForm, Ending, Failure, ImportOptions, ServeOptions, report, write_flushed,
-};
+use sftp_files::{DiffForm, Ending, Failure, ImportOptions, ServeOptions, report, write_flushed};
 use sftp_options::{Request, parse};
 use sftp_progress::Console;
 use sftp_vary::Style;

@@ -60,9 +60,7 @@ fn limit_of_bytes(limits: TreeLimits, ask: &Ask) -> Limit {
 /// How many bytes a request gives a file, at least.
 fn asked_size(ask: &Ask) -> u64 {
     match ask {
-        Ask::Write { offset, bytes, .. } => {
-            offset.saturating_add(bytes.as_slice().len() as u64)
-        }
+        Ask::Write { offset, bytes, .. } => { offset.saturating_add(bytes.as_slice().len() as u64) }
         Ask::Setstat { attrs, .. } | Ask::Fsetstat { attrs, .. } => attrs.size.unwrap_or(0),
         _ => 0,
     }
@@ -97,10 +95,7 @@ impl fmt::Display for Limit {
             }
             Limit::Handles(most) => {
                 write!(f, "{most} handles may be open at once")?;
-                let (highest, far) = (
-                    u64::from(highest.open_handles),
-                    u64::from(far.open_handles),
-                );
+                let (highest, far) = (u64::from(highest.open_handles), u64::from(far.open_handles));
                 put_way(f, u64::from(*most), highest, far)
             }
             Limit::Names => write!(f, "a path may have {DEPTH_LIMIT} names, in every tree"),
