@@ -173,7 +173,8 @@ pub(crate) const AFTER_DIFF: &str = "A line has the path, and then one or more o
 
 If the home differs, the owner of new entries, or the limits, the first line begins with head and has home, owner and
 limits. The bytes of a file are compared at its first name. The exit status is 0 if the trees are the same, and 1 if
-they differ. Without --times, trees are the same that differ in times alone. With --memory, files of more than a thirty-second of BYTES are not compared.
+they differ. Without --times, trees are the same that differ in times alone. With --memory, files of more than a
+thirty-second of BYTES are not compared.
 
 With --json, each line is a JSON object with the members change, path and kind, and one for each thing that differs.";
 
@@ -226,8 +227,8 @@ pub(crate) const AFTER_EXPORT: &str = "A folder DIR with the files of a tree:
   sftpv3 export FILE | tar -C DIR -x -p
 
 The archive is ustar, with the extended headers of POSIX's pax where a name, a user, a group or a size needs more room,
-and for times of access that are not 0. Links have the time 0. The archive has all of the tree but where relative paths start, who owns what is made with no owner given, and
-the limits.";
+and for times of access that are not 0. Links have the time 0. The archive has all of the tree but where relative
+paths start, who owns what is made with no owner given, and the limits.";
 
 pub(crate) const ABOUT_BLANK: &str =
     "Writes the tree file of a tree that holds only the root directory";

@@ -105,7 +105,8 @@ is_timed_root (c ∷ rest) = c == 100
 -- the root by its letter, which is in the line and in the bytes
 abbrev pub root_with : Bool → Format
 root_with has_times =
-    mark (letter_of_root has_times ∷ []) then word (letter_of_root has_times ∷ codes " \"/\"") then timed_owner has_times
+    mark (letter_of_root has_times ∷ []) then word (letter_of_root has_times ∷ codes " \"/\"")
+    then timed_owner has_times
 
 -- the root of a tree file after the third opening
 abbrev pub lettered_root : Format
@@ -174,11 +175,13 @@ kind_behind bytes = option_and_then (λ front. slice_get front.1 front.0) (front
 
 -- an entry of a kind is shown
 abbrev pub show_kind : Bool → List ℕ → List ℕ → ℕ → Option (List ℕ × List ℕ)
-show_kind wide text bytes kind = option_and_then (λ fields. (entry_of kind fields).show text bytes) (kind_text wide kind)
+show_kind wide text bytes kind =
+    option_and_then (λ fields. (entry_of kind fields).show text bytes) (kind_text wide kind)
 
 -- an entry of a kind is read
 abbrev pub read_kind : Bool → List ℕ → List ℕ → ℕ → Option (List ℕ × List ℕ)
-read_kind wide bytes text kind = option_and_then (λ fields. (entry_of kind fields).read bytes text) (kind_text wide kind)
+read_kind wide bytes text kind =
+    option_and_then (λ fields. (entry_of kind fields).read bytes text) (kind_text wide kind)
 
 -- an entry
 unfoldable pub entry_text : Bool → Format
