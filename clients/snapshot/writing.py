@@ -109,7 +109,8 @@ class Needs:
         lowest = tuple(map(max, USUAL, (self.entries, self.largest, 0, 0)))
         limits = {"usual": USUAL, "raised": HIGHEST, "most": MOST, "fit": lowest}[wanted]
         if any(need > limit for need, limit in zip(lowest, limits)):
-            raise Trouble(f"{self.entries} entries and a file of {self.largest} bytes need more than the {wanted} limits")
+            raise Trouble(f"{self.entries} entries and a file of {self.largest} bytes need more than the {wanted} "
+                          "limits")
         return limits
 
 

@@ -15,7 +15,8 @@ use Rattle.sftp_text.specs.declared.errors.TextFault.{TextFault}
 use Rattle.sftp_text.specs.declared.errors.TextFault.TheVariants as texts
 use Rattle.sftp_text.specs.declared.due.Due.{Due}
 use Rattle.sftp_text.specs.declared.due.Due.TheVariants as dues
-use Rattle.sftp_text.specs.Trees.{head_text, root_text, entry_text, entries_read, tree_of_lines, begins_wide, root_and_lines}
+use Rattle.sftp_text.specs.Trees.{head_text, root_text, entry_text, entries_read, tree_of_lines, begins_wide}
+use Rattle.sftp_text.specs.Trees.{root_and_lines}
 
 -- ==== What the code of records returns, beside the definitions of lines.
 

@@ -4,7 +4,8 @@ ghost use Rattle.std.specs.Prelude.{◌≡◌, ◌++◌, None, Some, OnOk, Match
 ghost use Rattle.std.specs.Int.{w32, to_be_bytes};
 ghost use Rattle.std.specs.List.{flat_map};
 ghost use Rattle.sftp_text.specs.Digits as text;
-ghost use Rattle.sftp_text.specs.Digits.{byte_text, quoted, rest_text, unquoted, Plain, text_in, string_text, long_string_text};
+ghost use Rattle.sftp_text.specs.Digits.{byte_text, quoted, rest_text, unquoted, Plain, text_in, string_text};
+ghost use Rattle.sftp_text.specs.Digits.{long_string_text};
 ghost use Rattle.sftp_text.specs.Formats.{numbered};
 ghost use Rattle.sftp_text.specs.Trees.{Moves, character_in, escape_in};
 
