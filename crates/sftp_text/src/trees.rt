@@ -1,5 +1,5 @@
 //! Tree files as text: a line for the head, one for the root, and one an entry.
-ghost use Rattle.std.specs.Prelude.{◌≡◌, [], codes, is_some};
+ghost use Rattle.std.specs.Prelude.{◌≡◌, [], codes, is_some, OnOk, Some};
 ghost use Rattle.sftp_text.specs.Formats.{◌then◌, word};
 ghost use Rattle.sftp_text.specs.Digits.{number, long};
 ghost use Rattle.sftp_text.specs.Digits.{string_text};
@@ -771,10 +771,11 @@ fn due_after(due: Due, bytes: &[u8]) -> Due
     }
 }
 
-/// Reads a line in the form that is due, and appends its bytes to those of other lines. `part` is room for them.
+/// Reads a line in the form that is due, and appends its bytes, which `part` is left with, to those of other lines.
 fn read_next(due: Due, line: &[u8], part: &mut Vec<u8>, bytes: &mut Vec<u8>) -> Result<(), Fault>
-    ensures { GivesLine result bytes.new.items
+    ensures gives { GivesLine result bytes.new.items
         (onto bytes.old.items (whole ((form_of due).read [] line.now))) }
+    ensures part { OnOk result (whole ((form_of due).read [] line.now) ≡ Some part.new.items) }
 {
     part.clear();
     read_due(due, line, part)?;
