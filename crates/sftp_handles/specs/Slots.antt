@@ -175,7 +175,7 @@ pub record IsWritable (s : State) (handle : List ℕ) (offset : ℕ) (bytes : Li
   pub flags : OpenFlags
   pub found : found_file (open_at s.handles handle) ≡ Ok (it.0, flags)
   pub starts : option_map (start_of flags offset) (content_at s.tree.files it.0) ≡ Some it.1
-  pub fits : write_fits (limits s.tree) it.1 bytes ≡ true
+  pub fits : write_fits s.tree it.0 it.1 bytes ≡ true
 
 -- the causes of a request that needs room in a file, by whether there is
 abbrev pub with_room : CauseSet → Bool → CauseSet
