@@ -19,11 +19,11 @@ use Rattle.sftp_packets.specs.declared.requests.Ask.TheVariants as asks
 use Rattle.sftp_path.proofs.Table.Laws.{get-put_elsewhere}
 use Rattle.std.specs.Option.{option_map}
 use Rattle.sftp_tree.proofs.KeptTrees.{kept-content-within}
-use Rattle.sftp_handles.proofs.Imports.{◌||◌, not}
+use Rattle.sftp_handles.proofs.Imports.{◌||◌, not, when, NoRoom}
 use Rattle.sftp_treefile.specs.TreeFile.{are_far}
 use Rattle.sftp_treefile.specs.TreeFileParts.{AreRaised}
 use Rattle.sftp_treefile.proofs.Texts.{not_far}
-use Rattle.sftp_tree.specs.Tree.{Tree, IsKept}
+use Rattle.sftp_tree.specs.Tree.{Tree}
 use Rattle.sftp_handles.specs.RequestRows.{has_file_room}
 use Rattle.sftp_handles.specs.Clash.{clash, share_room, room_clash}
 use Rattle.sftp_handles.proofs.Good.{good-settled, content-room, room-near}
