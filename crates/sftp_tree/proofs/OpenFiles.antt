@@ -56,7 +56,7 @@ length-overwritten offset new bytes = omega (
 )
 
 -- a file, and all together, keep to the limits after a WRITE just where the WRITE does
-room-written : (t : Tree) (number offset : ℕ) (new : List ℕ) (content : Content) → IsTrue (fits t)
+pub room-written : (t : Tree) (number offset : ℕ) (new : List ℕ) (content : Content) → IsTrue (fits t)
     → content_at t.files number ≡ Some content
     → (content_fits (limits t) (written_content offset new content)
     && total_fits_with t number (length (written offset new content.bytes))) ≡ write_fits t number offset new
@@ -553,7 +553,7 @@ narrow-total t kept are =
     (each-all (λ e. content_fits (limits t) e.1) t.files fit.files)) in
     omega (arith, count, few, bytes, are.total_bytes.0)
 
-narrow-with : (t : Tree) (number count : ℕ) → IsKept t → AreRaised (limits t) → count ≤ (limits t).file_bytes
+pub narrow-with : (t : Tree) (number count : ℕ) → IsKept t → AreRaised (limits t) → count ≤ (limits t).file_bytes
     → total_fits_with t number count ≡ true
 narrow-with t number count kept are fits =
     le-leb (total_of t.files - length_of (content_at t.files number) + count) (limits t).total_bytes
