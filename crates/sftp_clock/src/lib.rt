@@ -3,17 +3,12 @@
 #![tactic(auto)]
 
 mod clocked;
-mod ends;
-mod files;
 mod listings;
-mod moments;
-mod noting;
 mod places;
 mod replies;
 mod tables;
-mod timed_names;
 mod times;
 mod touches;
 
 pub use clocked::Clocked;
-pub use moments::{Moments, SystemClock};
+pub use times::{Moments, SystemClock};
