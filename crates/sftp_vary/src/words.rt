@@ -3,7 +3,7 @@
 use sftp_handles::{HandleTable, Session};
 use sftp_path::DEPTH_LIMIT;
 use sftp_tree::{Cause, NoMemory, Tree};
-use sftp_treefile::highest_limits;
+use sftp_treefile::{TreeLimits, highest_limits, most_limits};
 use sftp_wire::{Ask, ByteString};
 use std::alloc::Global;
 use std::fmt;
