@@ -1,4 +1,6 @@
 //! The tree file of what is known of the start.
+ghost use Rattle.std.specs.Prelude.{◌≤◌};
+ghost use Rattle.sftp_treefile.specs.TreeFile.{highest_limits as highest};
 
 use crate::candidates::Excess;
 use crate::files::File;
@@ -54,7 +56,9 @@ fn within(number: u64, least: u32, most: u32) -> u32 {
 }
 
 /// The long number between two bounds that is closest to this one.
-fn within_long(number: u64, least: u64, most: u64) -> u64 {
+fn within_long(number: u64, least: u64, most: u64) -> u64
+    ensures { result ≤ most }
+{
     number.max(least).min(most)
 }
 
@@ -288,7 +292,9 @@ impl<'a> World<'a> {
     }
 
     /// The lowest limits that the session needs, or the highest.
-    fn limits(&self, count: usize) -> TreeLimits {
+    fn limits(&self, count: usize) -> TreeLimits
+        ensures { result.file_bytes ≤ highest.file_bytes }
+    {
         let (low, high) = (usual_limits(), highest_limits());
         if self.settings.is_raised {
             return high;

@@ -151,15 +151,38 @@ four_not_five l a =
     let f = e.follows in
     let g = f.follows in
     let h = g.follows in
-    let last = no_fifth h.rest h.follows in
-    let sixth = none-behind number.read _ g.rest h.rest (passes-number Count g.rest count-ends h) last in
-    let spaced = none-behind (word (codes " ")).read _ f.rest g.rest (passes-word (codes " ") _ f.rest g) sixth in
-    let third = none-behind number.read _ e.rest f.rest (passes-number (Numbered Count) e.rest (numbered-ends _) f) spaced in
-    let parted = none-behind (word (codes " ")).read _ d.rest e.rest (passes-word (codes " ") _ d.rest e) third in
-    let second = none-behind long.read _ c.rest d.rest (passes-long (Numbered (Numbered Count)) c.rest (numbered-ends _) d) parted in
-    let cut = none-behind (word (codes " ")).read _ b.rest c.rest (passes-word (codes " ") _ b.rest c) second in
-    let first = none-behind number.read _ a.rest b.rest (passes-number (Numbered (Numbered (Numbered Count))) a.rest (numbered-ends _) b) cut in
-    none-behind (word (codes " limits ")).read _ l a.rest (passes-word (codes " limits ") _ l a) first
+    let space : Format = word (codes " ") in
+    let total : Format = space then long in
+    let handles : Format = number then total in
+    let reads : Format = number then space then handles in
+    let files : Format = long then space then reads in
+    let all : Format = number then space then files in
+    let at_total : (done : List ℕ) → total.read done h.rest ≡ None = no_fifth h.rest h.follows in
+    let at_handles : (done : List ℕ) → handles.read done g.rest ≡ None =
+    none-behind number.read total.read g.rest h.rest (passes-number Count g.rest count-ends h) at_total
+    in
+    let before_handles : (done : List ℕ) → (space then handles).read done f.rest ≡ None =
+    none-behind space.read handles.read f.rest g.rest (passes-word (codes " ") _ f.rest g) at_handles
+    in
+    let at_reads : (done : List ℕ) → reads.read done e.rest ≡ None =
+    none-behind number.read (space then handles).read e.rest f.rest
+    (passes-number (Numbered Count) e.rest (numbered-ends Count) f) before_handles
+    in
+    let before_reads : (done : List ℕ) → (space then reads).read done d.rest ≡ None =
+    none-behind space.read reads.read d.rest e.rest (passes-word (codes " ") _ d.rest e) at_reads
+    in
+    let at_files : (done : List ℕ) → files.read done c.rest ≡ None =
+    none-behind long.read (space then reads).read c.rest d.rest
+    (passes-long (Numbered (Numbered Count)) c.rest (numbered-ends (Numbered Count)) d) before_reads
+    in
+    let before_files : (done : List ℕ) → (space then files).read done b.rest ≡ None =
+    none-behind space.read files.read b.rest c.rest (passes-word (codes " ") _ b.rest c) at_files
+    in
+    let at_all : (done : List ℕ) → all.read done a.rest ≡ None =
+    none-behind number.read (space then files).read a.rest b.rest
+    (passes-number (Numbered (Numbered (Numbered Count))) a.rest (numbered-ends (Numbered (Numbered Count))) b) before_files
+    in
+    none-behind (word (codes " limits ")).read all.read l a.rest (passes-word (codes " limits ") _ l a) at_all
 
 -- a list that a format reads up to what may follow it
 record ReadsUpTo (f : Format) (B : List ℕ → Type 0) (list : List ℕ) : Type 0 where
