@@ -8,7 +8,7 @@ use Rattle.std.proofs.lemmas.Bool.{cond-true, cond-false, lt-ltb}
 use Rattle.std.proofs.lemmas.List.{append-nil}
 use Rattle.std.proofs.lemmas.Option.{option_and_then_some}
 use Rattle.sftp_packets.specs.Spelling.{AreBytes}
-use Rattle.sftp_text.specs.Formats.{Step, Format, after, ◌then◌, word, mark, strip}
+use Rattle.sftp_text.specs.Formats.{Step, Format, after, nothing, ◌then◌, word, mark, strip}
 use Rattle.sftp_text.specs.Digits.{number, long}
 use Rattle.sftp_text.specs.Digits.{string_text}
 use Rattle.sftp_text.specs.declared.openings.Opening.{Opening}
@@ -17,7 +17,7 @@ use Rattle.sftp_text.specs.Trees.{opening, front_text, four_limits, five_limits,
 use Rattle.sftp_text.specs.Trees.{opening_of, opening_by_limits, opening_behind, opening_named, head_text}
 use Rattle.sftp_text.specs.Lines.{is_printable, is_blank}
 use Rattle.sftp_text.proofs.Exact.{some-inj, IsExact, IsExact-weaken, Shown, then-exact, Behind, AreBytes-behind}
-use Rattle.sftp_text.proofs.Exact.{strip-same, strip-some}
+use Rattle.sftp_text.proofs.Exact.{nothing-exact, strip-same, strip-some}
 use Rattle.sftp_text.proofs.Numerals.{EndsWord, NumberFront, number-exact, long-exact, decimal-read}
 use Rattle.sftp_text.proofs.Strings.{StartsQuoted, string_text-exact}
 use Rattle.sftp_text.proofs.Repeats.{IsEnd}
@@ -266,7 +266,9 @@ count-exact =
     (behind_word (codes " entries ") number _ IsEnd refl (number-exact IsEnd (λ l e. space-ends l (end-space l e))))
 
 behind_front-exact : (begins : Opening) → IsExact (behind_front begins) (Tells begins) IsEnd
-behind_front-exact Usual = IsExact-weaken _ Count (Tells Usual) IsEnd IsEnd tells-none (λ l e. e) count-exact
+behind_front-exact Usual =
+    IsExact-weaken _ Count (Tells Usual) IsEnd IsEnd tells-none (λ l e. e)
+    (then-exact nothing (word (codes " entries ") then number) Count Count IsEnd (nothing-exact Count) count-exact)
 behind_front-exact Raised =
     IsExact-weaken _ Four (Tells Raised) IsEnd IsEnd tells-four (λ l e. e)
     (then-exact four_limits (word (codes " entries ") then number) Four Count IsEnd four_limits-exact count-exact)

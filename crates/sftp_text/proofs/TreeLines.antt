@@ -11,8 +11,8 @@ use Rattle.sftp_text.specs.Formats.{Format, after, ◌then◌, word, mark, Reads
 use Rattle.sftp_text.specs.Digits.{number, octal}
 use Rattle.sftp_text.specs.Digits.{string_text, long_string_text}
 use Rattle.sftp_text.specs.declared.trees.Letter.{Letter}
-use Rattle.sftp_text.specs.Trees.{owner_text, timed_owner, plain_root, letter_of_root, is_timed_root, root_with}
-use Rattle.sftp_text.specs.Trees.{lettered_root, root_text, letter_of, content_text, with_content, owned_text, other_text}
+use Rattle.sftp_text.specs.Trees.{owner_text, timed_owner, plain_root, letter_of_root, word_of_root, is_timed_root}
+use Rattle.sftp_text.specs.Trees.{root_with, lettered_root, root_text, letter_of, content_text, with_content, owned_text, other_text}
 use Rattle.sftp_text.specs.Trees.{head_text, kind_text, entry_of, first_of, kind_behind, show_kind, begins_wide}
 use Rattle.sftp_text.specs.Trees.{read_kind, entry_text, entry_line, first_lines, show_tree, bytes_and, entries_read}
 use Rattle.sftp_text.specs.Trees.{head_is_wide, root_and_lines, tree_of_lines, tree_read}
@@ -104,18 +104,18 @@ plain_root-exact =
     (behind_word (codes "D \"/\"") owner_text SpaceFront IsEnd refl (owner_text-exact IsEnd end-space))
 
 -- the letter of a root is first in its line, and tells whether there are times
-root_begins : (has_times : Bool) (l : List ℕ) → Behind (letter_of_root has_times ∷ codes " \"/\"") SpaceFront l
+root_begins : (has_times : Bool) (l : List ℕ) → Behind (word_of_root has_times) SpaceFront l
     → IsSaid l × (is_timed_root l ≡ has_times)
 root_begins false l b = (ap is_blank b.parts, ap is_timed_root b.parts)
 root_begins true l b = (ap is_blank b.parts, ap is_timed_root b.parts)
 
-root_printable : (has_times : Bool) → IsTrue (list_all is_printable (letter_of_root has_times ∷ codes " \"/\""))
+root_printable : (has_times : Bool) → IsTrue (list_all is_printable (word_of_root has_times))
 root_printable false = refl
 root_printable true = refl
 
 root_with-exact : (has_times : Bool) → IsExact (root_with has_times) (λ l. IsSaid l × (is_timed_root l ≡ has_times)) IsEnd
 root_with-exact has_times =
-    let w = letter_of_root has_times ∷ codes " \"/\"" in
+    let w : List ℕ = word_of_root has_times in
     let said = behind_word w (timed_owner has_times) SpaceFront IsEnd (root_printable has_times) (timed_owner-exact has_times IsEnd end-space) in
     IsExact-weaken (root_with has_times) (Behind w SpaceFront) _ IsEnd IsEnd (root_begins has_times) (λ l e. e)
     (then-exact (mark (letter_of_root has_times ∷ [])) (word w then timed_owner has_times) (Behind w SpaceFront) (Behind w SpaceFront) IsEnd

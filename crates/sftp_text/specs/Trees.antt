@@ -2,7 +2,8 @@
 use Rattle.std.specs.Prelude.{ℕ, ◌==◌, Bool, true, false, is_some, if◌then◌else◌, List, [], ◌∷◌, ◌++◌, codes}
 use Rattle.std.specs.Prelude.{slice_get, Option, Some, None, option_and_then, ◌≡◌, ◌%◌, ◌<◌, ◌≤◌, IfSome, Result, Ok}
 use Rattle.std.specs.Prelude.{Err}
-use Rattle.sftp_text.specs.Formats.{Step, Format, after, ◌then◌, word, mark, strip, front_uint32, repeat_to_end}
+use Rattle.sftp_text.specs.Formats.{Step, Format, after, nothing, ◌then◌, word, mark, strip, front_uint32}
+use Rattle.sftp_text.specs.Formats.{repeat_to_end}
 use Rattle.sftp_text.specs.Digits.{number, octal, long}
 use Rattle.sftp_text.specs.Digits.{string_text, long_string_text, byte_of, is_plain}
 use Rattle.sftp_text.specs.declared.openings.Opening.{Opening}
@@ -43,11 +44,15 @@ five_limits =
     word (codes " limits ") then number then word (codes " ") then long then word (codes " ") then number
     then word (codes " ") then number then word (codes " ") then long
 
+-- the limits that a tree file with this opening has
+abbrev pub limits_text : Opening → Format
+limits_text Usual = nothing
+limits_text Raised = four_limits
+limits_text Wide = five_limits
+
 -- and then the number of entries, with the limits before it in a tree file that has them
 abbrev pub behind_front : Opening → Format
-behind_front Usual = word (codes " entries ") then number
-behind_front Raised = four_limits then word (codes " entries ") then number
-behind_front Wide = five_limits then word (codes " entries ") then number
+behind_front begins = limits_text begins then word (codes " entries ") then number
 
 -- the head of a tree file with this opening
 abbrev pub head_of : Opening → Format
@@ -97,6 +102,11 @@ abbrev pub letter_of_root : Bool → ℕ
 letter_of_root false = 68
 letter_of_root true = 100
 
+-- what the line of a root with times or without begins with
+abbrev pub word_of_root : Bool → List ℕ
+word_of_root false = codes "D \"/\""
+word_of_root true = codes "d \"/\""
+
 -- whether the root in front has times, by its letter
 abbrev pub is_timed_root : List ℕ → Bool
 is_timed_root [] = false
@@ -105,8 +115,7 @@ is_timed_root (c ∷ rest) = c == 100
 -- the root by its letter, which is in the line and in the bytes
 abbrev pub root_with : Bool → Format
 root_with has_times =
-    mark (letter_of_root has_times ∷ []) then word (letter_of_root has_times ∷ codes " \"/\"")
-    then timed_owner has_times
+    mark (letter_of_root has_times ∷ []) then word (word_of_root has_times) then timed_owner has_times
 
 -- the root of a tree file after the third opening
 abbrev pub lettered_root : Format
@@ -125,8 +134,7 @@ abbrev pub letter_made : Bool → Bool → Bool → Letter
 letter_made is_file has_times is_long = record { is_file = is_file; has_times = has_times; is_long = is_long }
 
 abbrev pub wide_letter : Bool → Letter → Option Letter
-wide_letter false letter = None
-wide_letter true letter = Some letter
+wide_letter wide letter = if wide then Some letter else None
 
 unfoldable pub letter_of : Bool → ℕ → Option Letter
 letter_of wide kind =

@@ -1,5 +1,5 @@
 //! Tree files as text: a line for the head, one for the root, and one an entry.
-ghost use Rattle.std.specs.Prelude.{◌≡◌, [], codes, is_some, OnOk, Some};
+ghost use Rattle.std.specs.Prelude.{◌≡◌, [], codes, is_some, OnOk, Some, None};
 ghost use Rattle.sftp_text.specs.Formats.{◌then◌, word};
 ghost use Rattle.sftp_text.specs.Digits.{number, long};
 ghost use Rattle.sftp_text.specs.Digits.{string_text};
@@ -7,7 +7,7 @@ ghost use Rattle.sftp_text.specs.Trees as trees;
 ghost use Rattle.sftp_text.specs.Trees.{entry_of, kind_text};
 ghost use Rattle.sftp_text.specs.Trees.{entry_line, first_lines};
 ghost use Rattle.sftp_text.specs.Formats.{repeat_to_end};
-ghost use Rattle.sftp_text.specs.Trees.{Moves, FindsKind, TellsOpening, behind_path};
+ghost use Rattle.sftp_text.specs.Trees.{Moves, FindsKind, TellsOpening, behind, behind_path};
 ghost use Rattle.sftp_text.specs.Texts.{ShowsAs, ShowsWhole, ReadsAs, EndsAt};
 ghost use Rattle.sftp_text.specs.Lines.{whole};
 ghost use Rattle.sftp_text.specs.Texts.{GivesLine, GivesText, onto, form_of, due_after, lines_from};
@@ -103,13 +103,13 @@ fn opening(opening: Opening) -> &'static [u8]
 fn opening_of(bytes: &[u8]) -> Opening
     ensures { result ≡ trees.opening_of bytes.now }
 {
-    if after_word(opening(Opening::Wide), bytes).is_some() {
-        Opening::Wide
-    } else if after_word(opening(Opening::Raised), bytes).is_some() {
-        Opening::Raised
-    } else {
-        Opening::Usual
+    if begins_wide(bytes) {
+        return Opening::Wide;
     }
+    if after_word(opening(Opening::Raised), bytes).is_some() {
+        return Opening::Raised;
+    }
+    Opening::Usual
 }
 
 /// Whether bytes begin with the opening of a tree file that may have times, and files of any length.
@@ -186,16 +186,33 @@ fn read_five_limits(line: &mut &[u8], bytes: &mut Vec<u8>) -> Result<(), Stop>
     read_long_labelled(b" ", line, bytes)
 }
 
+/// Shows the limits that a tree file with this opening has.
+fn put_limits(opening: Opening, bytes: &mut &[u8], text: &mut Vec<u8>) -> Result<(), Stop>
+    ensures { Moves result text.new.items bytes.new.now ((trees.limits_text opening).show text.old.items bytes.old.now) }
+{
+    match opening {
+        Opening::Usual => Ok(()),
+        Opening::Raised => put_four_limits(bytes, text),
+        Opening::Wide => put_five_limits(bytes, text),
+    }
+}
+
+fn read_limits(opening: Opening, line: &mut &[u8], bytes: &mut Vec<u8>) -> Result<(), Stop>
+    ensures { Moves result bytes.new.items line.new.now ((trees.limits_text opening).read bytes.old.items line.old.now) }
+{
+    match opening {
+        Opening::Usual => Ok(()),
+        Opening::Raised => read_four_limits(line, bytes),
+        Opening::Wide => read_five_limits(line, bytes),
+    }
+}
+
 /// Shows the limits, if there are some, and the number of entries.
 fn put_behind_front(opening: Opening, bytes: &mut &[u8], text: &mut Vec<u8>) -> Result<(), Stop>
     ensures { Moves result text.new.items bytes.new.now
         ((trees.behind_front opening).show text.old.items bytes.old.now) }
 {
-    match opening {
-        Opening::Usual => {}
-        Opening::Raised => put_four_limits(bytes, text)?,
-        Opening::Wide => put_five_limits(bytes, text)?,
-    }
+    put_limits(opening, bytes, text)?;
     put_labelled(b" entries ", bytes, text)
 }
 
@@ -204,11 +221,7 @@ fn read_behind_front(opening: Opening, line: &mut &[u8], bytes: &mut Vec<u8>) ->
     ensures { Moves result bytes.new.items line.new.now
         ((trees.behind_front opening).read bytes.old.items line.old.now) }
 {
-    match opening {
-        Opening::Usual => {}
-        Opening::Raised => read_four_limits(line, bytes)?,
-        Opening::Wide => read_five_limits(line, bytes)?,
-    }
+    read_limits(opening, line, bytes)?;
     read_labelled(b" entries ", line, bytes)
 }
 
@@ -245,21 +258,22 @@ fn opening_named(alloc: Global, line: &[u8]) -> Result<Opening, Stop>
     let mut rest = line;
     let mut bytes = Vec::new(alloc);
     match read_front(&mut rest, &mut bytes) {
-        Ok(()) => opening_by_limits(rest, &mut bytes),
+        Ok(()) => opening_by_limits(alloc, rest),
         Err(Stop::Unfit(_)) => Ok(Opening::Usual),
         Err(Stop::NoMemory) => Err(Stop::NoMemory),
     }
 }
 
-/// The opening by what follows the group in a line. `bytes` is room for the limits.
-fn opening_by_limits(line: &[u8], bytes: &mut Vec<u8>) -> Result<Opening, Stop>
+/// The opening by what follows the group in a line.
+fn opening_by_limits(alloc: Global, line: &[u8]) -> Result<Opening, Stop>
     ensures { TellsOpening result (trees.opening_by_limits line.now) }
 {
     if after_word(b" limits ", line).is_none() {
         return Ok(Opening::Usual);
     }
     let mut rest = line;
-    match read_five_limits(&mut rest, bytes) {
+    let mut bytes = Vec::new(alloc);
+    match read_five_limits(&mut rest, &mut bytes) {
         Ok(()) => Ok(Opening::Wide),
         Err(Stop::Unfit(_)) => Ok(Opening::Raised),
         Err(Stop::NoMemory) => Err(Stop::NoMemory),
@@ -298,10 +312,10 @@ fn put_timed_owner(has_times: bool, bytes: &mut &[u8], text: &mut Vec<u8>) -> Re
     ensures { Moves result text.new.items bytes.new.now
         ((trees.timed_owner has_times).show text.old.items bytes.old.now) }
 {
-    put_owner(bytes, text)?;
     if !has_times {
-        return Ok(());
+        return put_owner(bytes, text);
     }
+    put_owner(bytes, text)?;
     put_two_labelled(b" ", b" ", bytes, text)
 }
 
@@ -309,10 +323,10 @@ fn read_timed_owner(has_times: bool, line: &mut &[u8], bytes: &mut Vec<u8>) -> R
     ensures { Moves result bytes.new.items line.new.now
         ((trees.timed_owner has_times).read bytes.old.items line.old.now) }
 {
-    read_owner(line, bytes)?;
     if !has_times {
-        return Ok(());
+        return read_owner(line, bytes);
     }
+    read_owner(line, bytes)?;
     read_two_labelled(b" ", b" ", line, bytes)
 }
 
@@ -331,27 +345,14 @@ fn read_plain_root(line: &mut &[u8], bytes: &mut Vec<u8>) -> Result<(), Stop>
     read_owner(line, bytes)
 }
 
-/// Shows the root of a tree file after the third opening, whose letter is in its bytes, as `d "/" 0 0 0755 1 2`.
-fn put_lettered_root(bytes: &mut &[u8], text: &mut Vec<u8>) -> Result<(), Stop>
-    ensures { Moves result text.new.items bytes.new.now (trees.lettered_root.show text.old.items bytes.old.now) }
+/// Whether the root in front has times, by its letter.
+fn is_timed_root(front: &[u8]) -> bool
+    ensures { result ≡ trees.is_timed_root front.now }
 {
-    let has_times = bytes.first().copied() == Some(b'd');
-    let letter = letter_of_root(has_times);
-    read_word(&[letter], Expected::Root, bytes)?;
-    text.push(letter)?;
-    text.extend_from_slice(b" \"/\"")?;
-    put_timed_owner(has_times, bytes, text)
-}
-
-fn read_lettered_root(line: &mut &[u8], bytes: &mut Vec<u8>) -> Result<(), Stop>
-    ensures { Moves result bytes.new.items line.new.now (trees.lettered_root.read bytes.old.items line.old.now) }
-{
-    let has_times = line.first().copied() == Some(b'd');
-    let letter = letter_of_root(has_times);
-    read_word(&[letter], Expected::AnyRoot, line)?;
-    read_word(b" \"/\"", Expected::AnyRoot, line)?;
-    bytes.push(letter)?;
-    read_timed_owner(has_times, line, bytes)
+    match front.first() {
+        Some(letter) => *letter == b'd',
+        None => false,
+    }
 }
 
 /// The letter of a root with times or without.
@@ -359,6 +360,43 @@ fn letter_of_root(has_times: bool) -> u8
     ensures { result ≡ trees.letter_of_root has_times }
 {
     if has_times { b'd' } else { b'D' }
+}
+
+/// What the line of a root with times or without begins with.
+fn word_of_root(has_times: bool) -> &'static [u8]
+    ensures { result.now ≡ trees.word_of_root has_times }
+{
+    if has_times { b"d \"/\"" } else { b"D \"/\"" }
+}
+
+/// Shows the root with times or without, whose letter is in its bytes.
+fn put_root_with(has_times: bool, bytes: &mut &[u8], text: &mut Vec<u8>) -> Result<(), Stop>
+    ensures { Moves result text.new.items bytes.new.now ((trees.root_with has_times).show text.old.items bytes.old.now) }
+{
+    read_word(&[letter_of_root(has_times)], Expected::Root, bytes)?;
+    text.extend_from_slice(word_of_root(has_times))?;
+    put_timed_owner(has_times, bytes, text)
+}
+
+fn read_root_with(has_times: bool, line: &mut &[u8], bytes: &mut Vec<u8>) -> Result<(), Stop>
+    ensures { Moves result bytes.new.items line.new.now ((trees.root_with has_times).read bytes.old.items line.old.now) }
+{
+    bytes.push(letter_of_root(has_times))?;
+    read_word(word_of_root(has_times), Expected::AnyRoot, line)?;
+    read_timed_owner(has_times, line, bytes)
+}
+
+/// Shows the root of a tree file after the third opening, as `d "/" 0 0 0755 1 2`.
+fn put_lettered_root(bytes: &mut &[u8], text: &mut Vec<u8>) -> Result<(), Stop>
+    ensures { Moves result text.new.items bytes.new.now (trees.lettered_root.show text.old.items bytes.old.now) }
+{
+    put_root_with(is_timed_root(bytes), bytes, text)
+}
+
+fn read_lettered_root(line: &mut &[u8], bytes: &mut Vec<u8>) -> Result<(), Stop>
+    ensures { Moves result bytes.new.items line.new.now (trees.lettered_root.read bytes.old.items line.old.now) }
+{
+    read_root_with(is_timed_root(line), line, bytes)
 }
 
 /// Shows the root.
@@ -407,44 +445,95 @@ struct Letter {
     is_long: bool,
 }
 
+/// What a letter says.
+fn letter_made(is_file: bool, has_times: bool, is_long: bool) -> Letter
+    ensures { result ≡ trees.letter_made is_file has_times is_long }
+{
+    Letter {
+        is_file,
+        has_times,
+        is_long,
+    }
+}
+
+/// What a letter says that comes after the third opening alone.
+fn wide_letter(is_wide: bool, letter: Letter) -> Option<Letter>
+    ensures { result ≡ trees.wide_letter is_wide letter }
+{
+    if is_wide { Some(letter) } else { None }
+}
+
 /// What this letter says, if it is that of a directory or of a file; small letters and `G` only after the third
 /// opening.
 #[tactic(auto, unfolding(crate::specs::Trees::letter_of))]
 fn letter_of(is_wide: bool, kind: u8) -> Option<Letter>
     ensures { result ≡ trees.letter_of is_wide kind }
 {
-    let (is_file, has_times, is_long) = match kind {
-        b'D' => (false, false, false),
-        b'd' => (false, true, false),
-        b'F' => (true, false, false),
-        b'f' => (true, true, false),
-        b'G' => (true, false, true),
-        b'g' => (true, true, true),
-        _ => return None,
-    };
-    if (has_times || is_long) && !is_wide {
-        return None;
+    if kind == b'D' {
+        return Some(letter_made(false, false, false));
     }
-    Some(Letter {
-        is_file,
-        has_times,
-        is_long,
-    })
+    if kind == b'F' {
+        return Some(letter_made(true, false, false));
+    }
+    if kind == b'd' {
+        return wide_letter(is_wide, letter_made(false, true, false));
+    }
+    if kind == b'f' {
+        return wide_letter(is_wide, letter_made(true, true, false));
+    }
+    if kind == b'G' {
+        return wide_letter(is_wide, letter_made(true, false, true));
+    }
+    if kind == b'g' {
+        return wide_letter(is_wide, letter_made(true, true, true));
+    }
+    None
+}
+
+/// Shows the bytes of a file.
+fn put_content(is_long: bool, bytes: &mut &[u8], text: &mut Vec<u8>) -> Result<(), Stop>
+    ensures { Moves result text.new.items bytes.new.now ((trees.content_text is_long).show text.old.items bytes.old.now) }
+{
+    if is_long {
+        put_long_string(bytes, text)
+    } else {
+        put_string(bytes, text)
+    }
+}
+
+fn read_content(is_long: bool, line: &mut &[u8], bytes: &mut Vec<u8>) -> Result<(), Stop>
+    ensures { Moves result bytes.new.items line.new.now ((trees.content_text is_long).read bytes.old.items line.old.now) }
+{
+    if is_long {
+        read_long_string(line, bytes)
+    } else {
+        read_string(line, bytes)
+    }
 }
 
 /// Shows what the entry of a directory or of a file says behind its path.
 fn put_owned(letter: Letter, bytes: &mut &[u8], text: &mut Vec<u8>) -> Result<(), Stop>
     ensures { Moves result text.new.items bytes.new.now ((trees.owned_text letter).show text.old.items bytes.old.now) }
 {
-    put_timed_owner(letter.has_times, bytes, text)?;
     if !letter.is_file {
-        return Ok(());
+        return put_timed_owner(letter.has_times, bytes, text);
     }
+    put_timed_owner(letter.has_times, bytes, text)?;
     text.push(b' ')?;
-    if letter.is_long {
-        put_long_string(bytes, text)
+    put_content(letter.is_long, bytes, text)
+}
+
+/// Shows what an entry says behind its path whose letter is none of a directory's or a file's.
+fn put_other(kind: u8, bytes: &mut &[u8], text: &mut Vec<u8>) -> Result<(), Stop>
+    ensures { Moves result text.new.items bytes.new.now
+        ((behind (trees.other_text kind None)).show text.old.items bytes.old.now) }
+{
+    if kind == b'H' {
+        put_labelled(b" ", bytes, text)
+    } else if kind == b'L' {
+        put_text(b" ", bytes, text)
     } else {
-        put_string(bytes, text)
+        Err(Stop::Unfit(Expected::Kind))
     }
 }
 
@@ -458,15 +547,9 @@ fn put_behind_path(
 ) -> Result<(), Stop>
     ensures { Moves result text.new.items bytes.new.now ((behind_path is_wide kind).show text.old.items bytes.old.now) }
 {
-    if let Some(letter) = letter_of(is_wide, kind) {
-        return put_owned(letter, bytes, text);
-    }
-    if kind == b'H' {
-        put_labelled(b" ", bytes, text)
-    } else if kind == b'L' {
-        put_text(b" ", bytes, text)
-    } else {
-        Err(Stop::Unfit(Expected::Kind))
+    match letter_of(is_wide, kind) {
+        Some(letter) => put_owned(letter, bytes, text),
+        None => put_other(kind, bytes, text),
     }
 }
 
@@ -495,15 +578,25 @@ fn put_entry_parts(is_wide: bool, bytes: &mut &[u8], text: &mut Vec<u8>) -> Resu
 fn read_owned(letter: Letter, line: &mut &[u8], bytes: &mut Vec<u8>) -> Result<(), Stop>
     ensures { Moves result bytes.new.items line.new.now ((trees.owned_text letter).read bytes.old.items line.old.now) }
 {
-    read_timed_owner(letter.has_times, line, bytes)?;
     if !letter.is_file {
-        return Ok(());
+        return read_timed_owner(letter.has_times, line, bytes);
     }
+    read_timed_owner(letter.has_times, line, bytes)?;
     read_word(b" ", Expected::Space, line)?;
-    if letter.is_long {
-        read_long_string(line, bytes)
+    read_content(letter.is_long, line, bytes)
+}
+
+/// Reads what an entry says behind its path whose letter is none of a directory's or a file's.
+fn read_other(kind: u8, line: &mut &[u8], bytes: &mut Vec<u8>) -> Result<(), Stop>
+    ensures { Moves result bytes.new.items line.new.now
+        ((behind (trees.other_text kind None)).read bytes.old.items line.old.now) }
+{
+    if kind == b'H' {
+        read_labelled(b" ", line, bytes)
+    } else if kind == b'L' {
+        read_text(b" ", Expected::Space, line, bytes)
     } else {
-        read_string(line, bytes)
+        Err(Stop::Unfit(Expected::Kind))
     }
 }
 
@@ -517,16 +610,17 @@ fn read_behind_path(
 ) -> Result<(), Stop>
     ensures { Moves result bytes.new.items line.new.now ((behind_path is_wide kind).read bytes.old.items line.old.now) }
 {
-    if let Some(letter) = letter_of(is_wide, kind) {
-        return read_owned(letter, line, bytes);
+    match letter_of(is_wide, kind) {
+        Some(letter) => read_owned(letter, line, bytes),
+        None => read_other(kind, line, bytes),
     }
-    if kind == b'H' {
-        read_labelled(b" ", line, bytes)
-    } else if kind == b'L' {
-        read_text(b" ", Expected::Space, line, bytes)
-    } else {
-        Err(Stop::Unfit(Expected::Kind))
-    }
+}
+
+/// Whether a letter is that of a further name or of a link.
+fn is_other(letter: u8) -> bool
+    ensures { result ≡ is_some (trees.other_text letter None) }
+{
+    letter == b'H' || letter == b'L'
 }
 
 /// Whether a letter is that of a kind.
@@ -534,7 +628,10 @@ fn read_behind_path(
 fn is_kind(is_wide: bool, letter: u8) -> bool
     ensures { result ≡ is_some (kind_text is_wide letter) }
 {
-    letter_of(is_wide, letter).is_some() || (letter == b'H' || letter == b'L')
+    match letter_of(is_wide, letter) {
+        Some(_) => true,
+        None => is_other(letter),
+    }
 }
 
 /// What a line should begin with that does not begin with the letter of a kind.
