@@ -74,8 +74,8 @@ record Passes (f : Step) (list rest : List ℕ) : Type 0 where
 passes-word : (w : List ℕ) (B : List ℕ → Type 0) (l : List ℕ) (b : Behind w B l) → Passes (word w).read l b.rest
 passes-word w B l b = record {
   passes = λ done. (
-      done,
-      ap ((word w).read done) b.parts ∙ ap (option_and_then (λ r. Some (done, r))) (strip-same w b.rest),
+    done,
+    ap ((word w).read done) b.parts ∙ ap (option_and_then (λ r. Some (done, r))) (strip-same w b.rest),
   );
 }
 

@@ -187,30 +187,30 @@ counted_text-shown : (B : List ℕ → Type 0) (n : ℕ) (text bytes more left :
     → counted_text.show n text bytes ≡ Some (more, left)
     → CountedShown counted_text StartsQuoted B n text bytes more left
 counted_text-shown B n text bytes more left are e =
-      elim (cases_Bool (nat_le n (length bytes))) [
-        | inl enough ↦
-            let string = take n bytes in
-            let both =
-            some-inj (text ++ quoted string, drop n bytes) (more, left)
-            (sym (cond-true (nat_le n (length bytes)) (Some (text ++ quoted string, drop n bytes)) None enough) ∙ e)
-            in
-            let parts : bytes ≡ string ++ drop n bytes = sym (take-append-drop n bytes) in
-            let fit : AreBytes string = AreBytes-front string (drop n bytes) (subst AreBytes parts are) in
-            let len : length string ≡ n = omega (arith, length-take n bytes, leb-true n (length bytes) enough) in
-            record {
-              shown = quoted string;
-              taken = string;
-              text_is = sym (ap (λ p. p.0) both);
-              bytes_are = parts ∙ ap (λ p. string ++ p.1) both;
-              printable = quoted-printable string fit;
-              back = λ rest ok.
-                  let next : List ℕ × List ℕ → Option (ℕ × (List ℕ × List ℕ)) = λ moved. Some (length moved.0, moved) in
-                  ap (option_and_then next) (text_in-quoted [] string rest fit) ∙ ap (λ k. Some (k, (string, rest))) len;
-              front = λ rest ok. quoted-starts string rest;
-            }
-        | inr short ↦
-            none-some (more, left) (sym (cond-false (nat_le n (length bytes)) (Some (text ++ quoted (take n bytes), drop n bytes)) None short) ∙ e)
-      ]
+    elim (cases_Bool (nat_le n (length bytes))) [
+      | inl enough ↦
+          let string = take n bytes in
+          let both =
+          some-inj (text ++ quoted string, drop n bytes) (more, left)
+          (sym (cond-true (nat_le n (length bytes)) (Some (text ++ quoted string, drop n bytes)) None enough) ∙ e)
+          in
+          let parts : bytes ≡ string ++ drop n bytes = sym (take-append-drop n bytes) in
+          let fit : AreBytes string = AreBytes-front string (drop n bytes) (subst AreBytes parts are) in
+          let len : length string ≡ n = omega (arith, length-take n bytes, leb-true n (length bytes) enough) in
+          record {
+            shown = quoted string;
+            taken = string;
+            text_is = sym (ap (λ p. p.0) both);
+            bytes_are = parts ∙ ap (λ p. string ++ p.1) both;
+            printable = quoted-printable string fit;
+            back = λ rest ok.
+                let next : List ℕ × List ℕ → Option (ℕ × (List ℕ × List ℕ)) = λ moved. Some (length moved.0, moved) in
+                ap (option_and_then next) (text_in-quoted [] string rest fit) ∙ ap (λ k. Some (k, (string, rest))) len;
+            front = λ rest ok. quoted-starts string rest;
+          }
+      | inr short ↦
+          none-some (more, left) (sym (cond-false (nat_le n (length bytes)) (Some (text ++ quoted (take n bytes), drop n bytes)) None short) ∙ e)
+    ]
 
 counted_text-exact : (B : List ℕ → Type 0) → IsExactCounted counted_text StartsQuoted B
 counted_text-exact B = record { exact = λ n text bytes more left lt are e. counted_text-shown B n text bytes more left are e }

@@ -909,19 +909,30 @@ pub fn read_tree(text: &[u8], bytes: &mut Vec<u8>) -> Result<(), TextFault>
     complete(due, number.saturating_add(1))
 }
 
+/// What a line should have been that is not the root's.
+fn any_root(is_wide: bool) -> Expected {
+    if is_wide {
+        Expected::AnyRoot
+    } else {
+        Expected::Root
+    }
+}
+
 /// Succeeds where no line of a tree file's text is missing at its end, before the line of this number.
 fn complete(due: Due, line: u64) -> Result<(), TextFault>
     ensures { GivesText result [] (lines_from due []) }
 {
-    let expected = match due {
-        Due::Head => Expected::Head,
-        Due::Root(false) => Expected::Root,
-        Due::Root(true) => Expected::AnyRoot,
-        Due::Entry(_) => return Ok(()),
-    };
-    Err(TextFault::Unread {
-        line,
-        column: 1,
-        expected,
-    })
+    match due {
+        Due::Head => Err(TextFault::Unread {
+            line,
+            column: 1,
+            expected: Expected::Head,
+        }),
+        Due::Root(is_wide) => Err(TextFault::Unread {
+            line,
+            column: 1,
+            expected: any_root(is_wide),
+        }),
+        Due::Entry(_) => Ok(()),
+    }
 }
