@@ -5,7 +5,8 @@ from __future__ import annotations
 from sftp3 import (CLIENT, INIT, Malformed, OPENING, Request, encode, front, id_of, put_records, string, uint32,
                    uint64, until_fault)
 from sftp3.packets import LONGEST
-from sftp3.trees import DIRECTORY, Entry, FILE, FURTHER, HIGHEST, LINK, Tree, USUAL, put, text_of
+from sftp3.trees import DIRECTORY, Entry, FILE, FURTHER, HIGHEST, LEAST_OF_ALL, LINK, MOST, NO_TIMES, Tree, USUAL
+from sftp3.trees import put, text_of
 
 NAMES = [b"a", b"b", b"c", b"d", b"l", b"m"]
 STEPS = [*NAMES, b"..", b".", b"", b"\xff\x01"]
@@ -134,13 +135,25 @@ def owner(rng):
 
 
 def some_limits(rng):
-    """The limits of a tree: the usual ones, the highest, or others."""
+    """The limits of a tree: the usual ones, the highest, the most, or others, also with one on all files."""
     pick = rng.random()
     if pick < 0.4:
         return USUAL
-    if pick < 0.6:
+    if pick < 0.55:
         return HIGHEST
+    if pick < 0.65:
+        return MOST
+    if pick < 0.8:
+        four = tuple(rng.choice([*it, rng.randint(*it)]) for it in zip(USUAL, MOST))
+        return (*four, rng.choice([LEAST_OF_ALL, rng.randint(LEAST_OF_ALL, 2**40)])) if pick < 0.75 else four
     return tuple(rng.choice([*it, rng.randint(*it)]) for it in zip(USUAL, HIGHEST))
+
+
+def some_times(rng, has_times):
+    """Times of an entry, or none."""
+    if not has_times or rng.random() < 0.5:
+        return NO_TIMES
+    return rng.choice([(0, 1), (1, 0), (2**32 - 1, 2**32 - 1), (rng.choice(NUMBERS), rng.choice(NUMBERS))])
 
 
 def some_places(rng):
@@ -155,29 +168,31 @@ def some_places(rng):
     return sorted(places), directories
 
 
-def some_entry(rng, place, directories, files):
+def some_entry(rng, place, directories, files, has_times):
     """An entry there. `files` has the paths of the files so far."""
     pick, it = rng.random(), text_of(place)
     if place in directories or pick < 0.1:
-        return Entry(it, DIRECTORY, b"", *owner(rng))
+        return Entry(it, DIRECTORY, b"", *owner(rng), some_times(rng, has_times))
     if pick < 0.35:
         return Entry(it, LINK, path(rng) or b"a" if pick < 0.2 else rng.choice(NAMES))
     if pick < 0.6 and files:
         return Entry(it, FURTHER, rng.choice(files))
     data = rng.randbytes(rng.choice([0, 1, 3, 10, 1_000, 40_000, 100_000 if pick > 0.95 else 5]))
     files.append(it)
-    return Entry(it, FILE, data, *owner(rng))
+    return Entry(it, FILE, data, *owner(rng), some_times(rng, has_times))
 
 
-def some_tree(rng):
-    """A tree file: without entries, or with up to 40, of which files have up to some 100,000 bytes."""
+def some_tree(rng, has_times=False):
+    """A tree file: without entries, or with up to 40, of which files have up to some 100,000 bytes; perhaps with
+    times."""
+    root = Entry(b"/", DIRECTORY, times=some_times(rng, has_times))
     if rng.random() < 0.2:
-        return put(Tree([], limits=some_limits(rng)))
+        return put(Tree([], root=root, limits=some_limits(rng)))
     places, directories = some_places(rng)
     files = []
-    entries = [some_entry(rng, place, directories, files) for place in places]
+    entries = [some_entry(rng, place, directories, files, has_times) for place in places]
     home = b"/" + b"/".join(rng.choices(NAMES, k=rng.randint(0, 2)))
-    return put(Tree(entries, home, rng.choice(NUMBERS), rng.choice(NUMBERS), limits=some_limits(rng)))
+    return put(Tree(entries, home, rng.choice(NUMBERS), rng.choice(NUMBERS), root, some_limits(rng)))
 
 
 def change_bytes(rng, data):
@@ -254,5 +269,5 @@ def session_end(sent: bytes, taken: list[bytes]) -> str | None:
 
 def limits_told(tree: Tree) -> bytes:
     """What a session on a tree tells of its limits: packets, READ, WRITE, and open handles."""
-    _, _, read_bytes, handles = tree.limits
+    _, _, read_bytes, handles = tree.limits[:4]
     return uint64(LONGEST, read_bytes, read_bytes, handles)

@@ -101,8 +101,13 @@ class Ask:
         self.given = given
         self.add("NotFile", self.needs(path, follow=True) == "D" and "size" in given)
 
+    def overfills(self, number, size):
+        """Whether a file of so many bytes breaks a limit. Removed files count that are open."""
+        opened = {it.file for it in self.session.open.values() if it.kind == "F"}
+        return self.tree.overfills(number, size, opened)
+
     def overfills_setstat(self):
-        return self.given.get("size", 0) > self.tree.file_limit
+        return "size" in self.given and self.overfills(self.tree.nodes[self.place][1], self.given["size"])
 
     def judge_remove(self, path):
         self.add("IsDir", self.needs(path, follow=False) == "D")
@@ -187,7 +192,8 @@ class Ask:
 
     def overfills_write(self):
         _, offset, bytes = self.values
-        return bool(bytes) and self.start_of_write(offset) + len(bytes) > self.tree.file_limit
+        end = max(self.start_of_write(offset) + len(bytes), len(self.tree.files[self.it.file].bytes))
+        return bool(bytes) and self.overfills(self.it.file, end)
 
     def start_of_write(self, offset):
         return len(self.tree.files[self.it.file].bytes) if "APPEND" in self.it.flags else offset
@@ -200,7 +206,8 @@ class Ask:
         it = self.opened(handle, "F")
         self.add("NotOpenFor", it is not None and "size" in given and "WRITE" not in it.flags)
 
-    overfills_fsetstat = overfills_setstat
+    def overfills_fsetstat(self):
+        return "size" in self.given and self.overfills(self.it.file, self.given["size"])
 
     def judge_readdir(self, handle):
         self.opened(handle, "L")

@@ -28,7 +28,8 @@ def with_given(owner, given):
 class Tree:
     def __init__(self, home=(), owner=(0, 0), root=(0, 0, 0o755), limits=USUAL):
         self.home, self.owner = home, owner
-        self.entry_limit, self.file_limit, self.read_limit, self.handle_limit = self.limits = limits
+        self.limits, self.all_limit = limits, tree_files.limit_of_all(limits)
+        self.entry_limit, self.file_limit, self.read_limit, self.handle_limit = limits[:4]
         self.nodes, self.files, self.made = {(): ("D", root)}, {}, 0
 
     def make_file(self, owner, bytes=b""):
@@ -96,6 +97,13 @@ class Tree:
         file = self.files[number]
         return {"size": len(file.bytes), "owner": file.owner[:2], "permissions": 0o100000 | file.owner[2]}
 
+    def overfills(self, number, size, opened):
+        """Whether a limit is broken if this file has so many bytes. Files without a name count if they are among those
+        that are open."""
+        named = {value for kind, value in self.nodes.values() if kind == "F"}
+        others = sum(len(self.files[other].bytes) for other in (named | opened) - {number})
+        return size > self.file_limit or others + size > self.all_limit
+
     def set_file(self, number, given):
         file = self.files[number]
         file.owner = with_given(file.owner, given)
@@ -124,7 +132,7 @@ class Tree:
                 yield place, "F", self.files[value].owner, bytes(self.files[value].bytes)
 
     def bytes(self):
-        """The tree file."""
+        """The tree file. A tree has no times."""
         entries = list(self.entries())
         parts = [tree_files.head(text_of(self.home), self.owner, self.limits, len(entries), self.nodes[()][1])]
         for place, kind, owner, value in entries:
@@ -137,12 +145,16 @@ class Tree:
                 parts.append((tree_files.further if kind == "H" else tree_files.link)(path, value))
         return b"".join(parts)
 
+    def told_limits(self):
+        """The limits as the text of the tree file has them."""
+        return (*self.limits[:4], self.all_limit) if tree_files.are_far(self.limits) else self.limits
+
     def lines(self):
         """The lines of a case that stand for the tree file."""
         lines = []
         if self.home or self.owner != (0, 0) or self.limits != USUAL:
             words = [f"home {text_of_bytes(text_of(self.home))} uid {self.owner[0]} gid {self.owner[1]}"]
-            lines.append(" ".join([*words, "limits", *map(str, self.limits)] if self.limits != USUAL else words))
+            lines.append(" ".join([*words, "limits", *map(str, self.told_limits())] if self.limits != USUAL else words))
         if self.nodes[()][1] != (0, 0, 0o755) or lines:
             lines.append(text_of_entry((), "D", self.nodes[()][1], None))
         return lines + [text_of_entry(*entry) for entry in self.entries()]

@@ -9,7 +9,7 @@ from typing import Dict, FrozenSet, Iterator, List, NamedTuple, Optional, Tuple
 
 from recording import mounted
 from recording.ways import Way, names
-from sftp3.trees import HIGHEST
+from sftp3.trees import MOST
 
 # What is mounted where, in the fifth word of each line; spaces and the like are written as octal numbers.
 MOUNTS = "/proc/self/mountinfo"
@@ -70,8 +70,8 @@ class Look:
     def count(self, path: int) -> None:
         """Counts an entry whose path has so many bytes."""
         self.entries, self.bytes = self.entries + 1, self.bytes + path
-        if self.entries > HIGHEST[0]:
-            raise Trouble(f"more than {HIGHEST[0]} entries, as many as a tree has")
+        if self.entries > MOST[0]:
+            raise Trouble(f"more than {MOST[0]} entries, as many as a tree has")
         if self.bytes > self.most:
             raise Trouble(f"the names of the entries have more than the {self.most} bytes that --most allows")
 

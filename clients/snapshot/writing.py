@@ -5,7 +5,7 @@ from typing import BinaryIO, Callable, Dict, NamedTuple, Tuple
 
 from recording import mounted
 from sftp3 import trees
-from sftp3.trees import HIGHEST, LONGEST_NAME, USUAL, text_of
+from sftp3.trees import HIGHEST, LONGEST_NAME, MOST, USUAL, text_of
 from snapshot.looking import Entry, Trouble, is_mounted_over, kind, shown
 from snapshot.looking import View
 
@@ -75,8 +75,8 @@ class Needs:
                 self.take(entry, named)
         if refused:
             raise Trouble(f"{refused} sockets, FIFOs or devices, which no tree holds")
-        if self.entries > HIGHEST[0]:
-            raise Trouble(f"{self.entries} entries; a tree has at most {HIGHEST[0]}")
+        if self.entries > MOST[0]:
+            raise Trouble(f"{self.entries} entries; a tree has at most {MOST[0]}")
 
     def take(self, entry: Entry, named: FirstNames) -> None:
         """Counts an entry, and the bytes that it has in a tree file."""
@@ -90,11 +90,11 @@ class Needs:
             self.bytes += len(trees.further(path, 0))
         elif kind(entry):
             self.bytes += len(trees.file_of(path, (0, 0, 0), 0))
-        elif size > HIGHEST[1]:
-            raise Trouble(f"{shown(entry.place)}: {size} bytes; a file of a tree has at most {HIGHEST[1]}")
+        elif size > MOST[1]:
+            raise Trouble(f"{shown(entry.place)}: {size} bytes; a file of a tree has at most {MOST[1]}")
         else:
             self.largest = max(self.largest, size)
-            self.bytes += len(trees.file_of(path, (0, 0, 0), 0)) + size
+            self.bytes += len(trees.file_of(path, (0, 0, 0), size)) + size
 
     def check_room(self, file: BinaryIO, head: int, most: int) -> None:
         """Refuses what a sparse file may pretend to have, before anything is written."""
@@ -106,11 +106,13 @@ class Needs:
             raise Trouble(f"the tree file would have {wanted} bytes, and where it is to be, {free} are free")
 
     def limits(self, wanted: str) -> Tuple[int, ...]:
-        """The limits by name: usual, raised, or fit, the lowest that are enough."""
+        """The limits by name: usual, raised, most, or fit, the lowest that are enough."""
         lowest = tuple(map(max, USUAL, (self.entries, self.largest, 0, 0)))
-        if wanted == "usual" and lowest != USUAL:
-            raise Trouble(f"{self.entries} entries and a file of {self.largest} bytes need more than the usual limits")
-        return {"usual": USUAL, "raised": HIGHEST, "fit": lowest}[wanted]
+        limits = {"usual": USUAL, "raised": HIGHEST, "most": MOST, "fit": lowest}[wanted]
+        if any(need > limit for need, limit in zip(lowest, limits)):
+            raise Trouble(f"{self.entries} entries and a file of {self.largest} bytes need more than the {wanted} "
+                          "limits")
+        return limits
 
 
 def owner_of(state: os.stat_result) -> Tuple[int, int, int]:

@@ -49,9 +49,9 @@ pub fn import<'a, R: System + Clock, I: Read, E: Write + IsTerminal>(
     write_rows_last(rt, options.file, options.keeping, Made::new(file))
 }
 
-/// A tree file that an archive gave.
+/// A tree file that is to be written.
 #[derive(Drop)]
-struct Made {
+pub(crate) struct Made {
     file: TreeFile,
 }
 
@@ -67,7 +67,7 @@ impl Model for Made {
 }
 
 impl Made {
-    fn new(file: TreeFile) -> Made
+    pub(crate) fn new(file: TreeFile) -> Made
         requires { IsTreeFile file }
         ensures { result ≡ file }
     {
@@ -84,7 +84,7 @@ impl Content for Made {
 }
 
 /// Writes a tree file to the file `name`, as the last step of a run.
-fn write_rows_last<'a, R: System>(
+pub(crate) fn write_rows_last<'a, R: System>(
     rt: &R,
     name: &'a str,
     keeping: Keeping,

@@ -1,11 +1,12 @@
 //! The subcommand `diff`: how two tree files differ, as lines of text or as JSON objects.
 ghost use Rattle.std.specs.Prelude.{◌≡◌, ◌≢◌};
 ghost use Rattle.sftp_files.specs.declared.messages.Ending.TheVariants as endings;
+ghost use Rattle.sftp_commands.specs.Sameness.{compared_part};
 
 use crate::sameness::is_same;
 use crate::trees::rows_in_view;
 use sftp_diff::{put_differences, put_objects};
-use sftp_files::{Ending, Failure, STANDARD_OUTPUT, System};
+use sftp_files::{DiffForm, Ending, Failure, STANDARD_OUTPUT, System};
 use sftp_progress::{Console, Task};
 use sftp_treefile::{TreeError, TreeFile};
 use std::io;
@@ -21,7 +22,7 @@ pub fn diff<'a, R: System + Clock, O: Write, E: Write + IsTerminal>(
     rt: &R,
     names: (&'a str, &'a str),
     memory: Option<u64>,
-    is_json: bool,
+    form: DiffForm,
     output: &mut O,
     console: &mut Console<'_, E>,
 ) -> Result<Ending, Failure<'a>> {
@@ -29,7 +30,7 @@ pub fn diff<'a, R: System + Clock, O: Write, E: Write + IsTerminal>(
     let most = memory.map(|bytes| bytes / SHARE).unwrap_or(u64::MAX);
     let before = rows_in_view(rt, old, most, Task::ReadOld, console)?;
     let after = rows_in_view(rt, new, most, Task::ReadNew, console)?;
-    diff_read((old, before), (new, after), is_json, output)
+    diff_read((old, before), (new, after), form, output)
 }
 
 /// What a tree file says, or its fault, and its name before that.
@@ -39,13 +40,13 @@ type FileRead<'a> = (&'a str, Result<TreeFile, TreeError>);
 fn diff_read<'a, O: Write>(
     old: FileRead<'a>,
     new: FileRead<'a>,
-    is_json: bool,
+    form: DiffForm,
     output: &mut O,
 ) -> Result<Ending, Failure<'a>> {
     let old = sound(old)?;
     let new = sound(new)?;
-    let shown = show(&old, &new, is_json, output);
-    let ending = compared(&old, &new);
+    let shown = show(&old, &new, form, output);
+    let ending = compared(&old, &new, form.with_times);
     drop(old);
     drop(new);
     match shown {
@@ -64,12 +65,12 @@ fn sound<'a>(file: FileRead<'a>) -> Result<TreeFile, Failure<'a>> {
     }
 }
 
-/// Whether two tree files say the same.
-fn compared(old: &TreeFile, new: &TreeFile) -> Ending
-    ensures same { result ≡ endings.Done → old.now ≡ new.now }
-    ensures different { result ≢ endings.Done → old.now ≢ new.now }
+/// Whether two tree files say the same, but for times if these are not compared.
+fn compared(old: &TreeFile, new: &TreeFile, with_times: bool) -> Ending
+    ensures same { result ≡ endings.Done → compared_part with_times old.now ≡ compared_part with_times new.now }
+    ensures different { result ≢ endings.Done → compared_part with_times old.now ≢ compared_part with_times new.now }
 {
-    if is_same(old, new) {
+    if is_same(old, new, with_times) {
         Ending::Done
     } else {
         Ending::Different
@@ -80,13 +81,13 @@ fn compared(old: &TreeFile, new: &TreeFile) -> Ending
 fn show<'a, O: Write>(
     old: &TreeFile,
     new: &TreeFile,
-    is_json: bool,
+    form: DiffForm,
     output: &mut O,
 ) -> Result<(), Failure<'a>> {
-    let put = if is_json {
-        put_objects(old, new, output)
+    let put = if form.is_json {
+        put_objects(old, new, form.with_times, output)
     } else {
-        put_flushed(old, new, output)
+        put_flushed(old, new, form.with_times, output)
     };
     match put {
         Ok(()) => Ok(()),
@@ -94,8 +95,13 @@ fn show<'a, O: Write>(
     }
 }
 
-fn put_flushed<O: Write>(old: &TreeFile, new: &TreeFile, output: &mut O) -> io::Result<()> {
-    put_differences(old, new, output)?;
+fn put_flushed<O: Write>(
+    old: &TreeFile,
+    new: &TreeFile,
+    with_times: bool,
+    output: &mut O,
+) -> io::Result<()> {
+    put_differences(old, new, with_times, output)?;
     output.flush()?;
     Ok(())
 }

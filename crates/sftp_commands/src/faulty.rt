@@ -215,7 +215,7 @@ fn format_of(start: &[u8]) -> Option<Format> {
         Some(Format::Empty)
     } else if start.starts_with(b"SFTPTR01") {
         Some(Format::Transcript)
-    } else if start.starts_with(b"SFTREE01") || start.starts_with(b"SFTREE02") {
+    } else if is_tree_file(start) {
         Some(Format::Tree)
     } else if start.get(MARK_PLACE..).unwrap_or(&[]).starts_with(MARK) {
         Some(Format::Archive)
@@ -237,4 +237,11 @@ fn compression_of(start: &[u8]) -> Option<Format> {
     } else {
         None
     }
+}
+
+/// Whether a file that begins so is a tree file.
+fn is_tree_file(start: &[u8]) -> bool {
+    start.starts_with(b"SFTREE01")
+        || start.starts_with(b"SFTREE02")
+        || start.starts_with(b"SFTREE03")
 }

@@ -183,12 +183,15 @@ impl<O: Write> Lines<'_, O> {
     }
 }
 
-/// A part of a tree file that has a line.
+/// What a tree file begins with whose entries may have times, and files any length.
+const WIDE_OPENING: &[u8] = b"SFTREE03";
+
+/// A part of a tree file that has a line. The root and entries have other forms after the third opening.
 #[derive(Clone, Copy)]
 enum Part {
     Head,
-    Root,
-    Entry,
+    Root(bool),
+    Entry(bool),
 }
 
 impl Part {
@@ -196,8 +199,8 @@ impl Part {
     fn put(self, bytes: &mut &[u8], text: &mut Vec<u8>) -> Result<(), ShowFault> {
         match self {
             Part::Head => put_head(bytes, text),
-            Part::Root => put_root(bytes, text),
-            Part::Entry => put_entry(bytes, text),
+            Part::Root(is_wide) => put_root(is_wide, bytes, text),
+            Part::Entry(is_wide) => put_entry(is_wide, bytes, text),
         }
     }
 }
@@ -335,14 +338,15 @@ impl<'a, F: Read> Window<'a, F> {
 
     /// Appends the lines of a tree file: of its head, its root, and its entries.
     fn show_parts<O: Write>(&mut self, lines: &mut Lines<'_, O>) -> Result<(), Stop<'a>> {
+        let is_wide = self.front().starts_with(WIDE_OPENING);
         self.show_part(Part::Head, lines)?;
-        self.show_part(Part::Root, lines)?;
+        self.show_part(Part::Root(is_wide), lines)?;
         'entries: for _ in 0..PARTS {
             self.hold(1)?;
             if self.front().is_empty() {
                 return Ok(());
             }
-            self.show_part(Part::Entry, lines)?;
+            self.show_part(Part::Entry(is_wide), lines)?;
         }
         Ok(())
     }

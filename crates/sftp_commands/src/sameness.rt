@@ -1,10 +1,26 @@
 //! Whether two tree files say the same. A tree has one tree file, so they do if they have the same bytes.
 ghost use Rattle.std.specs.Prelude.{◌≡◌, Decides};
+ghost use Rattle.sftp_commands.specs.Sameness.{compared_part};
 
-use sftp_treefile::{Kind, Row, TreeFile};
+use sftp_treefile::{EntryTimes, Kind, Row, TreeFile};
 
-pub(crate) fn is_same(old: &TreeFile, new: &TreeFile) -> bool
+/// Whether two tree files say the same, but for times if these are not compared.
+pub(crate) fn is_same(old: &TreeFile, new: &TreeFile, with_times: bool) -> bool
+    ensures { Decides result (compared_part with_times old.now ≡ compared_part with_times new.now) }
+{
+    is_same_tree(old, new) && (!with_times || have_same_times(&old.times, &new.times))
+}
+
+/// Whether two lists of times are the same.
+fn have_same_times(old: &EntryTimes, new: &EntryTimes) -> bool
     ensures { Decides result (old.now ≡ new.now) }
+{
+    old.as_slice() == new.as_slice()
+}
+
+/// Whether two tree files say the same but for times.
+fn is_same_tree(old: &TreeFile, new: &TreeFile) -> bool
+    ensures { Decides result (compared_part false old.now ≡ compared_part false new.now) }
 {
     old.limits == new.limits
         && old.home.as_slice() == new.home.as_slice()

@@ -1,7 +1,7 @@
 //! How an entry of one tree differs from the entry at the same place of another.
 
 use sftp_show::Quoted;
-use sftp_treefile::{Kind, Owner, Row};
+use sftp_treefile::{EntryTimes, Kind, NO_TIMES, Owner, Row, Times};
 use std::fmt;
 
 /// The letter of a kind; both a first and a further name are of the kind of a file.
@@ -14,14 +14,41 @@ pub(crate) fn letter(kind: &Kind) -> char {
     }
 }
 
-/// The entry that has the first name of the file which an entry names, or the entry itself if it is none of a file's
-/// further names. The rows are all those of the tree.
-fn first_of<'a>(rows: &'a [Row], row: &'a Row) -> &'a Row {
-    match &row.kind {
-        Kind::Further(number) => rows
-            .get((*number as usize).saturating_sub(1))
-            .unwrap_or(row),
-        _ => row,
+/// An entry among those of its tree.
+#[derive(Clone, Copy)]
+pub(crate) struct Entry<'a> {
+    pub(crate) row: &'a Row,
+    /// Its number. Entries count from 1.
+    pub(crate) number: usize,
+    /// All rows of the tree.
+    pub(crate) rows: &'a [Row],
+    /// The times of its root and its rows, if they are compared.
+    pub(crate) times: Option<&'a EntryTimes>,
+}
+
+impl<'a> Entry<'a> {
+    /// The number of the entry that has the first name of the file which this one names, or its own if it is none of
+    /// a file's further names.
+    fn first_number(&self) -> usize {
+        match &self.row.kind {
+            Kind::Further(number) => *number as usize,
+            _ => self.number,
+        }
+    }
+
+    /// That entry.
+    fn first(&self) -> &'a Row {
+        self.rows
+            .get(self.first_number().saturating_sub(1))
+            .unwrap_or(self.row)
+    }
+
+    /// The times of that entry; none if they are not compared.
+    fn first_times(&self) -> Times {
+        match self.times {
+            Some(times) => times.get(self.first_number()),
+            None => NO_TIMES,
+        }
     }
 }
 
@@ -104,6 +131,27 @@ fn put_permissions<W: fmt::Write>(old: u32, new: u32, f: &mut fmt::Formatter<W>)
     write!(f, " permissions {old:04o} -> {new:04o}")
 }
 
+/// Writes the times that something had and has, if there are any.
+pub(crate) fn put_times<W: fmt::Write>(
+    times: Option<(Times, Times)>,
+    f: &mut fmt::Formatter<W>,
+) -> fmt::Result {
+    let Some((old, new)) = times else {
+        return Ok(());
+    };
+    let (old_accessed, old_modified) = (old.accessed, old.modified);
+    let (new_accessed, new_modified) = (new.accessed, new.modified);
+    write!(
+        f,
+        " times {old_accessed},{old_modified} -> {new_accessed},{new_modified}"
+    )
+}
+
+/// The two times if they differ.
+pub(crate) fn times_apart(old: Times, new: Times) -> Option<(Times, Times)> {
+    if old == new { None } else { Some((old, new)) }
+}
+
 /// How the bytes of two files differ that are not the same.
 #[derive(Clone, Copy)]
 struct BytesDifference<'a>(&'a [u8], &'a [u8]);
@@ -137,6 +185,7 @@ pub(crate) fn first_difference(old: &[u8], new: &[u8]) -> usize {
 pub(crate) struct Difference<'a> {
     pub(crate) kinds: Option<(char, char)>,
     pub(crate) owners: Option<OwnerDifference>,
+    pub(crate) times: Option<(Times, Times)>,
     pub(crate) bytes: Option<(&'a [u8], &'a [u8])>,
     pub(crate) targets: Option<(&'a [u8], &'a [u8])>,
     /// The places of the first names of the files.
@@ -149,32 +198,27 @@ impl<'a> Difference<'a> {
         Difference {
             kinds: None,
             owners: None,
+            times: None,
             bytes: None,
             targets: None,
             first_names: None,
         }
     }
 
-    /// How a row of an old tree differs from the row of a new one at the same place. `old_rows` and `new_rows` are all
-    /// rows of these trees. Owner, permissions and bytes of a file are compared where one of the rows is of its first
-    /// name.
-    pub(crate) fn of(
-        old_rows: &'a [Row],
-        old: &'a Row,
-        new_rows: &'a [Row],
-        new: &'a Row,
-    ) -> Difference<'a> {
+    /// How an entry of an old tree differs from the entry of a new one at the same place. Owner, permissions, times and
+    /// bytes of a file are compared where one of the entries is of its first name.
+    pub(crate) fn of(old: Entry<'a>, new: Entry<'a>) -> Difference<'a> {
         let first_names = apart(
-            Some(first_of(old_rows, old).path.as_slice()),
-            Some(first_of(new_rows, new).path.as_slice()),
+            Some(old.first().path.as_slice()),
+            Some(new.first().path.as_slice()),
         );
-        let (old_letter, new_letter) = (letter(&old.kind), letter(&new.kind));
+        let (old_letter, new_letter) = (letter(&old.row.kind), letter(&new.row.kind));
         if old_letter != new_letter {
             Difference {
                 kinds: Some((old_letter, new_letter)),
                 ..Difference::none()
             }
-        } else if is_further(&old.kind) && is_further(&new.kind) {
+        } else if is_further(&old.row.kind) && is_further(&new.row.kind) {
             Difference {
                 first_names,
                 ..Difference::none()
@@ -182,7 +226,8 @@ impl<'a> Difference<'a> {
         } else {
             Difference {
                 first_names,
-                ..Difference::of_kinds(&first_of(old_rows, old).kind, &first_of(new_rows, new).kind)
+                times: times_apart(old.first_times(), new.first_times()),
+                ..Difference::of_kinds(&old.first().kind, &new.first().kind)
             }
         }
     }
@@ -196,6 +241,7 @@ impl<'a> Difference<'a> {
         Difference {
             kinds: None,
             owners,
+            times: None,
             bytes: apart(bytes_of(old), bytes_of(new)),
             targets: apart(target_of(old), target_of(new)),
             first_names: None,
@@ -206,6 +252,7 @@ impl<'a> Difference<'a> {
     pub(crate) fn is_none(&self) -> bool {
         self.kinds.is_none()
             && self.owners.is_none()
+            && self.times.is_none()
             && self.bytes.is_none()
             && self.targets.is_none()
             && self.first_names.is_none()
@@ -217,6 +264,7 @@ impl fmt::Display for Difference<'_> {
         put_kinds(self.kinds, f)?;
         put_texts("first name", self.first_names, f)?;
         put_owner_difference(self.owners, f)?;
+        put_times(self.times, f)?;
         put_bytes(self.bytes, f)?;
         put_texts("target", self.targets, f)
     }

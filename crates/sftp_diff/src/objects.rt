@@ -1,9 +1,10 @@
 //! What differs between two tree files, as JSON objects, one a line.
 
 use crate::differences::{Difference, OwnerDifference, apart, first_difference, letter};
+use crate::lines::root_times;
 use crate::steps::{Change, Steps};
 use sftp_json::JsonLines;
-use sftp_treefile::{Row, TreeFile, TreeLimits};
+use sftp_treefile::{Row, Times, TreeFile, TreeLimits};
 use std::io;
 use std::io::Write;
 
@@ -12,11 +13,17 @@ use std::io::Write;
 /// # Errors
 ///
 /// That of the output.
-pub fn put_objects<O: Write>(old: &TreeFile, new: &TreeFile, output: &mut O) -> io::Result<()> {
+pub fn put_objects<O: Write>(
+    old: &TreeFile,
+    new: &TreeFile,
+    with_times: bool,
+    output: &mut O,
+) -> io::Result<()> {
     let mut json = JsonLines::new(output, usize::MAX);
     put_head(old, new, &mut json);
-    put_root(OwnerDifference(old.root, new.root), &mut json);
-    put_rows(old.rows.as_slice(), new.rows.as_slice(), &mut json);
+    let times = root_times(old, new, with_times);
+    put_root(OwnerDifference(old.root, new.root), times, &mut json);
+    put_rows(old, new, with_times, &mut json);
     json.finish()
 }
 
@@ -33,43 +40,82 @@ fn put_head<O: Write>(old: &TreeFile, new: &TreeFile, json: &mut JsonLines<'_, O
     put_numbers("gid", u64::from(old.gid), u64::from(new.gid), json);
     if old.limits != new.limits {
         json.open_member("limits");
-        put_limits("old", old.limits, json);
-        put_limits("new", new.limits, json);
+        let are_far = old.limits.are_far() || new.limits.are_far();
+        put_limits("old", old.limits, are_far, json);
+        put_limits("new", new.limits, are_far, json);
         json.close();
     }
     json.end_line();
 }
 
-/// Writes limits as a member.
-fn put_limits<O: Write>(name: &str, limits: TreeLimits, json: &mut JsonLines<'_, O>) {
+/// Writes limits as a member, that on the bytes of all files among them if one of the trees has limits which no other
+/// opening holds.
+fn put_limits<O: Write>(
+    name: &str,
+    limits: TreeLimits,
+    are_far: bool,
+    json: &mut JsonLines<'_, O>,
+) {
     let TreeLimits {
         entries,
         file_bytes,
         read_bytes,
         open_handles,
+        total_bytes,
     } = limits;
     json.open_member(name);
     json.number("entries", u64::from(entries));
-    json.number("file_bytes", u64::from(file_bytes));
+    json.number("file_bytes", file_bytes);
     json.number("read_bytes", u64::from(read_bytes));
     json.number("open_handles", u64::from(open_handles));
+    if are_far {
+        json.number("total_bytes", total_bytes);
+    }
     json.close();
 }
 
 /// Writes how the roots differ, if they do.
-fn put_root<O: Write>(owners: OwnerDifference, json: &mut JsonLines<'_, O>) {
-    if owners.is_none() {
+fn put_root<O: Write>(
+    owners: OwnerDifference,
+    times: Option<(Times, Times)>,
+    json: &mut JsonLines<'_, O>,
+) {
+    if owners.is_none() && times.is_none() {
         return;
     }
     json.open();
     put_entry("changed", b"/", 'D', json);
     put_owners(owners, json);
+    put_times(times, json);
     json.end_line();
 }
 
-/// Writes how the entries of two trees differ, which are these rows.
-fn put_rows<O: Write>(old_rows: &[Row], new_rows: &[Row], json: &mut JsonLines<'_, O>) {
-    let mut steps = Steps::new(old_rows, new_rows);
+/// Writes which times differ.
+fn put_times<O: Write>(times: Option<(Times, Times)>, json: &mut JsonLines<'_, O>) {
+    if let Some((old, new)) = times {
+        put_numbers(
+            "access",
+            u64::from(old.accessed),
+            u64::from(new.accessed),
+            json,
+        );
+        put_numbers(
+            "modification",
+            u64::from(old.modified),
+            u64::from(new.modified),
+            json,
+        );
+    }
+}
+
+/// Writes how the entries of two trees differ.
+fn put_rows<O: Write>(
+    old: &TreeFile,
+    new: &TreeFile,
+    with_times: bool,
+    json: &mut JsonLines<'_, O>,
+) {
+    let mut steps = Steps::new(old, new, with_times);
     for _ in 0..steps.count() {
         match steps.next() {
             Some(change) => put_change(change, json),
@@ -109,6 +155,7 @@ fn put_kept<O: Write>(row: &Row, difference: &Difference<'_>, json: &mut JsonLin
     if let Some(owners) = difference.owners {
         put_owners(owners, json);
     }
+    put_times(difference.times, json);
     put_content(difference.bytes, json);
     put_texts("target", difference.targets, json);
     json.end_line();

@@ -1,7 +1,7 @@
 //! The steps through the entries of two trees, in the order of their places, and what happened at each.
 
-use crate::differences::Difference;
-use sftp_treefile::Row;
+use crate::differences::{Difference, Entry};
+use sftp_treefile::{EntryTimes, Row, TreeFile};
 use std::cmp::Ordering;
 
 /// What happened at one place.
@@ -15,67 +15,91 @@ pub(crate) enum Change<'a> {
     Kept(&'a Row, Difference<'a>),
 }
 
+/// The entries of a tree that were not stepped over yet.
+#[derive(Clone, Copy)]
+struct Left<'a> {
+    /// All rows of the tree.
+    rows: &'a [Row],
+    /// The times of its root and its rows, if they are compared.
+    times: Option<&'a EntryTimes>,
+    /// How many rows were stepped over.
+    done: usize,
+}
+
+impl<'a> Left<'a> {
+    fn new(file: &'a TreeFile, with_times: bool) -> Left<'a> {
+        Left {
+            rows: file.rows.as_slice(),
+            times: if with_times { Some(&file.times) } else { None },
+            done: 0,
+        }
+    }
+
+    /// The rows that are left.
+    fn rows_left(&self) -> &'a [Row] {
+        self.rows.get(self.done..).unwrap_or(&[])
+    }
+
+    /// The next entry.
+    fn entry(&self) -> Option<Entry<'a>> {
+        let row = self.rows.get(self.done)?;
+        Some(Entry {
+            row,
+            number: self.done.saturating_add(1),
+            rows: self.rows,
+            times: self.times,
+        })
+    }
+
+    /// Steps over the next row, and returns it.
+    fn pass(&mut self) -> Option<&'a Row> {
+        let row = self.rows.get(self.done);
+        self.done = self.done.saturating_add(1);
+        row
+    }
+}
+
 /// The entries of two trees that were not stepped over yet.
 #[derive(Clone, Copy)]
 pub(crate) struct Steps<'a> {
-    old_rows: &'a [Row],
-    new_rows: &'a [Row],
-    old: &'a [Row],
-    new: &'a [Row],
+    old: Left<'a>,
+    new: Left<'a>,
 }
 
 impl<'a> Steps<'a> {
-    /// Before the first entries of these trees.
-    pub(crate) fn new(old_rows: &'a [Row], new_rows: &'a [Row]) -> Steps<'a> {
+    /// Before the first entries of these trees. Times are compared if that is asked for.
+    pub(crate) fn new(old: &'a TreeFile, new: &'a TreeFile, with_times: bool) -> Steps<'a> {
         Steps {
-            old_rows,
-            new_rows,
-            old: old_rows,
-            new: new_rows,
+            old: Left::new(old, with_times),
+            new: Left::new(new, with_times),
         }
     }
 
     /// How many steps there are at most.
     pub(crate) fn count(&self) -> usize {
-        self.old_rows.len().saturating_add(self.new_rows.len())
+        self.old.rows.len().saturating_add(self.new.rows.len())
     }
 
     /// Steps over the next place, and says what happened there. At the end there is none.
     pub(crate) fn next(&mut self) -> Option<Change<'a>> {
-        let (old, new) = (self.old, self.new);
-        match next_step(old, new) {
+        match next_step(self.old.rows_left(), self.new.rows_left()) {
             Step::End => None,
-            Step::Removed => {
-                self.old = tail(old);
-                old.first().map(Change::Removed)
-            }
-            Step::Added => {
-                self.new = tail(new);
-                new.first().map(Change::Added)
-            }
-            Step::Kept => {
-                self.old = tail(old);
-                self.new = tail(new);
-                self.kept(old, new)
-            }
+            Step::Removed => self.old.pass().map(Change::Removed),
+            Step::Added => self.new.pass().map(Change::Added),
+            Step::Kept => self.kept(),
         }
     }
 
-    /// How the first of these rows differ, which have one place.
-    fn kept(&self, old: &'a [Row], new: &'a [Row]) -> Option<Change<'a>> {
-        match (old.first(), new.first()) {
-            (Some(old), Some(new)) => {
-                let difference = Difference::of(self.old_rows, old, self.new_rows, new);
-                Some(Change::Kept(new, difference))
-            }
+    /// How the next entries differ, which have one place. They are stepped over.
+    fn kept(&mut self) -> Option<Change<'a>> {
+        let (old, new) = (self.old.entry(), self.new.entry());
+        self.old.pass();
+        self.new.pass();
+        match (old, new) {
+            (Some(old), Some(new)) => Some(Change::Kept(new.row, Difference::of(old, new))),
             _ => None,
         }
     }
-}
-
-/// The rows but for the first.
-fn tail(rows: &[Row]) -> &[Row] {
-    rows.get(1..).unwrap_or(&[])
 }
 
 /// Whose entry comes next of two trees.

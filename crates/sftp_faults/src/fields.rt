@@ -109,6 +109,17 @@ impl<'a> Fields<'a> {
         Ok(())
     }
 
+    /// Reads a uint64.
+    pub(crate) fn long_number(&mut self, field: &'static str) -> Result<u64, Spot> {
+        match long_in(self.rest) {
+            Some((number, rest)) => {
+                self.go_on(rest);
+                Ok(number)
+            }
+            None => Err(self.spot(field)),
+        }
+    }
+
     /// Passes a uint64.
     pub(crate) fn long(&mut self, field: &'static str) -> Result<(), Spot> {
         self.pass(8, field)
@@ -124,4 +135,11 @@ impl<'a> Fields<'a> {
             None => Err(self.spot(field)),
         }
     }
+}
+
+/// The uint64 in front of bytes, and the bytes behind it.
+fn long_in(bytes: &[u8]) -> Option<(u64, &[u8])> {
+    let (high, rest) = take_number(bytes)?;
+    let (low, rest) = take_number(rest)?;
+    Some(((u64::from(high) << 32) | u64::from(low), rest))
 }

@@ -19,7 +19,7 @@ pub use messages::{
     Ending, Failure, MORE, STANDARD_INPUT, STANDARD_OUTPUT, print, report, write_flushed,
 };
 pub use names::Named;
-pub use options::{ImportOptions, ServeOptions, ShowOptions};
+pub use options::{DiffForm, ImportOptions, RaiseTo, ServeOptions, ShowOptions};
 pub use reading::{open, read, read_at_most};
 pub use recording::{Record, Recording};
 pub use saving::{Keeping, PRIVATE, require_fit, write, write_content, write_last};

@@ -66,3 +66,23 @@ pub struct ImportOptions<'a> {
     /// How the archive is taken.
     pub taking: Taking,
 }
+
+/// The limits that `raise` gives a tree.
+#[derive(Clone, Copy)]
+pub enum RaiseTo {
+    /// The highest that old programs read, or those of the tree where they are higher.
+    Highest,
+    /// The lowest that hold the tree.
+    Fit,
+    /// The highest that there are.
+    Most,
+}
+
+/// What `diff` compares of two trees, and how it tells what differs.
+#[derive(Clone, Copy)]
+pub struct DiffForm {
+    /// Whether times are compared, too.
+    pub with_times: bool,
+    /// Whether the lines are JSON objects.
+    pub is_json: bool,
+}

@@ -19,7 +19,14 @@ use Rattle.sftp_packets.specs.declared.requests.Ask.TheVariants as asks
 use Rattle.sftp_path.proofs.Table.Laws.{get-put_elsewhere}
 use Rattle.std.specs.Option.{option_map}
 use Rattle.sftp_tree.proofs.KeptTrees.{kept-content-within}
-use Rattle.sftp_handles.proofs.Good.{good-settled, content-room}
+use Rattle.sftp_handles.proofs.Imports.{◌||◌, not, when, NoRoom}
+use Rattle.sftp_treefile.specs.TreeFile.{are_far}
+use Rattle.sftp_treefile.specs.TreeFileParts.{AreRaised}
+use Rattle.sftp_treefile.proofs.Texts.{not_far}
+use Rattle.sftp_tree.specs.Tree.{Tree}
+use Rattle.sftp_handles.specs.RequestRows.{has_file_room}
+use Rattle.sftp_handles.specs.Clash.{clash, share_room, room_clash}
+use Rattle.sftp_handles.proofs.Good.{good-settled, content-room, room-near}
 use Rattle.sftp_handles.proofs.Good.{next-content, room-left}
 use Rattle.sftp_handles.proofs.Good.Pins.{settled-already}
 use Rattle.sftp_handles.proofs.Good.Pins.{pins-listing_again}
@@ -99,6 +106,44 @@ share-mutual (takes_names h) (takes_names k) = nat_list_eq_equiv.symm h k
 share-mutual untouched everything = refl
 share-mutual everything untouched = refl
 share-mutual at other = refl
+
+-- nor does it matter for room which comes first
+pub room-mutual : (bounds : TreeLimits) (at other : Touched) → room_clash bounds at other ≡ room_clash bounds other at
+room-mutual bounds at other = ap (λ b. are_far bounds && b) (by at other)
+  where
+    by : (at other : Touched) → share_room at other ≡ share_room other at
+    by (writes_file m) (writes_file n) = ap not (nat_eq_equiv.symm m n)
+    by at other = refl
+
+pub or-none : (a b : Bool) → (a || b) ≡ false → (a ≡ false) × (b ≡ false)
+or-none true b is = absurd cc
+or-none false b is = (refl, is)
+
+-- what does not conflict shares neither room nor anything else
+pub clash-none : (s : State) (request other : Request) → clash s request other ≡ false
+    → (room_clash (limits s.tree) (touched s request.ask) (touched s other.ask) ≡ false)
+    × (share (touched s request.ask) (touched s other.ask) ≡ false)
+unfolding clash
+clash-none s request other free =
+    or-none (room_clash (limits s.tree) (touched s request.ask) (touched s other.ask))
+    (share (touched s request.ask) (touched s other.ask)) free
+
+pub clash-from : (s : State) (request other : Request) → share (touched s request.ask) (touched s other.ask) ≡ true
+    → clash s request other ≡ true
+unfolding clash
+clash-from s request other shared =
+    ap (λ b. room_clash (limits s.tree) (touched s request.ask) (touched s other.ask) || b) shared
+    ∙ by (room_clash (limits s.tree) (touched s request.ask) (touched s other.ask))
+  where
+    by : (b : Bool) → (b || true) ≡ true
+    by true = refl
+    by false = refl
+
+pub clash-mutual : (s : State) (request other : Request) → clash s request other ≡ clash s other request
+unfolding clash
+clash-mutual s request other = λ i.
+    room-mutual (limits s.tree) (touched s request.ask) (touched s other.ask) i
+    || share-mutual (touched s request.ask) (touched s other.ask) i
 
 -- the numbers or handles of what is not shared differ
 other-number : (m n : ℕ) → (m == n) ≡ false → m ≢ n
@@ -350,27 +395,27 @@ module _ (s : State) (ask : Ask) where
 
 module _ (s : State) (ask : Ask) (handle : List ℕ) (answer : Answer) (good : Good s) (fit : IsAsk ask) where
   rewritten : (number : ℕ) (before next : Content) → content_at s.tree.files number ≡ Some before → IsContent next
-      → content_fits (limits s.tree) next ≡ true
+      → has_file_room s.tree number next ≡ true
       → changed s handle (rewrites number next) ≡ applied s handle (rewrites number next)
   rewritten number before next there is room =
       settled-already (record s.tree { files = with_content s.tree.files number next }) s.handles
       (kept-content-within s.tree number before next good.tree there is
-      ((content-room s.tree number next good.tree.within_limits).1 room))
+      (content-room s.tree number next good.tree ∙ room))
       good.pinned
 
   content-changed : (number : ℕ) (flags : OpenFlags) (before : Content) (next : Option Content)
       → (row_of ask).content flags before ≡ next → content_at s.tree.files number ≡ Some before
-      → is_none (with_file_room (limits s.tree) ((row_of ask).refused flags) next) ≡ true
+      → is_none (with_file_room s.tree number ((row_of ask).refused flags) next) ≡ true
       → changed s handle (change_file number next) ≡ applied s handle (change_file number next)
   content-changed number flags before None is there free = good-settled s good
   content-changed number flags before (Some next) is there free =
       let content = each-get nat_cmp nat_cmp-IsAntisymmetric (λ e. IsContent e.1) s.tree.files number before
       good.tree.well_formed.contents there in
       rewritten number before next there (next-content ask flags before next fit content is)
-      (room-left (limits s.tree) ((row_of ask).refused flags) next free)
+      (room-left s.tree number ((row_of ask).refused flags) next free)
 
   number-changed : (number : ℕ) (flags : OpenFlags) (found : Option Content) → content_at s.tree.files number ≡ found
-      → is_none (causes_of (limits s.tree) (row_of ask) (seen_file number flags found)) ≡ true
+      → is_none (causes_of s.tree (row_of ask) (seen_file number flags found)) ≡ true
       → changed s handle (change_of (row_of ask) (seen_file number flags found) answer)
       ≡ applied s handle (change_of (row_of ask) (seen_file number flags found) answer)
   number-changed number flags None there free = good-settled s good
@@ -378,7 +423,7 @@ module _ (s : State) (ask : Ask) (handle : List ℕ) (answer : Answer) (good : G
       content-changed number flags before ((row_of ask).content flags before) refl there free
 
   open-changed : (needed : Needed) (found : Option Open) → open_at s.handles handle ≡ found
-      → is_none (causes_of (limits s.tree) (row_of ask) (seen_among s.tree.files needed found)) ≡ true
+      → is_none (causes_of s.tree (row_of ask) (seen_among s.tree.files needed found)) ≡ true
       → changed s handle (change_of (row_of ask) (seen_among s.tree.files needed found) answer)
       ≡ applied s handle (change_of (row_of ask) (seen_among s.tree.files needed found) answer)
   open-changed needed None there free = good-settled s good
@@ -392,7 +437,7 @@ module _ (s : State) (ask : Ask) (handle : List ℕ) (answer : Answer) (good : G
       (good.pinned
       ∙ sym (pins-listing_again s.handles handle left (struck left (names_given answer)) good.ordered there))
 
-  changed-applied : is_none (causes_of (limits s.tree) (row_of ask) (seen s (row_of ask).needed handle)) ≡ true
+  changed-applied : is_none (causes_of s.tree (row_of ask) (seen s (row_of ask).needed handle)) ≡ true
       → changed s handle (change_of (row_of ask) (seen s (row_of ask).needed handle) answer)
       ≡ applied s handle (change_of (row_of ask) (seen s (row_of ask).needed handle) answer)
   unfolding seen
@@ -406,16 +451,16 @@ decided false true change = Some change
 decided false false change = None
 
 -- what an allowed answer changes
-abbrev pub outcome : TreeLimits → Row → Seen → Answer → Option Change
-outcome bounds row it answer =
-    decided (refuses (causes_of bounds row it) answer)
-    (is_none (causes_of bounds row it) && says (said_of bounds row it) answer) (change_of row it answer)
+abbrev pub outcome : Tree → Row → Seen → Answer → Option Change
+outcome t row it answer =
+    decided (refuses (causes_of t row it) answer)
+    (is_none (causes_of t row it) && says (said_of (limits t) row it) answer) (change_of row it answer)
 
 module _ (s : State) (ask : Ask) (handle : List ℕ) (answer : Answer) (asked : asked_handle ask ≡ Some handle) where
   abbrev it : Seen
   it = seen s (row_of ask).needed handle
 
-  causes-are : causes s ask ≡ causes_of (limits s.tree) (row_of ask) it
+  causes-are : causes s ask ≡ causes_of s.tree (row_of ask) it
   unfolding causes
   causes-are = ap (causes_by s ask) asked
 
@@ -428,7 +473,7 @@ module _ (s : State) (ask : Ask) (handle : List ℕ) (answer : Answer) (asked : 
   after-is = ap (after_by s ask answer) asked
 
   module _ (good : Good s) (fit : IsAsk ask) where
-    step-by : (refused none said : Bool) → is_none (causes_of (limits s.tree) (row_of ask) it) ≡ none
+    step-by : (refused none said : Bool) → is_none (causes_of s.tree (row_of ask) it) ≡ none
         → stepped s ask answer refused (none && said)
         ≡ option_map (applied s handle) (decided refused (none && said) (change_of (row_of ask) it answer))
     unfolding decided
@@ -439,12 +484,12 @@ module _ (s : State) (ask : Ask) (handle : List ℕ) (answer : Answer) (asked : 
     step-by false false said is = refl
 
     pub step-applied : step s ask answer
-        ≡ option_map (applied s handle) (outcome (limits s.tree) (row_of ask) it answer)
+        ≡ option_map (applied s handle) (outcome s.tree (row_of ask) it answer)
     unfolding step
     step-applied =
         (λ i. stepped s ask answer (refuses (causes-are i) answer) (is_none (causes-are i) && answers-are i))
-        ∙ step-by (refuses (causes_of (limits s.tree) (row_of ask) it) answer)
-        (is_none (causes_of (limits s.tree) (row_of ask) it))
+        ∙ step-by (refuses (causes_of s.tree (row_of ask) it) answer)
+        (is_none (causes_of s.tree (row_of ask) it))
         (says (said_of (limits s.tree) (row_of ask) it) answer) refl
 
   decided-touches : (refused answered : Bool) (change : Change)
@@ -458,16 +503,16 @@ module _ (s : State) (ask : Ask) (handle : List ℕ) (answer : Answer) (asked : 
       (change-touches s ask handle answer asked)
   decided-touches false false change is = absurd cc
 
-  pub outcome-touches : (change : Change) → outcome (limits s.tree) (row_of ask) it answer ≡ Some change
+  pub outcome-touches : (change : Change) → outcome s.tree (row_of ask) it answer ≡ Some change
       → IsChangeTo s handle (touched s ask) change
   outcome-touches =
-      decided-touches (refuses (causes_of (limits s.tree) (row_of ask) it) answer)
-      (is_none (causes_of (limits s.tree) (row_of ask) it) && says (said_of (limits s.tree) (row_of ask) it) answer)
+      decided-touches (refuses (causes_of s.tree (row_of ask) it) answer)
+      (is_none (causes_of s.tree (row_of ask) it) && says (said_of (limits s.tree) (row_of ask) it) answer)
 
 -- an allowed step changes something of what the request touches, and nothing else
 pub record Changes (s : State) (ask : Ask) (handle : List ℕ) (answer : Answer) (end : State) : Type 0 where
   pub change : Change
-  pub outcome_is : outcome (limits s.tree) (row_of ask) (seen s (row_of ask).needed handle) answer ≡ Some change
+  pub outcome_is : outcome s.tree (row_of ask) (seen s (row_of ask).needed handle) answer ≡ Some change
   pub end_is : end ≡ applied s handle change
   pub touches : IsChangeTo s handle (touched s ask) change
 
@@ -479,7 +524,7 @@ mapped s end handle (Some change) is = (change, refl, sym (same_Some (applied s 
 pub changes-of : (s end : State) (ask : Ask) (handle : List ℕ) (answer : Answer) → asked_handle ask ≡ Some handle
     → Good s → IsAsk ask → step s ask answer ≡ Some end → Changes s ask handle answer end
 changes-of s end ask handle answer asked good fit is =
-    let found = mapped s end handle (outcome (limits s.tree) (row_of ask) (seen s (row_of ask).needed handle) answer)
+    let found = mapped s end handle (outcome s.tree (row_of ask) (seen s (row_of ask).needed handle) answer)
     (sym (step-applied s ask handle answer asked good fit) ∙ is) in
     record {
       change = found.0;
@@ -509,27 +554,109 @@ limits-stay s handle at (rewrites number next) is apart = refl
 limits-stay s handle at (leaves left) is apart = refl
 limits-stay s handle at closes is apart = absurd (apart is)
 
+-- ---- the room that a request needs stays
+
+-- what may change a file shares room with another file, where the limits bound that
+bounded-not : (far same : Bool) → same ≡ false → (far && not same) ≡ false → far ≡ false
+bounded-not false same apart none = refl
+bounded-not true false apart none = absurd cc
+bounded-not true true apart none = absurd cc
+
+-- the state in which the file of a number has this content
+abbrev exchanged_file : State → ℕ → Content → State
+exchanged_file s n next = record s { tree = record s.tree { files = with_content s.tree.files n next } }
+
+module _ (s : State) (ask : Ask) (h : List ℕ) (n : ℕ) (next : Content) (good : Good s)
+    (good_after : Good (exchanged_file s n next)) where
+  -- by whether it changes its file
+  room-still : (m : ℕ) (flags : OpenFlags) (before : Content) (changes : Bool) (content : Option Content)
+      → may_change ask ≡ changes → (row_of ask).content flags before ≡ content
+      → share (touched_through a_file changes h (Some (File m flags))) (writes_file n) ≡ false
+      → room_clash (limits s.tree) (touched_through a_file changes h (Some (File m flags))) (writes_file n) ≡ false
+      → with_file_room (exchanged_file s n next).tree m ((row_of ask).refused flags) content
+      ≡ with_file_room s.tree m ((row_of ask).refused flags) content
+  room-still m flags before changes None may is apart room = refl
+  room-still m flags before false (Some x) may is apart room =
+      absurd (let changed = sym may ∙ may-change ask flags before x is in cc)
+  room-still m flags before true (Some x) may is apart room =
+      let near : AreRaised (limits s.tree) =
+      not_far (limits s.tree) good.tree.well_formed.limits (bounded-not (are_far (limits s.tree)) (m == n) apart room) in
+      ap (λ (fits : Bool). when ((row_of ask).refused flags) NoRoom (is_none ((row_of ask).refused flags) && not fits))
+      (room-near (exchanged_file s n next).tree m x good_after.tree near ∙ sym (room-near s.tree m x good.tree near))
+
+  causes-number : (m : ℕ) (flags : OpenFlags) (found : Option Content)
+      → share (touched_through a_file (may_change ask) h (Some (File m flags))) (writes_file n) ≡ false
+      → room_clash (limits s.tree) (touched_through a_file (may_change ask) h (Some (File m flags))) (writes_file n)
+      ≡ false
+      → causes_of (exchanged_file s n next).tree (row_of ask) (seen_file m flags found)
+      ≡ causes_of s.tree (row_of ask) (seen_file m flags found)
+  causes-number m flags None apart room = refl
+  causes-number m flags (Some before) apart room =
+      room-still m flags before (may_change ask) ((row_of ask).content flags before) refl refl apart room
+
+  causes-open : (needed : Needed) (found : Option Open)
+      → share (touched_through needed (may_change ask) h found) (writes_file n) ≡ false
+      → room_clash (limits s.tree) (touched_through needed (may_change ask) h found) (writes_file n) ≡ false
+      → causes_of (exchanged_file s n next).tree (row_of ask) (seen_among s.tree.files needed found)
+      ≡ causes_of s.tree (row_of ask) (seen_among s.tree.files needed found)
+  causes-open needed None apart room = refl
+  causes-open anything (Some it) apart room = refl
+  causes-open a_file (Some (File m flags)) apart room =
+      causes-number m flags (content_at s.tree.files m) apart room
+  causes-open a_file (Some (Listing left)) apart room = refl
+  causes-open a_listing (Some (File m flags)) apart room = refl
+  causes-open a_listing (Some (Listing left)) apart room = refl
+
+-- the causes by what a request sees stay after a change of what it does not share
+causes-stay : (s : State) (ask : Ask) (h k : List ℕ) (at : Touched) (change : Change) → asked_handle ask ≡ Some h
+    → Good s → Good (applied s k change) → IsChangeTo s k at change → share (touched s ask) at ≡ false
+    → room_clash (limits s.tree) (touched s ask) at ≡ false → at ≢ everything
+    → causes_of (applied s k change).tree (row_of ask) (seen s (row_of ask).needed h)
+    ≡ causes_of s.tree (row_of ask) (seen s (row_of ask).needed h)
+unfolding seen
+causes-stay s ask h k at nothing asked good after is apart room part = refl
+causes-stay s ask h k at (rewrites n next) asked good after is apart room part =
+    let own = touched-is s ask h asked in
+    causes-open s ask h n next good after (row_of ask).needed (open_at s.handles h)
+    ((λ i. share (sym own i) (sym is i)) ∙ apart) ((λ i. room_clash (limits s.tree) (sym own i) (sym is i)) ∙ room)
+causes-stay s ask h k at (leaves left) asked good after is apart room part = refl
+causes-stay s ask h k at closes asked good after is apart room part = absurd (part is)
+
+outcome-stays : (s : State) (ask : Ask) (h k : List ℕ) (answer : Answer) (at : Touched) (change : Change)
+    → asked_handle ask ≡ Some h → Good s → Good (applied s k change) → IsChangeTo s k at change
+    → share (touched s ask) at ≡ false → room_clash (limits s.tree) (touched s ask) at ≡ false → at ≢ everything
+    → outcome (applied s k change).tree (row_of ask) (seen (applied s k change) (row_of ask).needed h) answer
+    ≡ outcome s.tree (row_of ask) (seen s (row_of ask).needed h) answer
+outcome-stays s ask h k answer at change asked good after is apart room part =
+    ap (λ (it : Seen). outcome (applied s k change).tree (row_of ask) it answer)
+    (seen-stays s ask h k at change asked is apart)
+    ∙ (λ i.
+    let set = causes-stay s ask h k at change asked good after is apart room part i in
+    let it = seen s (row_of ask).needed h in
+    decided (refuses set answer)
+    (is_none set && says (said_of (limits-stay s k at change is part i) (row_of ask) it) answer)
+    (change_of (row_of ask) it answer))
+
 -- a step is still possible after a change of what it does not share
 still-steps : (s : State) (ask : Ask) (h k : List ℕ) (answer : Answer) (at : Touched) (change next : Change)
-    → asked_handle ask ≡ Some h → Good (applied s k change) → IsAsk ask → IsChangeTo s k at change
-    → share (touched s ask) at ≡ false → at ≢ everything
-    → outcome (limits s.tree) (row_of ask) (seen s (row_of ask).needed h) answer ≡ Some next
+    → asked_handle ask ≡ Some h → Good s → Good (applied s k change) → IsAsk ask → IsChangeTo s k at change
+    → share (touched s ask) at ≡ false → room_clash (limits s.tree) (touched s ask) at ≡ false → at ≢ everything
+    → outcome s.tree (row_of ask) (seen s (row_of ask).needed h) answer ≡ Some next
     → step (applied s k change) ask answer ≡ Some (applied (applied s k change) h next)
-still-steps s ask h k answer at change next asked good fit is apart part found =
-    step-applied (applied s k change) ask h answer asked good fit
+still-steps s ask h k answer at change next asked good after fit is apart room part found =
+    step-applied (applied s k change) ask h answer asked after fit
     ∙ ap (option_map (applied (applied s k change) h))
-    ((λ i. outcome (limits-stay s k at change is part i) (row_of ask) (seen-stays s ask h k at change asked is apart i) answer)
-    ∙ found)
+    (outcome-stays s ask h k answer at change asked good after is apart room part ∙ found)
 
 -- the same the other way round
 before-steps : (s : State) (ask : Ask) (h k : List ℕ) (answer : Answer) (at : Touched) (change next : Change)
-    → asked_handle ask ≡ Some h → IsChangeTo s k at change → share (touched s ask) at ≡ false → at ≢ everything
-    → outcome (limits (applied s k change).tree) (row_of ask) (seen (applied s k change) (row_of ask).needed h) answer
+    → asked_handle ask ≡ Some h → Good s → Good (applied s k change) → IsChangeTo s k at change
+    → share (touched s ask) at ≡ false → room_clash (limits s.tree) (touched s ask) at ≡ false → at ≢ everything
+    → outcome (applied s k change).tree (row_of ask) (seen (applied s k change) (row_of ask).needed h) answer
     ≡ Some next
-    → outcome (limits s.tree) (row_of ask) (seen s (row_of ask).needed h) answer ≡ Some next
-before-steps s ask h k answer at change next asked is apart part found =
-    (λ i. outcome (sym (limits-stay s k at change is part) i) (row_of ask) (sym (seen-stays s ask h k at change asked is apart) i) answer)
-    ∙ found
+    → outcome s.tree (row_of ask) (seen s (row_of ask).needed h) answer ≡ Some next
+before-steps s ask h k answer at change next asked good after is apart room part found =
+    sym (outcome-stays s ask h k answer at change asked good after is apart room part) ∙ found
 
 abbrev pub StaysGood : Type 0
 StaysGood = (s : State) (request : Request) (reply : Reply) (end : State) → Good s → IsAsk request.ask
@@ -537,10 +664,14 @@ StaysGood = (s : State) (request : Request) (reply : Reply) (end : State) → Go
 
 module _ (stays-good : StaysGood) (s mid end : State) (request other : Request) (reply next : Reply) (good : Good s)
     (fit : IsAsk request.ask) (fit_other : IsAsk other.ask)
+    (room : room_clash (limits s.tree) (touched s request.ask) (touched s other.ask) ≡ false)
     (apart : share (touched s request.ask) (touched s other.ask) ≡ false)
     (first : Allowed s other next mid) (second : Allowed mid request reply end) where
   turned : share (touched s other.ask) (touched s request.ask) ≡ false
   turned = share-mutual (touched s other.ask) (touched s request.ask) ∙ apart
+
+  room-turned : room_clash (limits s.tree) (touched s other.ask) (touched s request.ask) ≡ false
+  room-turned = room-mutual (limits s.tree) (touched s other.ask) (touched s request.ask) ∙ room
 
   part : touched s request.ask ≢ everything
   part = not-everything (touched s request.ask) (touched s other.ask) apart
@@ -566,10 +697,10 @@ module _ (stays-good : StaysGood) (s mid end : State) (request other : Request) 
       (allowed-step (applied s other-named.0 one.change) request reply end
       (subst (λ (m : State). Allowed m request reply end) one.end_is second))
 
-  early : outcome (limits s.tree) (row_of request.ask) (seen s (row_of request.ask).needed named.0) reply.answer
+  early : outcome s.tree (row_of request.ask) (seen s (row_of request.ask).needed named.0) reply.answer
       ≡ Some two.change
   early = before-steps s request.ask named.0 other-named.0 reply.answer (touched s other.ask) one.change two.change
-      named.1 one.touches apart other-part two.outcome_is
+      named.1 good good-mid one.touches apart room other-part two.outcome_is
 
   touches : IsChangeTo s named.0 (touched s request.ask) two.change
   touches = outcome-touches s request.ask named.0 reply.answer named.1 two.change early
@@ -592,7 +723,7 @@ module _ (stays-good : StaysGood) (s mid end : State) (request other : Request) 
   second-now = step-is_allowed (applied s named.0 two.change) other next
       (applied (applied s named.0 two.change) other-named.0 one.change) first.same_id
       (still-steps s other.ask other-named.0 named.0 next.answer (touched s request.ask) two.change one.change
-      other-named.1 good-between fit_other touches turned part one.outcome_is)
+      other-named.1 good good-between fit_other touches turned room-turned part one.outcome_is)
 
   pub exchanged : ComesFirst s request other reply next end
   exchanged = record {
@@ -618,3 +749,35 @@ pub touched-after : (s end : State) (request other : Request) (reply : Reply) (a
 touched-after s end request other reply ask good fit apart allowed =
     touched-past s end request reply ask good fit
     (not-everything (touched s request.ask) (touched s other.ask) apart) allowed
+
+-- ---- limits stay, and conflicts
+
+pub limits-past : (s end : State) (request : Request) (reply : Reply) → Good s → IsAsk request.ask
+    → touched s request.ask ≢ everything → Allowed s request reply end → limits end.tree ≡ limits s.tree
+limits-past s end request reply good fit part allowed =
+    let named = handle-of s request.ask part in
+    let one = changes-of s end request.ask named.0 reply.answer named.1 good fit
+    (allowed-step s request reply end allowed) in
+    ap (λ (e : State). limits e.tree) one.end_is
+    ∙ limits-stay s named.0 (touched s request.ask) one.change one.touches part
+
+-- what shares room stays
+pub room-past : (s end : State) (request : Request) (reply : Reply) (ask other : Ask) → Good s → IsAsk request.ask
+    → touched s request.ask ≢ everything → Allowed s request reply end
+    → room_clash (limits end.tree) (touched end ask) (touched end other)
+    ≡ room_clash (limits s.tree) (touched s ask) (touched s other)
+room-past s end request reply ask other good fit part allowed = λ i.
+    room_clash (limits-past s end request reply good fit part allowed i)
+    (touched-past s end request reply ask good fit part allowed i)
+    (touched-past s end request reply other good fit part allowed i)
+
+pub clash-after : (s end : State) (request other : Request) (reply : Reply) (earlier later : Request) → Good s
+    → IsAsk request.ask → share (touched s request.ask) (touched s other.ask) ≡ false
+    → Allowed s request reply end → clash end earlier later ≡ clash s earlier later
+unfolding clash
+clash-after s end request other reply earlier later good fit apart allowed =
+    let part = not-everything (touched s request.ask) (touched s other.ask) apart in
+    λ i.
+    room-past s end request reply earlier.ask later.ask good fit part allowed i
+    || share (touched-past s end request reply earlier.ask good fit part allowed i)
+    (touched-past s end request reply later.ask good fit part allowed i)

@@ -19,8 +19,13 @@ use Rattle.sftp_handles.proofs.Imports.{with_file_room, causes_of, change_of, ch
 use Rattle.std.proofs.lemmas.Bool.Decides.{nat_tests}
 use Rattle.sftp_tree.proofs.KeptTrees.{kept-trim}
 use Rattle.sftp_tree.proofs.KeptTrees.{well-formed-content, node-content}
-use Rattle.sftp_tree.proofs.Limits.{files-again}
-use Rattle.sftp_tree.proofs.OpenFiles.{well-formed-pins}
+use Rattle.sftp_tree.proofs.Limits.{fits-content}
+use Rattle.sftp_tree.proofs.OpenFiles.{well-formed-pins, narrow-with}
+use Rattle.sftp_tree.specs.Tree.{IsKept}
+use Rattle.sftp_tree.specs.Changes.{total_fits_with}
+use Rattle.sftp_treefile.specs.TreeFileParts.{AreRaised}
+use Rattle.std.proofs.lemmas.Bool.{leb-true}
+use Rattle.sftp_handles.specs.RequestRows.{has_file_room}
 use Rattle.sftp_tree.specs.declared.nodes.Node.TheVariants as nodes
 use Rattle.sftp_handles.proofs.Good.Pins.{pins-times, pins-order, pins-positive, pins-listing_again}
 use Rattle.sftp_handles.proofs.Good.Pins.{settled-already}
@@ -84,42 +89,29 @@ good-by t handles well within exist order each few = record {
 pub good-again : (s : State) → Good s → Good (settled s.tree s.handles)
 good-again s good = subst Good (sym (good-settled s good)) good
 
--- a tree with another content of a file is within the limits, if the content is
-content-within : (t : Tree) (number : ℕ) (next : Content) → IsTrue (fits t) → IsTrue (content_fits (limits t) next)
-    → IsTrue (fits (record t { files = with_content t.files number next }))
-content-within t number next within room =
-    let parts = fits-parts t within in
-    fits-from (record t { files = with_content t.files number next }) (record {
-      entries = parts.entries;
-      depths = parts.depths;
-      home = parts.home;
-      links = parts.links;
-      files = files-again t number next parts.files room;
-      numbers = parts.numbers;
-    })
+-- a tree with another content of a file is within the limits just where there is room for the content
+pub content-room : (t : Tree) (number : ℕ) (next : Content) → IsKept t
+    → fits (record t { files = with_content t.files number next }) ≡ has_file_room t number next
+content-room t number next kept = fits-content t number next kept.within_limits kept.well_formed.numbered
 
--- and only then
-content-fits : (t : Tree) (number : ℕ) (next : Content)
-    → IsTrue (fits (record t { files = with_content t.files number next })) → IsTrue (content_fits (limits t) next)
-content-fits t number next within =
-    let parts = fits-parts (record t { files = with_content t.files number next }) within in
-    let test = λ (e : ℕ × Content). content_fits (limits t) e.1 in
-    each-get nat_cmp nat_cmp-IsAntisymmetric (λ e. IsTrue (test e)) (with_content t.files number next) number next
-    (each-all test (with_content t.files number next) parts.files)
-    (get-put_here nat_cmp nat_cmp_total t.files number next)
-
-pub content-room : (t : Tree) (number : ℕ) (next : Content) → IsTrue (fits t)
-    → IsTrue (fits (record t { files = with_content t.files number next })) ↔ IsTrue (content_fits (limits t) next)
-content-room t number next within = (content-fits t number next, content-within t number next within)
+-- with limits of the first two openings there is room just where the file may have so many bytes
+pub room-near : (t : Tree) (number : ℕ) (next : Content) → IsKept t → AreRaised (limits t)
+    → has_file_room t number next ≡ content_fits (limits t) next
+room-near t number next kept near = by (content_fits (limits t) next) refl
+  where
+    by : (b : Bool) → content_fits (limits t) next ≡ b → (b && total_fits_with t number (length next.bytes)) ≡ b
+    by true fits =
+        narrow-with t number (length next.bytes) kept near (leb-true (length next.bytes) (limits t).file_bytes fits)
+    by false fits = refl
 
 -- a file has another content
 pub good-rewritten : (s : State) (number : ℕ) (before next : Content) → Good s
-    → content_at s.tree.files number ≡ Some before → IsContent next → IsTrue (content_fits (limits s.tree) next)
+    → content_at s.tree.files number ≡ Some before → IsContent next → IsTrue (has_file_room s.tree number next)
     → Good (settled (record s.tree { files = with_content s.tree.files number next }) s.handles)
 good-rewritten s number before next good there is_content room =
     good-by (record s.tree { files = with_content s.tree.files number next }) s.handles
     (well-formed-content s.tree number before next good.tree.well_formed there is_content)
-    (content-within s.tree number next good.tree.within_limits room)
+    (content-room s.tree number next good.tree ∙ room)
     (λ other pinned.
     node-content s.tree.files number next (nodes.File other) (good-opens s good other pinned))
     good.ordered good.handles good.few
@@ -246,33 +238,33 @@ room-of set room free =
     (none, room-from (is_none set) room (set NoRoom) (each NoRoom) none)
 
 -- a file that no cause keeps from changing has room
-pub room-left : (bounds : TreeLimits) (set : CauseSet) (next : Content)
-    → is_none (with_file_room bounds set (Some next)) ≡ true → content_fits bounds next ≡ true
-room-left bounds set next free = (room-of set (content_fits bounds next) free).1
+pub room-left : (t : Tree) (number : ℕ) (set : CauseSet) (next : Content)
+    → is_none (with_file_room t number set (Some next)) ≡ true → has_file_room t number next ≡ true
+room-left t number set next free = (room-of set (has_file_room t number next) free).1
 
 -- ---- a request through a handle
 
 module _ (s : State) (ask : Ask) (handle : List ℕ) (answer : Answer) (good : Good s) (fit : IsAsk ask) where
   of-file : (number : ℕ) (flags : OpenFlags) (before : Content) (next : Option Content)
       → (row_of ask).content flags before ≡ next → content_at s.tree.files number ≡ Some before
-      → is_none (with_file_room (limits s.tree) ((row_of ask).refused flags) next) ≡ true
+      → is_none (with_file_room s.tree number ((row_of ask).refused flags) next) ≡ true
       → Good (changed s handle (change_file number next))
   of-file number flags before None is there free = good-again s good
   of-file number flags before (Some next) is there free =
       let content = each-get nat_cmp nat_cmp-IsAntisymmetric (λ e. IsContent e.1) s.tree.files number before
       good.tree.well_formed.contents there in
       good-rewritten s number before next good there (next-content ask flags before next fit content is)
-      (room-left (limits s.tree) ((row_of ask).refused flags) next free)
+      (room-left s.tree number ((row_of ask).refused flags) next free)
 
   of-number : (number : ℕ) (flags : OpenFlags) (found : Option Content) → content_at s.tree.files number ≡ found
-      → is_none (causes_of (limits s.tree) (row_of ask) (seen_file number flags found)) ≡ true
+      → is_none (causes_of s.tree (row_of ask) (seen_file number flags found)) ≡ true
       → Good (changed s handle (change_of (row_of ask) (seen_file number flags found) answer))
   of-number number flags None there free = good-again s good
   of-number number flags (Some before) there free =
       of-file number flags before ((row_of ask).content flags before) refl there free
 
   of-open : (needed : Needed) (found : Option Open) → open_at s.handles handle ≡ found
-      → is_none (causes_of (limits s.tree) (row_of ask) (seen_among s.tree.files needed found)) ≡ true
+      → is_none (causes_of s.tree (row_of ask) (seen_among s.tree.files needed found)) ≡ true
       → Good (changed s handle (change_of (row_of ask) (seen_among s.tree.files needed found) answer))
   of-open needed None there free = good-again s good
   of-open anything (Some it) there free = good-closed s handle it good there
@@ -285,7 +277,7 @@ module _ (s : State) (ask : Ask) (handle : List ℕ) (answer : Answer) (good : G
       good-listing s handle left (struck left (names_given answer)) good there
       (left-struck left (names_given answer) it.1)
 
-  pub good-through : is_none (causes_of (limits s.tree) (row_of ask) (seen s (row_of ask).needed handle)) ≡ true
+  pub good-through : is_none (causes_of s.tree (row_of ask) (seen s (row_of ask).needed handle)) ≡ true
       → Good (changed s handle (change_of (row_of ask) (seen s (row_of ask).needed handle) answer))
   unfolding seen
   good-through = of-open (row_of ask).needed (open_at s.handles handle) refl

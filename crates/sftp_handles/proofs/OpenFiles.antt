@@ -15,15 +15,15 @@ use Rattle.sftp_handles.proofs.Imports.{IsRoomRefusal, Left, Handles, without_op
 use Rattle.sftp_handles.proofs.Imports.{change_of, change_file, answers, changed, after, after_by, IsWritable, IsDone}
 use Rattle.sftp_handles.proofs.Imports.{IsRefusal}
 use Rattle.sftp_packets.specs.declared.requests.Ask.TheVariants as asks
-use Rattle.sftp_tree.proofs.OpenFiles.{size-written}
+use Rattle.sftp_tree.proofs.OpenFiles.{room-written}
 use Rattle.sftp_tree.proofs.CauseLaws.{changed-fits}
-use Rattle.sftp_tree.proofs.Limits.{content-fits}
 use Rattle.sftp_handles.proofs.Good.Pins.{pins-times, pins-close_file, pins-close_listing}
 use Rattle.sftp_handles.proofs.Good.{good-opens, good-closed}
 use Rattle.sftp_tree.specs.declared.causes.Refused.TheVariants as refusals
 use Rattle.sftp_tree.specs.Changes.{with_changed_file}
 use Rattle.sftp_tree.specs.Changes.{with_written_file, after_unpin}
 use Rattle.sftp_handles.specs.Replies.{ok}
+use Rattle.sftp_handles.specs.RequestRows.{has_file_room}
 use Rattle.sftp_handles.proofs.Good.Pins.{state_of, settled-already}
 pub mod Opened
 
@@ -55,42 +55,42 @@ file-there s handle result good is =
     (found-exists s handle (open_at s.handles handle) good refl)
 
 -- of a request that changes no content
-module _ (bounds : TreeLimits) (row : Row) (files : Files)
+module _ (t : Tree) (row : Row)
     (same : (flags : OpenFlags) (before : Content) → row.content flags before ≡ None) where
   pub of-content : (number : ℕ) (flags : OpenFlags) (content : Option Content) → IsTrue (is_some content)
-      → causes_of bounds row (seen_file number flags content) ≡ row.refused flags
+      → causes_of t row (seen_file number flags content) ≡ row.refused flags
   of-content number flags None there = absurd cc
-  of-content number flags (Some before) there = ap (with_file_room bounds (row.refused flags)) (same flags before)
+  of-content number flags (Some before) there = ap (with_file_room t number (row.refused flags)) (same flags before)
 
 -- where there is a next content, by whether it fits
-pub room-causes : (bounds : TreeLimits) (row : Row) (number : ℕ) (flags : OpenFlags) (content : Option Content) (fits : Bool)
+pub room-causes : (t : Tree) (row : Row) (number : ℕ) (flags : OpenFlags) (content : Option Content) (fits : Bool)
     → (next : Content → Content) → ((before : Content) → row.content flags before ≡ Some (next before))
-    → option_map (λ before. content_fits bounds (next before)) content ≡ Some fits
-    → causes_of bounds row (seen_file number flags content) ≡ with_room (row.refused flags) fits
-room-causes bounds row number flags None fits next is there = absurd cc
-room-causes bounds row number flags (Some before) fits next is there =
-    ap (with_file_room bounds (row.refused flags)) (is before)
-    ∙ ap (with_room (row.refused flags)) (same_Some (content_fits bounds (next before)) fits there)
+    → option_map (λ before. has_file_room t number (next before)) content ≡ Some fits
+    → causes_of t row (seen_file number flags content) ≡ with_room (row.refused flags) fits
+room-causes t row number flags None fits next is there = absurd cc
+room-causes t row number flags (Some before) fits next is there =
+    ap (with_file_room t number (row.refused flags)) (is before)
+    ∙ ap (with_room (row.refused flags)) (same_Some (has_file_room t number (next before)) fits there)
 
 -- a WRITE has room where the tree says so
 pub write-room : (t : Tree) (number start : ℕ) (flags : OpenFlags) (offset : ℕ) (new : List ℕ) (fits : Bool) (content : Option Content)
     → IsKept t → content_at t.files number ≡ content
-    → option_map (start_of flags offset) content ≡ Some start → fits ≡ write_fits (limits t) start new
-    → option_map (λ before. content_fits (limits t) (written_content (start_of flags offset before) new before)) content ≡ Some fits
+    → option_map (start_of flags offset) content ≡ Some start → fits ≡ write_fits t number start new
+    → option_map (λ before. has_file_room t number (written_content (start_of flags offset before) new before)) content ≡ Some fits
 write-room t number start flags offset new fits None kept is there same = absurd cc
 write-room t number start flags offset new fits (Some before) kept is there same =
     ap Some
-    (ap (λ n. content_fits (limits t) (written_content n new before)) (same_Some (start_of flags offset before) start there)
-    ∙ size-written (limits t) start new before.bytes (content-fits t number before kept.within_limits is)
+    (ap (λ n. has_file_room t number (written_content n new before)) (same_Some (start_of flags offset before) start there)
+    ∙ room-written t number start new before kept.within_limits is
     ∙ sym same)
 
 -- and an FSETSTAT
 pub set-room : (t : Tree) (number : ℕ) (attrs : Attrs) (fits : Bool) (content : Option Content)
-    → IsKept t → content_at t.files number ≡ content → IsTrue (is_some content) → fits ≡ size_fits (limits t) attrs.size
-    → option_map (λ before. content_fits (limits t) (changed_content attrs before)) content ≡ Some fits
+    → IsKept t → content_at t.files number ≡ content → IsTrue (is_some content) → fits ≡ size_fits t number attrs.size
+    → option_map (λ before. has_file_room t number (changed_content attrs before)) content ≡ Some fits
 set-room t number attrs fits None kept is there same = absurd cc
 set-room t number attrs fits (Some before) kept is there same =
-    ap Some (changed-fits (limits t) attrs.size before.bytes (content-fits t number before kept.within_limits is) ∙ sym same)
+    ap Some (changed-fits t number before attrs.size kept.within_limits is ∙ sym same)
 
 -- ---- what is found, or the only cause
 
@@ -140,13 +140,13 @@ file_of other (Err cause) = other
 abbrev one_cause : Cause → CauseSet
 one_cause cause = when no_causes cause true
 
-pub lost-causes : (bounds : TreeLimits) (row : Row) (files : Files) (found : Option Open) (cause : Cause)
+pub lost-causes : (t : Tree) (row : Row) (files : Files) (found : Option Open) (cause : Cause)
     → found_file found ≡ Err cause
-    → causes_of bounds row (seen_among files a_file found) ≡ when no_causes cause true
+    → causes_of t row (seen_among files a_file found) ≡ when no_causes cause true
 unfolding error_of
-lost-causes bounds row files None cause is = ap (λ r. one_cause (error_of r)) is
-lost-causes bounds row files (Some (File number flags)) cause is = absurd cc
-lost-causes bounds row files (Some (Listing left)) cause is = ap (λ r. one_cause (error_of r)) is
+lost-causes t row files None cause is = ap (λ r. one_cause (error_of r)) is
+lost-causes t row files (Some (File number flags)) cause is = absurd cc
+lost-causes t row files (Some (Listing left)) cause is = ap (λ r. one_cause (error_of r)) is
 
 pub seen-found : (files : Files) (found : Option Open) (f : ℕ × OpenFlags) → found_file found ≡ Ok f
     → seen_among files a_file found ≡ seen_file f.0 f.1 (content_at files f.0)
@@ -159,39 +159,39 @@ seen-found files (Some (Listing left)) f is = absurd cc
 module _ (s : State) (handle : List ℕ) where
   pub write-found : (offset : ℕ) (new : List ℕ) (f : ℕ × OpenFlags) (fits : Bool)
       → found_file (open_at s.handles handle) ≡ Ok f
-      → option_map (λ before. content_fits (limits s.tree) (written_content (start_of f.1 offset before) new before))
+      → option_map (λ before. has_file_room s.tree f.0 (written_content (start_of f.1 offset before) new before))
       (content_at s.tree.files f.0) ≡ Some fits
       → causes s (asks.Write handle offset new) ≡ with_room (unless_open_for (may_write f.1)) fits
   unfolding causes seen
   write-found offset new f fits is there =
-      ap (causes_of (limits s.tree) (row_of (asks.Write handle offset new))) (seen-found s.tree.files (open_at s.handles handle) f is)
-      ∙ room-causes (limits s.tree) (row_of (asks.Write handle offset new)) f.0 f.1 (content_at s.tree.files f.0) fits
+      ap (causes_of s.tree (row_of (asks.Write handle offset new))) (seen-found s.tree.files (open_at s.handles handle) f is)
+      ∙ room-causes s.tree (row_of (asks.Write handle offset new)) f.0 f.1 (content_at s.tree.files f.0) fits
       (λ before. written_content (start_of f.1 offset before) new before) (λ before. refl) there
 
   pub set-found : (attrs : Attrs) (f : ℕ × OpenFlags) (fits : Bool)
       → found_file (open_at s.handles handle) ≡ Ok f
-      → option_map (λ before. content_fits (limits s.tree) (changed_content attrs before))
+      → option_map (λ before. has_file_room s.tree f.0 (changed_content attrs before))
       (content_at s.tree.files f.0) ≡ Some fits
       → causes s (asks.Fsetstat handle attrs) ≡ with_room (when no_causes NotOpenFor (is_some attrs.size && not (may_write f.1))) fits
   unfolding causes seen
   set-found attrs f fits is there =
-      ap (causes_of (limits s.tree) (row_of (asks.Fsetstat handle attrs))) (seen-found s.tree.files (open_at s.handles handle) f is)
-      ∙ room-causes (limits s.tree) (row_of (asks.Fsetstat handle attrs)) f.0 f.1 (content_at s.tree.files f.0) fits
+      ap (causes_of s.tree (row_of (asks.Fsetstat handle attrs))) (seen-found s.tree.files (open_at s.handles handle) f is)
+      ∙ room-causes s.tree (row_of (asks.Fsetstat handle attrs)) f.0 f.1 (content_at s.tree.files f.0) fits
       (changed_content attrs) (λ before. refl) there
 
 -- of a request on a file
 module _ (s : State) (ask : Ask) (handle : List ℕ) (asked : asked_handle ask ≡ Some handle)
     (needs : (row_of ask).needed ≡ a_file) where
-  by-seen : causes s ask ≡ causes_of (limits s.tree) (row_of ask) (seen_among s.tree.files a_file (open_at s.handles handle))
+  by-seen : causes s ask ≡ causes_of s.tree (row_of ask) (seen_among s.tree.files a_file (open_at s.handles handle))
   unfolding causes seen
   by-seen =
       ap (causes_by s ask) asked
-      ∙ ap (λ n. causes_of (limits s.tree) (row_of ask) (seen_among s.tree.files n (open_at s.handles handle))) needs
+      ∙ ap (λ n. causes_of s.tree (row_of ask) (seen_among s.tree.files n (open_at s.handles handle))) needs
 
   -- the handle opens no file
   pub lost : (cause : Cause) → found_file (open_at s.handles handle) ≡ Err cause → causes s ask ≡ when no_causes cause true
   lost cause is =
-      by-seen ∙ lost-causes (limits s.tree) (row_of ask) s.tree.files (open_at s.handles handle) cause is
+      by-seen ∙ lost-causes s.tree (row_of ask) s.tree.files (open_at s.handles handle) cause is
 
   -- it opens one, and the request changes no content
   pub plain-found : ((flags : OpenFlags) (before : Content) → (row_of ask).content flags before ≡ None)
@@ -199,8 +199,8 @@ module _ (s : State) (ask : Ask) (handle : List ℕ) (asked : asked_handle ask �
       → causes s ask ≡ (row_of ask).refused f.1
   plain-found same f is there =
       by-seen
-      ∙ (ap (causes_of (limits s.tree) (row_of ask)) (seen-found s.tree.files (open_at s.handles handle) f is)
-      ∙ of-content (limits s.tree) (row_of ask) s.tree.files same f.0 f.1 (content_at s.tree.files f.0) there)
+      ∙ (ap (causes_of s.tree (row_of ask)) (seen-found s.tree.files (open_at s.handles handle) f is)
+      ∙ of-content s.tree (row_of ask) same f.0 f.1 (content_at s.tree.files f.0) there)
 
   -- and however the file was opened
   module _ (same : (flags : OpenFlags) (before : Content) → (row_of ask).content flags before ≡ None)
@@ -414,7 +414,7 @@ module _ (s : State) (handle : List ℕ) where
   pub close-lost : open_at s.handles handle ≡ None → IsTrue (causes s (asks.Close handle) BadHandle)
   unfolding causes
   close-lost absent =
-      ap (λ x. causes_of (limits s.tree) (row_of (asks.Close handle)) x BadHandle) (seen-closing None absent)
+      ap (λ x. causes_of s.tree (row_of (asks.Close handle)) x BadHandle) (seen-closing None absent)
       ∙ cause-holds BadHandle
 
   pub close-done : (it : Open) (end : State) → open_at s.handles handle ≡ Some it
@@ -422,7 +422,7 @@ module _ (s : State) (handle : List ℕ) where
   unfolding causes answers after
   close-done it end there is_end message language = record {
     free =
-        ap (λ x. is_none (causes_of (limits s.tree) (row_of (asks.Close handle)) x)) (seen-closing (Some it) there)
+        ap (λ x. is_none (causes_of s.tree (row_of (asks.Close handle)) x)) (seen-closing (Some it) there)
         ∙ none-free;
     answered =
         ap (λ x. says (said_of (limits s.tree) (row_of (asks.Close handle)) x) (Status 0 message language))

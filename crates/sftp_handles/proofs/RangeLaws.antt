@@ -14,6 +14,11 @@ use Rattle.sftp_packets.specs.declared.requests.Ask.TheVariants as asks
 use Rattle.sftp_handles.specs.Clash.{written_span, span, range_from, range_if, range_within, range_of, range_by}
 use Rattle.sftp_handles.specs.Clash.{range}
 use Rattle.sftp_handles.specs.Replies.{gives, ended, ok}
+use Rattle.sftp_handles.specs.RequestRows.{has_file_room}
+use Rattle.sftp_handles.proofs.Imports.{◌-◌, Files, Tree, get-put_here}
+use Rattle.sftp_tree.specs.Tree.{total_of}
+use Rattle.sftp_tree.specs.Changes.{length_of}
+use Rattle.sftp_tree.proofs.Totals.{total-put, part-of_total}
 use Rattle.sftp_handles.proofs.ClashLaws.{applied}
 use Rattle.sftp_handles.proofs.ClashLaws.{decided, outcome, step-applied}
 use Rattle.sftp_handles.proofs.RangeLaws.Spans.{over, over-length, over-nothing, written-over}
@@ -168,11 +173,11 @@ verdict true answered = Some false
 verdict false true = Some true
 verdict false false = None
 
-abbrev pub judged : TreeLimits → Ask → ℕ → OpenFlags → Content → Answer → Option Bool
-judged bounds ask number flags before answer =
-    verdict (refuses (causes_of bounds (row_of ask) (file number flags before)) answer)
-    (is_none (causes_of bounds (row_of ask) (file number flags before))
-    && says (said_of bounds (row_of ask) (file number flags before)) answer)
+abbrev pub judged : Tree → Ask → ℕ → OpenFlags → Content → Answer → Option Bool
+judged t ask number flags before answer =
+    verdict (refuses (causes_of t (row_of ask) (file number flags before)) answer)
+    (is_none (causes_of t (row_of ask) (file number flags before))
+    && says (said_of (limits t) (row_of ask) (file number flags before)) answer)
 
 -- the content of the file after the request, by whether it was done
 abbrev pub effect : Bool → Ask → OpenFlags → Content → Content
@@ -200,12 +205,12 @@ module _ (s : State) (ask : Ask) (handle : List ℕ) (number : ℕ) (flags : Ope
         → seen s (row_of ask).needed handle ≡ file number flags before
         → step s ask answer
         ≡ option_map (λ done. with_file s number (effect done ask flags before))
-        (judged (limits s.tree) ask number flags before answer)
+        (judged s.tree ask number flags before answer)
     file-step asked good fit sees =
         step-applied s ask handle answer asked good fit
-        ∙ (ap (λ it. option_map (applied s handle) (outcome (limits s.tree) (row_of ask) it answer)) sees
-        ∙ step-by (refuses (causes_of (limits s.tree) (row_of ask) (file number flags before)) answer)
-        (is_none (causes_of (limits s.tree) (row_of ask) (file number flags before))
+        ∙ (ap (λ it. option_map (applied s handle) (outcome s.tree (row_of ask) it answer)) sees
+        ∙ step-by (refuses (causes_of s.tree (row_of ask) (file number flags before)) answer)
+        (is_none (causes_of s.tree (row_of ask) (file number flags before))
         && says (said_of (limits s.tree) (row_of ask) (file number flags before)) answer))
 
 -- ---- a request that keeps to a range of the file
@@ -277,9 +282,28 @@ pub record AreAlike (ends : ℕ × ℕ) (before after : Content) : Type 0 where
   pub bytes : (count : ℕ) → ends.0 + count ≤ ends.1
       → take count (drop ends.0 after.bytes) ≡ take count (drop ends.0 before.bytes)
 
+-- the bytes of all other files stay when a file gets another content
+others-stay : (files : Files) (number : ℕ) (next : Content) → InOrder nat_cmp files
+    → total_of (with_content files number next) - length_of (content_at (with_content files number next) number)
+    ≡ total_of files - length_of (content_at files number)
+others-stay files number next order =
+    omega (
+      arith,
+      total-put files number next order,
+      ap length_of (get-put_here nat_cmp nat_cmp_total files number next),
+      part-of_total files number,
+    )
+
 -- a request is judged alike on contents that are alike in its range
-module _ (bounds : TreeLimits) (number : ℕ) (flags : OpenFlags) (before after : Content) (ends : ℕ × ℕ)
-    (within : ends.1 ≤ length before.bytes) (alike : AreAlike ends before after) (answer : Answer) where
+module _ (t : Tree) (order : InOrder nat_cmp t.files) (number : ℕ) (flags : OpenFlags) (before after : Content)
+    (ends : ℕ × ℕ) (within : ends.1 ≤ length before.bytes) (alike : AreAlike ends before after) (answer : Answer) where
+  abbrev bounds : TreeLimits
+  bounds = limits t
+
+  -- the tree with the second content
+  abbrev other : Tree
+  other = record t { files = with_content t.files number after }
+
   read-alike : (offset len : ℕ) → (offset, offset + min len bounds.read_bytes) ≡ ends
       → read_from bounds offset len after ≡ read_from bounds offset len before
   read-alike offset len is =
@@ -301,20 +325,22 @@ module _ (bounds : TreeLimits) (number : ℕ) (flags : OpenFlags) (before after 
       ∙ over-length ends.0 bytes content.bytes
 
   written-alike : (offset : ℕ) (bytes : List ℕ) → written_span (goes_to_end flags) offset (length bytes) ≡ Some ends
-      → content_fits bounds (written_content (start_of flags offset after) bytes after)
-      ≡ content_fits bounds (written_content (start_of flags offset before) bytes before)
+      → has_file_room other number (written_content (start_of flags offset after) bytes after)
+      ≡ has_file_room t number (written_content (start_of flags offset before) bytes before)
   written-alike offset bytes is =
-      ap (λ n. nat_le n bounds.file_bytes)
-      (written-size offset bytes after (subst (λ n. ends.1 ≤ n) (sym alike.sized) within) is
-      ∙ (alike.sized ∙ sym (written-size offset bytes before within is)))
+      let count = written-size offset bytes after (subst (λ n. ends.1 ≤ n) (sym alike.sized) within) is
+      ∙ (alike.sized ∙ sym (written-size offset bytes before within is)) in
+      λ i.
+      nat_le (count i) bounds.file_bytes
+      && nat_le (others-stay t.files number after order i + count i) bounds.total_bytes
 
   pub judged-alike : (ask : Ask) → span bounds ask flags ≡ Some ends
-      → judged bounds ask number flags after answer ≡ judged bounds ask number flags before answer
+      → judged other ask number flags after answer ≡ judged t ask number flags before answer
   judged-alike (asks.Read handle offset len) is =
       ap
       (λ said.
-      verdict (refuses (causes_of bounds (row_of (asks.Read handle offset len)) (file number flags before)) answer)
-      (is_none (causes_of bounds (row_of (asks.Read handle offset len)) (file number flags before)) && says said answer))
+      verdict (refuses (causes_of t (row_of (asks.Read handle offset len)) (file number flags before)) answer)
+      (is_none (causes_of t (row_of (asks.Read handle offset len)) (file number flags before)) && says said answer))
       (read-alike offset len (same_Some (offset, offset + min len bounds.read_bytes) ends is))
   judged-alike (asks.Write handle offset bytes) is =
       ap
@@ -323,4 +349,4 @@ module _ (bounds : TreeLimits) (number : ℕ) (flags : OpenFlags) (before after 
       (is_none ((row_of (asks.Write handle offset bytes)).refused flags) && not fits) in
       verdict (refuses set answer) (is_none set && says ok answer))
       (written-alike offset bytes is)
-  judged-alike other is = absurd cc
+  judged-alike ask is = absurd cc

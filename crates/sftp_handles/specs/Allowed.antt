@@ -35,7 +35,7 @@ abbrev pub path_causes : State → Ask → CauseSet
 path_causes s ask = (row_of ask).causes s (paths.causes s.tree ask)
 
 abbrev pub causes_by : State → Ask → Option (List ℕ) → CauseSet
-causes_by s ask (Some handle) = causes_of (limits s.tree) (row_of ask) (seen_by s ask handle)
+causes_by s ask (Some handle) = causes_of s.tree (row_of ask) (seen_by s ask handle)
 causes_by s ask None = path_causes s ask
 
 -- the causes that hold

@@ -2,9 +2,10 @@
 -- processed in the order received, with the results as if each had waited for the reply to the one before; those that
 -- do not overlap may run in parallel (draft-ietf-secsh-filexfer-02, section 6.1). What a request touches is this
 -- profile's own. Here requests conflict by that alone; `Ranges` also compares the ranges of those that share a file
--- (`range_clash`), and the server goes by that.
+-- (`range_clash`), and the server goes by that. That files share room, where the tree bounds the bytes of all of them,
+-- is this profile's own, too.
 use Rattle.std.specs.Prelude.{◌≡◌, ℕ, ◌<◌, ◌^◌, Bool, true, false, List, IfSome, IsTrue, ◌==◌, if◌then◌else◌, Option}
-use Rattle.std.specs.Prelude.{Some, None, [], ◌&&◌, not, nat_lt, nat_le, ◌+◌, min, length}
+use Rattle.std.specs.Prelude.{Some, None, [], ◌&&◌, ◌||◌, not, nat_lt, nat_le, ◌+◌, min, length}
 use Rattle.sftp_packets.specs.declared.requests.Ask.{Ask}
 use Rattle.sftp_packets.specs.declared.requests.Ask.TheVariants as asks
 use Rattle.sftp_packets.specs.declared.replies.Answer.TheVariants.{Handle}
@@ -12,7 +13,7 @@ use Rattle.sftp_packets.specs.declared.packets.Packet.TheVariants.{Reply as repl
 use Rattle.sftp_packets.specs.declared.packets.Request.{Request}
 use Rattle.sftp_packets.specs.declared.packets.Reply.{Reply}
 use Rattle.sftp_packets.specs.Packets.{HasSpelling}
-use Rattle.sftp_treefile.specs.TreeFile.{are_bytes}
+use Rattle.sftp_treefile.specs.TreeFile.{are_bytes, are_far}
 use Rattle.sftp_tree.specs.Requests.{path_of, outcome}
 use Rattle.sftp_handles.specs.declared.opens.Open.{Open}
 use Rattle.sftp_handles.specs.State.{with_open, open_at}
@@ -132,9 +133,21 @@ share (writes_file number) (writes_file other) = number == other
 share (takes_names handle) (takes_names other) = same_bytes handle other
 share _ _ = false
 
+-- whether both may change a file, and not the same one: then each may take room that the other needs
+abbrev pub share_room : Touched → Touched → Bool
+share_room (writes_file number) (writes_file other) = not (number == other)
+share_room _ _ = false
+
+-- the same where the limits bound the bytes of all files together; those of the first two openings leave each file room
+-- for all that it may have, whatever the others have
+abbrev pub room_clash : TreeLimits → Touched → Touched → Bool
+room_clash bounds at other = are_far bounds && share_room at other
+
 -- whether two requests conflict by what they touch alone, whatever their ranges
 unfoldable pub clash : State → Request → Request → Bool
-clash s request other = share (touched s request.ask) (touched s other.ask)
+clash s request other =
+    room_clash (limits s.tree) (touched s request.ask) (touched s other.ask)
+    || share (touched s request.ask) (touched s other.ask)
 
 -- one request is done first and the other after it, with these replies and this end
 pub record ComesFirst (s : State) (request other : Request) (reply other_reply : Reply) (end : State) : Type 0 where
@@ -220,4 +233,7 @@ are_apart _ _ = false
 -- whether two requests have to be done in the order asked, if those of one file whose ranges do not meet may change
 -- places
 unfoldable pub range_clash : State → Request → Request → Bool
-range_clash s request other = clash s request other && not (are_apart (range s request.ask) (range s other.ask))
+range_clash s request other =
+    room_clash (limits s.tree) (touched s request.ask) (touched s other.ask)
+    || (share (touched s request.ask) (touched s other.ask)
+    && not (are_apart (range s request.ask) (range s other.ask)))

@@ -1,5 +1,5 @@
--- The table of requests, and what follows from it for those through handles: by what each sees of its handle and by the
--- limits alone, the causes that hold, what its reply says, and what it changes (draft-ietf-secsh-filexfer-02, sections
+-- The table of requests, and what follows from it for those through handles: by what each sees of its handle, by the
+-- limits and by how many bytes all files have, the causes that hold, what its reply says, and what it changes (draft-ietf-secsh-filexfer-02, sections
 -- 6.3, 6.4 and 6.7 to 6.9; OpenSSH's PROTOCOL, section 4.6 for fsync). The causes are this profile's own. That an
 -- unknown extension is always refused is the draft's, section 8.
 use Rattle.std.specs.Prelude.{◌&&◌, not, nat_lt, ℕ, Bool, true, if◌then◌else◌, List, [], ◌∷◌, ◌++◌, length, Option}
@@ -12,10 +12,10 @@ use Rattle.sftp_packets.specs.Spelling.{uint64, packet_limit}
 use Rattle.sftp_treefile.specs.declared.limits.TreeLimits.{TreeLimits}
 use Rattle.sftp_tree.specs.declared.causes.Cause.TheVariants.{BadHandle, WrongKind, NotOpenFor, NoRoom, Unknown}
 use Rattle.sftp_tree.specs.declared.file_contents.Content.{Content}
-use Rattle.sftp_tree.specs.Tree.{limits, content_fits}
+use Rattle.sftp_tree.specs.Tree.{Tree, limits, content_fits}
 use Rattle.sftp_tree.specs.Attributes.{changed_content, shown_content}
 use Rattle.sftp_tree.specs.Attributes.{reads, writes, appends}
-use Rattle.sftp_tree.specs.Changes.{bytes_at, written_content}
+use Rattle.sftp_tree.specs.Changes.{bytes_at, written_content, total_fits_with}
 use Rattle.sftp_tree.specs.PlaceCauses.{CauseSet, no_causes, when, is_none}
 use Rattle.sftp_tree.specs.Requests as paths
 use Rattle.sftp_handles.specs.State.{Left, Handles}
@@ -148,17 +148,21 @@ row_of (asks.Hardlink oldpath newpath) = plain_row
 
 -- ---- the causes of a request through a handle
 
--- `NoRoom` holds if no other cause holds and the file would have too many bytes
-abbrev pub with_file_room : TreeLimits → CauseSet → Option Content → CauseSet
-with_file_room bounds set None = set
-with_file_room bounds set (Some next) = when set NoRoom (is_none set && not (content_fits bounds next))
+-- whether there is room for this content of the file of a number: for the file itself, and with all others
+abbrev pub has_file_room : Tree → ℕ → Content → Bool
+has_file_room t number next = content_fits (limits t) next && total_fits_with t number (length next.bytes)
 
-abbrev pub causes_of : TreeLimits → Row → Seen → CauseSet
-causes_of bounds row absent = when no_causes BadHandle true
-causes_of bounds row other_kind = when no_causes WrongKind true
-causes_of bounds row something = no_causes
-causes_of bounds row (file number flags before) = with_file_room bounds (row.refused flags) (row.content flags before)
-causes_of bounds row (listing left) = no_causes
+-- `NoRoom` holds if no other cause holds and there is no room for the content
+abbrev pub with_file_room : Tree → ℕ → CauseSet → Option Content → CauseSet
+with_file_room t number set None = set
+with_file_room t number set (Some next) = when set NoRoom (is_none set && not (has_file_room t number next))
+
+abbrev pub causes_of : Tree → Row → Seen → CauseSet
+causes_of t row absent = when no_causes BadHandle true
+causes_of t row other_kind = when no_causes WrongKind true
+causes_of t row something = no_causes
+causes_of t row (file number flags before) = with_file_room t number (row.refused flags) (row.content flags before)
+causes_of t row (listing left) = no_causes
 
 -- ---- what the reply says
 

@@ -20,7 +20,7 @@ use Rattle.sftp_tree.specs.declared.causes.Cause.{Cause}
 use Rattle.sftp_tree.specs.declared.causes.Cause.TheVariants.{BadHandle, WrongKind, NotOpenFor, NoRoom}
 use Rattle.sftp_tree.specs.PlaceCauses.{CauseSet, no_causes, when, is_none}
 use Rattle.sftp_tree.specs.Changes.{write_fits}
-use Rattle.sftp_tree.specs.Tree.{content_at, limits}
+use Rattle.sftp_tree.specs.Tree.{content_at}
 use Rattle.sftp_handles.specs.State.{State}
 use Rattle.sftp_handles.specs.RequestRows.{start_of}
 use Rattle.sftp_handles.specs.declared.requests.Use.{Use}
@@ -175,7 +175,7 @@ pub record IsWritable (s : State) (handle : List ℕ) (offset : ℕ) (bytes : Li
   pub flags : OpenFlags
   pub found : found_file (open_at s.handles handle) ≡ Ok (it.0, flags)
   pub starts : option_map (start_of flags offset) (content_at s.tree.files it.0) ≡ Some it.1
-  pub fits : write_fits (limits s.tree) it.1 bytes ≡ true
+  pub fits : write_fits s.tree it.0 it.1 bytes ≡ true
 
 -- the causes of a request that needs room in a file, by whether there is
 abbrev pub with_room : CauseSet → Bool → CauseSet

@@ -1,11 +1,13 @@
 //! Which requests conflict, and so are done in the order asked (draft, section 6.1).
 ghost use Rattle.std.specs.Prelude.{◌≡◌, false, Some};
 ghost use Rattle.sftp_packets.specs.Requests.{asked_handle};
+ghost use Rattle.sftp_treefile.specs.TreeFile.{are_far};
+ghost use Rattle.sftp_tree.specs.Tree.{limits};
 ghost use Rattle.sftp_path.specs.Place.{same_bytes};
 ghost use Rattle.sftp_handles.specs.State.{open_at};
 ghost use Rattle.sftp_handles.specs.State.{a_file, a_listing};
 ghost use Rattle.sftp_handles.specs.Clash as clashes;
-ghost use Rattle.sftp_handles.specs.Clash.{share, touched, touched_through};
+ghost use Rattle.sftp_handles.specs.Clash.{share, share_room, touched, touched_through};
 ghost use Rattle.sftp_handles.specs.Spans.{file_in};
 ghost use Rattle.sftp_handles.specs.Clash.{handle_in, touched_as};
 ghost use Rattle.sftp_handles.specs.Slots as uses;
@@ -35,6 +37,18 @@ impl Touch {
         }
     }
 
+    /// Whether both may change a file, and not the same one: then each may take room that the other needs. Does not
+    /// allocate.
+    pub fn shares_room(&self, other: &Touch) -> bool
+        ensures { (ask other_ask : Ask) → result
+            ≡ share_room (touched_as self.now ask) (touched_as other.now other_ask) }
+    {
+        match (self, other) {
+            (Touch::WritesFile(file), Touch::WritesFile(number)) => *file != *number,
+            _ => false,
+        }
+    }
+
     /// The file that is touched, if nothing else is. Does not allocate.
     pub fn file(&self) -> Option<FileNo>
         ensures { (ask : Ask) → result ≡ file_in (touched_as self.now ask) }
@@ -51,14 +65,38 @@ impl Touch {
 
 impl<T: HandleTable> Session<T> {
     /// Whether two requests conflict by what they touch: whether one of them touches everything, or both touch one file
-    /// or one listing and not both only read it. Files are compared by their numbers, whatever the handles. Ranges are
-    /// compared by `clash`. Does not allocate.
+    /// or one listing and not both only read it, or they share room. Files are compared by their numbers, whatever the
+    /// handles. Ranges are compared by `clash`. Does not allocate.
     #[tactic(auto, unfolding(crate::specs::Clash::clash))]
     pub fn touch_clash(&self, earlier: &Request, later: &Request) -> bool
         ensures { result ≡ clashes.clash self.now earlier.now later.now }
     {
-        let touch = self.touch(&earlier.ask);
-        touch.shares(&earlier.ask, self.touch(&later.ask), &later.ask)
+        self.room_clash(&earlier.ask, &later.ask) || self.share(&earlier.ask, &later.ask)
+    }
+
+    /// Whether two requests share room: whether the tree bounds the bytes of all files together, and both may change a
+    /// file, and not the same one. Does not allocate.
+    pub(crate) fn room_clash(&self, earlier: &Ask, later: &Ask) -> bool
+        ensures { result ≡ clashes.room_clash (limits self.now.tree) (touched self.now earlier.now)
+            (touched self.now later.now) }
+    {
+        self.bounds_room() && self.touch(earlier).shares_room(&self.touch(later))
+    }
+
+    /// Whether two requests share what they touch, and not both only read it. Does not allocate.
+    pub(crate) fn share(&self, earlier: &Ask, later: &Ask) -> bool
+        ensures { result ≡ share (touched self.now earlier.now) (touched self.now later.now) }
+    {
+        self.touch(earlier)
+            .shares(earlier, self.touch(later), later)
+    }
+
+    /// Whether the tree bounds the bytes of all files together: whether its limits are beyond those of the first two
+    /// openings of tree files. Does not allocate.
+    pub fn bounds_room(&self) -> bool
+        ensures { result ≡ are_far (limits self.now.tree) }
+    {
+        self.tree.tree_limits().are_far()
     }
 
     /// What a request touches: READ, FSTAT and fsync read the file of their handle, WRITE and FSETSTAT may change it,

@@ -3,7 +3,7 @@ ghost use Rattle.std.specs.Prelude.{◌≡◌, ◌&&◌, not, ℕ, Ok, Some, is_
 ghost use Rattle.sftp_packets.specs.declared.requests.Ask.TheVariants.{Close, Read, Write, Fsetstat};
 ghost use Rattle.sftp_tree.specs.Told.{in_set};
 ghost use Rattle.sftp_tree.specs.Room.{size_fits};
-ghost use Rattle.sftp_tree.specs.Tree.{HasFile, content_at, limits};
+ghost use Rattle.sftp_tree.specs.Tree.{HasFile, content_at};
 ghost use Rattle.sftp_handles.specs.Slots.{found_file, refusing, granted, IsWritable};
 ghost use Rattle.sftp_handles.specs.State.{open_at};
 ghost use Rattle.sftp_handles.specs.Allowed.{causes};
@@ -65,7 +65,7 @@ impl<T: HandleTable> Session<T> {
         match self.file_at(handle) {
             Ok(found) => {
                 let start = self.start_of(found.0, found.1, offset);
-                let fits = self.tree.write_fits(start, bytes);
+                let fits = self.tree.write_fits(found.0, start, bytes);
                 grant((found.0, start), !may_write(found.1), fits)
             }
             Err(cause) => Err(cause),
@@ -86,13 +86,13 @@ impl<T: HandleTable> Session<T> {
         ensures causes { causes self.now (Fsetstat handle.now attrs.now) ≡ refusing result }
         ensures found { IfOk result (λ f. found_file (open_at self.now.handles handle.now) ≡ Ok f) }
         ensures there { IfOk result (λ f. HasFile self.now.tree.files f.0) }
-        ensures fits { OnOk result (IsTrue (size_fits (limits self.now.tree) attrs.now.size)) }
+        ensures fits { IfOk result (λ f. IsTrue (size_fits self.now.tree f.0 attrs.now.size)) }
     {
         match self.file_at(handle) {
             Ok(found) => grant(
                 found,
                 cannot_resize(found.1, attrs),
-                self.tree.size_fits(attrs),
+                self.tree.size_fits(found.0, attrs),
             ),
             Err(cause) => Err(cause),
         }

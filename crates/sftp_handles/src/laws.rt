@@ -7,6 +7,7 @@ ghost use Rattle.sftp_packets.specs.declared.packets.Reply.{Reply};
 ghost use Rattle.sftp_packets.specs.declared.packets.Packet.TheVariants.{Request as request_packet};
 ghost use Rattle.sftp_packets.specs.Packets.{HasSpelling};
 ghost use Rattle.sftp_packets.specs.Layouts.{IsAsk};
+ghost use Rattle.sftp_treefile.specs.TreeFileParts.{AreRaised};
 ghost use Rattle.sftp_tree.specs.declared.file_contents.Content.{Content};
 ghost use Rattle.sftp_tree.specs.declared.causes.Cause.TheVariants.{NoRoom};
 ghost use Rattle.sftp_tree.specs.Tree.{Tree, IsKept, HasFile, fits, limits, content_fits, with_content};
@@ -17,6 +18,7 @@ ghost use Rattle.sftp_path.specs.Table.{InOrder, without};
 ghost use Rattle.sftp_handles.specs.declared.opens.Open.{Open};
 ghost use Rattle.sftp_handles.specs.State.{Left, open_at, with_open, times_open};
 ghost use Rattle.sftp_handles.specs.Replies.{struck};
+ghost use Rattle.sftp_handles.specs.RequestRows.{has_file_room};
 ghost use Rattle.sftp_handles.specs.State.{State, Good, settled, has_handle_left, handles_fit, state_fits};
 ghost use Rattle.sftp_handles.specs.Allowed.{causes};
 ghost use Rattle.sftp_handles.specs.Allowed.{Allowed, step};
@@ -72,10 +74,14 @@ pub fn good_states_are_settled()
         HasFile s.tree.files number }
 {}
 
-/// A tree within the limits is within them after a file got another content exactly if the content is: so what a
-/// request through a handle sees, and the limits, say whether there is room.
+/// A tree within the limits is within them after a file got another content exactly if there is room for that: so what a
+/// request through a handle sees, the limits and how many bytes all files have say whether there is. With limits of the
+/// first two openings the content alone decides.
 pub fn room_is_of_the_content()
-    ensures { (t : Tree) (number : ℕ) (next : Content) → IsTrue (fits t) →
+    ensures all { (t : Tree) (number : ℕ) (next : Content) → IsKept t →
+        IsTrue (fits (record t { files = with_content t.files number next }))
+        ↔ IsTrue (has_file_room t number next) }
+    ensures narrow { (t : Tree) (number : ℕ) (next : Content) → IsKept t → AreRaised (limits t) →
         IsTrue (fits (record t { files = with_content t.files number next }))
         ↔ IsTrue (content_fits (limits t) next) }
 {}

@@ -5,9 +5,11 @@ ghost use Rattle.sftp_packets.specs.declared.requests.Ask.{Ask};
 ghost use Rattle.sftp_packets.specs.declared.packets.Request.{Request};
 ghost use Rattle.sftp_packets.specs.declared.packets.Reply.{Reply};
 ghost use Rattle.sftp_packets.specs.Layouts.{IsAsk};
+ghost use Rattle.sftp_treefile.specs.TreeFileParts.{AreRaised};
+ghost use Rattle.sftp_tree.specs.Tree.{limits};
 ghost use Rattle.sftp_handles.specs.State.{State, Good};
 ghost use Rattle.sftp_handles.specs.Allowed.{Allowed};
-ghost use Rattle.sftp_handles.specs.Clash.{everything, is_barrier, touched, clash, ComesFirst};
+ghost use Rattle.sftp_handles.specs.Clash.{everything, is_barrier, share, touched, clash, ComesFirst};
 
 use crate::laws::good_stays_good;
 
@@ -44,6 +46,13 @@ pub fn barriers_touch_everything()
 pub fn touched_stays()
     ensures { (s end : State) (request : Request) (reply : Reply) (ask : Ask) → Good s → IsAsk request.ask →
         is_barrier request.ask ≡ false → Allowed s request reply end → touched end ask ≡ touched s ask }
+{}
+
+/// With limits of the first two openings two requests conflict exactly if they share what they touch, and do not both
+/// only read it: no file takes room that another needs.
+pub fn narrow_trees_share_no_room()
+    ensures { (s : State) (request other : Request) → AreRaised (limits s.tree) →
+        clash s request other ≡ share (touched s request.ask) (touched s other.ask) }
 {}
 
 /// Whether two requests conflict does not depend on their order.

@@ -1,17 +1,19 @@
 //! Laws of requests that keep to ranges of one file, as theorems on the definitions of steps. The functions do nothing;
 //! each promise is in the contract.
-ghost use Rattle.std.specs.Prelude.{◌≡◌, ◌≢◌, ◌≤◌, ◌+◌, ◌⊎◌, ℕ, List, length, take, drop, Some, false};
+ghost use Rattle.std.specs.Prelude.{◌≡◌, ◌≢◌, ◌≤◌, ◌+◌, ◌⊎◌, ◌&&◌, not, ℕ, List, length, take, drop, Some, false};
 ghost use Rattle.sftp_packets.specs.declared.requests.Ask.{Ask};
 ghost use Rattle.sftp_packets.specs.declared.packets.Request.{Request};
 ghost use Rattle.sftp_packets.specs.declared.packets.Reply.{Reply};
 ghost use Rattle.sftp_packets.specs.Layouts.{IsAsk};
+ghost use Rattle.sftp_treefile.specs.TreeFileParts.{AreRaised};
+ghost use Rattle.sftp_tree.specs.Tree.{limits};
 ghost use Rattle.sftp_tree.specs.Changes.{written};
 ghost use Rattle.sftp_handles.specs.declared.byte_range.ByteRange.{ByteRange};
 ghost use Rattle.sftp_handles.specs.State.{State, Good};
 ghost use Rattle.sftp_handles.specs.Allowed.{Allowed};
 ghost use Rattle.sftp_handles.specs.Clash.{reads_file, writes_file, everything, share, touched};
 ghost use Rattle.sftp_handles.specs.Clash.{clash, ComesFirst};
-ghost use Rattle.sftp_handles.specs.Clash.{range, may_resize, range_clash};
+ghost use Rattle.sftp_handles.specs.Clash.{range, may_resize, are_apart, range_clash};
 
 use crate::laws::good_stays_good;
 
@@ -49,6 +51,15 @@ pub fn ranges_stay()
 pub fn ranges_are_of_files()
     ensures { (s : State) (ask : Ask) (at : ByteRange) → range s ask ≡ Some at →
         (touched s ask ≡ reads_file at.number) ⊎ (touched s ask ≡ writes_file at.number) }
+{}
+
+/// With limits of the first two openings two requests conflict, ranges compared, exactly if they share what they touch,
+/// do not both only read it, and do not keep to ranges of one file that do not meet.
+pub fn narrow_ranges_share_no_room()
+    ensures { (s : State) (request other : Request) → AreRaised (limits s.tree) →
+        range_clash s request other
+        ≡ (share (touched s request.ask) (touched s other.ask)
+        && not (are_apart (range s request.ask) (range s other.ask))) }
 {}
 
 /// Whether two requests conflict, ranges compared, does not depend on their order.

@@ -59,8 +59,9 @@ impl<T: HandleTable> Session<T> {
     pub fn clash(&self, earlier: &Request, later: &Request) -> bool
         ensures { result ≡ ranges.range_clash self.now earlier.now later.now }
     {
-        self.touch_clash(earlier, later)
-            && !are_apart(self.range(&earlier.ask), self.range(&later.ask))
+        self.room_clash(&earlier.ask, &later.ask)
+            || self.share(&earlier.ask, &later.ask)
+                && !are_apart(self.range(&earlier.ask), self.range(&later.ask))
     }
 
     /// The range of its file that a request keeps to: its span, if that ends within the file as it is now. No request

@@ -1,4 +1,6 @@
 //! The tree file of what is known of the start.
+ghost use Rattle.std.specs.Prelude.{◌≤◌};
+ghost use Rattle.sftp_treefile.specs.TreeFile.{highest_limits as highest};
 
 use crate::candidates::Excess;
 use crate::files::File;
@@ -7,8 +9,8 @@ use crate::texts::TreeText;
 use crate::world::World;
 use sftp_path::NoMemory;
 use sftp_treefile::{
-    Head, Owner, TreeLimits, highest_limits, put_directory, put_file, put_further_name, put_head,
-    put_link, usual_limits,
+    Head, NO_TIMES, Owner, TreeLimits, highest_limits, put_directory, put_file, put_further_name,
+    put_head, put_link, usual_limits,
 };
 use sftp_wire::ByteString;
 use std::collections::BTreeMap;
@@ -51,6 +53,13 @@ fn within(number: u64, least: u32, most: u32) -> u32 {
         Ok(number) => number.max(least).min(most),
         Err(_) => most,
     }
+}
+
+/// The long number between two bounds that is closest to this one.
+fn within_long(number: u64, least: u64, most: u64) -> u64
+    ensures { result ≤ most }
+{
+    number.max(least).min(most)
 }
 
 /// What a pass makes of the start.
@@ -262,13 +271,16 @@ impl<'a> World<'a> {
         let (uid, gid) = self.owner.unwrap_or((0, 0));
         let root = self.owner_of(0, 0o755);
         let home = ByteString::from_slice(self.alloc, self.home.as_slice())?;
+        let limits = self.limits(count);
         let head = Head {
-            limits: self.limits(count),
+            opening: limits.opening(false),
+            limits,
             home,
             uid,
             gid,
             root,
             count: within(count as u64, 0, 1_048_576),
+            root_times: NO_TIMES,
         };
         if head.home.as_slice().len() > LONGEST {
             drop(head);
@@ -280,7 +292,9 @@ impl<'a> World<'a> {
     }
 
     /// The lowest limits that the session needs, or the highest.
-    fn limits(&self, count: usize) -> TreeLimits {
+    fn limits(&self, count: usize) -> TreeLimits
+        ensures { result.file_bytes ≤ highest.file_bytes }
+    {
         let (low, high) = (usual_limits(), highest_limits());
         if self.settings.is_raised {
             return high;
@@ -288,9 +302,10 @@ impl<'a> World<'a> {
         let entries = (count as u64).max(self.nodes.len() as u64);
         TreeLimits {
             entries: within(entries, low.entries, high.entries),
-            file_bytes: within(self.most_bytes, low.file_bytes, high.file_bytes),
+            file_bytes: within_long(self.most_bytes, low.file_bytes, high.file_bytes),
             read_bytes: within(self.most_read, low.read_bytes, high.read_bytes),
             open_handles: within(self.most_handles, low.open_handles, high.open_handles),
+            total_bytes: low.total_bytes,
         }
     }
 

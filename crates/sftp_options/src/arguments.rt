@@ -296,6 +296,11 @@ pub(crate) const DIFF: &[Argument] = &[
         Form::Flag,
         "Print a JSON object for each line, and for a failure",
     ),
+    (
+        "times",
+        Form::Flag,
+        "Compare the times of access and of modification, too",
+    ),
     PROGRESS,
     MEMORY,
     ("old", Form::Place("A"), "The tree file of before"),
@@ -307,6 +312,7 @@ pub(crate) const MAKE: &[Argument] = &[MODE, NO_SYNC, ("file", FILE, "The file t
 pub(crate) const IMPORT: &[Argument] = &[
     importing::LIMITS,
     importing::SPECIAL,
+    importing::NO_TIMES,
     PROGRESS,
     MEMORY,
     MODE,
@@ -319,6 +325,11 @@ pub(crate) const EXPORT: &[Argument] = &[PROGRESS, ("file", FILE, "The tree file
 pub(crate) const BLANK: &[Argument] = &[MODE, NO_SYNC, ("file", FILE, "The file to write")];
 
 pub(crate) const RAISE: &[Argument] = &[
+    (
+        "to",
+        Form::OneOf("WHICH", &["highest", "fit", "most"]),
+        "The limits of FILE: highest by default, fit, the lowest that hold the tree, or most",
+    ),
     MODE,
     NO_SYNC,
     ("tree", Form::Place("TREE"), "The tree file to read"),

@@ -15,7 +15,9 @@ use crate::inferring::InferOptions;
 use crate::{help, importing, inferring, profiles};
 use clap::error::ErrorKind;
 use clap::{Arg, ArgAction, ArgMatches, Command, Error, value_parser};
-use sftp_files::{Failure, ImportOptions, Keeping, MORE, PRIVATE, ServeOptions, ShowOptions};
+use sftp_files::{
+    DiffForm, Failure, ImportOptions, Keeping, MORE, PRIVATE, RaiseTo, ServeOptions, ShowOptions,
+};
 use sftp_profile::Profile;
 use sftp_vary::{Freedoms, Style, Variation, Words};
 use std::alloc::{AllocError, Global};
@@ -34,9 +36,10 @@ pub enum Request<'a> {
         file: &'a str,
         keeping: Keeping,
     },
-    /// Write the tree of a tree file, with the highest limits, to another file.
+    /// Write the tree of a tree file, with other limits, to another file.
     Raise {
         tree: &'a str,
+        to: RaiseTo,
         file: &'a str,
         keeping: Keeping,
     },
@@ -52,8 +55,7 @@ pub enum Request<'a> {
         old: &'a str,
         new: &'a str,
         memory: Option<u64>,
-        /// Whether the lines are JSON objects.
-        is_json: bool,
+        form: DiffForm,
         says_progress: bool,
     },
     /// Make a tree file from an archive.
@@ -232,13 +234,16 @@ fn diff_request<'a>(given: &ArgMatches<'a>) -> Option<Request<'a>> {
     let old = given.get_str("old")?;
     let new = given.get_str("new")?;
     let memory = given.get_one("memory");
-    let is_json = given.get_flag("json");
+    let form = DiffForm {
+        with_times: given.get_flag("times"),
+        is_json: given.get_flag("json"),
+    };
     let says_progress = given.get_flag("progress");
     Some(Request::Diff {
         old,
         new,
         memory,
-        is_json,
+        form,
         says_progress,
     })
 }
@@ -263,13 +268,24 @@ fn export_request<'a>(given: &ArgMatches<'a>) -> Option<Request<'a>> {
 
 fn raise_request<'a>(given: &ArgMatches<'a>) -> Option<Request<'a>> {
     let tree = given.get_str("tree")?;
+    let to = raise_to(given.get_str("to").unwrap_or("highest"));
     let file = given.get_str("file")?;
     let keeping = keeping_of(given);
     Some(Request::Raise {
         tree,
+        to,
         file,
         keeping,
     })
+}
+
+/// The limits of this name.
+fn raise_to(which: &str) -> RaiseTo {
+    match which {
+        "fit" => RaiseTo::Fit,
+        "most" => RaiseTo::Most,
+        _ => RaiseTo::Highest,
+    }
 }
 
 /// How the options say that files are written.
@@ -371,7 +387,7 @@ pub(crate) fn value<'a>(given: &ArgMatches<'a>, name: &str) -> Option<&'a str>
 }
 
 /// Whether the command line gives the flag of this name.
-fn flag(given: &ArgMatches<'_>, name: &str) -> bool
+pub(crate) fn flag(given: &ArgMatches<'_>, name: &str) -> bool
     ensures { result ≡ is_given (value_in (rows_of (found_of given.now)) name.now) }
 {
     value(given, name).unwrap_or("") == "true"

@@ -172,12 +172,14 @@ pub(crate) const AFTER_DIFF: &str = "A line has the path, and then one or more o
   owner 0,0 -> 1000,1000            the uid and the gid
   permissions 0755 -> 0700
   length 3 -> 5                     of a file, in bytes
+  times 0,0 -> 3,7                  of access and of modification, with --times
   content from byte N               the first byte that differs, from 0
   target \"a\" -> \"b\"               of a link
 
 If the home differs, the owner of new entries, or the limits, the first line begins with head and has home, owner and
 limits. The bytes of a file are compared at its first name. The exit status is 0 if the trees are the same, and 1 if
-they differ. With --memory, files of more than a thirty-second of BYTES are not compared.
+they differ. Without --times, trees are the same that differ in times alone. With --memory, files of more than a
+thirty-second of BYTES are not compared.
 
 With --json, each line is a JSON object with the members change, path and kind, and one for each thing that differs.";
 
@@ -204,9 +206,14 @@ With --memory, an archive is not taken whose entries, with the directories that 
 The memory is looked at before each entry, and before more of a long one is read; one entry may go beyond.
 
 --limits usual    65,536 entries, and files of 16,777,216 bytes, as without the option
---limits raised   1,048,576 entries, and files of 67,108,864 bytes: the highest limits, which 'sftpv3 raise' sets
+--limits raised   1,048,576 entries, and files of 67,108,864 bytes: the limits that 'sftpv3 raise' sets
+--limits most     4,294,967,293 entries, and files of 1,099,511,627,776 bytes: the highest limits that there are
 --limits fit      the lowest limits that hold the archive: the usual ones, or as many entries, and as many bytes of a
                   file, as it has above them. What 'export' wrote of any tree is taken.
+
+The tree file has the times of modification of directories and files, and those of access that extended headers give;
+times before 1970 are 0, and those after 2106 the last second that a tree file holds. Links have no times. With
+--no-times, and if all are 0, the tree file has none, and programs of before read it.
 
 --special refuse  an archive with a device or a FIFO is refused, as without the option
 --special skip    they are left out
@@ -224,22 +231,25 @@ pub(crate) const AFTER_EXPORT: &str = "A folder DIR with the files of a tree:
 
   sftpv3 export FILE | tar -C DIR -x -p
 
-The archive is ustar, with the extended headers of POSIX's pax where a name, a user or a group needs more room. Times
-are 0. The archive has all of the tree but where relative paths start, who owns what is made with no owner given, and
-the limits.";
+The archive is ustar, with the extended headers of POSIX's pax where a name, a user, a group or a size needs more room,
+and for times of access that are not 0. Links have the time 0. The archive has all of the tree but where relative
+paths start, who owns what is made with no owner given, and the limits.";
 
 pub(crate) const ABOUT_BLANK: &str =
     "Writes the tree file of a tree that holds only the root directory";
 
-pub(crate) const ABOUT_RAISE: &str =
-    "Writes a tree file with the highest limits that a tree may set";
+pub(crate) const ABOUT_RAISE: &str = "Writes a tree file with other limits, the highest by default";
 
-pub(crate) const AFTER_RAISE: &str = "All else of the tree is the same. The limits in FILE are
+pub(crate) const AFTER_RAISE: &str = "All else of the tree is the same. The limits in FILE are, with
 
-  1,048,576   entries below the root
-  67,108,864  bytes of a file
-  65,536      bytes that one READ gives
-  1,024       open handles
+  --to highest  --to most
+  1,048,576     4,294,967,293      entries below the root
+  67,108,864    1,099,511,627,776  bytes of a file
+  65,536        261,120            bytes that one READ gives
+  1,024         65,536             open handles
+
+A limit of TREE that is above the highest stays. With --to fit, the limits are the usual ones, or as many entries, and
+as many bytes of a file, as TREE has above them. Programs of before do not read a FILE with a limit above the highest.
 
 FILE is replaced whole, and may be TREE.";
 

@@ -6,7 +6,7 @@ ghost use Rattle.clap.specs.Walk.{rows_of};
 ghost use Rattle.sftp_options.specs.Options as spec;
 
 use crate::arguments::{Argument, Form};
-use crate::command_line::{keeping_of, value};
+use crate::command_line::{flag, keeping_of, value};
 use clap::ArgMatches;
 use sftp_files::ImportOptions;
 use sftp_tar::{LimitChoice, SpecialChoice, Taking};
@@ -14,8 +14,8 @@ use sftp_tar::{LimitChoice, SpecialChoice, Taking};
 /// The option that chooses the limits of the tree.
 pub(crate) const LIMITS: Argument = (
     "limits",
-    Form::OneOf("WHICH", &["usual", "raised", "fit"]),
-    "The limits of the tree: usual by default, raised, or fit, the lowest that hold the archive",
+    Form::OneOf("WHICH", &["usual", "raised", "most", "fit"]),
+    "The limits of the tree: usual by default, raised, most, or fit, the lowest that hold the archive",
 );
 
 /// The option that says what becomes of devices and FIFOs.
@@ -25,11 +25,22 @@ pub(crate) const SPECIAL: Argument = (
     "Devices and FIFOs: refuse them, as by default, skip them, or make each an empty file",
 );
 
+/// The option that leaves times out.
+pub(crate) const NO_TIMES: Argument = (
+    "no-times",
+    Form::Flag,
+    "Leave the times of the archive out, so that programs of before read the tree file",
+);
+
 /// The options that the command line gives, if it names a file.
 pub(crate) fn options_of<'a>(given: &ArgMatches<'a>) -> Option<ImportOptions<'a>>
     ensures { IfSome result (λ options. options.taking ≡ spec.taking_in (rows_of (found_of given.now))) }
 {
-    let taking = taking_of(value(given, "limits"), value(given, "special"));
+    let taking = taking_of(
+        value(given, "limits"),
+        value(given, "special"),
+        flag(given, "no-times"),
+    );
     Some(ImportOptions {
         file: given.get_str("file")?,
         keeping: keeping_of(given),
@@ -39,12 +50,14 @@ pub(crate) fn options_of<'a>(given: &ArgMatches<'a>) -> Option<ImportOptions<'a>
 }
 
 /// How an archive is taken by the values of the options.
-fn taking_of(which: Option<&str>, what: Option<&str>) -> Taking
-    ensures { result ≡ spec.taking_by (option_map (λ t. t.now) which.entry) (option_map (λ t. t.now) what.entry) }
+fn taking_of(which: Option<&str>, what: Option<&str>, without_times: bool) -> Taking
+    ensures { result ≡ spec.taking_by (option_map (λ t. t.now) which.entry) (option_map (λ t. t.now) what.entry)
+        without_times }
 {
     Taking {
         limits: limits_by(which.unwrap_or("usual")),
         special: special_by(what.unwrap_or("refuse")),
+        with_times: !without_times,
     }
 }
 
@@ -54,6 +67,9 @@ fn limits_by(which: &str) -> LimitChoice
 {
     if which == "raised" {
         return LimitChoice::Raised;
+    }
+    if which == "most" {
+        return LimitChoice::Most;
     }
     if which == "fit" {
         return LimitChoice::Fit;

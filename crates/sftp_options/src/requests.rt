@@ -8,7 +8,7 @@ impl<'a> Request<'a> {
             Request::Audit(files) => files.is_json,
             Request::Infer(options) => options.is_json,
             Request::Show(options) => options.is_json,
-            Request::Diff { is_json, .. } => *is_json,
+            Request::Diff { form, .. } => form.is_json,
             _ => false,
         }
     }

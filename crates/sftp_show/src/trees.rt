@@ -1,9 +1,12 @@
 //! The lines of a tree file.
 
 use crate::quoted::Quoted;
-use sftp_treefile::{Kind, Owner, Row, TreeFile, TreeLimits};
+use sftp_treefile::{Kind, Opening, Owner, Row, Times, TreeFile, TreeLimits};
 use std::io::Write;
 use std::{fmt, io};
+
+/// The least length of the bytes of a file that is no uint32.
+const LONG: u64 = 1 << 32;
 
 /// Who owns an entry, and its permissions in octal.
 #[derive(Clone, Copy)]
@@ -18,28 +21,54 @@ impl fmt::Display for Owned {
     }
 }
 
-/// The limits that a tree sets: nothing where they are the usual ones, and else ` limits ` and the four.
+/// The limits that a tree file has: nothing after the first opening, after the second ` limits ` and the four, and
+/// after the third ` limits ` and the five.
 #[derive(Clone, Copy)]
-struct Limits(TreeLimits);
+struct Limits(Opening, TreeLimits);
 
 impl fmt::Display for Limits {
     fn fmt<W: fmt::Write>(&self, f: &mut fmt::Formatter<W>) -> fmt::Result {
-        if !self.0.are_own() {
+        match self.0 {
+            Opening::Usual => Ok(()),
+            Opening::Raised => put_four(self.1, f),
+            Opening::Wide => {
+                put_four(self.1, f)?;
+                let total_bytes = self.1.total_bytes;
+                write!(f, " {total_bytes}")
+            }
+        }
+    }
+}
+
+/// Writes ` limits ` and the four limits that follow the second opening.
+fn put_four<W: fmt::Write>(limits: TreeLimits, f: &mut fmt::Formatter<W>) -> fmt::Result {
+    let entries = limits.entries;
+    let file_bytes = limits.file_bytes;
+    let read_bytes = limits.read_bytes;
+    let open_handles = limits.open_handles;
+    write!(
+        f,
+        " limits {entries} {file_bytes} {read_bytes} {open_handles}"
+    )
+}
+
+/// The times of an entry, each after a space: nothing where none are known.
+#[derive(Clone, Copy)]
+struct Timed(Times);
+
+impl fmt::Display for Timed {
+    fn fmt<W: fmt::Write>(&self, f: &mut fmt::Formatter<W>) -> fmt::Result {
+        if !self.0.are_known() {
             return Ok(());
         }
-        let entries = self.0.entries;
-        let file_bytes = self.0.file_bytes;
-        let read_bytes = self.0.read_bytes;
-        let open_handles = self.0.open_handles;
-        write!(
-            f,
-            " limits {entries} {file_bytes} {read_bytes} {open_handles}"
-        )
+        let accessed = self.0.accessed;
+        let modified = self.0.modified;
+        write!(f, " {accessed} {modified}")
     }
 }
 
 /// Writes the lines of a tree file, each with a line feed: the home, owner, limits of its own and number of entries;
-/// the root; and each entry with its number, kind and path.
+/// the root; and each entry with its number, kind and path. The kind is the letter of the entry in the file.
 ///
 /// # Errors
 ///
@@ -48,7 +77,7 @@ pub fn show_tree<O: Write>(file: &TreeFile, output: &mut O) -> io::Result<()> {
     put_head(file, output)?;
     let mut number: u64 = 1;
     for row in file.rows.as_slice() {
-        put_row(number, row, output)?;
+        put_row(number, row, file.times.get(number as usize), output)?;
         number = number.saturating_add(1);
     }
     Ok(())
@@ -58,50 +87,69 @@ fn put_head<O: Write>(file: &TreeFile, output: &mut O) -> io::Result<()> {
     let home = Quoted(file.home.as_slice());
     let uid = file.uid;
     let gid = file.gid;
-    let limits = Limits(file.limits);
+    let limits = Limits(file.opening(), file.limits);
     let entries = file.rows.as_slice().len();
     writeln!(
         output,
         "home {home} uid {uid} gid {gid}{limits} entries {entries}"
     )?;
     let root = Owned(file.root);
-    writeln!(output, "0 D \"/\" {root}")
+    let times = file.times.get(0);
+    let kind = letter_with(times, 'D', 'd');
+    let times = Timed(times);
+    writeln!(output, "0 {kind} \"/\" {root}{times}")
 }
 
-fn put_row<O: Write>(number: u64, row: &Row, output: &mut O) -> io::Result<()> {
-    let kind = letter(&row.kind);
+fn put_row<O: Write>(number: u64, row: &Row, times: Times, output: &mut O) -> io::Result<()> {
+    let kind = letter(&row.kind, times);
     let path = Quoted(row.path.as_slice());
-    let details = Details(&row.kind);
+    let details = Details(&row.kind, times);
     writeln!(output, "{number} {kind} {path} {details}")
 }
 
-/// How a line names the kind of an entry.
-fn letter(kind: &Kind) -> char {
+/// The one letter, or the other if there are times.
+fn letter_with(times: Times, plain: char, timed: char) -> char {
+    if times.are_known() { timed } else { plain }
+}
+
+/// How a line names the kind of an entry with these times.
+fn letter(kind: &Kind, times: Times) -> char {
     match kind {
-        Kind::Dir(_) => 'D',
-        Kind::First(..) => 'F',
+        Kind::Dir(_) => letter_with(times, 'D', 'd'),
+        Kind::First(_, bytes) if is_long(bytes.as_slice()) => letter_with(times, 'G', 'g'),
+        Kind::First(..) => letter_with(times, 'F', 'f'),
         Kind::Further(_) => 'H',
         Kind::Link(_) => 'L',
     }
 }
 
-/// What a line says of an entry behind its path.
+/// Whether the length of these bytes is no uint32.
+fn is_long(bytes: &[u8]) -> bool {
+    bytes.len() as u64 >= LONG
+}
+
+/// What a line says of an entry behind its path, which has these times.
 #[derive(Clone, Copy)]
-struct Details<'a>(&'a Kind);
+struct Details<'a>(&'a Kind, Times);
 
 impl fmt::Display for Details<'_> {
     fn fmt<W: fmt::Write>(&self, f: &mut fmt::Formatter<W>) -> fmt::Result {
         match self.0 {
-            Kind::Dir(owner) => Owned(*owner).fmt(f),
-            Kind::First(owner, bytes) => put_file(*owner, bytes.as_slice().len(), f),
+            Kind::Dir(owner) => put_owned(*owner, self.1, f),
+            Kind::First(owner, bytes) => {
+                put_owned(*owner, self.1, f)?;
+                let length = bytes.as_slice().len();
+                write!(f, " {length}")
+            }
             Kind::Further(first) => write!(f, "{first}"),
             Kind::Link(link) => Quoted(link.as_slice()).fmt(f),
         }
     }
 }
 
-/// Writes who owns a file, and its length.
-fn put_file<W: fmt::Write>(owner: Owner, length: usize, f: &mut fmt::Formatter<W>) -> fmt::Result {
+/// Writes who owns an entry, and its times if it has some.
+fn put_owned<W: fmt::Write>(owner: Owner, times: Times, f: &mut fmt::Formatter<W>) -> fmt::Result {
     let owner = Owned(owner);
-    write!(f, "{owner} {length}")
+    let times = Timed(times);
+    write!(f, "{owner}{times}")
 }

@@ -14,6 +14,18 @@ const RAISED: &[u8; 53] =
     b"SFTREE02\0\0\0\x01/\0\0\0\0\0\0\0\0\0\x10\0\0\x04\0\0\0\0\x01\0\0\0\0\x04\0\
 \0\0\0\0\0\0\0\0\0\0\0\0\0\0\x01\xed";
 
+/// The file of the root alone, with the most of each limit (docs/FORMATS.md).
+const MOST: &[u8; 66] =
+    b"SFTREE03\0\0\0\x01/\0\0\0\0\0\0\0\0\xff\xff\xff\xfd\0\0\x01\0\0\0\0\0\0\x03\xfc\0\0\x01\0\0\
+\x04\0\0\0\0\0\0\0\0\0\0\0D\0\0\0\0\0\0\0\0\0\0\x01\xed";
+
+/// The file of a root that was changed in second 1, and of a file `/f` of `abc`, read in second 2 and changed in second
+/// 3, with its second name `/g` (docs/FORMATS.md).
+const TIMED: &[u8; 119] =
+    b"SFTREE03\0\0\0\x01/\0\0\0\0\0\0\0\0\0\x01\0\0\0\0\0\0\x01\0\0\0\0\0\x80\0\0\0\x01\0\
+\x04\0\0\0\0\0\0\0\0\0\0\x02d\0\0\0\0\0\0\0\0\0\0\x01\xed\0\0\0\0\0\0\0\x01\
+\0\0\0\x02/ff\0\0\0\0\0\0\0\0\0\0\x01\xa4\0\0\0\x02\0\0\0\x03\0\0\0\x03abc\0\0\0\x02/gH\0\0\0\x01";
+
 /// Whether the bytes, read and written again, are the same bytes; room is asked for just them.
 fn stays(alloc: Global, bytes: &[u8]) -> Result<bool, NoMemory> {
     let Ok(file) = read_rows(alloc, bytes) else {
@@ -29,5 +41,7 @@ fn stays(alloc: Global, bytes: &[u8]) -> Result<bool, NoMemory> {
 fn whole_file(rt: HostRuntime) -> Result<(), Fail> {
     assert!(rt; stays(rt.alloc(), FILE)?);
     assert!(rt; stays(rt.alloc(), RAISED)?);
+    assert!(rt; stays(rt.alloc(), MOST)?);
+    assert!(rt; stays(rt.alloc(), TIMED)?);
     Ok(())
 }

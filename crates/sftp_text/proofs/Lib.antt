@@ -10,6 +10,7 @@ pub mod Strings
 pub mod Parts
 pub mod Bodies
 pub mod Written
+pub mod Heads
 pub mod TreeLines
 pub mod Shows
 pub mod Named

@@ -286,14 +286,14 @@ read-of kind None bytes text = sym (unknown-read kind (λ b t. None) bytes text 
 read-of kind (Some f) bytes text = refl
 
 pub kind_is_shown :
-    (kind : ℕ) (text bytes : List ℕ) (shown : Option (List ℕ × List ℕ))
-    → (entry_of kind (behind_path kind)).show text bytes ≡ shown → show_kind text bytes kind ≡ shown
-kind_is_shown kind text bytes shown is = shown-of kind (kind_text kind) text bytes ∙ is
+    (wide : Bool) (kind : ℕ) (text bytes : List ℕ) (shown : Option (List ℕ × List ℕ))
+    → (entry_of kind (behind_path wide kind)).show text bytes ≡ shown → show_kind wide text bytes kind ≡ shown
+kind_is_shown wide kind text bytes shown is = shown-of kind (kind_text wide kind) text bytes ∙ is
 
 pub kind_is_read :
-    (kind : ℕ) (bytes text : List ℕ) (taken : Option (List ℕ × List ℕ))
-    → (entry_of kind (behind_path kind)).read bytes text ≡ taken → read_kind bytes text kind ≡ taken
-kind_is_read kind bytes text taken is = read-of kind (kind_text kind) bytes text ∙ is
+    (wide : Bool) (kind : ℕ) (bytes text : List ℕ) (taken : Option (List ℕ × List ℕ))
+    → (entry_of kind (behind_path wide kind)).read bytes text ≡ taken → read_kind wide bytes text kind ≡ taken
+kind_is_read wide kind bytes text taken is = read-of kind (kind_text wide kind) bytes text ∙ is
 
 not-read :
     (kind : ℕ) (fields : Option Format) (bytes text : List ℕ) → is_some fields ≡ false
@@ -302,8 +302,9 @@ not-read kind None bytes text is = refl
 not-read kind (Some f) bytes text is = absurd cc
 
 pub no_kind_is_read :
-    (kind : ℕ) (bytes text : List ℕ) → is_some (kind_text kind) ≡ false → read_kind bytes text kind ≡ None
-no_kind_is_read kind bytes text is = not-read kind (kind_text kind) bytes text is
+    (wide : Bool) (kind : ℕ) (bytes text : List ℕ) → is_some (kind_text wide kind) ≡ false
+    → read_kind wide bytes text kind ≡ None
+no_kind_is_read wide kind bytes text is = not-read kind (kind_text wide kind) bytes text is
 
 -- ==== The characters up to a space, found one by one.
 

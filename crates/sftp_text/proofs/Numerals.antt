@@ -114,7 +114,7 @@ pub record IsRead (text_of : ℕ → List ℕ) (find_in : List ℕ → Option (�
   pub back : (n : ℕ) (rest : List ℕ) → n < limit → EndsWord rest → find_in (text_of n ++ rest) ≡ Some (n, rest)
   pub printable : (n : ℕ) → n < limit → IsTrue (list_all is_printable (text_of n))
 
-decimal-read : (limit : ℕ) → limit ≤ 2 ^ 64 → IsRead decimal decimal_in limit
+pub decimal-read : (limit : ℕ) → limit ≤ 2 ^ 64 → IsRead decimal decimal_in limit
 decimal-read limit small = record {
   back = λ n rest lt ok.
       let numeral = decimal_is_IsNumeral n (omega arith) in

@@ -1,18 +1,22 @@
 -- Texts in quotes and hexadecimal digits are read back.
-use Rattle.std.proofs.Common.{◌≡◌, ℕ, ◌+◌, ◌*◌, ◌/◌, ◌%◌, ◌<◌, Bool, true, false, ◌&&◌, not, List, [], ◌∷◌, ◌++◌, length}
+use Rattle.std.proofs.Common.{◌≡◌, ℕ, ◌+◌, ◌*◌, ◌/◌, ◌%◌, ◌^◌, ◌<◌, cond, Bool, true, false, ◌&&◌, not, List, [], ◌∷◌, ◌++◌, length}
 use Rattle.std.proofs.Common.{Option, Some, None, refl, sym, ap, subst, ◌∙◌, append_assoc, arith, inl, inr, take, drop}
-use Rattle.std.specs.Prelude.{IsTrue, option_and_then, ◌==◌, nat_le}
+use Rattle.std.specs.Prelude.{IsTrue, option_and_then, ◌==◌, nat_le, nat_lt}
+use Rattle.std.specs.Int.{w64, from_be_bytes, to_be_bytes}
 use Rattle.std.specs.List.{list_all, flat_map}
-use Rattle.std.proofs.lemmas.Bool.{cond-true, cond-false, cases_Bool, and_parts, eqb-true, leb-true, agree_below_at}
+use Rattle.std.proofs.lemmas.Bool.{cond-true, cond-false, cases_Bool, and_parts, eqb-true, leb-true, lt-ltb, agree_below_at}
+use Rattle.std.proofs.lemmas.Option.{option_and_then_some}
 use Rattle.std.proofs.lemmas.List.{append-nil, length-take, take-append-drop}
 use Rattle.sftp_packets.specs.Spelling.{AreBytes}
-use Rattle.sftp_text.specs.Formats.{begins_with}
+use Rattle.sftp_packets.proofs.Bytes.{wide64}
+use Rattle.sftp_text.specs.Formats.{begins_with, front_number}
 use Rattle.sftp_text.specs.Digits.{hex_digit, hex_value, hex_byte, hex_text, byte_of, hex_onto, is_plain, byte_text, quoted}
-use Rattle.sftp_text.specs.Digits.{Place, Effect, effect_of, with_effect, unquoted, text_in, rest_text, counted_text, string_text, or_refuse}
+use Rattle.sftp_text.specs.Digits.{Place, Effect, effect_of, with_effect, unquoted, text_in, rest_text, counted_text, string_text, long_string_text, or_refuse}
 use Rattle.sftp_text.specs.Digits.Place.{Plain, Escape, FirstDigit, SecondDigit}
 use Rattle.sftp_text.specs.Digits.Effect.{Close, Refuse, Go, Give}
 use Rattle.sftp_text.specs.Lines.{is_printable}
-use Rattle.sftp_text.proofs.Exact.{some-inj, none-some, printable-append, AreBytes-front, IsExact, IsExactCounted, ahead-exact}
+use Rattle.sftp_text.proofs.Exact.{some-inj, none-some, printable-append, AreBytes-front, AreBytes-behind, IsExact, IsExactCounted}
+use Rattle.sftp_text.proofs.Exact.{CountedShown, ahead-exact, front_number-some}
 
 -- ---- the digits of a byte
 
@@ -179,35 +183,71 @@ rest_text-exact B = record {
       };
 }
 
+counted_text-shown : (B : List ℕ → Type 0) (n : ℕ) (text bytes more left : List ℕ) → AreBytes bytes
+    → counted_text.show n text bytes ≡ Some (more, left)
+    → CountedShown counted_text StartsQuoted B n text bytes more left
+counted_text-shown B n text bytes more left are e =
+    elim (cases_Bool (nat_le n (length bytes))) [
+      | inl enough ↦
+          let string = take n bytes in
+          let both =
+          some-inj (text ++ quoted string, drop n bytes) (more, left)
+          (sym (cond-true (nat_le n (length bytes)) (Some (text ++ quoted string, drop n bytes)) None enough) ∙ e)
+          in
+          let parts : bytes ≡ string ++ drop n bytes = sym (take-append-drop n bytes) in
+          let fit : AreBytes string = AreBytes-front string (drop n bytes) (subst AreBytes parts are) in
+          let len : length string ≡ n = omega (arith, length-take n bytes, leb-true n (length bytes) enough) in
+          record {
+            shown = quoted string;
+            taken = string;
+            text_is = sym (ap (λ p. p.0) both);
+            bytes_are = parts ∙ ap (λ p. string ++ p.1) both;
+            printable = quoted-printable string fit;
+            back = λ rest ok.
+                let next : List ℕ × List ℕ → Option (ℕ × (List ℕ × List ℕ)) = λ moved. Some (length moved.0, moved) in
+                ap (option_and_then next) (text_in-quoted [] string rest fit) ∙ ap (λ k. Some (k, (string, rest))) len;
+            front = λ rest ok. quoted-starts string rest;
+          }
+      | inr short ↦
+          none-some (more, left) (sym (cond-false (nat_le n (length bytes)) (Some (text ++ quoted (take n bytes), drop n bytes)) None short) ∙ e)
+    ]
+
 counted_text-exact : (B : List ℕ → Type 0) → IsExactCounted counted_text StartsQuoted B
-counted_text-exact B = record {
-  exact = λ n text bytes more left lt are e.
-      elim (cases_Bool (nat_le n (length bytes))) [
-        | inl enough ↦
-            let string = take n bytes in
-            let both =
-            some-inj (text ++ quoted string, drop n bytes) (more, left)
-            (sym (cond-true (nat_le n (length bytes)) (Some (text ++ quoted string, drop n bytes)) None enough) ∙ e)
-            in
-            let parts : bytes ≡ string ++ drop n bytes = sym (take-append-drop n bytes) in
-            let fit : AreBytes string = AreBytes-front string (drop n bytes) (subst AreBytes parts are) in
-            let len : length string ≡ n = omega (arith, length-take n bytes, leb-true n (length bytes) enough) in
-            record {
-              shown = quoted string;
-              taken = string;
-              text_is = sym (ap (λ p. p.0) both);
-              bytes_are = parts ∙ ap (λ p. string ++ p.1) both;
-              printable = quoted-printable string fit;
-              back = λ rest ok.
-                  let next : List ℕ × List ℕ → Option (ℕ × (List ℕ × List ℕ)) = λ moved. Some (length moved.0, moved) in
-                  ap (option_and_then next) (text_in-quoted [] string rest fit) ∙ ap (λ k. Some (k, (string, rest))) len;
-              front = λ rest ok. quoted-starts string rest;
-            }
-        | inr short ↦
-            none-some (more, left) (sym (cond-false (nat_le n (length bytes)) (Some (text ++ quoted (take n bytes), drop n bytes)) None short) ∙ e)
-      ];
-}
+counted_text-exact B = record { exact = λ n text bytes more left lt are e. counted_text-shown B n text bytes more left are e }
 
 pub string_text-exact : (B : List ℕ → Type 0) → IsExact string_text StartsQuoted B
 unfolding string_text
 string_text-exact B = ahead-exact counted_text StartsQuoted B (counted_text-exact B)
+
+long_read : (done : List ℕ) (n : ℕ) (eight taken rest : List ℕ) → n < 2 ^ 64 → to_be_bytes w64 n ≡ eight
+    → cond (nat_lt n (2 ^ 64)) (Some (done ++ to_be_bytes w64 n ++ taken, rest)) None
+    ≡ Some (done ++ (eight ++ taken), rest)
+long_read done n eight taken rest lt again =
+    cond-true (nat_lt n (2 ^ 64)) (Some (done ++ (to_be_bytes w64 n ++ taken), rest)) None (lt-ltb n (2 ^ 64) lt)
+    ∙ ap (λ (l : List ℕ). Some (done ++ (l ++ taken), rest)) again
+
+pub long_string_text-exact : (B : List ℕ → Type 0) → IsExact long_string_text StartsQuoted B
+unfolding long_string_text
+long_string_text-exact B = record {
+  exact = λ text bytes more left are e.
+      option_and_then_some (λ front. counted_text.show front.0 text front.1) (front_number 8 (from_be_bytes w64) bytes)
+      (more, left) e (λ front number_is part_is.
+      let number = front_number-some w64 8 (2 ^ 64) wide64 refl bytes front.0 front.1 are number_is in
+      let fit : AreBytes front.1 = AreBytes-behind number.number front.1 (subst AreBytes number.parts are) in
+      let s = counted_text-shown B front.0 text front.1 more left fit part_is in
+      record {
+        shown = s.shown;
+        taken = number.number ++ s.taken;
+        text_is = s.text_is;
+        bytes_are =
+            number.parts ∙ ap (λ l. number.number ++ l) s.bytes_are ∙ sym (append_assoc number.number s.taken left);
+        printable = s.printable;
+        back = λ done rest ok.
+            let next : ℕ × (List ℕ × List ℕ) → Option (List ℕ × List ℕ) =
+            λ f. cond (nat_lt f.0 (2 ^ 64)) (Some (done ++ to_be_bytes w64 f.0 ++ f.1.0, f.1.1)) None
+            in
+            ap (option_and_then next) (s.back rest ok)
+            ∙ long_read done front.0 number.number s.taken rest number.fits number.again;
+        front = s.front;
+      });
+}

@@ -9,7 +9,7 @@ use Rattle.sftp_text.specs.declared.due.Due.{Due}
 use Rattle.sftp_text.specs.declared.due.Due.TheVariants as dues
 use Rattle.sftp_text.specs.Lines.{line_read, side_letter, is_blank, and_others, with_line, lines_read, transcript_opening}
 use Rattle.sftp_text.specs.Lines.{whole, with_said, said_lines}
-use Rattle.sftp_text.specs.Trees.{bytes_and, entry_text, root_text, head_text, entries_read}
+use Rattle.sftp_text.specs.Trees.{entry_text, root_text, head_text, entries_read, root_and_lines, head_is_wide}
 use Rattle.sftp_text.specs.Texts.{first_line, behind_line, onto, line_bytes, records_onto, transcript_onto}
 use Rattle.sftp_text.specs.Texts.{form_of, due_after, lines_from}
 
@@ -212,27 +212,31 @@ part-nothing None others bytes is = refl
 part-nothing (Some b) others bytes is = absurd (cc)
 
 -- a line of the form that is due leaves the others
-due-onto : (due : Due) (line : List ℕ) (lines : List (List ℕ)) (bytes new : List ℕ)
+due-onto : (due : Due) (line : List ℕ) (lines : List (List ℕ)) (bytes part new : List ℕ)
+    → whole ((form_of due).read [] line) ≡ Some part
     → onto bytes (whole ((form_of due).read [] line)) ≡ Some new
-    → onto new (lines_from (due_after due) lines) ≡ onto bytes (lines_from due (line ∷ lines))
-due-onto dues.Head line [] bytes new is = refl
-due-onto dues.Head line (root ∷ lines) bytes new is =
-    part-onto (whole (head_text.read [] line)) (bytes_and root_text root (entries_read lines)) bytes new is
-due-onto dues.Root line lines bytes new is =
-    part-onto (whole (root_text.read [] line)) (entries_read lines) bytes new is
-due-onto dues.Entry line lines bytes new is =
-    part-onto (whole (entry_text.read [] line)) (entries_read lines) bytes new is
+    → onto new (lines_from (due_after due part) lines) ≡ onto bytes (lines_from due (line ∷ lines))
+due-onto dues.Head line [] bytes part new known is = refl
+due-onto dues.Head line (root ∷ lines) bytes part new known is =
+    let read : Option (List ℕ) = whole (head_text.read [] line) in
+    let others : Option (List ℕ) → Option (List ℕ) = λ o. root_and_lines (head_is_wide o) root lines in
+    ap (λ o. onto new (others o)) (sym known) ∙ part-onto read (others read) bytes new is
+due-onto (dues.Root wide) line lines bytes part new known is =
+    part-onto (whole ((root_text wide).read [] line)) (entries_read wide lines) bytes new is
+due-onto (dues.Entry wide) line lines bytes part new known is =
+    part-onto (whole ((entry_text wide).read [] line)) (entries_read wide lines) bytes new is
 
 due-nothing : (due : Due) (line : List ℕ) (lines : List (List ℕ)) (bytes : List ℕ)
     → onto bytes (whole ((form_of due).read [] line)) ≡ None
     → onto bytes (lines_from due (line ∷ lines)) ≡ None
 due-nothing dues.Head line [] bytes is = refl
 due-nothing dues.Head line (root ∷ lines) bytes is =
-    part-nothing (whole (head_text.read [] line)) (bytes_and root_text root (entries_read lines)) bytes is
-due-nothing dues.Root line lines bytes is =
-    part-nothing (whole (root_text.read [] line)) (entries_read lines) bytes is
-due-nothing dues.Entry line lines bytes is =
-    part-nothing (whole (entry_text.read [] line)) (entries_read lines) bytes is
+    let read : Option (List ℕ) = whole (head_text.read [] line) in
+    part-nothing read (root_and_lines (head_is_wide read) root lines) bytes is
+due-nothing (dues.Root wide) line lines bytes is =
+    part-nothing (whole ((root_text wide).read [] line)) (entries_read wide lines) bytes is
+due-nothing (dues.Entry wide) line lines bytes is =
+    part-nothing (whole ((entry_text wide).read [] line)) (entries_read wide lines) bytes is
 
 said-line : (text : List ℕ) → is_blank (first_line text) ≡ false
     → said_lines [] text ≡ first_line text ∷ said_lines [] (behind_line text)
@@ -241,11 +245,13 @@ said-line text said =
     ∙ cond-false (is_blank (first_line text)) (said_lines [] (behind_line text))
     (first_line text ∷ said_lines [] (behind_line text)) said
 
-pub tree_goes_on : (due : Due) (bytes new text : List ℕ) → is_blank (first_line text) ≡ false
+pub tree_goes_on : (due : Due) (bytes part new text : List ℕ) → is_blank (first_line text) ≡ false
+    → whole ((form_of due).read [] (first_line text)) ≡ Some part
     → onto bytes (whole ((form_of due).read [] (first_line text))) ≡ Some new
-    → onto new (lines_from (due_after due) (said_lines [] (behind_line text))) ≡ onto bytes (lines_from due (said_lines [] text))
-tree_goes_on due bytes new text said is =
-    due-onto due (first_line text) (said_lines [] (behind_line text)) bytes new is
+    → onto new (lines_from (due_after due part) (said_lines [] (behind_line text)))
+    ≡ onto bytes (lines_from due (said_lines [] text))
+tree_goes_on due bytes part new text said known is =
+    due-onto due (first_line text) (said_lines [] (behind_line text)) bytes part new known is
     ∙ ap (λ (l : List (List ℕ)). onto bytes (lines_from due l)) (sym (said-line text said))
 
 pub tree_fails : (due : Due) (bytes text : List ℕ) → is_blank (first_line text) ≡ false

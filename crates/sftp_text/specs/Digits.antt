@@ -218,3 +218,13 @@ counted_text = record {
 -- a string
 unfoldable pub string_text : Format
 string_text = ahead counted_text
+
+-- a long string, whose length is a uint64
+unfoldable pub long_string_text : Format
+long_string_text = record {
+  show = λ text bytes. option_and_then (λ front. counted_text.show front.0 text front.1)
+      (front_number 8 (from_be_bytes w64) bytes);
+  read = λ bytes text. option_and_then (λ found.
+      if nat_lt found.0 (2 ^ 64) then Some (bytes ++ to_be_bytes w64 found.0 ++ found.1.0, found.1.1) else None)
+      (counted_text.read text);
+}

@@ -15,7 +15,8 @@ use Rattle.sftp_text.specs.declared.errors.TextFault.{TextFault}
 use Rattle.sftp_text.specs.declared.errors.TextFault.TheVariants as texts
 use Rattle.sftp_text.specs.declared.due.Due.{Due}
 use Rattle.sftp_text.specs.declared.due.Due.TheVariants as dues
-use Rattle.sftp_text.specs.Trees.{head_text, root_text, entry_text, bytes_and, entries_read, tree_of_lines}
+use Rattle.sftp_text.specs.Trees.{head_text, root_text, entry_text, entries_read, tree_of_lines, begins_wide}
+use Rattle.sftp_text.specs.Trees.{root_and_lines}
 
 -- ==== What the code of records returns, beside the definitions of lines.
 
@@ -148,18 +149,18 @@ transcript_onto bytes records = option_and_then (λ rs. Some (bytes ++ transcrip
 -- the form of the line that is due
 abbrev pub form_of : Due → Format
 form_of dues.Head = head_text
-form_of dues.Root = root_text
-form_of dues.Entry = entry_text
+form_of (dues.Root wide) = root_text wide
+form_of (dues.Entry wide) = entry_text wide
 
 -- which line is due after it
-abbrev pub due_after : Due → Due
-due_after dues.Head = dues.Root
-due_after dues.Root = dues.Entry
-due_after dues.Entry = dues.Entry
+abbrev pub due_after : Due → List ℕ → Due
+due_after dues.Head bytes = dues.Root (begins_wide bytes)
+due_after (dues.Root wide) bytes = dues.Entry wide
+due_after (dues.Entry wide) bytes = dues.Entry wide
 
 -- the bytes of the lines that say something, from the one that is due on
 abbrev pub lines_from : Due → List (List ℕ) → Option (List ℕ)
 lines_from dues.Head lines = tree_of_lines lines
-lines_from dues.Root [] = None
-lines_from dues.Root (root ∷ lines) = bytes_and root_text root (entries_read lines)
-lines_from dues.Entry lines = entries_read lines
+lines_from (dues.Root wide) [] = None
+lines_from (dues.Root wide) (root ∷ lines) = root_and_lines wide root lines
+lines_from (dues.Entry wide) lines = entries_read wide lines

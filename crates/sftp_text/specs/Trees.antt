@@ -2,9 +2,13 @@
 use Rattle.std.specs.Prelude.{ℕ, ◌==◌, Bool, true, false, is_some, if◌then◌else◌, List, [], ◌∷◌, ◌++◌, codes}
 use Rattle.std.specs.Prelude.{slice_get, Option, Some, None, option_and_then, ◌≡◌, ◌%◌, ◌<◌, ◌≤◌, IfSome, Result, Ok}
 use Rattle.std.specs.Prelude.{Err}
-use Rattle.sftp_text.specs.Formats.{Step, Format, after, ◌then◌, word, mark, strip, front_uint32, repeat_to_end}
+use Rattle.sftp_text.specs.Formats.{Step, Format, after, nothing, ◌then◌, word, mark, strip, front_uint32}
+use Rattle.sftp_text.specs.Formats.{repeat_to_end}
 use Rattle.sftp_text.specs.Digits.{number, octal, long}
-use Rattle.sftp_text.specs.Digits.{string_text, byte_of, is_plain}
+use Rattle.sftp_text.specs.Digits.{string_text, long_string_text, byte_of, is_plain}
+use Rattle.sftp_text.specs.declared.openings.Opening.{Opening}
+use Rattle.sftp_text.specs.declared.openings.Opening.TheVariants.{Usual, Raised, Wide}
+use Rattle.sftp_text.specs.declared.trees.Letter.{Letter}
 use Rattle.sftp_text.specs.Lines.{whole, said_lines}
 use Rattle.std.specs.Int.RustNames.{bit_and, bit_or}
 use Rattle.sftp_text.specs.declared.errors.Stop.{Stop}
@@ -17,54 +21,153 @@ use Rattle.sftp_text.specs.Fields.{two_numbers, counted_pairs}
 unfoldable pub owner_text : Format
 owner_text = word (codes " ") then number then word (codes " ") then number then word (codes " ") then octal
 
--- the opening of a tree file without and of one with limits
-abbrev pub opening : Bool → List ℕ
-opening false = codes "SFTREE01"
-opening true = codes "SFTREE02"
+-- the openings of tree files
+abbrev pub opening : Opening → List ℕ
+opening Usual = codes "SFTREE01"
+opening Raised = codes "SFTREE02"
+opening Wide = codes "SFTREE03"
 
 -- the home, the user and the group
 abbrev pub front_text : Format
 front_text =
     word (codes "home ") then string_text then word (codes " uid ") then number then word (codes " gid ") then number
 
--- and then the number of entries, with the limits before it in a tree file that has them
-abbrev pub behind_front : Bool → Format
-behind_front false = word (codes " entries ") then number
-behind_front true =
+-- the four limits of the second opening
+abbrev pub four_limits : Format
+four_limits =
     word (codes " limits ") then number then word (codes " ") then number then word (codes " ") then number
-    then word (codes " ") then number then word (codes " entries ") then number
+    then word (codes " ") then number
 
--- the head of a tree file without or with limits
-abbrev pub head_of : Bool → Format
-head_of own = mark (opening own) then front_text then behind_front own
+-- the five limits of the third opening
+abbrev pub five_limits : Format
+five_limits =
+    word (codes " limits ") then number then word (codes " ") then long then word (codes " ") then number
+    then word (codes " ") then number then word (codes " ") then long
 
--- whether bytes begin with the opening of a tree file with limits
-abbrev pub has_limits : List ℕ → Bool
-has_limits bytes = is_some (strip (opening true) bytes)
+-- the limits that a tree file with this opening has
+abbrev pub limits_text : Opening → Format
+limits_text Usual = nothing
+limits_text Raised = four_limits
+limits_text Wide = five_limits
 
--- whether limits follow the home, the user and the group in a line
-unfoldable pub names_limits : List ℕ → Bool
-names_limits line = is_some ((front_text then word (codes " limits ")).read [] line)
+-- and then the number of entries, with the limits before it in a tree file that has them
+abbrev pub behind_front : Opening → Format
+behind_front begins = limits_text begins then word (codes " entries ") then number
+
+-- the head of a tree file with this opening
+abbrev pub head_of : Opening → Format
+head_of begins = mark (opening begins) then front_text then behind_front begins
+
+-- whether bytes begin with the opening of a tree file that may have times, and files of any length
+abbrev pub begins_wide : List ℕ → Bool
+begins_wide bytes = is_some (strip (opening Wide) bytes)
+
+-- the opening that bytes begin with; the first where they begin with none
+abbrev pub opening_of : List ℕ → Opening
+opening_of bytes =
+    if begins_wide bytes then Wide else (if is_some (strip (opening Raised) bytes) then Raised else Usual)
+
+-- the opening by what follows the group in a line: five limits, or limits, or none
+abbrev pub opening_by_limits : List ℕ → Opening
+opening_by_limits line =
+    if is_some (strip (codes " limits ") line)
+    then (if is_some (five_limits.read [] line) then Wide else Raised) else Usual
+
+abbrev pub opening_behind : Option (List ℕ × List ℕ) → Opening
+opening_behind None = Usual
+opening_behind (Some read) = opening_by_limits read.1
+
+-- the opening of the tree file whose head is a line
+unfoldable pub opening_named : List ℕ → Opening
+opening_named line = opening_behind (front_text.read [] line)
 
 -- the head: the opening, the home, the user, the group, the limits if there are some, and the number of entries
 unfoldable pub head_text : Format
 head_text = record {
-  show = λ text bytes. (head_of (has_limits bytes)).show text bytes;
-  read = λ bytes text. (head_of (names_limits text)).read bytes text;
+  show = λ text bytes. (head_of (opening_of bytes)).show text bytes;
+  read = λ bytes text. (head_of (opening_named text)).read bytes text;
+}
+
+-- an owner, and the times behind it if there are some
+abbrev pub timed_owner : Bool → Format
+timed_owner false = owner_text
+timed_owner true = owner_text then word (codes " ") then number then word (codes " ") then number
+
+-- the root of a tree file without times
+abbrev pub plain_root : Format
+plain_root = word (codes "D \"/\"") then owner_text
+
+-- the letter of a root with times or without
+abbrev pub letter_of_root : Bool → ℕ
+letter_of_root false = 68
+letter_of_root true = 100
+
+-- what the line of a root with times or without begins with
+abbrev pub word_of_root : Bool → List ℕ
+word_of_root false = codes "D \"/\""
+word_of_root true = codes "d \"/\""
+
+-- whether the root in front has times, by its letter
+abbrev pub is_timed_root : List ℕ → Bool
+is_timed_root [] = false
+is_timed_root (c ∷ rest) = c == 100
+
+-- the root by its letter, which is in the line and in the bytes
+abbrev pub root_with : Bool → Format
+root_with has_times =
+    mark (letter_of_root has_times ∷ []) then word (word_of_root has_times) then timed_owner has_times
+
+-- the root of a tree file after the third opening
+abbrev pub lettered_root : Format
+lettered_root = record {
+  show = λ text bytes. (root_with (is_timed_root bytes)).show text bytes;
+  read = λ bytes text. (root_with (is_timed_root text)).read bytes text;
 }
 
 -- the root
-unfoldable pub root_text : Format
-root_text = word (codes "D \"/\"") then owner_text
+unfoldable pub root_text : Bool → Format
+root_text false = plain_root
+root_text true = lettered_root
+
+-- what a letter says of the entry of a directory or of a file; small letters and `G` only after the third opening
+abbrev pub letter_made : Bool → Bool → Bool → Letter
+letter_made is_file has_times is_long = record { is_file = is_file; has_times = has_times; is_long = is_long }
+
+abbrev pub wide_letter : Bool → Letter → Option Letter
+wide_letter wide letter = if wide then Some letter else None
+
+unfoldable pub letter_of : Bool → ℕ → Option Letter
+letter_of wide kind =
+    if kind == 68 then Some (letter_made false false false)
+    else (if kind == 70 then Some (letter_made true false false)
+    else (if kind == 100 then wide_letter wide (letter_made false true false)
+    else (if kind == 102 then wide_letter wide (letter_made true true false)
+    else (if kind == 71 then wide_letter wide (letter_made true false true)
+    else (if kind == 103 then wide_letter wide (letter_made true true true) else None)))))
+
+-- the bytes of a file
+abbrev pub content_text : Bool → Format
+content_text false = string_text
+content_text true = long_string_text
+
+abbrev pub with_content : Bool → Bool → Format → Format
+with_content false is_long owner = owner
+with_content true is_long owner = owner then word (codes " ") then content_text is_long
+
+-- what the entry of a directory or of a file says after its path: its owner, its times, and its bytes
+abbrev pub owned_text : Letter → Format
+owned_text letter = with_content letter.is_file letter.is_long (timed_owner letter.has_times)
+
+abbrev pub other_text : ℕ → Option Letter → Option Format
+other_text kind (Some letter) = Some (owned_text letter)
+other_text kind None =
+    if kind == 72 then Some (word (codes " ") then number)
+    else (if kind == 76 then Some (word (codes " ") then string_text) else None)
 
 -- what an entry of a kind says after its path: a directory its owner, the first name of a file its owner and the bytes,
 -- a further name the entry of the first, a link its target
-unfoldable pub kind_text : ℕ → Option Format
-kind_text kind =
-    if kind == 68 then Some owner_text
-    else (if kind == 70 then Some (owner_text then word (codes " ") then string_text)
-    else (if kind == 72 then Some (word (codes " ") then number)
-    else (if kind == 76 then Some (word (codes " ") then string_text) else None)))
+unfoldable pub kind_text : Bool → ℕ → Option Format
+kind_text wide kind = other_text kind (letter_of wide kind)
 
 -- an entry of a kind: its letter is first in the line, and behind the path in the bytes
 abbrev pub entry_of : ℕ → Format → Format
@@ -79,33 +182,36 @@ unfoldable pub kind_behind : List ℕ → Option ℕ
 kind_behind bytes = option_and_then (λ front. slice_get front.1 front.0) (front_uint32 bytes)
 
 -- an entry of a kind is shown
-abbrev pub show_kind : List ℕ → List ℕ → ℕ → Option (List ℕ × List ℕ)
-show_kind text bytes kind = option_and_then (λ fields. (entry_of kind fields).show text bytes) (kind_text kind)
+abbrev pub show_kind : Bool → List ℕ → List ℕ → ℕ → Option (List ℕ × List ℕ)
+show_kind wide text bytes kind =
+    option_and_then (λ fields. (entry_of kind fields).show text bytes) (kind_text wide kind)
 
 -- an entry of a kind is read
-abbrev pub read_kind : List ℕ → List ℕ → ℕ → Option (List ℕ × List ℕ)
-read_kind bytes text kind = option_and_then (λ fields. (entry_of kind fields).read bytes text) (kind_text kind)
+abbrev pub read_kind : Bool → List ℕ → List ℕ → ℕ → Option (List ℕ × List ℕ)
+read_kind wide bytes text kind =
+    option_and_then (λ fields. (entry_of kind fields).read bytes text) (kind_text wide kind)
 
 -- an entry
-unfoldable pub entry_text : Format
-entry_text = record {
-  show = λ text bytes. option_and_then (show_kind text bytes) (kind_behind bytes);
-  read = λ bytes text. option_and_then (read_kind bytes text) (first_of text);
+unfoldable pub entry_text : Bool → Format
+entry_text wide = record {
+  show = λ text bytes. option_and_then (show_kind wide text bytes) (kind_behind bytes);
+  read = λ bytes text. option_and_then (read_kind wide bytes text) (first_of text);
 }
 
 -- ---- tree files
 
 -- an entry and a line feed
-abbrev pub entry_line : Format
-entry_line = entry_text then word (10 ∷ [])
+abbrev pub entry_line : Bool → Format
+entry_line wide = entry_text wide then word (10 ∷ [])
 
 -- the head and the root, each with a line feed
-abbrev pub first_lines : Format
-first_lines = head_text then word (10 ∷ []) then root_text then word (10 ∷ [])
+abbrev pub first_lines : Bool → Format
+first_lines wide = head_text then word (10 ∷ []) then root_text wide then word (10 ∷ [])
 
 -- the lines of a tree file are shown: that of the head, that of the root, and those of entries as long as bytes are left
 unfoldable pub show_tree : Step
-show_tree text bytes = after first_lines.show (repeat_to_end entry_line.show) text bytes
+show_tree text bytes =
+    after (first_lines (begins_wide bytes)).show (repeat_to_end (entry_line (begins_wide bytes)).show) text bytes
 
 -- the bytes of a whole line, in front of others
 abbrev pub bytes_and : Format → List ℕ → Option (List ℕ) → Option (List ℕ)
@@ -113,15 +219,25 @@ bytes_and format line others =
     option_and_then (λ bytes. option_and_then (λ more. Some (bytes ++ more)) others) (whole (format.read [] line))
 
 -- the bytes of lines of entries
-abbrev pub entries_read : List (List ℕ) → Option (List ℕ)
-entries_read [] = Some []
-entries_read (line ∷ lines) = bytes_and entry_text line (entries_read lines)
+abbrev pub entries_read : Bool → List (List ℕ) → Option (List ℕ)
+entries_read wide [] = Some []
+entries_read wide (line ∷ lines) = bytes_and (entry_text wide) line (entries_read wide lines)
+
+-- whether the bytes of a head begin with the third opening
+abbrev pub head_is_wide : Option (List ℕ) → Bool
+head_is_wide None = false
+head_is_wide (Some bytes) = begins_wide bytes
+
+-- the bytes of the lines of a root and entries
+abbrev pub root_and_lines : Bool → List ℕ → List (List ℕ) → Option (List ℕ)
+root_and_lines wide root lines = bytes_and (root_text wide) root (entries_read wide lines)
 
 -- the bytes of the lines of a head, a root and entries
 abbrev pub tree_of_lines : List (List ℕ) → Option (List ℕ)
 tree_of_lines [] = None
 tree_of_lines (head ∷ []) = None
-tree_of_lines (head ∷ root ∷ lines) = bytes_and head_text head (bytes_and root_text root (entries_read lines))
+tree_of_lines (head ∷ root ∷ lines) =
+    bytes_and head_text head (root_and_lines (head_is_wide (whole (head_text.read [] head))) root lines)
 
 -- the tree file of a text
 unfoldable pub tree_read : List ℕ → Option (List ℕ)
@@ -210,11 +326,11 @@ FindsKind (Ok kind) found = found ≡ Some kind
 FindsKind (Err NoMemory) found = Unit {0}
 FindsKind (Err (Unfit expected)) found = found ≡ None
 
--- whether it is so is as told, unless memory runs out
-abbrev pub TellsWhether : Result Bool Stop → Bool → Type 0
-TellsWhether (Ok is) told = told ≡ is
-TellsWhether (Err NoMemory) told = Unit {0}
-TellsWhether (Err (Unfit expected)) told = ⊥
+-- the opening is as told, unless memory runs out
+abbrev pub TellsOpening : Result Opening Stop → Opening → Type 0
+TellsOpening (Ok is) told = told ≡ is
+TellsOpening (Err NoMemory) told = Unit {0}
+TellsOpening (Err (Unfit expected)) told = ⊥
 
 -- what an attribute says behind its label
 abbrev pub value_text : Value → Format
@@ -231,5 +347,5 @@ behind fields = record {
 }
 
 -- what an entry of a kind says behind its path
-abbrev pub behind_path : ℕ → Format
-behind_path kind = behind (kind_text kind)
+abbrev pub behind_path : Bool → ℕ → Format
+behind_path wide kind = behind (kind_text wide kind)

@@ -4,6 +4,8 @@
 #[derive(Clone, Copy)]
 pub(crate) enum Due {
     Head,
-    Root,
-    Entry,
+    /// That of the root, which has its letter in the bytes after the third opening.
+    Root(bool),
+    /// That of an entry, which may have times after the third opening.
+    Entry(bool),
 }

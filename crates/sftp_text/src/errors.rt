@@ -25,6 +25,8 @@ pub enum Expected {
     Root,
     Kind,
     Fewer,
+    AnyRoot,
+    AnyKind,
 }
 
 impl Expected {
@@ -46,6 +48,8 @@ impl Expected {
                 "`home`, a text in quotes, `uid` and `gid`, perhaps `limits`, and `entries`, each with its numbers",
             Expected::Root => "`D \"/\"`",
             Expected::Kind => "`D`, `F`, `H` or `L`",
+            Expected::AnyRoot => "`D \"/\"` or `d \"/\"`",
+            Expected::AnyKind => "`D`, `F`, `G`, `d`, `f`, `g`, `H` or `L`",
             Expected::Fewer => "fewer than 2^32 bytes or items",
         }
     }

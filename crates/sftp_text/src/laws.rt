@@ -1,5 +1,5 @@
 //! Theorems about lines of text, as contracts of functions with empty bodies.
-ghost use Rattle.std.specs.Prelude.{◌≡◌, List, [], ℕ, Some, IsSome, IsTrue};
+ghost use Rattle.std.specs.Prelude.{◌≡◌, List, [], ℕ, Bool, Some, IsSome, IsTrue};
 ghost use Rattle.std.specs.List.{AllByRecursion, list_all};
 ghost use Rattle.sftp_packets.specs.declared.packets.Side.{Side};
 ghost use Rattle.sftp_packets.specs.declared.packets.Packet.{Packet};
@@ -38,15 +38,15 @@ pub fn heads_are_read()
 /// The line of a root that is in front of bytes is read as the bytes of the root.
 #[tactic(auto, using(crate::proofs::TreeLines::roots_back))]
 pub fn roots_are_read()
-    ensures { (bytes line left : List ℕ) → AreBytes bytes → root_text.show [] bytes ≡ Some (line, left)
-        → ReadsBack root_text bytes line left }
+    ensures { (wide : Bool) (bytes line left : List ℕ) → AreBytes bytes
+        → (root_text wide).show [] bytes ≡ Some (line, left) → ReadsBack (root_text wide) bytes line left }
 {}
 
 /// The line of an entry that is in front of bytes is read as the bytes of the entry.
 #[tactic(auto, using(crate::proofs::TreeLines::entries_back))]
 pub fn entries_are_read()
-    ensures { (bytes line left : List ℕ) → AreBytes bytes → entry_text.show [] bytes ≡ Some (line, left)
-        → ReadsBack entry_text bytes line left }
+    ensures { (wide : Bool) (bytes line left : List ℕ) → AreBytes bytes
+        → (entry_text wide).show [] bytes ≡ Some (line, left) → ReadsBack (entry_text wide) bytes line left }
 {}
 
 /// Each packet that has an encoding is shown by its name, and not in hexadecimal.

@@ -13,6 +13,7 @@ mod lists;
 mod names;
 mod numbers;
 mod octets;
+mod openings;
 mod quoted;
 mod records;
 mod transcripts;

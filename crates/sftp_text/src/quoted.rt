@@ -5,6 +5,7 @@ ghost use Rattle.std.specs.Int.{w32, to_be_bytes};
 ghost use Rattle.std.specs.List.{flat_map};
 ghost use Rattle.sftp_text.specs.Digits as text;
 ghost use Rattle.sftp_text.specs.Digits.{byte_text, quoted, rest_text, unquoted, Plain, text_in, string_text};
+ghost use Rattle.sftp_text.specs.Digits.{long_string_text};
 ghost use Rattle.sftp_text.specs.Formats.{numbered};
 ghost use Rattle.sftp_text.specs.Trees.{Moves, character_in, escape_in};
 
@@ -57,6 +58,20 @@ pub(crate) fn put_string(bytes: &mut &[u8], text: &mut Vec<u8>) -> Result<(), St
     ensures { Moves result text.new.items bytes.new.now (string_text.show text.old.items bytes.old.now) }
 {
     let length = bytes.try_get_u32()?;
+    let Some((string, rest)) = bytes.split_at_checked(length as usize) else {
+        return Err(Stop::Unfit(Expected::Text));
+    };
+    put_quoted(string, text)?;
+    *bytes = rest;
+    Ok(())
+}
+
+/// Shows a long string, whose length is a uint64, as a text in quotes.
+#[tactic(auto, unfolding(crate::specs::Digits::long_string_text))]
+pub(crate) fn put_long_string(bytes: &mut &[u8], text: &mut Vec<u8>) -> Result<(), Stop>
+    ensures { Moves result text.new.items bytes.new.now (long_string_text.show text.old.items bytes.old.now) }
+{
+    let length = bytes.try_get_u64()?;
     let Some((string, rest)) = bytes.split_at_checked(length as usize) else {
         return Err(Stop::Unfit(Expected::Text));
     };
@@ -169,4 +184,16 @@ pub(crate) fn read_string(line: &mut &[u8], bytes: &mut Vec<u8>) -> Result<(), S
     let mut string = Vec::new(*bytes.allocator());
     read_quoted(line, &mut string)?;
     append_string(string.as_slice(), bytes)
+}
+
+/// Reads a text in quotes as a long string: the number of its bytes as a uint64, and the bytes.
+#[tactic(auto, unfolding(crate::specs::Digits::long_string_text))]
+pub(crate) fn read_long_string(line: &mut &[u8], bytes: &mut Vec<u8>) -> Result<(), Stop>
+    ensures { Moves result bytes.new.items line.new.now (long_string_text.read bytes.old.items line.old.now) }
+{
+    let mut string = Vec::new(*bytes.allocator());
+    read_quoted(line, &mut string)?;
+    bytes.put_u64(string.len() as u64)?;
+    bytes.extend_from_slice(string.as_slice())?;
+    Ok(())
 }

@@ -15,6 +15,7 @@ use sftp_show::{
     ExplainError, Quoted, Record, explain_causes, explain_reply, find_record, last_of_id,
     put_record,
 };
+use sftp_streams::Source;
 use sftp_transcript::{Reader, Tally, TranscriptError, WINDOW};
 use sftp_tree::{Cause, Causes, NoMemory};
 use sftp_treefile::TreeError;
@@ -479,8 +480,40 @@ impl<R: Files + AllocGlobal, E: Write> Explanation<'_, '_, R, E> {
         self.is_written(written)
     }
 
-    /// The names of the departures each of which, accepted besides, makes the session go on beyond its refusal.
+    /// The names of the departures each of which, accepted besides, makes the session go on beyond its refusal. For each
+    /// of them the session is read and judged again, so that they are not tried of one that is long.
     fn put_departures(&mut self) -> bool {
+        match self.is_short() {
+            Some(true) => self.put_each_departure(),
+            Some(false) => self.put_untried(),
+            None => false,
+        }
+    }
+
+    /// Whether the packets up to the refusal have few enough bytes for departures to be tried. `None` if the explanation
+    /// stops.
+    fn is_short(&mut self) -> Option<bool> {
+        let mut records = self.records()?;
+        let short = are_few_bytes(&mut records, record_of(self.refusal));
+        drop(records);
+        match short {
+            Ok(short) => Some(short),
+            Err(error) => {
+                self.stop(Unexplained::from(error));
+                None
+            }
+        }
+    }
+
+    fn put_untried(&mut self) -> bool {
+        let written = writeln!(
+            self.errors,
+            "departures: not tried, since the packets up to this one have more than {TRIED} bytes"
+        );
+        self.is_written(written)
+    }
+
+    fn put_each_departure(&mut self) -> bool {
         for name in NAMES {
             if self.goes_on_with(name) {
                 self.put_departure(name);
@@ -699,6 +732,28 @@ impl<R: Files + AllocGlobal, E: Write> Explanation<'_, '_, R, E> {
             }
         }
     }
+}
+
+/// The most bytes that the packets up to a refusal may have for departures to be tried.
+const TRIED: u64 = 67_108_864;
+
+/// Whether the packets up to the record of this number have no more bytes than `TRIED`.
+fn are_few_bytes<S: Source>(
+    records: &mut Reader<S>,
+    number: u64,
+) -> Result<bool, TranscriptError> {
+    let mut bytes: u64 = 0;
+    for _ in 0..number {
+        let Some((_, packet, size)) = records.next_record()? else {
+            return Ok(true);
+        };
+        drop(packet);
+        bytes = bytes.saturating_add(size as u64);
+        if bytes > TRIED {
+            return Ok(false);
+        }
+    }
+    Ok(true)
 }
 
 /// Whether the departure of this name judges other requests than those that were sent.

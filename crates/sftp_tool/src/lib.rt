@@ -27,7 +27,7 @@ use serving::Unserved;
 use sftp_commands::{Faulty, ReadFiles};
 use sftp_faults::Spot;
 pub use sftp_files::System;
-use sftp_files::{Ending, Failure, ImportOptions, ServeOptions, report, write_flushed};
+use sftp_files::{DiffForm, Ending, Failure, ImportOptions, ServeOptions, report, write_flushed};
 use sftp_options::{Request, parse};
 use sftp_progress::Console;
 use sftp_vary::Style;
@@ -188,22 +188,23 @@ fn perform_request<'a, R: System + Clock, I: Read, O: Write, E: Write + IsTermin
         Request::Blank { file, keeping } => subcommands::blank(rt, file, *keeping),
         Request::Raise {
             tree,
+            to,
             file,
             keeping,
-        } => sftp_commands::raise(rt, tree, file, *keeping),
+        } => sftp_commands::raise(rt, tree, *to, file, *keeping),
         Request::Show(options) => sftp_commands::show(rt, options, output),
         Request::Make { file, keeping } => sftp_commands::make(rt, file, *keeping, input),
         Request::Diff {
             old,
             new,
             memory,
-            is_json,
+            form,
             says_progress,
         } => diff(
             rt,
             (old, new),
             *memory,
-            *is_json,
+            *form,
             *says_progress,
             output,
             errors,
@@ -225,13 +226,13 @@ fn diff<'a, R: System + Clock, O: Write, E: Write + IsTerminal>(
     rt: &R,
     names: (&'a str, &'a str),
     memory: Option<u64>,
-    is_json: bool,
+    form: DiffForm,
     says_progress: bool,
     output: &mut O,
     errors: &mut E,
 ) -> Result<Ending, Failure<'a>> {
     let mut console = console(errors, says_progress);
-    sftp_commands::diff(rt, names, memory, is_json, output, &mut console)
+    sftp_commands::diff(rt, names, memory, form, output, &mut console)
 }
 
 /// Makes a tree file from an archive, while standard error says how far that is.

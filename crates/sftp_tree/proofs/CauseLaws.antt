@@ -25,7 +25,8 @@ use Rattle.std.specs.Option.{option_map, is_some}
 use Rattle.std.proofs.Math.Bool.{and-false, or-true, or-false}
 use Rattle.sftp_tree.specs.Changes.{carried}
 use Rattle.sftp_tree.specs.Room.{size_fits_at, has_room_to_open}
-use Rattle.sftp_tree.proofs.Limits.{fits-again, fits-content, content-fits}
+use Rattle.sftp_tree.proofs.Limits.{fits-again, fits-content, content-fits, total-same, total-none}
+use Rattle.sftp_tree.specs.Changes.{total_fits_with}
 use Rattle.sftp_tree.proofs.Limits.{fits-put_in_stead}
 use Rattle.sftp_tree.proofs.FileCounts as left
 use Rattle.sftp_tree.proofs.KeptTrees.NewFiles.{fits-new, no_bytes, emptied-is}
@@ -340,17 +341,22 @@ pub length-resized : (size : ℕ) (bytes : List ℕ) → length (resized size by
 length-resized size bytes =
     omega (arith, length-append (take size bytes) (replicate (size - length bytes) 0), length-take size bytes, length-replicate {A = ℕ} (size - length bytes) 0)
 
-pub changed-fits : (bounds : TreeLimits) (size : Option ℕ) (bytes : List ℕ) → nat_le (length bytes) bounds.file_bytes ≡ true → nat_le (length (unwrap_or (option_map (λ n. resized n bytes) size) bytes)) bounds.file_bytes ≡ size_fits bounds size
-changed-fits bounds None bytes fit = fit
-changed-fits bounds (Some size) bytes fit = ap (λ n. nat_le n bounds.file_bytes) (length-resized size bytes)
+-- a file, and all together, keep to the limits with other attributes just where the size does
+pub changed-fits : (t : Tree) (number : ℕ) (content : Content) (size : Option ℕ) → IsTrue (fits t) → content_at t.files number ≡ Some content
+    → (nat_le (length (unwrap_or (option_map (λ n. resized n content.bytes) size) content.bytes)) (limits t).file_bytes
+    && total_fits_with t number (length (unwrap_or (option_map (λ n. resized n content.bytes) size) content.bytes))) ≡ size_fits t number size
+changed-fits t number content None within there =
+    (λ i. content-fits t number content within there i && total-same t number content within there i)
+changed-fits t number content (Some size) within there =
+    ap (λ n. nat_le n (limits t).file_bytes && total_fits_with t number n) (length-resized size content.bytes)
 
-pub changed-room : (t : Tree) (attrs : Attrs) (number : ℕ) → IsKept t → (content : Option Content) → content_at t.files number ≡ content → IsTrue (is_some content) → fits (with_changed_file t attrs number content) ≡ size_fits (limits t) attrs.size
+pub changed-room : (t : Tree) (attrs : Attrs) (number : ℕ) → IsKept t → (content : Option Content) → content_at t.files number ≡ content → IsTrue (is_some content) → fits (with_changed_file t attrs number content) ≡ size_fits t number attrs.size
 changed-room t attrs number kept None is there = absurd cc
 changed-room t attrs number kept (Some content) is there =
-    fits-content t number (changed_content attrs content) kept.within_limits
-    ∙ changed-fits (limits t) attrs.size content.bytes (content-fits t number content kept.within_limits is)
+    fits-content t number (changed_content attrs content) kept.within_limits kept.well_formed.numbered
+    ∙ changed-fits t number content attrs.size kept.within_limits is
 
-pub set-room : (t : Tree) (attrs : Attrs) (place : Place) (found : Option Node) → IsKept t → node_at t.names place ≡ found → size_fits_at (limits t) attrs.size found ≡ fits (carried t (plan_to_set attrs place found))
+pub set-room : (t : Tree) (attrs : Attrs) (place : Place) (found : Option Node) → IsKept t → node_at t.names place ≡ found → size_fits_at t attrs.size found ≡ fits (carried t (plan_to_set attrs place found))
 set-room t attrs place None kept is = sym kept.within_limits
 set-room t attrs place (Some (Dir owner)) kept is = sym (fits-again t place (Dir owner) (Dir (changed_owner attrs owner)) kept.within_limits kept.well_formed.ordered is refl)
 set-room t attrs place (Some (File number)) kept is = sym (changed-room t attrs number kept (content_at t.files number) refl (node-kept t place (File number) kept is))
@@ -365,13 +371,13 @@ truncated-room : (t : Tree) (number : ℕ) (empties : Bool) → IsKept t → IsT
     → true ≡ fits (carried t (if empties then empty_file number else no_change))
 truncated-room t number true kept there =
     sym (ap fits (emptied-is t number (content_at t.files number)) ∙ changed-room t no_bytes number kept (content_at t.files number) refl there
-    ∙ short-enough (limits t).file_bytes)
+    ∙ (λ i. short-enough (limits t).file_bytes i && total-none t number kept.within_limits i))
 truncated-room t number false kept there = sym kept.within_limits
 
 pub open-room : (t : Tree) (flags : ℕ) (attrs : Attrs) (place : Place) (found : Option Node) → IsKept t
     → node_at t.names place ≡ found → has_room_to_open t place found ≡ fits (carried t (plan_to_open t flags attrs place found))
 open-room t flags attrs place None kept is =
-    sym (fits-new t place (new_content t attrs) kept.within_limits is (not-given t t.made kept.well_formed (omega arith)) (short-enough (limits t).file_bytes))
+    sym (fits-new t place (new_content t attrs) kept is (not-given t t.made kept.well_formed (omega arith)) refl)
 open-room t flags attrs place (Some (Dir owner)) kept is = sym kept.within_limits
 open-room t flags attrs place (Some (File number)) kept is =
     truncated-room t number (truncates flags) kept (node-kept t place (File number) kept is)

@@ -61,10 +61,11 @@ pub use Rattle.sftp_path.specs.Place.{Split}
 pub use Rattle.sftp_path.specs.Table.{InOrder, Table, kept, with_values}
 unfoldable pub use Rattle.sftp_path.specs.Table.{get, put, without, retain}
 pub use Rattle.sftp_treefile.proofs.Texts.{path_length, target_length, place_is}
-pub use Rattle.sftp_treefile.proofs.Texts.Files.{one_file, spelled_head}
-pub use Rattle.sftp_treefile.proofs.Texts.{highest_are, usual_are, file_bytes_bound, rows_wider}
+pub use Rattle.sftp_treefile.proofs.Texts.Files.{one_file, spelled_plain}
+pub use Rattle.sftp_treefile.proofs.Texts.{highest_are, usual_are, raised_are, rows_wider}
+pub use Rattle.sftp_treefile.proofs.Texts.Raised.{raised_fit}
 pub use Rattle.sftp_treefile.specs.Examples.{blank_bytes, raised_bytes}
-pub use Rattle.sftp_treefile.specs.TreeFile.{highest_limits, usual_limits}
+pub use Rattle.sftp_treefile.specs.TreeFile.{highest_limits, usual_limits, most_limits, raised_limits}
 pub use Rattle.sftp_treefile.specs.TreeFile.{is_root, same_place, is_target, IsOwner, are_bytes, IsKind, AreRows}
 pub use Rattle.sftp_treefile.specs.TreeFile.{row_text, IsPlaceText, IsTreeFile, IsSpelled, place_of, is_dir, IsNext}
 pub use Rattle.sftp_treefile.specs.TreeFile.{is_first, is_first_row, entry_at, is_dir_at}

@@ -30,6 +30,9 @@ use Rattle.sftp_tree.proofs.Nesting.Changes.{not-taken}
 use Rattle.sftp_tree.proofs.Nesting.Entries.{below-root}
 use Rattle.sftp_tree.proofs.WellFormedTrees.{HaveParents, directory-taken, apart-parent, alone-there}
 use Rattle.sftp_tree.proofs.FileCounts.{nothing-from}
+use Rattle.sftp_tree.proofs.Imports.{leb-true, le-leb}
+use Rattle.sftp_tree.specs.Tree.{total_of, total_fits}
+use Rattle.sftp_tree.proofs.Totals.{total-retain}
 pub mod NewFiles
 pub mod Counts
 
@@ -102,6 +105,12 @@ pub files-trimmed : (is_held : ℕ → Bool) (t : Tree) → IsTrue (files_fit t)
 files-trimmed is_held t fit = all-each (λ e. content_fits (limits t) e.1) (retain t.files (stays is_held t.names))
     (each-retain (λ e. IsTrue (content_fits (limits t) e.1)) (λ e. IsTrue (content_fits (limits t) e.1)) t.files (stays is_held t.names) (λ e h passed. h) (each-all (λ e. content_fits (limits t) e.1) t.files fit))
 
+total-trimmed : (is_held : ℕ → Bool) (t : Tree) → total_fits t ≡ true → total_fits (trimmed is_held t) ≡ true
+total-trimmed is_held t fit =
+    let most = leb-true (total_of t.files) (limits t).total_bytes fit in
+    let less = total-retain t.files (stays is_held t.names) in
+    le-leb (total_of (retain t.files (stays is_held t.names))) (limits t).total_bytes (omega (arith, most, less))
+
 pub fits-trimmed : (is_held : ℕ → Bool) (t : Tree) → IsTrue (fits t) → IsTrue (fits (trimmed is_held t))
 fits-trimmed is_held t h =
     let parts = fits-parts t h in
@@ -111,6 +120,7 @@ fits-trimmed is_held t h =
       home = parts.home;
       links = parts.links;
       files = files-trimmed is_held t parts.files;
+      total = total-trimmed is_held t parts.total;
       numbers = parts.numbers;
     })
 
@@ -185,6 +195,7 @@ fits-owner t place before owner well within there =
       home = parts.home;
       links = links-again t place (Dir owner) parts.links refl;
       files = parts.files;
+      total = parts.total;
       numbers = parts.numbers;
     })
 

@@ -2,8 +2,9 @@ pub mod Imports
 pub mod PlaceTables
 pub mod Nesting
 pub mod WellFormedTrees
-pub mod Limits
 pub mod FileCounts
+pub mod Totals
+pub mod Limits
 pub mod KeptTrees
 pub mod Walks
 pub mod CauseLaws

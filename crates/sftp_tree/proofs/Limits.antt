@@ -17,6 +17,9 @@ use Rattle.sftp_tree.proofs.PlaceTables.{length-without}
 use Rattle.std.proofs.lemmas.Cmp.{nat_cmp_total}
 use Rattle.sftp_tree.proofs.WellFormedTrees.{found-passes}
 use Rattle.sftp_path.proofs.Move as tests
+use Rattle.sftp_tree.specs.Tree.{total_of, total_fits}
+use Rattle.sftp_tree.specs.Changes.{length_of, total_fits_with}
+use Rattle.sftp_tree.proofs.Totals.{total-with, part-of_total}
 
 -- ==== Trees within the limits, and the parts of the test whether a tree is.
 
@@ -34,11 +37,27 @@ pub record Fits (t : Tree) : Type 0 where
   pub home : home_fits t ≡ true
   pub links : links_fit t ≡ true
   pub files : files_fit t ≡ true
+  pub total : total_fits t ≡ true
   pub numbers : numbers_fit t ≡ true
 
 pub fits-parts : (t : Tree) → IsTrue (fits t) → Fits t
 unfolding fits
-fits-parts t h = search rules
+fits-parts t h =
+    let all = and_parts (entries_fit t) _ h in
+    let places = and_parts (depths_fit t) _ all.1 in
+    let home = and_parts (home_fits t) _ places.1 in
+    let links = and_parts (links_fit t) _ home.1 in
+    let files = and_parts (files_fit t) _ links.1 in
+    let total = and_parts (total_fits t) (numbers_fit t) files.1 in
+    record {
+      entries = all.0;
+      depths = places.0;
+      home = home.0;
+      links = links.0;
+      files = files.0;
+      total = total.0;
+      numbers = total.1;
+    }
 
 pub fits-from : (t : Tree) → Fits t → IsTrue (fits t)
 unfolding fits
@@ -104,6 +123,26 @@ files-with t number content = all-put_new nat_cmp t.files number content (λ e. 
 pub files-again : (t : Tree) (number : ℕ) (content : Content) → IsTrue (files_fit t) → IsTrue (content_fits (limits t) content) → IsTrue (files_fit (record t { files = with_content t.files number content }))
 files-again t number content = values-put nat_cmp t.files number content (content_fits (limits t))
 
+-- how many bytes all files have with another content of one
+total-exchanged : (t : Tree) (number : ℕ) (content : Content) → InOrder nat_cmp t.files
+    → total_fits (record t { files = with_content t.files number content }) ≡ total_fits_with t number (length content.bytes)
+total-exchanged t number content order =
+    ap (λ n. nat_le n (limits t).total_bytes) (total-with t.files number content order)
+
+-- and with as many as before
+pub total-same : (t : Tree) (number : ℕ) (content : Content) → IsTrue (fits t) → content_at t.files number ≡ Some content
+    → total_fits_with t number (length content.bytes) ≡ true
+total-same t number content within there =
+    let same : total_of t.files - length_of (content_at t.files number) + length content.bytes ≡ total_of t.files =
+    omega (arith, ap length_of there, part-of_total t.files number) in
+    ap (λ n. nat_le n (limits t).total_bytes) same ∙ (fits-parts t within).total
+
+-- with none there is room
+pub total-none : (t : Tree) (number : ℕ) → IsTrue (fits t) → total_fits_with t number 0 ≡ true
+total-none t number within =
+    let most = leb-true (total_of t.files) (limits t).total_bytes (fits-parts t within).total in
+    le-leb (total_of t.files - length_of (content_at t.files number) + 0) (limits t).total_bytes (omega (arith, most))
+
 -- ==== Which changes of a tree keep to its limits: an entry more or less, another owner, another content.
 
 -- with other entries
@@ -151,16 +190,18 @@ both-ways true b there back = sym (there refl)
 both-ways false true there back = back refl
 both-ways false false there back = refl
 
--- with another content of a file a tree within the limits fits where the content does
-pub fits-content : (t : Tree) (number : ℕ) (content : Content) → IsTrue (fits t) → fits (record t { files = with_content t.files number content }) ≡ content_fits (limits t) content
+-- with another content of a file a tree within the limits fits where the content does, and all contents together
+pub fits-content : (t : Tree) (number : ℕ) (content : Content) → IsTrue (fits t) → InOrder nat_cmp t.files → fits (record t { files = with_content t.files number content }) ≡ (content_fits (limits t) content && total_fits_with t number (length content.bytes))
 unfolding fits
-fits-content t number content kept =
+fits-content t number content kept order =
     let fit = fits-parts t kept in
     let files : files_fit (record t { files = with_content t.files number content }) ≡ content_fits (limits t) content =
     both-ways (files_fit (record t { files = with_content t.files number content })) (content_fits (limits t) content)
     (λ all. found-passes nat_cmp (content_fits (limits t)) number content (with_content t.files number content) all (get-put_here nat_cmp nat_cmp_total t.files number content))
     (λ passing. values-put nat_cmp t.files number content (content_fits (limits t)) fit.files passing) in
-    (λ i. fit.entries i && (fit.depths i && (fit.home i && (fit.links i && (files i && fit.numbers i))))) ∙ and-true (content_fits (limits t) content)
+    let total = total-exchanged t number content order in
+    (λ i. fit.entries i && (fit.depths i && (fit.home i && (fit.links i && (files i && (total i && fit.numbers i))))))
+    ∙ ap (λ b. content_fits (limits t) content && b) (and-true (total_fits_with t number (length content.bytes)))
 
 -- the content of a file of a tree within the limits fits
 pub content-fits : (t : Tree) (number : ℕ) (content : Content) → IsTrue (fits t) → content_at t.files number ≡ Some content → content_fits (limits t) content ≡ true

@@ -27,6 +27,19 @@ use Rattle.sftp_tree.proofs.KeptTrees.{kept-trim}
 use Rattle.sftp_tree.proofs.KeptTrees.Counts.{files-in_order, each-some}
 use Rattle.sftp_path.proofs.Table.Laws.{InOrder-empty}
 use Rattle.sftp_tree.proofs.FileCounts.{unpinned-pins, unpinned-counted, unpinned-contents}
+use Rattle.std.specs.Prelude.{◌&&◌, max, min, ◌*◌}
+use Rattle.std.specs.List.Sorted.{IsStrictlySortedBy}
+use Rattle.std.specs.declared.cmp.Ordering.TheVariants.{Less, Equal, Greater}
+use Rattle.sftp_treefile.specs.TreeFileParts.{AreRaised}
+use Rattle.sftp_treefile.specs.TreeFile.{AreLimits}
+use Rattle.sftp_tree.proofs.Imports.{and_parts, eqb-true, get-put_here, with_content, changed_content, with_changed_file}
+use Rattle.sftp_tree.proofs.Imports.{with_new_file}
+use Rattle.sftp_tree.proofs.Imports.{◌∷◌, ◌≤◌, cond, keys_of, Files, leb-true, le-leb}
+use Rattle.sftp_tree.proofs.PlaceTables.{each-all}
+use Rattle.sftp_treefile.specs.TreeFile.{numbers}
+use Rattle.sftp_tree.specs.Tree.{content_fits, total_of, told_limits}
+use Rattle.sftp_tree.specs.Changes.{length_of, total_fits_with, end_fits}
+use Rattle.sftp_tree.proofs.Limits.{total-same}
 
 -- ==== A file to which bytes are written: its size, and that the tree stays one within the limits.
 
@@ -42,30 +55,48 @@ length-overwritten offset new bytes = omega (
   length-drop (offset + length new) bytes,
 )
 
--- a file keeps to the limit after a WRITE just where the WRITE does
-pub size-written : (bounds : TreeLimits) (offset : ℕ) (new bytes : List ℕ) → nat_le (length bytes) bounds.file_bytes ≡ true
-    → nat_le (length (written offset new bytes)) bounds.file_bytes ≡ write_fits bounds offset new
-size-written bounds offset new bytes fit = by (length new == 0)
+-- a file, and all together, keep to the limits after a WRITE just where the WRITE does
+pub room-written : (t : Tree) (number offset : ℕ) (new : List ℕ) (content : Content) → IsTrue (fits t)
+    → content_at t.files number ≡ Some content
+    → (content_fits (limits t) (written_content offset new content)
+    && total_fits_with t number (length (written offset new content.bytes))) ≡ write_fits t number offset new
+room-written t number offset new content within there = by (length new == 0)
   where
+    bytes : List ℕ
+    bytes = content.bytes
+
+    most : ℕ
+    most = (limits t).file_bytes
+
+    end : ℕ
+    end = offset + length new
+
     larger : (n m limit : ℕ) → nat_le n limit ≡ true → nat_le (m + (n - m)) limit ≡ nat_le m limit
     larger n m limit fit = grind (arith, nat_tests)
 
-    by : (empty : Bool) → nat_le (length (if empty then bytes else overwritten offset new bytes)) bounds.file_bytes
-        ≡ (empty || nat_le (offset + length new) bounds.file_bytes)
-    by true = fit
-    by false = ap (λ n. nat_le n bounds.file_bytes) (length-overwritten offset new bytes)
-        ∙ larger (length bytes) (offset + length new) bounds.file_bytes fit
+    is_larger : (n m before : ℕ) → before ≡ n → m + (n - m) ≡ max before m
+    is_larger n m before is = omega (arith, is)
 
--- the tree is within the limits after a WRITE just where the WRITE keeps to that of a file
-pub write-room : (t : Tree) (number offset : ℕ) (new : List ℕ) → IsTrue (fits t) → HasFile t.files number
-    → fits (after_write t number offset new) ≡ write_fits (limits t) offset new
-write-room t number offset new within there = by (content_at t.files number) refl there
+    by : (empty : Bool) → (nat_le (length (if empty then bytes else overwritten offset new bytes)) most
+        && total_fits_with t number (length (if empty then bytes else overwritten offset new bytes)))
+        ≡ (empty || end_fits t number end)
+    by true = (λ i. content-fits t number content within there i && total-same t number content within there i)
+    by false =
+        let count = length-overwritten offset new bytes in
+        let file = ap (λ n. nat_le n most) count ∙ larger (length bytes) end most (content-fits t number content within there) in
+        let total = ap (total_fits_with t number) (count ∙ is_larger (length bytes) end (length_of (content_at t.files number)) (ap length_of there)) in
+        (λ i. file i && total i)
+
+-- the tree is within the limits after a WRITE just where the WRITE keeps to those of a file and of all
+pub write-room : (t : Tree) (number offset : ℕ) (new : List ℕ) → IsTrue (fits t) → InOrder nat_cmp t.files
+    → HasFile t.files number → fits (after_write t number offset new) ≡ write_fits t number offset new
+write-room t number offset new within order there = by (content_at t.files number) refl there
   where
     by : (o : Option Content) → content_at t.files number ≡ o → is_some o ≡ true
-        → fits (with_written_file t offset new number o) ≡ write_fits (limits t) offset new
+        → fits (with_written_file t offset new number o) ≡ write_fits t number offset new
     by None is there = absurd cc
-    by (Some content) is there = fits-content t number (written_content offset new content) within
-        ∙ size-written (limits t) offset new content.bytes (content-fits t number content within is)
+    by (Some content) is there = fits-content t number (written_content offset new content) within order
+        ∙ room-written t number offset new content within is
 
 -- ---- the tree
 
@@ -93,7 +124,7 @@ written-bytes offset new bytes fit before = by (length new == 0)
 
 -- after a WRITE that the limits allow a tree is one of the program
 pub kept-write : (t : Tree) (number offset : ℕ) (new : List ℕ) → IsKept t → IsTrue (are_bytes new)
-    → IsTrue (write_fits (limits t) offset new) → IsKept (after_write t number offset new)
+    → IsTrue (write_fits t number offset new) → IsKept (after_write t number offset new)
 kept-write t number offset new kept fit room = by (content_at t.files number) refl
   where
     by : (o : Option Content) → content_at t.files number ≡ o → IsKept (with_written_file t offset new number o)
@@ -101,17 +132,64 @@ kept-write t number offset new kept fit room = by (content_at t.files number) re
     by (Some content) is =
         let before : IsContent content = content-of t number content kept is in
         let within = fits-content t number (written_content offset new content) kept.within_limits
-        ∙ size-written (limits t) offset new content.bytes (content-fits t number content kept.within_limits is)
-        ∙ room in
+        kept.well_formed.numbered ∙ room-written t number offset new content kept.within_limits is ∙ room in
         kept-content-within t number content (written_content offset new content) kept is
         (before.0, written-bytes offset new content.bytes fit before.1) within
 
 -- after an FSETSTAT that the limits allow a tree is one of the program
 pub kept-set : (t : Tree) (number : ℕ) (attrs : Attrs) → IsKept t → IsAttrs attrs → HasFile t.files number
-    → IsTrue (size_fits (limits t) attrs.size) → IsKept (after_set t number attrs)
+    → IsTrue (size_fits t number attrs.size) → IsKept (after_set t number attrs)
 kept-set t number attrs kept fits there room = kept-changed t attrs number kept
     (λ content is. changed-owner-fits attrs content.owner fits (content-of t number content kept is).0)
     (changed-room t attrs number kept (content_at t.files number) refl there ∙ room)
+
+-- ---- how many bytes there may be at most
+
+pub total-small : (t : Tree) → IsKept t → total_of t.files < 2 ^ 63
+total-small t kept =
+    let most = leb-true (total_of t.files) (limits t).total_bytes (fits-parts t kept.within_limits).total in
+    omega (arith, most, kept.well_formed.limits.total_bytes.1)
+
+-- where the bytes of a WRITE end
+pub write-end : (t : Tree) (number offset : ℕ) (new : List ℕ) → IsKept t → IsTrue (write_fits t number offset new)
+    → 0 < length new → offset + length new ≤ 1099511627776
+write-end t number offset new kept fit some = by (length new == 0) refl fit
+  where
+    by : (b : Bool) → (length new == 0) ≡ b → (b || end_fits t number (offset + length new)) ≡ true
+        → offset + length new ≤ 1099511627776
+    by true is fit = absurd (omega (arith, some, eqb-true (length new) 0 is))
+    by false is fit =
+        let parts = and_parts (nat_le (offset + length new) (limits t).file_bytes) _ fit in
+        omega (arith, leb-true (offset + length new) (limits t).file_bytes parts.0, kept.well_formed.limits.file_bytes.1)
+
+pub written-small : (t : Tree) (number offset : ℕ) (new : List ℕ) (content : Content) → IsKept t
+    → content_at t.files number ≡ Some content → IsTrue (write_fits t number offset new)
+    → length (written offset new content.bytes) < 2 ^ 63
+written-small t number offset new content kept there fit =
+    let both = and_parts (content_fits (limits t) (written_content offset new content)) _
+    (room-written t number offset new content kept.within_limits there ∙ fit) in
+    omega (arith, leb-true (length (written offset new content.bytes)) (limits t).file_bytes both.0, kept.well_formed.limits.file_bytes.1)
+
+-- a content that a tree within the limits has
+with-small : (t : Tree) (number : ℕ) (content : Content) → AreLimits (limits t) → IsTrue (fits t)
+    → content_at t.files number ≡ Some content → length content.bytes < 2 ^ 63
+with-small t number content are within there = omega (
+  arith,
+  leb-true (length content.bytes) (limits t).file_bytes (content-fits t number content within there),
+  are.file_bytes.1,
+)
+
+pub changed-count : (t : Tree) (number : ℕ) (attrs : Attrs) (content : Content) → IsKept t
+    → IsTrue (fits (with_changed_file t attrs number (Some content))) → length (changed_content attrs content).bytes < 2 ^ 63
+changed-count t number attrs content kept within =
+    let new = changed_content attrs content in
+    with-small (record t { files = with_content t.files number new }) number new kept.well_formed.limits within
+    (get-put_here nat_cmp nat_cmp_total t.files number new)
+
+pub made-count : (t : Tree) (place : Place) (content : Content) → IsKept t → IsTrue (fits (with_new_file t place content))
+    → length content.bytes < 2 ^ 63
+made-count t place content kept within = with-small (with_new_file t place content) t.made content
+    kept.well_formed.limits within (get-put_here nat_cmp nat_cmp_total t.files t.made content)
 
 -- ---- what is read after a WRITE
 
@@ -214,6 +292,7 @@ fits-pins t pins within =
       home = parts.home;
       links = parts.links;
       files = parts.files;
+      total = parts.total;
       numbers = parts.numbers;
     })
 
@@ -426,3 +505,92 @@ unpinned-parts names files made limits home uid gid counted after is =
       (λ i. record { names = names; files = same i; made = made; pins = none i; limits = limits; home = home; uid = uid; gid = gid }),
       subst (AreCounted names) (sym is) (unpinned-counted names files counted),
     )
+
+-- ==== Trees with limits of the first two openings: what a file may have, it may have with all others.
+
+-- a number that comes after another is at least one more
+less-than : (n m : ℕ) → nat_cmp n m ≡ Less → n + 1 ≤ m
+less-than n m less = by (nat_lt n m) refl
+  where
+    by : (b : Bool) → nat_lt n m ≡ b → n + 1 ≤ m
+    by true is = omega (arith, ltb-true n m is)
+    by false is = absurd (not-less (n == m) (sym (ap (λ b. cond b Less (cond (n == m) Equal Greater)) is) ∙ less))
+      where
+        not-less : (b : Bool) → cond b Equal Greater ≡ Less → ⊥
+        not-less true h = cc
+        not-less false h = cc
+
+-- numbers below a bound, each once, are no more than the bound
+few-numbers : (low made : ℕ) (files : Files) → InOrder nat_cmp files → AllByRecursion (λ e. low ≤ e.0) files
+    → AllByRecursion (λ e. e.0 < made) files → low ≤ made → length files + low ≤ made
+unfolding IsStrictlySortedBy
+few-numbers low made [] order above below fits = omega (arith, fits)
+few-numbers low made (e ∷ files) order above below fits =
+    let rest = few-numbers (e.0 + 1) made files order.1 (after files order.0) below.1 (omega (arith, below.0)) in
+    omega (arith, rest, above.0)
+  where
+    after : (fs : Files) → AllByRecursion (λ k. nat_cmp e.0 k ≡ Less) (keys_of fs) → AllByRecursion (λ f. e.0 + 1 ≤ f.0) fs
+    after [] all = tt
+    after (f ∷ fs) all = (less-than e.0 f.0 all.0, after fs all.1)
+
+-- files that are not long have no more bytes than their number allows
+few-bytes : (files : Files) → AllByRecursion (λ e. length e.1.bytes ≤ 67108864) files
+    → total_of files ≤ length files * 67108864
+few-bytes [] short = omega arith
+few-bytes (e ∷ files) short = omega (arith, short.0, few-bytes files short.1)
+
+-- with one more they keep to the limit that is none
+narrow-total : (t : Tree) → IsKept t → AreRaised (limits t) → total_of t.files + 67108864 ≤ (limits t).total_bytes
+narrow-total t kept are =
+    let well = kept.well_formed in
+    let fit = fits-parts t kept.within_limits in
+    let count = few-numbers 0 t.made t.files well.numbered
+    (each-weaker (λ e. e.0 < t.made) (λ e. 0 ≤ e.0) (λ e less. omega arith) t.files well.given) well.given (omega arith) in
+    let few = ltb-true t.made (2 ^ 32) fit.numbers in
+    let bytes = few-bytes t.files (each-weaker (λ e. IsTrue (content_fits (limits t) e.1))
+    (λ e. length e.1.bytes ≤ 67108864)
+    (λ e fits. omega (arith, leb-true (length e.1.bytes) (limits t).file_bytes fits, are.file_bytes.1)) t.files
+    (each-all (λ e. content_fits (limits t) e.1) t.files fit.files)) in
+    omega (arith, count, few, bytes, are.total_bytes.0)
+
+pub narrow-with : (t : Tree) (number count : ℕ) → IsKept t → AreRaised (limits t) → count ≤ (limits t).file_bytes
+    → total_fits_with t number count ≡ true
+narrow-with t number count kept are fits =
+    le-leb (total_of t.files - length_of (content_at t.files number) + count) (limits t).total_bytes
+    (omega (arith, narrow-total t kept are, fits, are.file_bytes.1))
+
+file-bound : (t : Tree) (number : ℕ) → IsKept t → length_of (content_at t.files number) ≤ (limits t).file_bytes
+file-bound t number kept = by (content_at t.files number) refl
+  where
+    by : (o : Option Content) → content_at t.files number ≡ o → length_of o ≤ (limits t).file_bytes
+    by None is = omega arith
+    by (Some content) is =
+        leb-true (length content.bytes) (limits t).file_bytes (content-fits t number content kept.within_limits is)
+
+pub narrow-size : (t : Tree) (number size : ℕ) → IsKept t → AreRaised (limits t)
+    → size_fits t number (Some size) ≡ nat_le size (limits t).file_bytes
+narrow-size t number size kept are = by (nat_le size (limits t).file_bytes) refl
+  where
+    by : (b : Bool) → nat_le size (limits t).file_bytes ≡ b → (b && total_fits_with t number size) ≡ b
+    by true is = narrow-with t number size kept are (leb-true size (limits t).file_bytes is)
+    by false is = refl
+
+pub narrow-write : (t : Tree) (number offset : ℕ) (new : List ℕ) → IsKept t → AreRaised (limits t)
+    → write_fits t number offset new ≡ (length new == 0 || nat_le (offset + length new) (limits t).file_bytes)
+narrow-write t number offset new kept are =
+    ap (λ b. length new == 0 || b) (by (nat_le (offset + length new) (limits t).file_bytes) refl)
+  where
+    end : ℕ
+    end = offset + length new
+
+    by : (b : Bool) → nat_le end (limits t).file_bytes ≡ b
+        → (b && total_fits_with t number (max (length_of (content_at t.files number)) end)) ≡ b
+    by true is = narrow-with t number (max (length_of (content_at t.files number)) end) kept are
+        (omega (arith, leb-true end (limits t).file_bytes is, file-bound t number kept))
+    by false is = refl
+
+-- each of their limits has 32 bits
+pub narrow-told : (bounds : TreeLimits) → AreRaised bounds → told_limits bounds ≡ numbers bounds
+narrow-told bounds are =
+    let same : min bounds.file_bytes 4294967295 ≡ bounds.file_bytes = omega (arith, are.file_bytes.1) in
+    λ i. bounds.entries ∷ same i ∷ bounds.read_bytes ∷ bounds.open_handles ∷ []

@@ -1,7 +1,7 @@
 -- What requests change in a tree, as plans (draft-ietf-secsh-filexfer-02, sections 6.3 to 6.11; OpenSSH's PROTOCOL,
 -- section 4.3 for posix-rename and 4.5 for hardlink).
 use Rattle.std.specs.Prelude.{ℕ, ◌+◌, if◌then◌else◌, [], Option, Some, None, ◌≡◌, ◌==◌, ◌||◌, nat_le, min, Bool, true}
-use Rattle.std.specs.Prelude.{false, List, ◌++◌, length, take, drop}
+use Rattle.std.specs.Prelude.{false, ◌-◌, ◌&&◌, max, List, ◌++◌, length, take, drop}
 use Rattle.sftp_packets.specs.declared.attributes.Attrs.{Attrs}
 use Rattle.sftp_path.specs.Place.{Place}
 use Rattle.sftp_path.specs.Table.{rekeyed}
@@ -10,7 +10,7 @@ use Rattle.sftp_tree.specs.declared.file_contents.Content.{Content}
 use Rattle.sftp_tree.specs.declared.nodes.Node.{Node}
 use Rattle.sftp_tree.specs.declared.nodes.Node.TheVariants.{Dir, File, Link}
 use Rattle.sftp_tree.specs.Tree.{Tree, Names, with_node, without_node, content_at, with_content, with_pin}
-use Rattle.sftp_tree.specs.Tree.{without_pin, trim}
+use Rattle.sftp_tree.specs.Tree.{without_pin, trim, total_of}
 use Rattle.sftp_tree.specs.Attributes.{changed_owner, changed_content, file_owner, resized}
 use Rattle.sftp_tree.specs.Attributes.{truncates}
 use Rattle.sftp_tree.specs.PlaceCauses.{are_one}
@@ -132,9 +132,24 @@ overwritten offset new bytes = resized offset bytes ++ new ++ drop (offset + len
 abbrev pub written : ℕ → List ℕ → List ℕ → List ℕ
 written offset new bytes = if length new == 0 then bytes else overwritten offset new bytes
 
--- whether a WRITE keeps to the limit of a file's bytes
-abbrev pub write_fits : TreeLimits → ℕ → List ℕ → Bool
-write_fits bounds offset new = length new == 0 || nat_le (offset + length new) bounds.file_bytes
+-- how many bytes the file of a number has, or none if there is no file
+abbrev pub length_of : Option Content → ℕ
+length_of None = 0
+length_of (Some content) = length content.bytes
+
+-- whether all files keep to their limit if the file of a number has so many bytes instead
+abbrev pub total_fits_with : Tree → ℕ → ℕ → Bool
+total_fits_with t number count =
+    nat_le (total_of t.files - length_of (content_at t.files number) + count) t.limits.total_bytes
+
+-- whether the file of a number may have bytes up to this place: for itself, and with all others
+abbrev pub end_fits : Tree → ℕ → ℕ → Bool
+end_fits t number end =
+    nat_le end t.limits.file_bytes && total_fits_with t number (max (length_of (content_at t.files number)) end)
+
+-- whether a WRITE keeps to the limits of a file's bytes and of all
+abbrev pub write_fits : Tree → ℕ → ℕ → List ℕ → Bool
+write_fits t number offset new = length new == 0 || end_fits t number (offset + length new)
 
 -- the file after a WRITE
 abbrev pub written_content : ℕ → List ℕ → Content → Content

@@ -11,7 +11,8 @@ use Rattle.sftp_treefile.specs.declared.files.Kind.{Kind}
 use Rattle.sftp_treefile.specs.declared.files.Kind.TheVariants as kinds
 use Rattle.sftp_treefile.specs.declared.files.Row.{Row}
 use Rattle.sftp_treefile.specs.declared.files.TreeFile.{TreeFile}
-use Rattle.sftp_treefile.specs.TreeFile.{spelled}
+use Rattle.sftp_treefile.specs.declared.times.Times.{Times}
+use Rattle.sftp_treefile.specs.TreeFile.{spelled, AreFileTimes}
 use Rattle.sftp_treefile.specs.TreeFile.{usual_limits}
 use Rattle.sftp_tree.specs.declared.file_contents.Content.{Content}
 use Rattle.sftp_tree.specs.declared.nodes.Node.{Node}
@@ -59,20 +60,31 @@ root_owner (Some (File number)) = no_owner
 root_owner (Some (Link target)) = no_owner
 root_owner None = no_owner
 
--- what the tree file of a tree says
-abbrev pub file_of : Tree → TreeFile
-file_of t = record {
+-- what the tree file of a tree says, with times that are kept beside the tree
+abbrev pub timed_file_of : Tree → List Times → TreeFile
+timed_file_of t times = record {
   limits = t.limits;
   home = absolute t.home;
   uid = t.uid;
   gid = t.gid;
   root = root_owner (node_at t.names []);
   rows = rows_after t.files [] t.names;
+  times = times;
 }
 
--- the tree file of a tree
+-- and without times
+abbrev pub file_of : Tree → TreeFile
+file_of t = timed_file_of t []
+
+-- the tree file of a tree without times
 unfoldable pub picture : Tree → List ℕ
 picture t = spelled (file_of t)
+
+-- the bytes are the tree file of a tree, with times or without
+pub record IsPicture (t : Tree) (bytes : List ℕ) : Type 0 where
+  pub times : List Times
+  pub are : AreFileTimes (file_of t).rows times
+  pub bytes_are : bytes ≡ spelled (timed_file_of t times)
 
 -- ---- the tree of a tree file
 
@@ -93,14 +105,14 @@ abbrev pub is_numbered : ℕ → Names → ℕ → Bool
 is_numbered given [] made = given == made
 is_numbered given (e ∷ es) made = is_given_or_next e.1 given && is_numbered (given_with e.1 given) es made
 
--- the tree that a tree file is that of: its files are numbered from 0, and none is pinned
+-- the tree that a tree file is that of, which may have times besides: its files are numbered from 0, and none is pinned
 pub record IsStart (t : Tree) (bytes : List ℕ) : Type 0 where
   pub well_formed : WellFormed t
   pub within_limits : IsTrue (fits t)
   pub trimmed : IsTrimmed t
   pub unpinned : t.pins ≡ []
   pub numbered : IsTrue (is_numbered 0 t.names t.made)
-  pub picture_is : bytes ≡ picture t
+  pub picture_is : IsPicture t bytes
 
 -- the result is the tree, unless memory ran out
 abbrev pub GivesTree : Result Tree TreeError → Tree → Type 0

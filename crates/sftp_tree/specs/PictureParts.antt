@@ -1,5 +1,5 @@
 -- The tree that a tree file describes, and what the code keeps on its way from the one to the other.
-use Rattle.std.specs.Prelude.{◌≡◌, ℕ, suc, ◌+◌, ◌-◌, ◌≤◌, ◌<◌, ◌^◌, List, [], ◌∷◌, ◌++◌, length, take, slice_index}
+use Rattle.std.specs.Prelude.{◌≡◌, ℕ, suc, ◌+◌, ◌-◌, ◌≤◌, ◌<◌, ◌^◌, List, [], ◌∷◌, ◌++◌, length, take, slice_index, false}
 use Rattle.std.specs.Prelude.{Option, Some, None, IfSome, map}
 use Rattle.std.specs.List.{flat_map, AllByRecursion}
 use Rattle.std.specs.Ordering.{nat_cmp}
@@ -11,7 +11,7 @@ use Rattle.sftp_treefile.specs.declared.files.Kind.TheVariants as kinds
 use Rattle.sftp_treefile.specs.declared.files.Row.{Row}
 use Rattle.sftp_treefile.specs.declared.files.TreeFile.{TreeFile}
 use Rattle.sftp_treefile.specs.declared.heads.Head.{Head}
-use Rattle.sftp_treefile.specs.TreeFile.{place_of}
+use Rattle.sftp_treefile.specs.TreeFile.{place_of, opening_with, no_times}
 use Rattle.sftp_tree.specs.declared.file_contents.Content.{Content}
 use Rattle.sftp_tree.specs.declared.file_contents.Stored.{Stored}
 use Rattle.sftp_tree.specs.declared.nodes.Node.{Node}
@@ -127,12 +127,14 @@ pub record IsGrown (root : Owner) (rows : List Row) (names : Names) (stores : St
 -- what comes before the entries
 abbrev pub head_of : Tree → Head
 head_of t = record {
+  opening = opening_with false t.limits;
   limits = t.limits;
   home = absolute t.home;
   uid = t.uid;
   gid = t.gid;
   count = length t.names - 1;
   root = root_owner (node_at t.names []);
+  root_times = no_times;
 }
 
 -- for each file that was met the number of the entry that is its first name
@@ -159,7 +161,7 @@ known_kind files firsts (Link target) = kinds.Link target
 -- the lengths of its strings can be written
 abbrev pub IsShort : Files → Node → Type 0
 IsShort files (Dir owner) = Unit {0}
-IsShort files (File number) = IfSome (content_at files number) (λ (content : Content). length content.bytes < 2 ^ 32)
+IsShort files (File number) = Unit {0}
 IsShort files (Link target) = length target < 2 ^ 32
 
 -- ==== How the entries of directories are written: each after those before it, with the text of the place where the

@@ -331,7 +331,7 @@ asked (paths.Opendir path) = Opendir path.now
 abbrev pub has_room_at : Tree → Ask → Place → Bool
 has_room_at t (Mkdir path attrs) place = has_room t place
 has_room_at t (Symlink target link) place = has_room t place
-has_room_at t (Setstat path attrs) place = size_fits_at (limits t) attrs.size (node_at t.names place)
+has_room_at t (Setstat path attrs) place = size_fits_at t attrs.size (node_at t.names place)
 has_room_at t (Open path pflags attrs) place = has_room_to_open t place (node_at t.names place)
 has_room_at t other place = true
 

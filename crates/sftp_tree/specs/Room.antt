@@ -4,26 +4,29 @@ use Rattle.std.specs.Prelude.{◌+◌, ◌-◌, ◌^◌, ◌&&◌, ◌||◌, not
 use Rattle.std.specs.Prelude.{None}
 use Rattle.std.specs.List.{list_all}
 use Rattle.sftp_path.specs.Place.{Place, begins, depth_limit}
-use Rattle.sftp_treefile.specs.declared.limits.TreeLimits.{TreeLimits}
 use Rattle.sftp_treefile.specs.TreeFile.{IsOwner}
 use Rattle.sftp_packets.specs.declared.attributes.Attrs.{Attrs}
 use Rattle.sftp_tree.specs.declared.nodes.Node.{Node}
-use Rattle.sftp_tree.specs.declared.nodes.Node.TheVariants.{Dir}
-use Rattle.sftp_tree.specs.Tree.{Tree, Names, limits, is_file, depth_fits}
+use Rattle.sftp_tree.specs.declared.nodes.Node.TheVariants.{Dir, File, Link}
+use Rattle.sftp_tree.specs.Tree.{Tree, Names, limits, depth_fits}
 use Rattle.sftp_tree.specs.Attributes.{changed_owner}
+use Rattle.sftp_tree.specs.Changes.{total_fits_with}
 
 -- whether one more entry, at a new place, keeps to the limits; the root is a place, but does not count as an entry
 abbrev pub has_room : Tree → Place → Bool
 has_room t place = nat_le (length t.names) (limits t).entries && depth_fits place
 
--- whether a file may have the size that is given, if one is
-abbrev pub size_fits : TreeLimits → Option ℕ → Bool
-size_fits bounds None = true
-size_fits bounds (Some size) = nat_le size bounds.file_bytes
+-- whether the file of a number may have the size that is given, if one is: for itself, and with all others
+abbrev pub size_fits : Tree → ℕ → Option ℕ → Bool
+size_fits t number None = true
+size_fits t number (Some size) = nat_le size (limits t).file_bytes && total_fits_with t number size
 
--- the same, if the node is a file
-abbrev pub size_fits_at : TreeLimits → Option ℕ → Option Node → Bool
-size_fits_at bounds size standing = not (is_file standing) || size_fits bounds size
+-- the same, if the node is a name of a file
+abbrev pub size_fits_at : Tree → Option ℕ → Option Node → Bool
+size_fits_at t size None = true
+size_fits_at t size (Some (Dir owner)) = true
+size_fits_at t size (Some (File number)) = size_fits t number size
+size_fits_at t size (Some (Link target)) = true
 
 -- whether one more file, at a new place, keeps to the limits: it needs a number too
 abbrev pub has_room_for_file : Tree → Place → Bool

@@ -11,9 +11,9 @@ use Rattle.sftp_tree.specs.declared.file_contents.Content.{Content}
 use Rattle.sftp_tree.specs.declared.file_contents.Stored.{Stored}
 use Rattle.sftp_tree.specs.declared.nodes.Node.{Node}
 use Rattle.sftp_tree.specs.declared.nodes.Node.TheVariants.{Dir, File, Link}
-use Rattle.sftp_tree.specs.Tree.{Names, Files, Pins, Tree, times_named}
+use Rattle.sftp_tree.specs.Tree.{Names, Files, Pins, Tree, times_named, content_at, total_of}
 use Rattle.sftp_tree.specs.Attributes.{changed_content}
-use Rattle.sftp_tree.specs.Changes.{written_content}
+use Rattle.sftp_tree.specs.Changes.{written_content, length_of}
 
 -- the files
 abbrev pub contents : Table ℕ Stored → Files
@@ -51,6 +51,15 @@ file_named None = None
 file_named (Some (Dir owner)) = None
 file_named (Some (File number)) = Some number
 file_named (Some (Link target)) = None
+
+-- how many bytes the file has that is named, if one is
+abbrev pub length_named : Table ℕ Stored → Option ℕ → ℕ
+length_named stored None = 0
+length_named stored (Some number) = length_of (content_at (contents stored) number)
+
+-- the files are in order, and have so many bytes together
+abbrev pub IsSummed : Table ℕ Stored → ℕ → Type 0
+IsSummed stored total = InOrder nat_cmp stored × (total ≡ total_of (contents stored))
 
 -- ---- what becomes of a file
 

@@ -1,13 +1,13 @@
 -- The tree: the node at each place, the files that have names there or are pinned, where relative paths start, who owns
 -- what is made with no owner given, and how much the tree may hold. The limits are this profile's own.
 use Rattle.std.specs.Prelude.{◌&&◌, ◌||◌, ◌==◌, nat_lt, nat_le, if◌then◌else◌, ℕ, ◌+◌, ◌-◌, ◌<◌, ◌^◌}
-use Rattle.std.specs.Prelude.{Bool, true, false, [], length, Option, Some, None, is_some, unwrap_or, IsTrue}
+use Rattle.std.specs.Prelude.{◌∷◌, List, min, Bool, true, false, [], length, Option, Some, None, is_some, unwrap_or, IsTrue}
 use Rattle.std.specs.Ordering.{nat_cmp}
 use Rattle.std.specs.List.{list_any, list_all, AllByRecursion}
 use Rattle.sftp_path.specs.Place.{Place, place_cmp, parent, is_below, are_names, depth_limit}
 use Rattle.sftp_path.specs.Table.{Table, InOrder, get, put, without, retain, count}
 use Rattle.sftp_treefile.specs.declared.limits.TreeLimits.{TreeLimits}
-use Rattle.sftp_treefile.specs.TreeFile.{highest_limits, AreLimits}
+use Rattle.sftp_treefile.specs.TreeFile.{raised_limits, AreLimits}
 use Rattle.sftp_treefile.specs.TreeFile.{IsOwner, is_target, are_bytes}
 use Rattle.sftp_tree.specs.declared.file_contents.Content.{Content}
 use Rattle.sftp_tree.specs.declared.nodes.Node.{Node}
@@ -118,7 +118,7 @@ pub record Tree : Type 0 where
   -- how many numbers were given to files; no number is given twice
   pub made : ℕ
   -- how often each file is pinned: the counts of who holds it open, which say only that it stays, and are no part of
-  -- what a tree means to a path, a limit or a tree file
+  -- what a tree means to a path or a tree file. The bytes of a file that stays so count for the limit on all
   pub pins : Pins
   -- how much the tree may hold
   pub limits : TreeLimits
@@ -186,9 +186,15 @@ IsTrimmed t = AllByRecursion (λ e. IsTrue (is_held t e.0)) t.files
 abbrev pub limits : Tree → TreeLimits
 limits t = t.limits
 
--- the same tree with the highest limits
+-- the four that a client may ask for, in the order of a tree file; a number of bytes that has no 32 bits is the highest
+-- that has
+abbrev pub told_limits : TreeLimits → List ℕ
+told_limits limits =
+    limits.entries ∷ min limits.file_bytes 4294967295 ∷ limits.read_bytes ∷ limits.open_handles ∷ []
+
+-- the same tree with its limits raised to the highest after the second opening, where they are not higher
 abbrev pub raised : Tree → Tree
-raised t = record t { limits = highest_limits }
+raised t = record t { limits = raised_limits t.limits }
 
 -- how many entries are below the root, which is one of the places
 abbrev pub entry_count : Tree → ℕ
@@ -221,13 +227,21 @@ content_fits bounds content = nat_le (length content.bytes) bounds.file_bytes
 abbrev pub files_fit : Tree → Bool
 files_fit t = list_all (λ e. content_fits (limits t) e.1) t.files
 
+-- how many bytes the files have together, those among them that have no name any more and are only held open
+abbrev pub total_of : Files → ℕ
+total_of [] = 0
+total_of (e ∷ files) = length e.1.bytes + total_of files
+
+abbrev pub total_fits : Tree → Bool
+total_fits t = nat_le (total_of t.files) (limits t).total_bytes
+
 -- the count of the numbers that were given to files has 32 bits
 abbrev pub numbers_fit : Tree → Bool
 numbers_fit t = nat_lt t.made (2 ^ 32)
 
 -- a tree within the limits
 unfoldable pub fits : Tree → Bool
-fits t = entries_fit t && (depths_fit t && (home_fits t && (links_fit t && (files_fit t && numbers_fit t))))
+fits t = entries_fit t && (depths_fit t && (home_fits t && (links_fit t && (files_fit t && (total_fits t && numbers_fit t)))))
 
 -- what every tree of the program keeps
 pub record IsKept (t : Tree) : Type 0 where

@@ -4,7 +4,7 @@
 
 ghost use Rattle.std.specs.Prelude.{◌≡◌, ℕ, true, false, List, [], ◌∷◌, ◌++◌, Some, None, length, codes};
 ghost use Rattle.sftp_packets.specs.declared.requests.Ask.TheVariants.{Remove};
-ghost use Rattle.sftp_treefile.specs.TreeFile.{usual_limits, highest_limits};
+ghost use Rattle.sftp_treefile.specs.TreeFile.{usual_limits, highest_limits, least_limits};
 ghost use Rattle.sftp_tree.specs.Tree.{content_at, with_pin, without_pin, is_held};
 ghost use Rattle.sftp_tree.specs.Attributes.{shown_content};
 ghost use Rattle.sftp_tree.specs.Changes.{bytes_at, written, write_fits};
@@ -12,7 +12,7 @@ ghost use Rattle.sftp_tree.specs.Changes.{after_write, after_set, after_pin, aft
 ghost use Rattle.sftp_tree.specs.Requests.{after};
 ghost use Rattle.sftp_tree.specs.RequestExamples.{hello, with_file, with_text, without_file, shown_file};
 ghost use Rattle.sftp_tree.specs.RequestExamples.{size_attributes, sized_attributes};
-ghost use Rattle.sftp_tree.specs.RequestExamples.{pinned, unnamed};
+ghost use Rattle.sftp_tree.specs.RequestExamples.{pinned, unnamed, with_two_files};
 
 /// A READ gives no more than there is, than is asked for, and than the limit; at the end and past it nothing.
 pub fn read_bytes()
@@ -45,12 +45,22 @@ pub fn written_bytes()
 /// Under the usual limits a file has 16,777,216 bytes at most, under the highest 67,108,864. The sum of offset and
 /// length is a number without a limit. No bytes can be written anywhere.
 pub fn fitting_writes()
-    ensures last { write_fits usual_limits 16777215 (codes "!") ≡ true }
-    ensures one_more { write_fits usual_limits 16777216 (codes "!") ≡ false }
-    ensures far { write_fits usual_limits 18446744073709551615 (codes "!") ≡ false }
-    ensures none { write_fits usual_limits 18446744073709551615 [] ≡ true }
-    ensures highest { write_fits highest_limits 16777216 (codes "!") ≡ true }
-    ensures beyond { write_fits highest_limits 67108864 (codes "!") ≡ false }
+    ensures last { write_fits with_file 0 16777215 (codes "!") ≡ true }
+    ensures one_more { write_fits with_file 0 16777216 (codes "!") ≡ false }
+    ensures far { write_fits with_file 0 18446744073709551615 (codes "!") ≡ false }
+    ensures none { write_fits with_file 0 18446744073709551615 [] ≡ true }
+    ensures highest { write_fits (record with_file { limits = highest_limits }) 0 16777216 (codes "!") ≡ true }
+    ensures beyond { write_fits (record with_file { limits = highest_limits }) 0 67108864 (codes "!") ≡ false }
+{}
+
+/// All files together have a limit too: with 16,777,216 bytes, and a file of 5 bytes beside it, a file has 16,777,211 at
+/// most. A file that has no name any more and is held open counts. What a WRITE is over counts once.
+pub fn writes_that_fit_all()
+    ensures last { write_fits (record with_two_files { limits = least_limits }) 1 16777210 (codes "!") ≡ true }
+    ensures one_more { write_fits (record with_two_files { limits = least_limits }) 1 16777211 (codes "!") ≡ false }
+    ensures over { write_fits (record with_two_files { limits = least_limits }) 0 0 (codes "hello") ≡ true }
+    ensures unnamed { write_fits (record with_two_files { names = []; limits = least_limits }) 1 16777211 (codes "!")
+        ≡ false }
 {}
 
 /// A WRITE and an FSETSTAT change the file of their number.

@@ -6,7 +6,7 @@ ghost use Rattle.sftp_packets.specs.declared.attributes.Attrs.{Attrs};
 ghost use Rattle.sftp_path.specs.Table.{InOrder};
 ghost use Rattle.sftp_packets.specs.Layouts.{IsAttrs};
 ghost use Rattle.sftp_treefile.specs.TreeFile.{are_bytes};
-ghost use Rattle.sftp_tree.specs.Tree.{Tree, Pins, WellFormed, IsKept, HasFile, limits};
+ghost use Rattle.sftp_tree.specs.Tree.{Tree, Pins, WellFormed, IsKept, HasFile};
 ghost use Rattle.sftp_tree.specs.Tree.{times_pinned, is_pinned, with_pin, without_pin};
 ghost use Rattle.sftp_tree.specs.Attributes.{resized};
 ghost use Rattle.sftp_tree.specs.Changes.{written, write_fits, after_write, after_set, after_pin, after_unpin};
@@ -35,9 +35,9 @@ pub fn pins_are_one()
 /// What is done to open files leaves a tree within the limits.
 pub fn open_files_keep()
     ensures write { (t : Tree) (number offset : ℕ) (new : List ℕ) → IsKept t → IsTrue (are_bytes new) →
-        IsTrue (write_fits (limits t) offset new) → IsKept (after_write t number offset new) }
+        IsTrue (write_fits t number offset new) → IsKept (after_write t number offset new) }
     ensures set { (t : Tree) (number : ℕ) (attrs : Attrs) → IsKept t → IsAttrs attrs → HasFile t.files number →
-        IsTrue (size_fits (limits t) attrs.size) → IsKept (after_set t number attrs) }
+        IsTrue (size_fits t number attrs.size) → IsKept (after_set t number attrs) }
     ensures pin { (t : Tree) (number : ℕ) → IsKept t → HasFile t.files number → IsKept (after_pin t number) }
     ensures unpin { (t : Tree) (number : ℕ) → IsKept t → HasFile t.files number → IsKept (after_unpin t number) }
 {}

@@ -1,11 +1,14 @@
 //! The files of a tree, by their numbers. No other module knows how they are kept.
 ghost use Rattle.std.specs.Prelude.{◌≡◌, ◌+◌, ◌<◌, ◌^◌, [], nat_lt, length, OnOk, OnErr, IfSome, option_copied};
+ghost use Rattle.std.specs.Prelude.{◌-◌, ◌≤◌};
 ghost use Rattle.std.specs.Ordering.{nat_cmp};
-ghost use Rattle.sftp_path.specs.Table.{get, put};
+ghost use Rattle.sftp_path.specs.Table.{get, put, InOrder};
 ghost use Rattle.sftp_treefile.specs.TreeFile.{IsOwner};
-ghost use Rattle.sftp_tree.specs.Tree.{content_at};
-ghost use Rattle.sftp_tree.specs.Attributes.{changed_owner};
+ghost use Rattle.sftp_tree.specs.Tree.{content_at, total_of as bytes_of};
+ghost use Rattle.sftp_tree.specs.Attributes.{changed_owner, changed_content};
+ghost use Rattle.sftp_tree.specs.Changes.{written};
 ghost use Rattle.sftp_tree.specs.StoredFiles.{IsChanged, IsChangedWhereNamed, contents};
+ghost use Rattle.sftp_tree.specs.StoredFiles as spec;
 ghost use Rattle.sftp_tree.specs.StoredFiles.{with_a_name, without_a_name, with_attributes_set};
 ghost use Rattle.sftp_tree.specs.StoredFiles.{with_a_pin, without_a_pin, with_bytes_written, pin_count_at, IsWritable};
 ghost use Rattle.sftp_tree.specs.StoredFiles.{unpinned, without_pins};
@@ -22,14 +25,19 @@ use std::marker::Model;
 #[derive(Drop)]
 pub(crate) struct Files {
     by_number: BTreeMap<FileNo, Stored>,
+    /// How many bytes the files have together.
+    total: u64,
 }
 
 impl Model for Files {
     ghost use Rattle.sftp_tree.specs.PictureParts.{Stores};
+    ghost use Rattle.sftp_tree.specs.StoredFiles.{IsSummed};
 
     ghost Value = { Stores };
 
     ghost view = { λ files. files.by_number.entries };
+
+    ghost invariant = { λ files. IsSummed files.by_number.entries files.total };
 }
 
 impl Files {
@@ -39,6 +47,7 @@ impl Files {
     {
         Files {
             by_number: BTreeMap::new(alloc),
+            total: 0,
         }
     }
 
@@ -57,13 +66,11 @@ impl Files {
         Some(&stored.content)
     }
 
-    /// How many bytes the files have, or the largest `usize` if the count does not fit.
-    pub(crate) fn size(&self) -> usize {
-        let mut size: usize = 0;
-        for stored in self.by_number.values() {
-            size = size.saturating_add(stored.content.bytes.as_slice().len());
-        }
-        size
+    /// How many bytes the files have together.
+    pub(crate) fn total(&self) -> u64
+        ensures { result ≡ bytes_of (contents self.now) }
+    {
+        self.total
     }
 
     /// Puts a file of one name and no pin at a number.
@@ -73,10 +80,14 @@ impl Files {
     /// `NoMemory` if memory runs out; the files are unchanged.
     #[tactic(auto, unfolding(sftp_path::specs::Table::put))]
     pub(crate) fn put(&mut self, number: FileNo, content: Content) -> Result<(), NoMemory>
+        requires total { bytes_of (contents self.old) < 2 ^ 63 }
+        requires count { length content.bytes < 2 ^ 63 }
         ensures ok { OnOk result
             (self.new ≡ put nat_cmp self.old number (record { content = content; names = 1; pins = 0 })) }
         ensures err { OnErr result (self.new ≡ self.old) }
     {
+        let before = length_named(&self.by_number, Some(number));
+        let count = content.bytes.as_slice().len() as u64;
         self.by_number.insert(
             number,
             Stored {
@@ -85,6 +96,7 @@ impl Files {
                 pins: 0,
             },
         )?;
+        self.total = exchanged(self.total, before, count);
         Ok(())
     }
 
@@ -101,7 +113,21 @@ impl Files {
         requires { IfSome named (λ number. IfSome (get nat_cmp self.old number) (λ s. 0 < s.names)) }
         ensures { IsChangedWhereNamed without_a_name named self.old self.new }
     {
-        forget_name(&mut self.by_number, named);
+        if let Some(number) = named {
+            self.lower(number);
+        }
+    }
+
+    /// Counts one name less of the file of a number, if there is one. The file is removed with its last name if it has
+    /// no pin.
+    fn lower(&mut self, number: FileNo)
+        requires { IfSome (get nat_cmp self.old number) (λ s. 0 < s.names) }
+        ensures { IsChanged without_a_name number self.old self.new }
+    {
+        let before = length_named(&self.by_number, Some(number));
+        lower(&mut self.by_number, number);
+        let left = length_named(&self.by_number, Some(number));
+        self.total = lessened(self.total, before, left);
     }
 
     /// Sets the attributes of the file of a number, if there is one.
@@ -110,13 +136,19 @@ impl Files {
     ///
     /// `NoMemory` if memory runs out; the files are unchanged.
     pub(crate) fn change_at(&mut self, number: FileNo, attrs: &Attrs) -> Result<(), NoMemory>
-        requires { IfSome (get nat_cmp self.old number) (λ s. IsOwner s.content.owner) }
+        requires owner { IfSome (get nat_cmp self.old number) (λ s. IsOwner s.content.owner) }
+        requires total { bytes_of (contents self.old) < 2 ^ 63 }
+        requires count { IfSome (get nat_cmp self.old number)
+            (λ s. length (changed_content attrs.now s.content).bytes < 2 ^ 63) }
         ensures ok { OnOk result (IsChanged (with_attributes_set attrs.now) number self.old self.new) }
         ensures owned { OnOk result
             (IfSome (get nat_cmp self.old number) (λ s. IsOwner (changed_owner attrs.now s.content.owner))) }
         ensures err { OnErr result (self.new ≡ self.old) }
     {
+        let before = length_named(&self.by_number, Some(number));
         change_at(&mut self.by_number, number, attrs)?;
+        let after = length_named(&self.by_number, Some(number));
+        self.total = exchanged(self.total, before, after);
         Ok(())
     }
 
@@ -131,11 +163,17 @@ impl Files {
         offset: u64,
         new: &[u8],
     ) -> Result<(), NoMemory>
-        requires { IsWritable offset new.now }
+        requires writable { IsWritable offset new.now }
+        requires total { bytes_of (contents self.old) < 2 ^ 63 }
+        requires count { IfSome (get nat_cmp self.old number)
+            (λ s. length (written offset new.now s.content.bytes) < 2 ^ 63) }
         ensures ok { OnOk result (IsChanged (with_bytes_written offset new.now) number self.old self.new) }
         ensures err { OnErr result (self.new ≡ self.old) }
     {
+        let before = length_named(&self.by_number, Some(number));
         write_at(&mut self.by_number, number, offset, new)?;
+        let after = length_named(&self.by_number, Some(number));
+        self.total = exchanged(self.total, before, after);
         Ok(())
     }
 
@@ -164,7 +202,10 @@ impl Files {
         requires { IfSome (get nat_cmp self.old number) (λ s. 0 < s.pins) }
         ensures { IsChanged without_a_pin number self.old self.new }
     {
+        let before = length_named(&self.by_number, Some(number));
         unpin(&mut self.by_number, number);
+        let after = length_named(&self.by_number, Some(number));
+        self.total = lessened(self.total, before, after);
     }
 
     /// Takes all pins away. A file is removed that has no name.
@@ -172,7 +213,52 @@ impl Files {
         ensures { self.new ≡ unpinned self.old }
     {
         unpin_all(&mut self.by_number);
+        self.total = total_of(&self.by_number);
     }
+}
+
+/// How many bytes the file has that is named, if one is.
+#[tactic(auto, unfolding(sftp_path::specs::Table::get))]
+fn length_named(files: &BTreeMap<FileNo, Stored>, named: Option<FileNo>) -> u64
+    ensures { result ≡ spec.length_named files.now.entries named }
+{
+    let Some(number) = named else { return 0 };
+    match files.get(&number) {
+        Some(stored) => stored.content.bytes.as_slice().len() as u64,
+        None => 0,
+    }
+}
+
+/// How many bytes all files have if one of them has so many in place of those before.
+fn exchanged(total: u64, before: u64, after: u64) -> u64
+    requires before { before ≤ total }
+    requires total { total < 2 ^ 63 }
+    requires after { after < 2 ^ 63 }
+    ensures { result ≡ total - before + after }
+{
+    total - before + after
+}
+
+/// How many bytes all files have if one of them has no more than before.
+fn lessened(total: u64, before: u64, after: u64) -> u64
+    requires before { before ≤ total }
+    requires after { after ≤ before }
+    ensures { result ≡ total - before + after }
+{
+    total - (before - after)
+}
+
+/// How many bytes the files have together.
+fn total_of(files: &BTreeMap<FileNo, Stored>) -> u64
+    requires { bytes_of (contents files.now.entries) < 2 ^ 64 }
+    ensures total { result ≡ bytes_of (contents files.now.entries) }
+    ensures ordered { InOrder nat_cmp files.now.entries }
+{
+    let mut total = 0;
+    for stored in files.values() {
+        total += stored.content.bytes.as_slice().len() as u64;
+    }
+    total
 }
 
 /// Counts a further name of a file, if one is named.
@@ -182,16 +268,6 @@ fn count_name(files: &mut BTreeMap<FileNo, Stored>, named: Option<FileNo>)
 {
     if let Some(number) = named {
         raise(files, number);
-    }
-}
-
-/// Counts one name less of a file, if one is named. The file is removed with its last name if it has no pin.
-fn forget_name(files: &mut BTreeMap<FileNo, Stored>, named: Option<FileNo>)
-    requires { IfSome named (λ number. IfSome (get nat_cmp files.old.entries number) (λ s. 0 < s.names)) }
-    ensures { IsChangedWhereNamed without_a_name named files.old.entries files.new.entries }
-{
-    if let Some(number) = named {
-        lower(files, number);
     }
 }
 

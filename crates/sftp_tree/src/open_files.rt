@@ -1,6 +1,6 @@
 //! Files by their numbers: what the requests on open files read of them and change in them (draft, sections 6.4, 6.8
 //! and 6.9). Each call is for a file that exists.
-ghost use Rattle.std.specs.Prelude.{◌≡◌, Some, is_some, option_map, length, take, drop, IfErr, IsTrue, OnOk, OnErr};
+ghost use Rattle.std.specs.Prelude.{◌≡◌, ◌+◌, Some, is_some, option_map, length, take, drop, IfErr, IsTrue, OnOk, OnErr};
 ghost use Rattle.sftp_tree.specs.Tree as tree;
 ghost use Rattle.sftp_tree.specs.Attributes as attributes;
 ghost use Rattle.sftp_tree.specs.Changes as changes;
@@ -50,18 +50,18 @@ impl Tree {
     ///
     /// # Errors
     ///
-    /// The cause `NoRoom` if there are bytes to write and they end past the limit of a file's bytes. `NoMemory` if
-    /// memory runs out. On error the tree is unchanged.
+    /// The cause `NoRoom` if there are bytes to write and they end past the limit of a file's bytes, or all files would
+    /// have more than theirs. `NoMemory` if memory runs out. On error the tree is unchanged.
     pub fn write_at(&mut self, number: FileNo, offset: u64, new: &[u8]) -> Result<(), Refused>
         requires { tree.HasFile self.old.files number }
-        ensures room { OnOk result (IsTrue (changes.write_fits (tree.limits self.old) offset new.now)) }
+        ensures room { OnOk result (IsTrue (changes.write_fits self.old number offset new.now)) }
         ensures done { OnOk result (self.new ≡ changes.after_write self.old number offset new.now) }
         ensures valid { OnOk result (tree.IsKept self.new) }
         ensures refused { IfErr result
-            (changes.IsRoomRefusal (changes.write_fits (tree.limits self.old) offset new.now)) }
+            (changes.IsRoomRefusal (changes.write_fits self.old number offset new.now)) }
         ensures kept { OnErr result (self.new ≡ self.old) }
     {
-        if !self.write_fits(offset, new) {
+        if !self.write_fits(number, offset, new) {
             return Err(Refused::Cause(Cause::NoRoom));
         }
         self.write_file(number, offset, new)?;
@@ -81,30 +81,40 @@ impl Tree {
     ///
     /// # Errors
     ///
-    /// The cause `NoRoom` if a size is given that is past the limit of a file's bytes. `NoMemory` if memory runs out.
-    /// On error the tree is unchanged.
+    /// The cause `NoRoom` if a size is given that is past the limit of a file's bytes, or with which all files have
+    /// more than theirs. `NoMemory` if memory runs out. On error the tree is unchanged.
     pub fn set_file(&mut self, number: FileNo, attrs: &Attrs) -> Result<(), Refused>
         requires { tree.HasFile self.old.files number }
-        ensures room { OnOk result (IsTrue (room.size_fits (tree.limits self.old) attrs.now.size)) }
+        ensures room { OnOk result (IsTrue (room.size_fits self.old number attrs.now.size)) }
         ensures done { OnOk result (self.new ≡ changes.after_set self.old number attrs.now) }
         ensures valid { OnOk result (tree.IsKept self.new) }
-        ensures refused { IfErr result (changes.IsRoomRefusal (room.size_fits (tree.limits self.old) attrs.now.size)) }
+        ensures refused { IfErr result (changes.IsRoomRefusal (room.size_fits self.old number attrs.now.size)) }
         ensures kept { OnErr result (self.new ≡ self.old) }
     {
-        if !self.size_fits(attrs) {
+        if !self.size_fits(number, attrs) {
             return Err(Refused::Cause(Cause::NoRoom));
         }
         self.change_file(number, attrs)?;
         Ok(())
     }
 
-    /// Whether bytes that are written to a file from an offset on keep to the limit.
-    pub fn write_fits(&self, offset: u64, new: &[u8]) -> bool
-        ensures { result ≡ changes.write_fits (tree.limits self.now) offset new.now }
+    /// Whether bytes that are written to a file from an offset on keep to the limits of a file's bytes and of all.
+    pub fn write_fits(&self, number: FileNo, offset: u64, new: &[u8]) -> bool
+        ensures { result ≡ changes.write_fits self.now number offset new.now }
     {
-        let most = u64::from(self.tree_limits().file_bytes);
         let count = new.len() as u64;
-        count == 0 || (offset <= most && count <= most - offset)
+        count == 0 || self.end_fits(number, offset, count)
+    }
+
+    /// Whether so many bytes that are written to a file from an offset on end within the limits.
+    fn end_fits(&self, number: FileNo, offset: u64, count: u64) -> bool
+        ensures { result ≡ changes.end_fits self.now number (offset + count) }
+    {
+        let most = self.tree_limits().file_bytes;
+        if offset > most || count > most - offset {
+            return false;
+        }
+        self.total_fits_with(number, self.length_of(number).max(offset + count))
     }
 }
 

@@ -1,12 +1,13 @@
 //! Laws of trees and their tree files, as theorems on the definitions that the contracts name. The functions do
 //! nothing; each promise is in the contract.
-ghost use Rattle.std.specs.Prelude.{◌≡◌, ◌++◌, ℕ, List, length, IsTrue};
+ghost use Rattle.std.specs.Prelude.{◌≡◌, ◌++◌, ℕ, List, [], length, IsTrue};
 ghost use Rattle.sftp_treefile.specs.Examples.{blank_bytes, raised_bytes};
 ghost use Rattle.sftp_treefile.specs.TreeFile.{highest_limits};
+ghost use Rattle.sftp_treefile.specs.TreeFileParts.{AreRaised};
 ghost use Rattle.sftp_treefile.specs.TreeFile.{IsSpelled};
 ghost use Rattle.sftp_treefile.specs.declared.files.TreeFile.{TreeFile};
 ghost use Rattle.sftp_tree.specs.Tree.{Tree, WellFormed, IsKept, fits, limits, raised};
-ghost use Rattle.sftp_tree.specs.Picture.{IsStart, file_of, picture, blank};
+ghost use Rattle.sftp_tree.specs.Picture.{IsStart, file_of, timed_file_of, picture, blank};
 ghost use Rattle.sftp_tree.specs.PictureParts.{tree_of};
 ghost use Rattle.sftp_tree.specs.PictureExamples.{linked, linked_front, linked_root, linked_directory};
 ghost use Rattle.sftp_tree.specs.PictureExamples.{linked_link, two_names, two_names_bytes};
@@ -22,17 +23,23 @@ pub fn pictures_are_starts()
     ensures { (t : Tree) → WellFormed t → IsTrue (fits t) → IsStart (tree_of (file_of t)) (picture t) }
 {}
 
-/// The tree of a tree file by the grammar is a start, and the tree file of a start is one by the grammar.
+/// The tree of a tree file by the grammar is a start, and the tree file of a start is one by the grammar: it is the
+/// start's, with times that the tree does not have. Without times it is the tree's picture.
 pub fn starts_have_tree_files()
     ensures start { (file : TreeFile) (bytes : List ℕ) → IsSpelled file bytes → IsStart (tree_of file) bytes }
-    ensures file { (t : Tree) (bytes : List ℕ) → IsStart t bytes → IsSpelled (file_of t) bytes }
+    ensures file { (t : Tree) (bytes : List ℕ) (start : IsStart t bytes) →
+        IsSpelled (timed_file_of t start.picture_is.times) bytes }
+    ensures plain { (t : Tree) (bytes : List ℕ) (start : IsStart t bytes) → start.picture_is.times ≡ [] →
+        bytes ≡ picture t }
+    ensures narrow { (t : Tree) (bytes : List ℕ) → bytes ≡ picture t → WellFormed t → IsTrue (fits t) →
+        IsSpelled (file_of t) bytes }
 {}
 
-/// A tree of the program may have the highest limits too, and the tree that is read from its file is raised again. The
-/// tree file of the blank tree has 53 bytes then.
+/// A tree of the program may have the highest limits of the second opening too, or those that it has where they are
+/// higher, and the tree that is read from its file is raised again. The tree file of the blank tree has 53 bytes then.
 pub fn raised_trees()
     ensures kept { (t : Tree) → IsKept t → IsKept (raised t) }
-    ensures limits { (t : Tree) → limits (raised t) ≡ highest_limits }
+    ensures limits { (t : Tree) → AreRaised (limits t) → limits (raised t) ≡ highest_limits }
     ensures start { (t : Tree) (bytes : List ℕ) → IsStart t bytes → IsStart (raised t) (picture (raised t)) }
     ensures length { length raised_bytes ≡ 53 }
     ensures bytes { picture (raised blank) ≡ raised_bytes }
@@ -47,7 +54,7 @@ pub fn blank_is_a_start()
 {}
 
 /// A tree with a directory and a link to it is one that the program may have, and these 69 bytes are its tree file.
-#[tactic(auto, unfolding(crate::specs::Picture::picture, sftp_treefile::specs::TreeFile::spelled, sftp_treefile::specs::TreeFile::are_own, sftp_path::specs::Table::get))]
+#[tactic(auto, unfolding(crate::specs::Picture::picture, sftp_treefile::specs::TreeFile::spelled, sftp_treefile::specs::TreeFile::spelled_after, sftp_treefile::specs::TreeFile::are_own, sftp_treefile::specs::TreeFile::are_far, sftp_path::specs::Table::get))]
 pub fn file_of_a_directory_and_a_link()
     ensures kept { IsKept linked }
     ensures bytes { picture linked ≡ linked_front ++ (linked_root ++ (linked_directory ++ linked_link)) }

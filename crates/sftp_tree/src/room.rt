@@ -1,10 +1,13 @@
 //! Whether what requests ask for keeps to the limits of the tree, in numbers.
 ghost use Rattle.std.specs.Prelude.{◌≡◌};
 ghost use Rattle.sftp_tree.specs.Plans.{node_of, IsThere, IsFoundIn};
+ghost use Rattle.sftp_tree.specs.Changes as changes;
 ghost use Rattle.sftp_tree.specs.Room as room;
 ghost use Rattle.sftp_tree.specs.Tree as tree;
 ghost use Rattle.sftp_tree.specs.Tree.{Tree as kept_tree};
 
+use crate::entries::seen::Seen;
+use crate::file_numbers::FileNo;
 use crate::found::Found;
 use crate::trees::Tree;
 use sftp_path::{DEPTH_LIMIT, Place};
@@ -28,14 +31,23 @@ impl Tree {
         found.is_taken() || (self.has_room(&found.place) && self.has_numbers())
     }
 
+    /// Whether all files keep to their limit if one has so many bytes instead.
+    pub(crate) fn total_fits_with(&self, number: FileNo, count: u64) -> bool
+        ensures { result ≡ changes.total_fits_with self.now number count }
+    {
+        let most = self.tree_limits().total_bytes;
+        let others = self.total() - self.length_of(number);
+        count <= most && others <= most - count
+    }
+
     /// Whether a file may have the size that is given, if one is.
-    pub fn size_fits(&self, attrs: &Attrs) -> bool
-        ensures fits { result ≡ room.size_fits (tree.limits self.now) attrs.now.size }
+    pub fn size_fits(&self, number: FileNo, attrs: &Attrs) -> bool
+        ensures fits { result ≡ room.size_fits self.now number attrs.now.size }
         ensures kept { tree.IsKept self.now }
     {
         let most = self.tree_limits().file_bytes;
         match attrs.size {
-            Some(size) => size <= u64::from(most),
+            Some(size) => size <= most && self.total_fits_with(number, size),
             None => true,
         }
     }
@@ -43,9 +55,14 @@ impl Tree {
     /// Whether what was found, if it is a file, may have the size that is given, if one is. Any other node keeps to the
     /// limits.
     pub(crate) fn size_fits_of(&self, attrs: &Attrs, found: &Found<'_>) -> bool
-        ensures { result ≡ room.size_fits_at (tree.limits self.now) attrs.now.size (node_of found.now) }
+        ensures { result ≡ room.size_fits_at self.now attrs.now.size (node_of found.now) }
     {
-        !found.is_file() || self.size_fits(attrs)
+        match found.node {
+            Some(Seen::Dir(..)) => true,
+            Some(Seen::File(number)) => self.size_fits(number, attrs),
+            Some(Seen::Link(_)) => true,
+            None => true,
+        }
     }
 }
 

@@ -1,7 +1,6 @@
 //! The tree.
 ghost use Rattle.std.specs.Prelude.{◌≡◌, [], ◌<◌, ◌^◌, false, None, option_copied, OnOk, OnErr, IsTrue, ◌+◌, nat_lt};
 ghost use Rattle.sftp_path.specs.Place.{are_names, parent};
-ghost use Rattle.sftp_treefile.specs.TreeFile.{numbers};
 ghost use Rattle.sftp_treefile.specs.TreeFile.{IsOwner, is_root, same_place};
 
 use crate::entries::Entries;
@@ -10,7 +9,7 @@ use crate::file_numbers::FileNo;
 use crate::files::Files;
 use crate::nodes::{Node, file_named};
 use sftp_path::{NoMemory, Place};
-use sftp_treefile::{Owner, TreeLimits, highest_limits};
+use sftp_treefile::{Owner, TreeLimits};
 use sftp_wire::Attrs;
 use std::alloc::Global;
 use std::fmt;
@@ -96,13 +95,6 @@ impl Tree {
         self.files.get(number)
     }
 
-    /// The files, by their numbers.
-    pub(crate) fn files(&self) -> &Files
-        ensures { stored.contents result.now ≡ self.now.files }
-    {
-        &self.files
-    }
-
     /// Where relative paths start.
     pub(crate) fn home(&self) -> &Place
         ensures home { result.now ≡ self.now.home }
@@ -138,25 +130,26 @@ impl Tree {
     }
 
     /// The four limits of the tree in the order of a tree file: the most entries below the root, bytes of a file, bytes
-    /// that one READ gives, and open handles. Does not allocate.
+    /// that one READ gives, and open handles. One of more than 2^32 - 1 bytes of a file is 2^32 - 1. Does not allocate.
     pub fn limits(&self) -> [u32; 4]
-        ensures { result ≡ numbers (tree.limits self.now) }
+        ensures { result ≡ tree.told_limits (tree.limits self.now) }
     {
         let limits = self.limits;
         [
             limits.entries,
-            limits.file_bytes,
+            limits.file_bytes.min(u32::MAX as u64) as u32,
             limits.read_bytes,
             limits.open_handles,
         ]
     }
 
-    /// The same tree with the highest limits that a tree may set. Does not allocate.
+    /// The same tree with the highest limits of the second opening, or those that it has where they are higher. Does
+    /// not allocate.
     pub fn raise(self) -> Tree
         ensures raised { result ≡ tree.raised self }
     {
         let owner = (self.uid, self.gid);
-        let limits = highest_limits();
+        let limits = self.limits.raised();
         Tree::from_parts(self.names, self.files, self.made, limits, self.home, owner)
     }
 
@@ -295,6 +288,23 @@ impl Tree {
         Ok(())
     }
 
+    /// How many bytes all files have together, those among them that have no name any more.
+    pub(crate) fn total(&self) -> u64
+        ensures { result ≡ tree.total_of self.now.files }
+    {
+        self.files.total()
+    }
+
+    /// How many bytes the file of a number has, or 0 if there is none.
+    pub(crate) fn length_of(&self, number: FileNo) -> u64
+        ensures { result ≡ changes.length_of (tree.content_at self.now.files number) }
+    {
+        match self.content(number) {
+            Some(content) => content.bytes.as_slice().len() as u64,
+            None => 0,
+        }
+    }
+
     /// Writes bytes to the file of a number, from the offset on. The limits allow the size.
     ///
     /// # Errors
@@ -306,7 +316,7 @@ impl Tree {
         offset: u64,
         new: &[u8],
     ) -> Result<(), NoMemory>
-        requires { IsTrue (changes.write_fits (tree.limits self.old) offset new.now) }
+        requires { IsTrue (changes.write_fits self.old number offset new.now) }
         ensures ok { OnOk result (self.new ≡ changes.after_write self.old number offset new.now) }
         ensures err { OnErr result (self.new ≡ self.old) }
         ensures valid { OnOk result (tree.IsKept self.new) }

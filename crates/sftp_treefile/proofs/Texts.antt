@@ -1,21 +1,25 @@
 -- The texts of fields, heads, entries and whole files: what is read of them, and how they are written piece by piece.
-use Rattle.sftp_treefile.proofs.Imports.{◌≡◌, ℕ, get_or, ◌*◌, ◌<◌, ◌≤◌, ◌^◌, true, false, List, [], ◌∷◌, ◌++◌, length}
-use Rattle.sftp_treefile.proofs.Imports.{take, drop, refl, sym, ap, ◌∙◌, append_assoc, arith, IsTrue, nat_eq}
+use Rattle.sftp_treefile.proofs.Imports.{◌≡◌, ℕ, ◌*◌, ◌<◌, ◌≤◌, ◌^◌, Bool, true, false, List, [], ◌∷◌, ◌++◌, length}
+use Rattle.sftp_treefile.proofs.Imports.{take, drop, refl, sym, ap, ◌∙◌, append_assoc, arith, IsTrue, nat_eq, ◌||◌}
 use Rattle.sftp_treefile.proofs.Imports.{flat_map, leb-true, and_parts, eqb-true, ltb-true, false≢true, length-append}
-use Rattle.sftp_treefile.proofs.Imports.{uint32, string, components, is_good_path, Owner, Kind, Row, TreeLimits}
-use Rattle.sftp_treefile.proofs.Imports.{owner_text, kind_text, place_of, IsPlaceText, IsOwner, IsKind, ReadsNone}
-use Rattle.sftp_treefile.proofs.Imports.{IsNumber, IsTarget, IsFileBytes, IsFile, file_text, not-false, usual_limits}
-use Rattle.sftp_treefile.proofs.Imports.{highest_limits, AreLimits, are_own, AreRows, subst, Reads}
+use Rattle.sftp_treefile.proofs.Imports.{uint32, uint64, string, components, is_good_path, Owner, Kind, Row, TreeLimits}
+use Rattle.sftp_treefile.proofs.Imports.{owner_text, place_of, IsPlaceText, IsOwner, IsKind, ReadsNone, IsLongNumber}
+use Rattle.sftp_treefile.proofs.Imports.{IsNumber, IsTarget, not-false, usual_limits, nat_lt}
+use Rattle.sftp_treefile.proofs.Imports.{highest_limits, most_limits, AreLimits, AreRaised, are_own, are_far, AreRows}
+use Rattle.sftp_treefile.proofs.Imports.{subst, Reads}
+use Rattle.std.proofs.lemmas.Bool.{ltb-false, le-ltb}
 use Rattle.std.proofs.lemmas.List.{take_at, drop_at}
-use Rattle.std.proofs.lemmas.Nat.{from_be_bytes-to_be_bytes_4}
+use Rattle.std.proofs.lemmas.Nat.{from_be_bytes-to_be_bytes_4, from_be_bytes-to_be_bytes_8}
 use Rattle.sftp_path.specs.Place.{Place, are_names, absolute, depth_limit}
 use Rattle.sftp_path.specs.Place.{IsTextOf}
 use Rattle.sftp_path.proofs.PathTexts.{components-absolute}
-use Rattle.sftp_treefile.specs.declared.files.Kind.TheVariants.{Dir, First, Further, Link}
 use Rattle.sftp_treefile.specs.declared.files.Kind.TheVariants as kinds
+pub mod Entries
 pub mod Heads
 pub mod Files
 pub mod Front
+pub mod Two
+pub mod Raised
 
 -- ==== A field's text says what the field is and what follows it.
 
@@ -25,16 +29,25 @@ pub number_front : (x y : ℕ) (r s : List ℕ) → IsNumber x → IsNumber y �
     → (x ≡ y) × (r ≡ s)
 number_front x y r s x-fits y-fits e = grind (arith, take_at, drop_at, from_be_bytes-to_be_bytes_4)
 
+pub long_front : (x y : ℕ) (r s : List ℕ) → IsLongNumber x → IsLongNumber y → uint64 x ++ r ≡ uint64 y ++ s
+    → (x ≡ y) × (r ≡ s)
+long_front x y r s x-fits y-fits e = grind (arith, take_at, drop_at, from_be_bytes-to_be_bytes_8)
+
 -- ---- strings
+
+-- of lists of one length, what they begin with, and what follows
+pub counted_front : (t u r s : List ℕ) → length t ≡ length u → t ++ r ≡ u ++ s → (t ≡ u) × (r ≡ s)
+counted_front t u r s same e = (
+  sym (take_at t r (length t) refl) ∙ ap (take (length t)) e ∙ take_at u s (length t) (sym same),
+  sym (drop_at t r (length t) refl) ∙ ap (drop (length t)) e ∙ drop_at u s (length t) (sym same),
+)
 
 pub string_front : (t u r s : List ℕ) → length t < 2 ^ 32 → length u < 2 ^ 32 → string t ++ r ≡ string u ++ s
     → (t ≡ u) × (r ≡ s)
 string_front t u r s t-fits u-fits e =
     let n = number_front (length t) (length u) (t ++ r) (u ++ s) t-fits u-fits
     (sym (append_assoc (uint32 (length t)) t r) ∙ e ∙ append_assoc (uint32 (length u)) u s) in
-    let texts = sym (take_at t r (length t) refl) ∙ ap (take (length t)) n.1 ∙ take_at u s (length t) (sym n.0) in
-    let rests = sym (drop_at t r (length t) refl) ∙ ap (drop (length t)) n.1 ∙ drop_at u s (length t) (sym n.0) in
-    (texts, rests)
+    counted_front t u r s n.0 n.1
 
 -- of strings that are short enough: no string, and one that does not fit
 pub string_none_short : (Fits : List ℕ → Type 0) → ((text : List ℕ) → Fits text → length text < 2 ^ 32)
@@ -106,87 +119,26 @@ pub owner_front : (x y : Owner) (r s : List ℕ) → IsOwner x → IsOwner y →
     → (x ≡ y) × (r ≡ s)
 owner_front x y r s x-fits y-fits e = grind (arith, number_front, owner_parts, same_owner)
 
--- ---- files
-
-pub file_bytes_length : (limits : TreeLimits) → limits.file_bytes < 2 ^ 32 → (bytes : List ℕ)
-    → IsFileBytes limits bytes → length bytes < 2 ^ 32
-file_bytes_length limits bound bytes fits = omega (arith, bound, fits.0)
-
-file_parts : (x : Owner × List ℕ) (r : List ℕ) → file_text x ++ r ≡ owner_text x.0 ++ (string x.1 ++ r)
-file_parts x r = append_assoc (owner_text x.0) (string x.1) r
-
-pub file_front : (limits : TreeLimits) → limits.file_bytes < 2 ^ 32 → (x y : Owner × List ℕ) (r s : List ℕ)
-    → IsFile limits x → IsFile limits y → file_text x ++ r ≡ file_text y ++ s → (x ≡ y) × (r ≡ s)
-file_front limits bound x y r s x-fits y-fits e =
-    grind (arith, owner_front, file_parts, string_front, file_bytes_length)
-
--- a file whose owner cannot be read, and one whose bytes cannot
-pub file_owner_none : (limits : TreeLimits) (bytes : List ℕ) → ReadsNone IsOwner owner_text bytes
-    → ReadsNone (IsFile limits) file_text bytes
-file_owner_none limits bytes none file rest fits e =
-    none file.0 (string file.1 ++ rest) fits.0 (e ∙ file_parts file rest)
-
--- ---- kinds
-
-letter : Kind → ℕ
-letter (Dir owner) = 68
-letter (First owner bytes) = 70
-letter (Further number) = 72
-letter (Link target) = 76
-
--- a kind begins with its letter
-letter_is : (x : Kind) (r : List ℕ) → get_or (kind_text x ++ r) 0 0 ≡ letter x
-unfolding letter
-letter_is (Dir owner) r = refl
-letter_is other r = refl
-
-same_letter : (x y : Kind) (r s : List ℕ) → kind_text x ++ r ≡ kind_text y ++ s → letter x ≡ letter y
-same_letter x y r s e = sym (letter_is x r) ∙ ap (λ (t : List ℕ). get_or t 0 0) e ∙ letter_is y s
-
-pub kind_front : (limits : TreeLimits) → limits.file_bytes < 2 ^ 32 → (rows : List Row) (x y : Kind) (r s : List ℕ)
-    → IsKind limits rows x → IsKind limits rows y → kind_text x ++ r ≡ kind_text y ++ s → (x ≡ y) × (r ≡ s)
-unfolding letter
-kind_front limits bound rows (Dir x) (Dir y) r s x-fits y-fits e = grind (arith, owner_front)
-kind_front limits bound rows (First x b) (First y c) r s x-fits y-fits e =
-    let a = file_front limits bound (x, b) (y, c) r s (x-fits.0, (x-fits.1, x-fits.2)) (y-fits.0, (y-fits.1, y-fits.2))
-    (ap (drop 1) e) in
-    ((λ i. First (a.0 i).0 (a.0 i).1), a.1)
-kind_front limits bound rows (Further x) (Further y) r s x-fits y-fits e = grind (arith, number_front)
-kind_front limits bound rows (Link x) (Link y) r s x-fits y-fits e = grind (arith, string_front, target_length)
-kind_front limits bound rows x y r s x-fits y-fits e = grind (arith, same_letter)
-
--- of bytes that begin with this letter a kind of another letter cannot be read
-module _ (bytes rest : List ℕ) (first : ℕ) (is : bytes ≡ first ∷ rest) where
-  letter_here : (x : Kind) (r : List ℕ) → bytes ≡ kind_text x ++ r → letter x ≡ first
-  letter_here x r e = sym (letter_is x r) ∙ ap (λ (t : List ℕ). get_or t 0 0) (sym e ∙ is)
-
-  behind : (x : Kind) (r : List ℕ) → bytes ≡ kind_text x ++ r → rest ≡ drop 1 (kind_text x ++ r)
-  behind x r e = ap (drop 1) (sym is ∙ e)
-
-  pub dir_none : (limits : TreeLimits) (rows : List Row) → first ≡ 68 → ReadsNone IsOwner owner_text rest
-      → ReadsNone (IsKind limits rows) kind_text bytes
-  unfolding letter
-  dir_none limits rows here none (Dir x) r fits e = none x r fits (behind (Dir x) r e)
-  dir_none limits rows here none other r fits e = omega (arith, letter_here other r e)
-
-  pub first_none : (limits : TreeLimits) (rows : List Row) → first ≡ 70 → ReadsNone (IsFile limits) file_text rest
-      → ReadsNone (IsKind limits rows) kind_text bytes
-  unfolding letter
-  first_none limits rows here none (First x b) r fits e =
-      none (x, b) r (fits.0, (fits.1, fits.2)) (behind (First x b) r e)
-  first_none limits rows here none other r fits e = omega (arith, letter_here other r e)
-
 -- ==== The ranges of limits, and what they bound.
 
-pub usual_are : AreLimits usual_limits
-usual_are = record { entries = (omega arith, omega arith); file_bytes = (omega arith, omega arith); read_bytes = (omega arith, omega arith); open_handles = (omega arith, omega arith) }
+pub usual_are : AreRaised usual_limits
+usual_are = record { entries = (omega arith, omega arith); file_bytes = (omega arith, omega arith); read_bytes = (omega arith, omega arith); open_handles = (omega arith, omega arith); total_bytes = (omega arith, omega arith) }
 
-pub highest_are : AreLimits highest_limits
-highest_are = record { entries = (omega arith, omega arith); file_bytes = (omega arith, omega arith); read_bytes = (omega arith, omega arith); open_handles = (omega arith, omega arith) }
+pub highest_are : AreRaised highest_limits
+highest_are = record { entries = (omega arith, omega arith); file_bytes = (omega arith, omega arith); read_bytes = (omega arith, omega arith); open_handles = (omega arith, omega arith); total_bytes = (omega arith, omega arith) }
 
--- the bytes of a file can be written under every limit
-pub file_bytes_bound : (limits : TreeLimits) → AreLimits limits → limits.file_bytes < 2 ^ 32
-file_bytes_bound limits are = omega (arith, are.file_bytes.1)
+pub most_are : AreLimits most_limits
+most_are = record { entries = (omega arith, omega arith); file_bytes = (omega arith, omega arith); read_bytes = (omega arith, omega arith); open_handles = (omega arith, omega arith); total_bytes = (omega arith, omega arith) }
+
+-- the limits after the second opening are limits of a tree
+pub raised_are : (limits : TreeLimits) → AreRaised limits → AreLimits limits
+raised_are limits are = record {
+  entries = (are.entries.0, omega (arith, are.entries.1));
+  file_bytes = (are.file_bytes.0, omega (arith, are.file_bytes.1));
+  read_bytes = (are.read_bytes.0, omega (arith, are.read_bytes.1));
+  open_handles = (are.open_handles.0, omega (arith, are.open_handles.1));
+  total_bytes = (omega (arith, are.total_bytes.0), are.total_bytes.1);
+}
 
 pub usual_not_own : are_own usual_limits ≡ false
 unfolding are_own
@@ -197,13 +149,45 @@ pub not_own : (limits : TreeLimits) → are_own limits ≡ false → limits ≡ 
 unfolding are_own
 not_own limits none =
     let all = and_parts _ _ (not-false _ none) in
-    let three = and_parts _ _ all.1 in
+    let four = and_parts _ _ all.1 in
+    let three = and_parts _ _ four.1 in
     let two = and_parts _ _ three.1 in
     let entries = eqb-true limits.entries usual_limits.entries all.0 in
-    let file_bytes = eqb-true limits.file_bytes usual_limits.file_bytes three.0 in
-    let read_bytes = eqb-true limits.read_bytes usual_limits.read_bytes two.0 in
-    let open_handles = eqb-true limits.open_handles usual_limits.open_handles two.1 in
-    λ i. record { entries = entries i; file_bytes = file_bytes i; read_bytes = read_bytes i; open_handles = open_handles i }
+    let file_bytes = eqb-true limits.file_bytes usual_limits.file_bytes four.0 in
+    let read_bytes = eqb-true limits.read_bytes usual_limits.read_bytes three.0 in
+    let open_handles = eqb-true limits.open_handles usual_limits.open_handles two.0 in
+    let total_bytes = eqb-true limits.total_bytes usual_limits.total_bytes two.1 in
+    λ i. record { entries = entries i; file_bytes = file_bytes i; read_bytes = read_bytes i; open_handles = open_handles i; total_bytes = total_bytes i }
+
+or_false : (a b : Bool) → a || b ≡ false → (a ≡ false) × (b ≡ false)
+or_false false b e = (refl, e)
+or_false true b e = absurd (false≢true (sym e))
+
+-- limits that are not beyond those of the second opening
+pub not_far : (limits : TreeLimits) → AreLimits limits → are_far limits ≡ false → AreRaised limits
+unfolding are_far
+not_far limits are near =
+    let all = or_false _ _ near in
+    let four = or_false _ _ all.1 in
+    let three = or_false _ _ four.1 in
+    let two = or_false _ _ three.1 in
+    record {
+      entries = (are.entries.0, ltb-false highest_limits.entries limits.entries all.0);
+      file_bytes = (are.file_bytes.0, ltb-false highest_limits.file_bytes limits.file_bytes four.0);
+      read_bytes = (are.read_bytes.0, ltb-false highest_limits.read_bytes limits.read_bytes three.0);
+      open_handles = (are.open_handles.0, ltb-false highest_limits.open_handles limits.open_handles two.0);
+      total_bytes = (ltb-false limits.total_bytes highest_limits.total_bytes two.1, are.total_bytes.1);
+    }
+
+pub raised_near : (limits : TreeLimits) → AreRaised limits → are_far limits ≡ false
+unfolding are_far
+raised_near limits are =
+    let entries = le-ltb highest_limits.entries limits.entries are.entries.1 in
+    let file_bytes = le-ltb highest_limits.file_bytes limits.file_bytes are.file_bytes.1 in
+    let read_bytes = le-ltb highest_limits.read_bytes limits.read_bytes are.read_bytes.1 in
+    let open_handles = le-ltb highest_limits.open_handles limits.open_handles are.open_handles.1 in
+    let total_bytes = le-ltb limits.total_bytes highest_limits.total_bytes are.total_bytes.0 in
+    λ i. entries i || (file_bytes i || (read_bytes i || (open_handles i || total_bytes i)))
 
 kind_wider : (low high : TreeLimits) → low.file_bytes ≤ high.file_bytes → (earlier : List Row) (kind : Kind) → IsKind low earlier kind → IsKind high earlier kind
 kind_wider low high le earlier (kinds.Dir owner) fits = fits

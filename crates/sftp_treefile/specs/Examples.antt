@@ -3,7 +3,7 @@ use Rattle.std.specs.Prelude.{ℕ, List, [], ◌∷◌, ◌++◌, codes}
 use Rattle.sftp_wire.specs.Examples.{hex}
 use Rattle.sftp_treefile.specs.declared.files.Kind.TheVariants.{Dir, First, Further, Link}
 use Rattle.sftp_treefile.specs.declared.files.TreeFile.{TreeFile}
-use Rattle.sftp_treefile.specs.TreeFile.{usual_limits, highest_limits}
+use Rattle.sftp_treefile.specs.TreeFile.{usual_limits, highest_limits, most_limits, no_times}
 
 -- the root alone, which is the home
 abbrev pub blank : TreeFile
@@ -14,6 +14,7 @@ blank = record {
   gid = 0;
   root = record { uid = 0; gid = 0; permissions = 0o755 };
   rows = [];
+  times = [];
 }
 
 abbrev pub blank_bytes : List ℕ
@@ -45,6 +46,7 @@ linked = record {
   rows = record { path = codes "/d"; kind = Dir (record { uid = 3; gid = 4; permissions = 0o700 }) }
       ∷ record { path = codes "/d/e"; kind = Dir (record { uid = 5; gid = 6; permissions = 0o7777 }) }
       ∷ record { path = codes "/l"; kind = Link (codes "d/e") } ∷ [];
+  times = [];
 }
 
 abbrev pub linked_bytes : List ℕ
@@ -60,7 +62,37 @@ two_names = record {
   root = record { uid = 0; gid = 0; permissions = 0o755 };
   rows = record { path = codes "/f"; kind = First (record { uid = 0; gid = 0; permissions = 0o644 }) (codes "abc") }
       ∷ record { path = codes "/g"; kind = Further 1 } ∷ [];
+  times = [];
 }
 
 abbrev pub two_names_bytes : List ℕ
 two_names_bytes = hex (codes "5346545245453031 00000001 2f 00000000 00000000 00000002 00000000 00000000 000001ed 00000002 2f66 46 00000000 00000000 000001a4 00000003 616263 00000002 2f67 48 00000001")
+
+-- ==== With the third opening.
+
+-- the blank tree with the most of each limit
+abbrev pub most : TreeFile
+most = record blank { limits = most_limits }
+
+abbrev pub most_bytes : List ℕ
+most_bytes =
+    hex (codes "5346545245453033 00000001 2f 00000000 00000000 fffffffd 0000010000000000 0003fc00 00010000 "
+    ++ codes "0400000000000000 00000000 44 00000000 00000000 000001ed")
+
+-- the same file as `two_names`, read in second 2 and changed in second 3, and the root was changed in second 1
+abbrev pub timed : TreeFile
+timed = record two_names {
+  times = record { accessed = 0; modified = 1 } ∷ record { accessed = 2; modified = 3 } ∷ no_times ∷ [];
+}
+
+abbrev pub timed_bytes : List ℕ
+timed_bytes =
+    hex (codes "5346545245453033 00000001 2f 00000000 00000000 00010000 0000000001000000 00008000 00000100 "
+    ++ codes "0400000000000000 00000002 64 00000000 00000000 000001ed 00000000 00000001 "
+    ++ codes "00000002 2f66 66 00000000 00000000 000001a4 00000002 00000003 00000003 616263 00000002 2f67 48 00000001")
+
+-- what would be the blank tree with the usual limits
+abbrev pub lower_bytes : List ℕ
+lower_bytes =
+    hex (codes "5346545245453033 00000001 2f 00000000 00000000 00010000 0000000001000000 00008000 00000100 "
+    ++ codes "0400000000000000 00000000 44 00000000 00000000 000001ed")

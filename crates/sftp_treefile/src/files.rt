@@ -1,7 +1,9 @@
 //! What a tree file says, as values.
 ghost use Rattle.std.specs.Prelude.{◌≡◌};
+ghost use Rattle.sftp_treefile.specs.TreeFile as spec;
 
-use crate::limits::TreeLimits;
+use crate::limits::{Opening, TreeLimits};
+use crate::times::{EntryTimes, any_known};
 use sftp_wire::ByteString;
 use std::marker::Model;
 
@@ -78,7 +80,7 @@ impl Rows {
 /// What a tree file says. The count of the entries is that of the rows.
 #[derive(Debug, Drop)]
 pub struct TreeFile {
-    /// The limits of the tree, each in its range. The opening is `SFTREE01` if they are all the usual ones.
+    /// The limits of the tree, each in its range. They and the times decide the opening: `TreeLimits::opening`.
     pub limits: TreeLimits,
     /// The absolute text of the place where relative paths start; it has at most 64 names, and need not exist.
     pub home: ByteString,
@@ -89,4 +91,16 @@ pub struct TreeFile {
     /// The owner of the root, which has no row.
     pub root: Owner,
     pub rows: Rows,
+    /// The times of the root and of the entries, or none.
+    pub times: EntryTimes,
+}
+
+impl TreeFile {
+    /// The opening of the file: the lowest that holds it.
+    pub fn opening(&self) -> Opening
+        ensures { result ≡ spec.opening_of self.now }
+    {
+        let has_times = any_known(self.times.as_slice());
+        self.limits.opening(has_times)
+    }
 }

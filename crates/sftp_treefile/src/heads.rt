@@ -1,22 +1,31 @@
 //! The heads of tree files: what they say before their entries.
-ghost use Rattle.std.specs.Prelude.{◌≡◌, ◌++◌, ℕ, Bool, true, List, IfOk, IfErr};
-ghost use Rattle.sftp_packets.specs.Spelling.{uint32, string};
-ghost use Rattle.sftp_treefile.specs.TreeFile.{IsBetween, AreLimits};
-ghost use Rattle.sftp_treefile.specs.TreeFile.{tree_opening, limits_text, IsPlaceText};
+ghost use Rattle.std.specs.Prelude.{◌≡◌, ◌++◌, ℕ, false, List, IfOk, IfErr};
+ghost use Rattle.sftp_packets.specs.Spelling.{uint32, uint64, string};
+ghost use Rattle.sftp_treefile.specs.declared.limits.Opening.{Opening as kind_of_opening};
+ghost use Rattle.sftp_treefile.specs.declared.limits.Opening.TheVariants.{Raised, Wide};
+ghost use Rattle.sftp_treefile.specs.TreeFile.{IsBetween, AreLimits, is_wide};
+ghost use Rattle.sftp_treefile.specs.TreeFile.{tree_opening, limits_text, root_owner_text, IsPlaceText};
 ghost use Rattle.sftp_treefile.specs.TreeFileParts.{Reads, ReadsNone, OutOfMemoryOr, IsAt, IsCount, head_bytes, IsHead};
-ghost use Rattle.sftp_treefile.specs.TreeFileParts.{IsFront, front_bytes, AreSet, IsRoot, root_text};
+ghost use Rattle.sftp_treefile.specs.TreeFileParts.{IsFront, front_bytes, AreSet, AreRaised, IsRoot, root_text};
+ghost use Rattle.sftp_treefile.specs.TreeFileParts.{IsOwnedIn, plain_owner_text};
 
 use crate::errors::TreeError;
-use crate::fields::{number_at, owner_at, place_at};
+use crate::fields::{directory_at, long_number_at, number_at, owner_at, place_at};
 use crate::files::Owner;
-use crate::limits::{OPENING, OPENING_WITH_LIMITS, TreeLimits, highest_limits, usual_limits};
+use crate::limits::{
+    OPENING, OPENING_WIDE, OPENING_WITH_LIMITS, Opening, TreeLimits, highest_limits, least_limits,
+    most_limits, usual_limits,
+};
+use crate::times::{NO_TIMES, Times};
 use sftp_wire::ByteString;
 use std::alloc::Global;
 
 /// The head of a tree file: what it says before its entries.
 #[derive(Debug, Drop)]
 pub struct Head {
-    /// The limits of the tree: the usual ones, unless the file has the opening `SFTREE02`.
+    /// The opening of the file.
+    pub opening: Opening,
+    /// The limits of the tree: the usual ones if the file has the opening `SFTREE01`.
     pub limits: TreeLimits,
     /// The absolute text of the place where relative paths start.
     pub home: ByteString,
@@ -28,29 +37,35 @@ pub struct Head {
     pub count: u32,
     /// The owner of the root, which has no entry.
     pub root: Owner,
+    /// The times of the root, which only a file with the opening `SFTREE03` has.
+    pub root_times: Times,
 }
 
 /// What a tree file says before its limits.
 #[derive(Drop)]
 pub(crate) struct Front {
-    /// Whether limits follow: the opening is `SFTREE02`.
-    has_limits: bool,
+    /// What the file begins with, which decides what follows.
+    opening: Opening,
     home: ByteString,
     uid: u32,
     gid: u32,
 }
 
-/// Reads the opening. Returns whether it is that of a file with limits, and the bytes after it.
-fn opening_at(bytes: &[u8]) -> Result<(bool, &[u8]), TreeError>
+/// Reads the opening, and returns it and the bytes after it.
+fn opening_at(bytes: &[u8]) -> Result<(Opening, &[u8]), TreeError>
     ensures found { IfOk result (λ taken. bytes.now ≡ tree_opening taken.0 ++ taken.1.now) }
-    ensures none { IfErr result (λ _. (own : Bool) (rest : List ℕ) → bytes.now ≡ tree_opening own ++ rest → ⊥) }
+    ensures none { IfErr result
+        (λ _. (opening : kind_of_opening) (rest : List ℕ) → bytes.now ≡ tree_opening opening ++ rest → ⊥) }
     ensures number { IfErr result (IsAt 0) }
 {
     if let Some(rest) = bytes.strip_prefix(OPENING) {
-        return Ok((false, rest));
+        return Ok((Opening::Usual, rest));
     }
-    match bytes.strip_prefix(OPENING_WITH_LIMITS) {
-        Some(rest) => Ok((true, rest)),
+    if let Some(rest) = bytes.strip_prefix(OPENING_WITH_LIMITS) {
+        return Ok((Opening::Raised, rest));
+    }
+    match bytes.strip_prefix(OPENING_WIDE) {
+        Some(rest) => Ok((Opening::Wide, rest)),
         None => Err(TreeError::Magic { entry: 0 }),
     }
 }
@@ -72,12 +87,12 @@ fn front_at(alloc: Global, bytes: &[u8]) -> Result<(Front, &[u8]), TreeError>
     ensures number { IfErr result (IsAt 0) }
 {
     // Slow to prove: each step may refuse, and the later ones drop the home.
-    let (has_limits, rest) = opening_at(bytes)?;
+    let (opening, rest) = opening_at(bytes)?;
     let (home, rest) = home_at(alloc, rest)?;
     let (uid, rest) = number_at(0, rest)?;
     let (gid, rest) = number_at(0, rest)?;
     let front = Front {
-        has_limits,
+        opening,
         home,
         uid,
         gid,
@@ -98,32 +113,46 @@ fn limit_at(lowest: u32, highest: u32, bytes: &[u8]) -> Result<(u32, &[u8]), Tre
     Ok((limit, rest))
 }
 
-/// Reads four limits, each in its range, and returns them and the bytes after them.
+/// Reads a long limit in this range, and returns it and the bytes after it.
+fn long_limit_at(lowest: u64, highest: u64, bytes: &[u8]) -> Result<(u64, &[u8]), TreeError>
+    ensures found { IfOk result (λ taken. Reads (IsBetween lowest highest) uint64 bytes.now taken.0 taken.1.now) }
+    ensures none { IfErr result (λ _. ReadsNone (IsBetween lowest highest) uint64 bytes.now) }
+    ensures number { IfErr result (IsAt 0) }
+{
+    let (limit, rest) = long_number_at(0, bytes)?;
+    if limit > highest || limit < lowest {
+        return Err(TreeError::Value { entry: 0 });
+    }
+    Ok((limit, rest))
+}
+
+/// Reads the four limits after the second opening, each in its range, and returns them and the bytes after them.
 fn four_limits_at(bytes: &[u8]) -> Result<(TreeLimits, &[u8]), TreeError>
-    ensures found { IfOk result (λ taken. Reads AreLimits (limits_text true) bytes.now taken.0 taken.1.now) }
-    ensures none { IfErr result (λ _. ReadsNone AreLimits (limits_text true) bytes.now) }
+    ensures found { IfOk result (λ taken. Reads AreRaised (limits_text Raised) bytes.now taken.0 taken.1.now) }
+    ensures none { IfErr result (λ _. ReadsNone AreRaised (limits_text Raised) bytes.now) }
     ensures number { IfErr result (IsAt 0) }
 {
     let lowest = usual_limits();
     let highest = highest_limits();
     let (entries, rest) = limit_at(lowest.entries, highest.entries, bytes)?;
-    let (file_bytes, rest) = limit_at(lowest.file_bytes, highest.file_bytes, rest)?;
+    let (file_bytes, rest) = limit_at(lowest.file_bytes as u32, highest.file_bytes as u32, rest)?;
     let (read_bytes, rest) = limit_at(lowest.read_bytes, highest.read_bytes, rest)?;
     let (open_handles, rest) = limit_at(lowest.open_handles, highest.open_handles, rest)?;
     let limits = TreeLimits {
         entries,
-        file_bytes,
+        file_bytes: file_bytes as u64,
         read_bytes,
         open_handles,
+        total_bytes: highest.total_bytes,
     };
     Ok((limits, rest))
 }
 
-/// Reads the limits of a file that has limits, and returns them and the bytes after them. They are not all the usual
+/// Reads the limits after the second opening, and returns them and the bytes after them. They are not all the usual
 /// ones, so that a tree has one file.
-fn own_limits_at(bytes: &[u8]) -> Result<(TreeLimits, &[u8]), TreeError>
-    ensures found { IfOk result (λ taken. Reads (AreSet true) (limits_text true) bytes.now taken.0 taken.1.now) }
-    ensures none { IfErr result (λ _. ReadsNone (AreSet true) (limits_text true) bytes.now) }
+fn raised_limits_at(bytes: &[u8]) -> Result<(TreeLimits, &[u8]), TreeError>
+    ensures found { IfOk result (λ taken. Reads (AreSet Raised) (limits_text Raised) bytes.now taken.0 taken.1.now) }
+    ensures none { IfErr result (λ _. ReadsNone (AreSet Raised) (limits_text Raised) bytes.now) }
     ensures number { IfErr result (IsAt 0) }
 {
     let (limits, rest) = four_limits_at(bytes)?;
@@ -133,18 +162,40 @@ fn own_limits_at(bytes: &[u8]) -> Result<(TreeLimits, &[u8]), TreeError>
     Ok((limits, rest))
 }
 
-/// Reads the limits of a file that has some, or nothing of one that has none, and returns them and the bytes after
-/// them.
-fn limits_at(has_limits: bool, bytes: &[u8]) -> Result<(TreeLimits, &[u8]), TreeError>
-    ensures found { IfOk result
-        (λ taken. Reads (AreSet has_limits) (limits_text has_limits) bytes.now taken.0 taken.1.now) }
-    ensures none { IfErr result (λ _. ReadsNone (AreSet has_limits) (limits_text has_limits) bytes.now) }
+/// Reads the five limits after the third opening, each in its range, and returns them and the bytes after them.
+fn wide_limits_at(bytes: &[u8]) -> Result<(TreeLimits, &[u8]), TreeError>
+    ensures found { IfOk result (λ taken. Reads AreLimits (limits_text Wide) bytes.now taken.0 taken.1.now) }
+    ensures none { IfErr result (λ _. ReadsNone AreLimits (limits_text Wide) bytes.now) }
     ensures number { IfErr result (IsAt 0) }
 {
-    if has_limits {
-        own_limits_at(bytes)
-    } else {
-        Ok((usual_limits(), bytes))
+    let least = least_limits();
+    let most = most_limits();
+    let (entries, rest) = limit_at(least.entries, most.entries, bytes)?;
+    let (file_bytes, rest) = long_limit_at(least.file_bytes, most.file_bytes, rest)?;
+    let (read_bytes, rest) = limit_at(least.read_bytes, most.read_bytes, rest)?;
+    let (open_handles, rest) = limit_at(least.open_handles, most.open_handles, rest)?;
+    let (total_bytes, rest) = long_limit_at(least.total_bytes, most.total_bytes, rest)?;
+    let limits = TreeLimits {
+        entries,
+        file_bytes,
+        read_bytes,
+        open_handles,
+        total_bytes,
+    };
+    Ok((limits, rest))
+}
+
+/// Reads the limits after this opening, nothing after the first, and returns them and the bytes after them.
+fn limits_at(opening: Opening, bytes: &[u8]) -> Result<(TreeLimits, &[u8]), TreeError>
+    ensures found { IfOk result
+        (λ taken. Reads (AreSet opening) (limits_text opening) bytes.now taken.0 taken.1.now) }
+    ensures none { IfErr result (λ _. ReadsNone (AreSet opening) (limits_text opening) bytes.now) }
+    ensures number { IfErr result (IsAt 0) }
+{
+    match opening {
+        Opening::Usual => Ok((usual_limits(), bytes)),
+        Opening::Raised => raised_limits_at(bytes),
+        Opening::Wide => wide_limits_at(bytes),
     }
 }
 
@@ -161,15 +212,45 @@ fn count_at(limits: TreeLimits, bytes: &[u8]) -> Result<(u32, &[u8]), TreeError>
     Ok((count, rest))
 }
 
-/// Reads the number of entries and the owner of the root, and returns them and the bytes after them.
-fn root_at(limits: TreeLimits, bytes: &[u8]) -> Result<(u32, Owner, &[u8]), TreeError>
-    ensures found { IfOk result (λ taken. Reads (IsRoot limits) root_text bytes.now (taken.0, taken.1) taken.2.now) }
-    ensures none { IfErr result (λ _. ReadsNone (IsRoot limits) root_text bytes.now) }
+/// Reads the owner of a root that has no times.
+fn plain_owner_at(bytes: &[u8]) -> Result<(Owner, Times, &[u8]), TreeError>
+    ensures found { IfOk result
+        (λ taken. Reads (IsOwnedIn false) plain_owner_text bytes.now (taken.0, taken.1) taken.2.now) }
+    ensures none { IfErr result (λ _. ReadsNone (IsOwnedIn false) plain_owner_text bytes.now) }
+    ensures number { IfErr result (IsAt 0) }
+{
+    let (owner, rest) = owner_at(0, bytes)?;
+    Ok((owner, NO_TIMES, rest))
+}
+
+/// Reads the owner of the root, and after the third opening its letter, and its times if it has some.
+fn root_owner_at(opening: Opening, bytes: &[u8]) -> Result<(Owner, Times, &[u8]), TreeError>
+    ensures found { IfOk result (λ taken. Reads (IsOwnedIn (is_wide opening)) (root_owner_text opening) bytes.now
+        (taken.0, taken.1) taken.2.now) }
+    ensures none { IfErr result (λ _. ReadsNone (IsOwnedIn (is_wide opening)) (root_owner_text opening) bytes.now) }
+    ensures number { IfErr result (IsAt 0) }
+{
+    match opening {
+        Opening::Usual => plain_owner_at(bytes),
+        Opening::Raised => plain_owner_at(bytes),
+        Opening::Wide => directory_at(0, true, bytes),
+    }
+}
+
+/// Reads the number of entries and what is said of the root.
+fn root_at(
+    opening: Opening,
+    limits: TreeLimits,
+    bytes: &[u8],
+) -> Result<(u32, Owner, Times, &[u8]), TreeError>
+    ensures found { IfOk result (λ taken. Reads (IsRoot opening limits) (root_text opening) bytes.now
+        (taken.0, (taken.1, taken.2)) taken.3.now) }
+    ensures none { IfErr result (λ _. ReadsNone (IsRoot opening limits) (root_text opening) bytes.now) }
     ensures number { IfErr result (IsAt 0) }
 {
     let (count, rest) = count_at(limits, bytes)?;
-    let (root, rest) = owner_at(0, rest)?;
-    Ok((count, root, rest))
+    let (root, times, rest) = root_owner_at(opening, rest)?;
+    Ok((count, root, times, rest))
 }
 
 /// Reads the head, and returns it and the bytes after it.
@@ -179,15 +260,17 @@ pub(crate) fn head_at(alloc: Global, bytes: &[u8]) -> Result<(Head, &[u8]), Tree
     ensures number { IfErr result (IsAt 0) }
 {
     let (front, rest) = front_at(alloc, bytes)?;
-    let (limits, rest) = limits_at(front.has_limits, rest)?;
-    let (count, root, rest) = root_at(limits, rest)?;
+    let (limits, rest) = limits_at(front.opening, rest)?;
+    let (count, root, root_times, rest) = root_at(front.opening, limits, rest)?;
     let head = Head {
+        opening: front.opening,
         limits,
         home: front.home,
         uid: front.uid,
         gid: front.gid,
         count,
         root,
+        root_times,
     };
     Ok((head, rest))
 }

@@ -1,21 +1,23 @@
 //! What a reader of tree files takes from its input, piece by piece: heads, paths and kinds.
-ghost use Rattle.std.specs.Prelude.{◌≡◌, ◌<◌, ◌≤◌, ℕ, List, ◌∷◌, length, IfOk, IfErr, OnOk, IsTrue};
+ghost use Rattle.std.specs.Prelude.{◌≡◌, ◌<◌, ◌≤◌, ℕ, List, Bool, ◌∷◌, length};
+ghost use Rattle.std.specs.Prelude.{IfOk, IfErr, IfSome, IfNone, OnOk, IsTrue};
 ghost use Rattle.std.specs.Prelude.{false};
 ghost use Rattle.sftp_packets.specs.Spelling.{uint32, string};
-ghost use Rattle.sftp_treefile.specs.TreeFile.{place_of, kind_text, are_bytes, IsKind};
-ghost use Rattle.sftp_treefile.specs.TreeFileParts.{Reads, ReadsNone, IsAt, Follows, IsLast, IsFile, IsHead};
-ghost use Rattle.sftp_treefile.specs.TreeFileParts.{head_bytes};
+ghost use Rattle.sftp_treefile.specs.TreeFile.{place_of, timed_text, are_bytes, letter_for, file_letter};
+ghost use Rattle.sftp_treefile.specs.TreeFileParts.{Reads, ReadsNone, IsAt, Follows, IsLast, IsHead, IsKnownIn};
+ghost use Rattle.sftp_treefile.specs.TreeFileParts.{head_bytes, IsTimedKind};
 ghost use Rattle.sftp_treefile.specs.Streamed.{ExcuseOr, IsExcuse, IsIn, IsSame, HoldsWindow, Takes, Lacks, AreCounted};
 ghost use Rattle.sftp_treefile.specs.Streamed.{plain, TakesSome, IsFileStart, file_start_text, IsNothing};
-ghost use Rattle.sftp_treefile.specs.Streamed.{file_kind_text};
+ghost use Rattle.sftp_treefile.specs.Streamed.{IsFile, file_text, is_file_letter};
 
 use crate::entries::{Entries, path_at};
 use crate::errors::TreeError;
-use crate::fields::{kind_at, letter_at, number_at, owner_at};
+use crate::fields::{given_owner_at, kind_at, length_at, letter_at};
 use crate::files::{Kind, Owner, Row};
 use crate::heads::{Head, head_at};
 use crate::input::{Input, WINDOW};
 use crate::limits::TreeLimits;
+use crate::times::Times;
 use sftp_path::Place;
 use sftp_streams::Source;
 use sftp_wire::{ByteString, take_number};
@@ -26,6 +28,9 @@ const OPENING_LENGTH: usize = 8;
 
 /// The bytes of a letter, after which the length of a target is.
 const LETTER: usize = 1;
+
+/// How much memory the bytes of a file get before they are there, at most. Longer ones get more as they come.
+const AT_ONCE: usize = 67_108_864;
 
 /// Takes the head.
 fn take_head<R: Source>(alloc: Global, input: &mut Input<R>) -> Result<Head, TreeError>
@@ -65,36 +70,66 @@ pub(crate) fn take_path<R: Source>(
     Ok((path, place))
 }
 
-/// Reads what the entry of a file says before the file's bytes. Returns the owner, the number of the bytes, and the
-/// bytes after it.
-fn file_start_at(entry: u32, bytes: &[u8]) -> Result<(Owner, u32, &[u8]), TreeError>
-    ensures found { IfOk result
-        (λ taken. Reads IsFileStart file_start_text bytes.now (taken.0, taken.1) taken.2.now) }
-    ensures none { IfErr result (λ _. ReadsNone IsFileStart file_start_text bytes.now) }
+/// Whether this letter of the first name of a file says that there are times, and whether it says that the file is
+/// long; `None` if it is not one that the opening knows.
+fn letter_of_file(is_wide: bool, letter: u8) -> Option<(bool, bool)>
+    ensures some { IfSome result (λ form. IsKnownIn is_wide form.0 × IsKnownIn is_wide form.1
+        × (letter ≡ letter_for form.0 (file_letter form.1))) }
+    ensures none { IfNone result ((timed long : Bool) → IsKnownIn is_wide timed → IsKnownIn is_wide long
+        → letter ≡ letter_for timed (file_letter long) → ⊥) }
+{
+    if letter == b'F' {
+        return Some((false, false));
+    }
+    if !is_wide {
+        return None;
+    }
+    match letter {
+        b'f' => Some((true, false)),
+        b'G' => Some((false, true)),
+        b'g' => Some((true, true)),
+        _ => None,
+    }
+}
+
+/// Reads what the entry of a file says before the file's bytes. Returns the owner, the times, the number of the bytes,
+/// and the bytes after it.
+fn file_start_at(
+    entry: u32,
+    is_wide: bool,
+    bytes: &[u8],
+) -> Result<(Owner, Times, u64, &[u8]), TreeError>
+    ensures found { IfOk result (λ taken. Reads (IsFileStart is_wide) file_start_text bytes.now
+        (taken.0, (taken.1, taken.2)) taken.3.now) }
+    ensures none { IfErr result (λ _. ReadsNone (IsFileStart is_wide) file_start_text bytes.now) }
     ensures number { IfErr result (IsAt entry) }
 {
     let (letter, rest) = letter_at(entry, bytes)?;
-    if letter != b'F' {
+    let Some((has_times, is_long)) = letter_of_file(is_wide, letter) else {
         return Err(TreeError::Value { entry });
-    }
-    let (owner, rest) = owner_at(entry, rest)?;
-    let (count, rest) = number_at(entry, rest)?;
-    Ok((owner, count, rest))
+    };
+    let (owner, times, rest) = given_owner_at(entry, has_times, rest)?;
+    let (count, rest) = length_at(entry, is_long, rest)?;
+    Ok((owner, times, count, rest))
 }
 
-/// Takes what the entry of a file says before the file's bytes: the owner, and the number of the bytes.
-fn take_file_start<R: Source>(input: &mut Input<R>, entry: u32) -> Result<(Owner, u32), TreeError>
-    ensures found { IfOk result
-        (λ taken. Takes IsFileStart file_start_text input.old (taken.0, taken.1) input.new) }
-    ensures none { IfErr result (λ error. ExcuseOr error (Lacks IsFileStart file_start_text input.old)) }
+/// Takes what the entry of a file says before the file's bytes: the owner, the times, and the number of the bytes.
+fn take_file_start<R: Source>(
+    input: &mut Input<R>,
+    entry: u32,
+    is_wide: bool,
+) -> Result<(Owner, Times, u64), TreeError>
+    ensures found { IfOk result (λ taken. Takes (IsFileStart is_wide) file_start_text input.old
+        (taken.0, (taken.1, taken.2)) input.new) }
+    ensures none { IfErr result (λ error. ExcuseOr error (Lacks (IsFileStart is_wide) file_start_text input.old)) }
     ensures number { IfErr result (IsIn R.may_fail entry) }
 {
     input.fill(entry)?;
-    let (owner, count, rest) = file_start_at(entry, input.held())?;
+    let (owner, times, count, rest) = file_start_at(entry, is_wide, input.held())?;
     let left = rest.len();
     let taken = input.held().len() - left;
     input.take(taken);
-    Ok((owner, count))
+    Ok((owner, times, count))
 }
 
 /// Reads once if no bytes are held: `Short` if there are no more.
@@ -198,19 +233,20 @@ fn are_octets(bytes: &[u8])
     ensures { IsTrue (are_bytes bytes.now) }
 {}
 
-/// Takes so many bytes. They get the memory that they take, and no more.
+/// Takes so many bytes. Up to `AT_ONCE` they get the memory that they take, and no more, at once. Longer ones get more
+/// as they come, so that a length alone takes no more than that.
 fn take_bytes<R: Source>(
     alloc: Global,
     input: &mut Input<R>,
     entry: u32,
-    count: u32,
+    count: u64,
 ) -> Result<ByteString, TreeError>
     ensures found { IfOk result (λ bytes. Takes (AreCounted count) plain input.old bytes input.new) }
     ensures none { IfErr result (λ error. ExcuseOr error (Lacks (AreCounted count) plain input.old)) }
     ensures number { IfErr result (IsIn R.may_fail entry) }
 {
     let size = count as usize;
-    let mut bytes = Vec::with_capacity(alloc, size)?;
+    let mut bytes = Vec::with_capacity(alloc, size.min(AT_ONCE))?;
     'more: while bytes.len() < size {
         let missing = size - bytes.len();
         take_some(input, entry, missing, &mut bytes)?;
@@ -223,75 +259,91 @@ fn take_bytes<R: Source>(
 fn take_file<R: Source>(
     alloc: Global,
     input: &mut Input<R>,
+    is_wide: bool,
     limits: TreeLimits,
     entry: u32,
-) -> Result<(Owner, ByteString), TreeError>
+) -> Result<(Owner, Times, ByteString), TreeError>
     ensures found { IfOk result
-        (λ taken. Takes (IsFile limits) file_kind_text input.old (taken.0, taken.1) input.new) }
-    ensures none { IfErr result (λ error. ExcuseOr error (Lacks (IsFile limits) file_kind_text input.old)) }
+        (λ taken. Takes (IsFile is_wide limits) file_text input.old (taken.0, (taken.1, taken.2)) input.new) }
+    ensures none { IfErr result (λ error. ExcuseOr error (Lacks (IsFile is_wide limits) file_text input.old)) }
     ensures number { IfErr result (IsIn R.may_fail entry) }
 {
-    let (owner, count) = take_file_start(input, entry)?;
+    let (owner, times, count) = take_file_start(input, entry, is_wide)?;
     if count > limits.file_bytes {
         return Err(overlong(input, entry, count as usize));
     }
     let bytes = take_bytes(alloc, input, entry, count)?;
-    Ok((owner, bytes))
+    Ok((owner, times, bytes))
 }
 
-/// Whether the bytes start with the letter of a file.
+/// Whether the bytes start with a letter of the first name of a file.
 fn starts_file(bytes: &[u8]) -> bool
-    ensures yes { IsTrue result → (rest : List ℕ) × (bytes.now ≡ 70 ∷ rest) }
-    ensures no { result ≡ false → (rest : List ℕ) → bytes.now ≡ 70 ∷ rest → ⊥ }
+    ensures yes { IsTrue result
+        → (letter : ℕ) × (rest : List ℕ) × (bytes.now ≡ letter ∷ rest) × IsTrue (is_file_letter letter) }
+    ensures no { result ≡ false
+        → (letter : ℕ) (rest : List ℕ) → bytes.now ≡ letter ∷ rest → is_file_letter letter ≡ false }
 {
     match bytes.split_first() {
-        Some((letter, _)) => *letter == b'F',
+        Some((letter, _)) => is_letter_of_file(*letter),
         None => false,
     }
+}
+
+/// Whether this is the letter of the first name of a file, after any opening.
+fn is_letter_of_file(letter: u8) -> bool
+    ensures { result ≡ is_file_letter letter }
+{
+    letter == b'F' || (letter == b'f' || (letter == b'G' || letter == b'g'))
 }
 
 /// Takes what an entry is that is no file. The window is held.
 fn take_other_kind<R: Source>(
     alloc: Global,
     input: &mut Input<R>,
+    is_wide: bool,
     limits: TreeLimits,
     entry: u32,
     rows: &[Row],
-) -> Result<Kind, TreeError>
+) -> Result<(Kind, Times), TreeError>
     requires held { HoldsWindow input.old }
-    requires no_file { (rest : List ℕ) → input.old.held ≡ 70 ∷ rest → ⊥ }
-    ensures found { IfOk result (λ kind. Takes (IsKind limits rows.now) kind_text input.old kind input.new) }
-    ensures none { IfErr result (λ error. ExcuseOr error (Lacks (IsKind limits rows.now) kind_text input.old)) }
+    requires no_file { (letter : ℕ) (rest : List ℕ) → input.old.held ≡ letter ∷ rest → is_file_letter letter ≡ false }
+    ensures found { IfOk result
+        (λ taken. Takes (IsTimedKind is_wide limits rows.now) timed_text input.old (taken.0, taken.1) input.new) }
+    ensures none { IfErr result
+        (λ error. ExcuseOr error (Lacks (IsTimedKind is_wide limits rows.now) timed_text input.old)) }
     ensures number { IfErr result (IsIn R.may_fail entry) }
 {
-    let (kind, rest) = kind_at(alloc, limits, entry, rows, input.held())?;
+    let (kind, times, rest) = kind_at(alloc, is_wide, limits, entry, rows, input.held())?;
     let left = rest.len();
     let taken = input.held().len() - left;
     input.take(taken);
-    Ok(kind)
+    Ok((kind, times))
 }
 
-/// Takes what an entry after these rows is.
+/// Takes what an entry after these rows is, and its times.
 pub(crate) fn take_kind<R: Source>(
     alloc: Global,
     input: &mut Input<R>,
+    is_wide: bool,
     limits: TreeLimits,
     entry: u32,
     rows: &[Row],
-) -> Result<Kind, TreeError>
-    ensures found { IfOk result (λ kind. Takes (IsKind limits rows.now) kind_text input.old kind input.new) }
-    ensures none { IfErr result (λ error. ExcuseOr error (Lacks (IsKind limits rows.now) kind_text input.old)) }
+) -> Result<(Kind, Times), TreeError>
+    ensures found { IfOk result
+        (λ taken. Takes (IsTimedKind is_wide limits rows.now) timed_text input.old (taken.0, taken.1) input.new) }
+    ensures none { IfErr result
+        (λ error. ExcuseOr error (Lacks (IsTimedKind is_wide limits rows.now) timed_text input.old)) }
     ensures number { IfErr result (IsIn R.may_fail entry) }
 {
     input.fill(entry)?;
     if !starts_file(input.held()) {
-        return match take_other_kind(alloc, input, limits, entry, rows) {
-            Ok(kind) => Ok(kind),
+        return match take_other_kind(alloc, input, is_wide, limits, entry, rows) {
+            Ok(taken) => Ok(taken),
             Err(error) => Err(settle(input, entry, LETTER, error)),
         };
     }
-    let (owner, bytes) = take_file(alloc, input, limits, entry)?;
-    Ok(Kind::First(owner, bytes))
+    let (owner, times, bytes) = take_file(alloc, input, is_wide, limits, entry)?;
+    Ok((Kind::First(owner, bytes), times))
 }
 
 /// Takes the head, and reads a home that is too long to its end.

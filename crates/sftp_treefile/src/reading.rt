@@ -5,7 +5,7 @@ ghost use Rattle.sftp_treefile.specs.TreeFile.{IsTreeFile, IsSpelled, GivesFile}
 ghost use Rattle.sftp_streams.specs.Streams.{HasAhead};
 ghost use Rattle.sftp_treefile.specs.Streamed.{GivesUnless, MayFail, ExcuseOr, IsIn, IsNothing};
 
-use crate::entries::take_rows;
+use crate::entries::take_entries;
 use crate::errors::TreeError;
 use crate::files::TreeFile;
 use crate::input::Input;
@@ -44,7 +44,7 @@ where
     let buffer = Buffer::new(alloc)?;
     let mut input = Input::new(buffer, source);
     let head = whole_head(alloc, &mut input)?;
-    let rows = take_rows(alloc, &mut input, head.limits, head.count)?;
+    let (rows, times) = take_entries(alloc, &mut input, &head)?;
     check_end(&mut input, head.count + 1)?;
     Ok(TreeFile {
         limits: head.limits,
@@ -53,6 +53,7 @@ where
         gid: head.gid,
         root: head.root,
         rows,
+        times,
     })
 }
 
@@ -62,7 +63,8 @@ where
 ///
 /// `NoMemory` if memory runs out; otherwise the first fault from left to right, with the number of its entry: `Magic`,
 /// `Short`, `Value`, `Order`, `Parent` or `Trailing`. A field is read whole before its value is checked; a path is
-/// checked for `Value` first, then for `Order`, then for `Parent`, and then the kind is read.
+/// checked for `Value` first, then for `Order`, then for `Parent`, and then the kind is read. That a lower opening
+/// holds the file is found behind the last entry, as `Value`.
 pub fn read_rows(alloc: Global, bytes: &[u8]) -> Result<TreeFile, TreeError>
     ensures found { IfOk result (λ f. IsSpelled f bytes.now) }
     ensures only { (f : file) → IsSpelled f bytes.now → GivesFile result f }

@@ -4,7 +4,8 @@ ghost use Rattle.std.specs.Prelude.{◌≡◌, ◌++◌, ◌<◌, ◌^◌, lengt
 ghost use Rattle.std.specs.Io.KnownBytes.{Appends};
 ghost use Rattle.sftp_streams.specs.Streams.{AppendsPart};
 ghost use Rattle.sftp_treefile.specs.declared.files.Kind.TheVariants.{Dir, First, Further, Link};
-ghost use Rattle.sftp_treefile.specs.TreeFile.{IsTreeFile, row_text, spelled};
+ghost use Rattle.sftp_treefile.specs.declared.limits.Opening.TheVariants.{Raised};
+ghost use Rattle.sftp_treefile.specs.TreeFile.{IsTreeFile, MayHaveTimes, row_text, entry_text, spelled};
 ghost use Rattle.sftp_treefile.specs.TreeFileParts.{head_text, head_bytes, HasLengths};
 ghost use Rattle.sftp_treefile.specs.Streamed.{CountsSink};
 
@@ -12,9 +13,10 @@ use crate::errors::WriteError;
 use crate::files::{Kind, Owner, Row, TreeFile};
 use crate::heads::Head;
 use crate::measuring::file_size;
+use crate::times::{NO_TIMES, Times};
 use crate::writing::{
-    put_directory, put_file_start, put_front, put_further_name, put_head, put_limits, put_link,
-    put_root,
+    put_file_start, put_front, put_further_name, put_head, put_limits, put_link, put_root,
+    put_timed_directory,
 };
 use sftp_path::NoMemory;
 use sftp_streams::{Sink, Tally, put_all};
@@ -30,7 +32,8 @@ pub fn send_head<L: Sink>(
     scratch: &mut Vec<u8>,
     head: &Head,
 ) -> Result<(), WriteError>
-    requires { length head.now.home < 2 ^ 32 }
+    requires home { length head.now.home < 2 ^ 32 }
+    requires limits { head.now.opening ≡ Raised → head.now.limits.file_bytes < 2 ^ 32 }
     ensures ok { OnOk result (Appends (L.written sink.old) (L.written sink.new)
         (head_bytes head.now)) }
     ensures err { OnErr result (AppendsPart (L.written sink.old) (L.written sink.new)
@@ -43,7 +46,32 @@ pub fn send_head<L: Sink>(
     Ok(())
 }
 
-/// Writes the entry of a directory.
+/// Writes the entry of a directory, with its times if it has some.
+///
+/// # Errors
+///
+/// `NoMemory` if memory runs out, and `Failed` if the sink fails. A beginning of the piece is written then.
+pub fn send_timed_directory<L: Sink>(
+    sink: &mut L,
+    scratch: &mut Vec<u8>,
+    path: &[u8],
+    owner: &Owner,
+    times: Times,
+) -> Result<(), WriteError>
+    requires { length path.now < 2 ^ 32 }
+    ensures ok { OnOk result (Appends (L.written sink.old) (L.written sink.new)
+        (entry_text (record { path = path.now; kind = Dir owner.now }, times))) }
+    ensures err { OnErr result (AppendsPart (L.written sink.old) (L.written sink.new)
+        (entry_text (record { path = path.now; kind = Dir owner.now }, times))) }
+    ensures counts { CountsSink result (L.failures sink.old) (L.failures sink.new) }
+{
+    scratch.clear();
+    put_timed_directory(scratch, path, owner, times)?;
+    put_all(sink, scratch)?;
+    Ok(())
+}
+
+/// Writes the entry of a directory without times.
 ///
 /// # Errors
 ///
@@ -61,13 +89,37 @@ pub fn send_directory<L: Sink>(
         (row_text (record { path = path.now; kind = Dir owner.now }))) }
     ensures counts { CountsSink result (L.failures sink.old) (L.failures sink.new) }
 {
+    send_timed_directory(sink, scratch, path, owner, NO_TIMES)
+}
+
+/// Writes the entry of the first name of a file, with its times if it has some, and with the file's bytes.
+///
+/// # Errors
+///
+/// `NoMemory` if memory runs out, and `Failed` if the sink fails. A beginning of the piece is written then.
+pub fn send_timed_file<L: Sink>(
+    sink: &mut L,
+    scratch: &mut Vec<u8>,
+    path: &[u8],
+    owner: &Owner,
+    times: Times,
+    bytes: &[u8],
+) -> Result<(), WriteError>
+    requires path { length path.now < 2 ^ 32 }
+    ensures ok { OnOk result (Appends (L.written sink.old) (L.written sink.new)
+        (entry_text (record { path = path.now; kind = First owner.now bytes.now }, times))) }
+    ensures err { OnErr result (AppendsPart (L.written sink.old) (L.written sink.new)
+        (entry_text (record { path = path.now; kind = First owner.now bytes.now }, times))) }
+    ensures counts { CountsSink result (L.failures sink.old) (L.failures sink.new) }
+{
     scratch.clear();
-    put_directory(scratch, path, owner)?;
+    put_file_start(scratch, path, owner, times, bytes.len() as u64)?;
     put_all(sink, scratch)?;
+    put_all(sink, bytes)?;
     Ok(())
 }
 
-/// Writes the entry of the first name of a file, with the file's bytes.
+/// Writes the entry of the first name of a file without times, with the file's bytes.
 ///
 /// # Errors
 ///
@@ -80,18 +132,13 @@ pub fn send_file<L: Sink>(
     bytes: &[u8],
 ) -> Result<(), WriteError>
     requires path { length path.now < 2 ^ 32 }
-    requires bytes { length bytes.now < 2 ^ 32 }
     ensures ok { OnOk result (Appends (L.written sink.old) (L.written sink.new)
         (row_text (record { path = path.now; kind = First owner.now bytes.now }))) }
     ensures err { OnErr result (AppendsPart (L.written sink.old) (L.written sink.new)
         (row_text (record { path = path.now; kind = First owner.now bytes.now }))) }
     ensures counts { CountsSink result (L.failures sink.old) (L.failures sink.new) }
 {
-    scratch.clear();
-    put_file_start(scratch, path, owner, bytes.len() as u32)?;
-    put_all(sink, scratch)?;
-    put_all(sink, bytes)?;
-    Ok(())
+    send_timed_file(sink, scratch, path, owner, NO_TIMES, bytes)
 }
 
 /// Writes the entry of a further name of a file, with the number of the entry that is its first name.
@@ -143,16 +190,24 @@ pub fn send_link<L: Sink>(
     Ok(())
 }
 
-fn send_row<L: Sink>(sink: &mut L, scratch: &mut Vec<u8>, row: &Row) -> Result<(), WriteError>
+/// Writes an entry, with its times if it has some.
+fn send_row<L: Sink>(
+    sink: &mut L,
+    scratch: &mut Vec<u8>,
+    row: &Row,
+    times: Times,
+) -> Result<(), WriteError>
     requires { HasLengths row.now }
-    ensures ok { OnOk result (Appends (L.written sink.old) (L.written sink.new) (row_text row.now)) }
-    ensures err { OnErr result (AppendsPart (L.written sink.old) (L.written sink.new) (row_text row.now)) }
+    ensures ok { OnOk result (Appends (L.written sink.old) (L.written sink.new) (entry_text (row.now, times))) }
+    ensures err { OnErr result (AppendsPart (L.written sink.old) (L.written sink.new) (entry_text (row.now, times))) }
     ensures counts { CountsSink result (L.failures sink.old) (L.failures sink.new) }
 {
     let path = row.path.as_slice();
     match &row.kind {
-        Kind::Dir(owner) => send_directory(sink, scratch, path, owner),
-        Kind::First(owner, bytes) => send_file(sink, scratch, path, owner, bytes.as_slice()),
+        Kind::Dir(owner) => send_timed_directory(sink, scratch, path, owner, times),
+        Kind::First(owner, bytes) => {
+            send_timed_file(sink, scratch, path, owner, times, bytes.as_slice())
+        }
         Kind::Further(number) => send_further_name(sink, scratch, path, *number),
         Kind::Link(target) => send_link(sink, scratch, path, target.as_slice()),
     }
@@ -163,15 +218,11 @@ fn put_start(out: &mut Vec<u8>, file: &TreeFile) -> Result<(), NoMemory>
     requires { IsTreeFile file.now }
     ensures { OnOk result (out.new.items ≡ out.old.items ++ head_text file.now) }
 {
-    put_front(
-        out,
-        file.limits.are_own(),
-        file.home.as_slice(),
-        file.uid,
-        file.gid,
-    )?;
-    put_limits(out, file.limits)?;
-    put_root(out, file.rows.as_slice().len() as u32, &file.root)?;
+    let opening = file.opening();
+    put_front(out, opening, file.home.as_slice(), file.uid, file.gid)?;
+    put_limits(out, opening, file.limits)?;
+    let count = file.rows.as_slice().len() as u32;
+    put_root(out, opening, count, &file.root, file.times.get(0))?;
     Ok(())
 }
 
@@ -209,8 +260,10 @@ pub fn write_rows_to<L: Sink>(
 {
     let mut scratch = Vec::new(alloc);
     send_start(sink, &mut scratch, file)?;
+    let mut entry = 1;
     for row in file.rows.as_slice() {
-        send_row(sink, &mut scratch, row)?;
+        send_row(sink, &mut scratch, row, file.times.get(entry))?;
+        entry += 1;
     }
     Ok(())
 }

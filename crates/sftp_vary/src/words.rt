@@ -3,7 +3,7 @@
 use sftp_handles::{HandleTable, Session};
 use sftp_path::DEPTH_LIMIT;
 use sftp_tree::{Cause, NoMemory, Tree};
-use sftp_treefile::highest_limits;
+use sftp_treefile::{TreeLimits, highest_limits, most_limits};
 use sftp_wire::{Ask, ByteString};
 use std::alloc::Global;
 use std::fmt;
@@ -79,7 +79,9 @@ pub(crate) enum Limit {
     /// The entries of the tree.
     Entries(u32),
     /// The bytes of a file.
-    FileBytes(u32),
+    FileBytes(u64),
+    /// The bytes of all files.
+    AllBytes(u64),
     /// The handles that are open at once.
     Handles(u32),
     /// The names of a place. No tree raises it.
@@ -96,7 +98,7 @@ pub(crate) fn limit_met<T: HandleTable>(
     let limits = tree.tree_limits();
     match ask {
         Ask::Write { .. } | Ask::Setstat { .. } | Ask::Fsetstat { .. } => {
-            Ok(Limit::FileBytes(limits.file_bytes))
+            Ok(limit_of_bytes(limits, ask))
         }
         Ask::Open { .. } | Ask::Opendir { .. } => {
             let causes = tree.causes(ask)?;
@@ -108,6 +110,26 @@ pub(crate) fn limit_met<T: HandleTable>(
         }
         Ask::Rename { .. } | Ask::PosixRename { .. } => Ok(Limit::Names),
         _ => Ok(limit_of_new_place(tree)),
+    }
+}
+
+/// The limit that keeps bytes out of a file: that on all files, if there is one and the request asks for no more than
+/// one file may have, or else that on each file.
+fn limit_of_bytes(limits: TreeLimits, ask: &Ask) -> Limit {
+    let is_set = limits.total_bytes < most_limits().total_bytes;
+    if is_set && asked_size(ask) <= limits.file_bytes {
+        Limit::AllBytes(limits.total_bytes)
+    } else {
+        Limit::FileBytes(limits.file_bytes)
+    }
+}
+
+/// How many bytes a request gives a file, at least.
+fn asked_size(ask: &Ask) -> u64 {
+    match ask {
+        Ask::Write { offset, bytes, .. } => { offset.saturating_add(bytes.as_slice().len() as u64) }
+        Ask::Setstat { attrs, .. } | Ask::Fsetstat { attrs, .. } => attrs.size.unwrap_or(0),
+        _ => 0,
     }
 }
 
@@ -123,19 +145,25 @@ fn limit_of_new_place(tree: &Tree) -> Limit {
 
 impl fmt::Display for Limit {
     fn fmt<W: fmt::Write>(&self, f: &mut fmt::Formatter<W>) -> fmt::Result {
-        let highest = highest_limits();
+        let (highest, far) = (highest_limits(), most_limits());
         match self {
             Limit::Entries(most) => {
                 write!(f, "the tree may have {most} entries")?;
-                put_way(f, *most, highest.entries)
+                let (highest, far) = (u64::from(highest.entries), u64::from(far.entries));
+                put_way(f, u64::from(*most), highest, far)
             }
             Limit::FileBytes(most) => {
                 write!(f, "a file may have {most} bytes")?;
-                put_way(f, *most, highest.file_bytes)
+                put_way(f, *most, highest.file_bytes, far.file_bytes)
+            }
+            Limit::AllBytes(most) => {
+                write!(f, "all files together may have {most} bytes")?;
+                put_way(f, *most, 0, far.total_bytes)
             }
             Limit::Handles(most) => {
                 write!(f, "{most} handles may be open at once")?;
-                put_way(f, *most, highest.open_handles)
+                let (highest, far) = (u64::from(highest.open_handles), u64::from(far.open_handles));
+                put_way(f, u64::from(*most), highest, far)
             }
             Limit::Names => write!(f, "a path may have {DEPTH_LIMIT} names, in every tree"),
         }
@@ -143,9 +171,16 @@ impl fmt::Display for Limit {
 }
 
 /// How the limit is raised.
-fn put_way<W: fmt::Write>(f: &mut fmt::Formatter<W>, most: u32, highest: u32) -> fmt::Result {
+fn put_way<W: fmt::Write>(
+    f: &mut fmt::Formatter<W>,
+    most: u64,
+    highest: u64,
+    far: u64,
+) -> fmt::Result {
     if most < highest {
         write!(f, "; 'sftpv3 raise' makes a tree of {highest}")
+    } else if most < far {
+        write!(f, "; 'sftpv3 raise --to most' makes a tree of {far}")
     } else {
         f.write_str(", which no tree raises")
     }

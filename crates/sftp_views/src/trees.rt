@@ -1,7 +1,7 @@
 //! Tree files as JSON objects.
 
 use sftp_json::JsonLines;
-use sftp_treefile::{Kind, Owner, Row, TreeFile, TreeLimits};
+use sftp_treefile::{EntryTimes, Kind, Owner, Row, Times, TreeFile, TreeLimits};
 use std::io;
 use std::io::Write;
 
@@ -14,8 +14,8 @@ use std::io::Write;
 pub fn put_tree<O: Write>(file: &TreeFile, limit: usize, output: &mut O) -> io::Result<()> {
     let mut json = JsonLines::new(output, limit);
     put_head(file, &mut json);
-    put_root(file.root, &mut json);
-    put_rows(file.rows.as_slice(), &mut json);
+    put_root(file.root, file.times.get(0), &mut json);
+    put_rows(file.rows.as_slice(), &file.times, &mut json);
     let written = json.finish();
     drop(json);
     written
@@ -26,45 +26,50 @@ fn put_head<O: Write>(file: &TreeFile, json: &mut JsonLines<'_, O>) {
     json.bytes("home", file.home.as_slice());
     json.number("uid", u64::from(file.uid));
     json.number("gid", u64::from(file.gid));
-    if file.limits.are_own() {
-        put_limits(file.limits, json);
+    let is_wide = file.opening().is_wide();
+    if is_wide || file.limits.are_own() {
+        put_limits(file.limits, is_wide, json);
     }
     json.number("entries", file.rows.as_slice().len() as u64);
     json.end_line();
 }
 
-fn put_limits<O: Write>(limits: TreeLimits, json: &mut JsonLines<'_, O>) {
+/// Writes the limits that a tree file has: four, and that on the bytes of all files after the third opening.
+fn put_limits<O: Write>(limits: TreeLimits, is_wide: bool, json: &mut JsonLines<'_, O>) {
     json.open_member("limits");
     json.number("entries", u64::from(limits.entries));
-    json.number("file_bytes", u64::from(limits.file_bytes));
+    json.number("file_bytes", limits.file_bytes);
     json.number("read_bytes", u64::from(limits.read_bytes));
     json.number("open_handles", u64::from(limits.open_handles));
+    if is_wide {
+        json.number("total_bytes", limits.total_bytes);
+    }
     json.close();
 }
 
-fn put_root<O: Write>(root: Owner, json: &mut JsonLines<'_, O>) {
+fn put_root<O: Write>(root: Owner, times: Times, json: &mut JsonLines<'_, O>) {
     json.open();
     json.number("entry", 0);
     json.word("kind", "D");
     json.word("path", "/");
-    put_owner(root, json);
+    put_owner(root, times, json);
     json.end_line();
 }
 
-fn put_rows<O: Write>(rows: &[Row], json: &mut JsonLines<'_, O>) {
+fn put_rows<O: Write>(rows: &[Row], times: &EntryTimes, json: &mut JsonLines<'_, O>) {
     let mut number: u64 = 1;
     for row in rows {
-        put_row(number, row, json);
+        put_row(number, row, times.get(number as usize), json);
         number = number.saturating_add(1);
     }
 }
 
-fn put_row<O: Write>(number: u64, row: &Row, json: &mut JsonLines<'_, O>) {
+fn put_row<O: Write>(number: u64, row: &Row, times: Times, json: &mut JsonLines<'_, O>) {
     json.open();
     json.number("entry", number);
     json.word("kind", letter(&row.kind));
     json.bytes("path", row.path.as_slice());
-    put_kind(&row.kind, json);
+    put_kind(&row.kind, times, json);
     json.end_line();
 }
 
@@ -79,11 +84,11 @@ fn letter(kind: &Kind) -> &'static str {
 }
 
 /// Writes what an entry has beside its path.
-fn put_kind<O: Write>(kind: &Kind, json: &mut JsonLines<'_, O>) {
+fn put_kind<O: Write>(kind: &Kind, times: Times, json: &mut JsonLines<'_, O>) {
     match kind {
-        Kind::Dir(owner) => put_owner(*owner, json),
+        Kind::Dir(owner) => put_owner(*owner, times, json),
         Kind::First(owner, bytes) => {
-            put_owner(*owner, json);
+            put_owner(*owner, times, json);
             json.bytes("data", bytes.as_slice());
         }
         Kind::Further(first) => json.number("first", u64::from(*first)),
@@ -91,8 +96,13 @@ fn put_kind<O: Write>(kind: &Kind, json: &mut JsonLines<'_, O>) {
     }
 }
 
-fn put_owner<O: Write>(owner: Owner, json: &mut JsonLines<'_, O>) {
+/// Writes who owns an entry, and its times if it has some.
+fn put_owner<O: Write>(owner: Owner, times: Times, json: &mut JsonLines<'_, O>) {
     json.number("uid", u64::from(owner.uid));
     json.number("gid", u64::from(owner.gid));
     json.octal("permissions", owner.permissions);
+    if times.are_known() {
+        json.number("access", u64::from(times.accessed));
+        json.number("modification", u64::from(times.modified));
+    }
 }

@@ -150,7 +150,7 @@ none-left (item ∷ items) = and-false (nat_lt 0 (length (item ∷ items)))
 
 -- no cause holds, and the names answer
 free-given : (s : State) (handle : List ℕ) (items : List NameItem) (found : Option Open)
-    → (is_none (causes_of (limits s.tree) (row_of (Readdir handle)) (seen_among s.tree.files a_listing found))
+    → (is_none (causes_of s.tree (row_of (Readdir handle)) (seen_among s.tree.files a_listing found))
     && says (said_of (limits s.tree) (row_of (Readdir handle)) (seen_among s.tree.files a_listing found)) (Name items))
     ≡ gives_names found items
 unfolding when no_causes
@@ -255,7 +255,7 @@ judged-not_given s handle items none =
 -- an answer that gives no names, and does not say that there are none
 free-unlisted : (s : State) (handle : List ℕ) (answer : Answer) (found : Option Open)
     → ((left : Left) → gives_some left answer ≡ false) → has_code 1 answer ≡ false
-    → (is_none (causes_of (limits s.tree) (row_of (Readdir handle)) (seen_among s.tree.files a_listing found))
+    → (is_none (causes_of s.tree (row_of (Readdir handle)) (seen_among s.tree.files a_listing found))
     && says (said_of (limits s.tree) (row_of (Readdir handle)) (seen_among s.tree.files a_listing found)) answer)
     ≡ false
 unfolding when no_causes
@@ -316,7 +316,7 @@ none-listed (Some (File number flags)) is = refl
 none-listed (Some (Listing left)) is = absurd cc
 
 free-end : (s : State) (handle message language : List ℕ) (found : Option Open)
-    → (is_none (causes_of (limits s.tree) (row_of (Readdir handle)) (seen_among s.tree.files a_listing found))
+    → (is_none (causes_of s.tree (row_of (Readdir handle)) (seen_among s.tree.files a_listing found))
     && says (said_of (limits s.tree) (row_of (Readdir handle)) (seen_among s.tree.files a_listing found))
     (Status 1 message language))
     ≡ has_none found

@@ -121,7 +121,7 @@ module _ {s : State} {ask : Ask} {number : ℕ} {flags : OpenFlags} {before : Co
   on-step : (answer : Answer) → Good s → IsAsk ask
       → step s ask answer
       ≡ option_map (λ done. with_file s number (effect done ask flags before))
-      (judged (limits s.tree) ask number flags before answer)
+      (judged s.tree ask number flags before answer)
   on-step answer good fit =
       file-step s ask at.handle number flags before answer good.tree.well_formed.numbered at.there at.asked good fit
       sees-file
@@ -155,7 +155,7 @@ mapped f end (Some a) is = (a, refl, sym (same_Some (f a) end is))
 pub record Did (s : State) (ask : Ask) (number : ℕ) (before : Content) (flags : OpenFlags) (answer : Answer)
     (end : State) : Type 0 where
   pub done : Bool
-  pub is : judged (limits s.tree) ask number flags before answer ≡ Some done
+  pub is : judged s.tree ask number flags before answer ≡ Some done
   pub end_is : end ≡ with_file s number (effect done ask flags before)
 
 pub did : {s end : State} {request : Request} {reply : Reply} {number : ℕ} {flags : OpenFlags} {before : Content}
@@ -163,14 +163,14 @@ pub did : {s end : State} {request : Request} {reply : Reply} {number : ℕ} {fl
     → OnFile s request.ask number flags before ends → Did s request.ask number before flags reply.answer end
 did {s} {end} {request} {reply} {number} {flags} {before} good fit allowed at =
     let found = mapped (λ done. with_file s number (effect done request.ask flags before)) end
-    (judged (limits s.tree) request.ask number flags before reply.answer)
+    (judged s.tree request.ask number flags before reply.answer)
     (sym (on-step at reply.answer good fit) ∙ allowed-step s request reply end allowed) in
     record { done = found.0; is = found.1; end_is = found.2 }
 
 does : {s : State} {request : Request} {reply : Reply} {number : ℕ} {flags : OpenFlags} {before : Content}
     {ends : ℕ × ℕ} (done : Bool) → Good s → IsAsk request.ask → reply.id ≡ request.id
     → OnFile s request.ask number flags before ends
-    → judged (limits s.tree) request.ask number flags before reply.answer ≡ Some done
+    → judged s.tree request.ask number flags before reply.answer ≡ Some done
     → Allowed s request reply (with_file s number (effect done request.ask flags before))
 does {s} {request} {reply} {number} {flags} {before} done good fit same at is =
     step-is_allowed s request reply (with_file s number (effect done request.ask flags before)) same
@@ -205,8 +205,8 @@ module _ {s mid end : State} {request other : Request} {reply next : Reply} {num
   two : Did (with_file s number middle) request.ask number middle flags reply.answer end
   two = did good-mid fit (subst (λ (m : State). Allowed m request reply end) one.end_is second) at-mid
 
-  early : judged (limits s.tree) request.ask number flags before reply.answer ≡ Some two.done
-  early = sym (judged-alike (limits s.tree) number flags before middle ends at.within alike reply.answer request.ask at.spanned)
+  early : judged s.tree request.ask number flags before reply.answer ≡ Some two.done
+  early = sym (judged-alike s.tree order number flags before middle ends at.within alike reply.answer request.ask at.spanned)
       ∙ two.is
 
   abbrev changed : Content
@@ -224,8 +224,8 @@ module _ {s mid end : State} {request other : Request} {reply next : Reply} {num
   at-between : OnFile (with_file s number changed) other.ask number other_flags changed other_ends
   at-between = on-changed other_at changed alike-too.sized
 
-  late : judged (limits s.tree) other.ask number other_flags changed next.answer ≡ Some one.done
-  late = judged-alike (limits s.tree) number other_flags before changed other_ends other_at.within alike-too next.answer other.ask other_at.spanned
+  late : judged s.tree other.ask number other_flags changed next.answer ≡ Some one.done
+  late = judged-alike s.tree order number other_flags before changed other_ends other_at.within alike-too next.answer other.ask other_at.spanned
       ∙ one.is
 
   second-now : Allowed (with_file s number changed) other next

@@ -13,7 +13,9 @@ use Rattle.sftp_handles.specs.Clash.{span, range_within, range_of, range_by, ran
 use Rattle.sftp_handles.proofs.ClashLaws.{applied, IsChangeTo, share-mutual, content-stays, open-stays}
 use Rattle.sftp_handles.proofs.ClashLaws.{touched-is}
 use Rattle.sftp_handles.proofs.ClashLaws.{StaysGood, exchanged, changes-of, handle-of, not-everything}
-use Rattle.sftp_handles.proofs.ClashLaws.{touched-past}
+use Rattle.sftp_handles.proofs.ClashLaws.{touched-past, or-none, clash-none, room-mutual, room-past}
+use Rattle.sftp_handles.proofs.Imports.{◌||◌}
+use Rattle.sftp_handles.specs.Clash.{room_clash}
 use Rattle.sftp_handles.proofs.Judged.{allowed-step}
 use Rattle.sftp_handles.proofs.RangeLaws.{Ranged, ranged-of, ranged-is}
 use Rattle.sftp_handles.proofs.RangeLaws.{with_file, effect}
@@ -54,12 +56,18 @@ by-tests false a is = inl refl
 by-tests true true is = inr refl
 by-tests true false is = absurd cc
 
--- two requests whose ranges do not clash do not clash, or their ranges are apart
+-- two requests whose ranges do not clash share no room, and nothing else either, or their ranges are apart
 pub clash-parts : (s : State) (request other : Request) → range_clash s request other ≡ false
-    → (clash s request other ≡ false) ⊎ (are_apart (range s request.ask) (range s other.ask) ≡ true)
+    → (room_clash (limits s.tree) (touched s request.ask) (touched s other.ask) ≡ false)
+    × ((share (touched s request.ask) (touched s other.ask) ≡ false)
+    ⊎ (are_apart (range s request.ask) (range s other.ask) ≡ true))
 unfolding range_clash
 clash-parts s request other free =
-    by-tests (clash s request other) (are_apart (range s request.ask) (range s other.ask)) free
+    let none = or-none (room_clash (limits s.tree) (touched s request.ask) (touched s other.ask)) _ free in (
+      none.0,
+      by-tests (share (touched s request.ask) (touched s other.ask))
+          (are_apart (range s request.ask) (range s other.ask)) none.1,
+    )
 
 -- ---- the exchange
 
@@ -74,10 +82,11 @@ exchange-apart stays-good s mid end request other reply next good fit fit_other 
 pub ranges-exchanged : (stays-good : StaysGood) (s mid end : State) (request other : Request) (reply next : Reply)
     → Good s → IsAsk request.ask → IsAsk other.ask → range_clash s request other ≡ false → Allowed s other next mid
     → Allowed mid request reply end → ComesFirst s request other reply next end
-unfolding clash
 ranges-exchanged stays-good s mid end request other reply next good fit fit_other free first second =
-    elim (clash-parts s request other free) [
-      | inl apart ↦ exchanged stays-good s mid end request other reply next good fit fit_other apart first second
+    let parts = clash-parts s request other free in
+    elim parts.1 [
+      | inl apart ↦
+          exchanged stays-good s mid end request other reply next good fit fit_other parts.0 apart first second
       | inr apart ↦
           exchange-apart stays-good s mid end request other reply next good fit fit_other
           (are-ranged s request.ask other.ask apart) first second
@@ -223,22 +232,30 @@ module _ (s end : State) (request earlier later : Request) (reply : Reply) (good
         let second = keeps-range later.ask two.other_at two.other_ranged other in
         λ i. are_apart (first i) (second i)
 
-    clash-past : clash end earlier later ≡ clash s earlier later
-    unfolding clash
-    clash-past = λ i.
+    shared-past : share (touched end earlier.ask) (touched end later.ask)
+        ≡ share (touched s earlier.ask) (touched s later.ask)
+    shared-past = λ i.
         share (touched-past s end request reply earlier.ask good fit part allowed i)
         (touched-past s end request reply later.ask good fit part allowed i)
 
+    ranged-past : (share (touched s earlier.ask) (touched s later.ask) ≡ false)
+        ⊎ (are_apart (range s earlier.ask) (range s later.ask) ≡ true)
+        → (share (touched end earlier.ask) (touched end later.ask)
+        && not (are_apart (range end earlier.ask) (range end later.ask))) ≡ false
+    ranged-past (inl apart) =
+        ap (λ b. b && not (are_apart (range end earlier.ask) (range end later.ask))) (shared-past ∙ apart)
+    ranged-past (inr apart) =
+        and_right (share (touched end earlier.ask) (touched end later.ask))
+        (not (are_apart (range end earlier.ask) (range end later.ask)))
+        (not_from_true (are_apart (range end earlier.ask) (range end later.ask))
+        (apart-past (are-ranged s earlier.ask later.ask apart) ∙ apart))
+
     past-free : range_clash s earlier later ≡ false → range_clash end earlier later ≡ false
     unfolding range_clash
-    past-free none = elim (clash-parts s earlier later none) [
-      | inl apart ↦
-          ap (λ b. b && not (are_apart (range end earlier.ask) (range end later.ask))) (clash-past ∙ apart)
-      | inr apart ↦
-          and_right (clash end earlier later) (not (are_apart (range end earlier.ask) (range end later.ask)))
-          (not_from_true (are_apart (range end earlier.ask) (range end later.ask))
-          (apart-past (are-ranged s earlier.ask later.ask apart) ∙ apart))
-    ]
+    past-free none =
+        let parts = clash-parts s earlier later none in
+        let room = room-past s end request reply earlier.ask later.ask good fit part allowed ∙ parts.0 in
+        λ i. room i || ranged-past parts.1 i
 
   -- a step of a request whose range is apart from the later one's
   module _ (two : AreRanged s request.ask later.ask) where
@@ -246,7 +263,7 @@ module _ (s end : State) (request earlier later : Request) (reply : Reply) (good
     its-range = two.ranged
 
     sized-free : range_clash end earlier later ≡ range_clash s earlier later
-    unfolding range_clash clash
+    unfolding range_clash
     sized-free =
         let at = on-file its-range in
         let one = did good fit allowed at in
@@ -254,16 +271,16 @@ module _ (s end : State) (request earlier later : Request) (reply : Reply) (good
         let sized : length next.bytes ≡ length its-range.before.bytes = effect-size at one.done in
         ap (λ (e : State). range_clash e earlier later) one.end_is
         ∙ (λ i.
-        share (touched-sized s earlier.ask two.at.number its-range.before next its-range.there sized i)
-        (touched-sized s later.ask two.at.number its-range.before next its-range.there sized i)
-        && not
+        let first = touched-sized s earlier.ask two.at.number its-range.before next its-range.there sized i in
+        let second = touched-sized s later.ask two.at.number its-range.before next its-range.there sized i in
+        room_clash (limits s.tree) first second
+        || (share first second && not
         (are_apart (range-sized s earlier.ask two.at.number its-range.before next its-range.there sized i)
-        (range-sized s later.ask two.at.number its-range.before next its-range.there sized i)))
+        (range-sized s later.ask two.at.number its-range.before next its-range.there sized i))))
 
   pub still-free : range_clash s request later ≡ false → range_clash s earlier later ≡ false
       → range_clash end earlier later ≡ false
-  unfolding clash
-  still-free free none = elim (clash-parts s request later free) [
+  still-free free none = elim (clash-parts s request later free).1 [
     | inl apart ↦ past-free apart none
     | inr apart ↦ sized-free (are-ranged s request.ask later.ask apart) ∙ none
   ]
@@ -290,15 +307,17 @@ apart-mutual (Some a) (Some b) =
     (swap (nat_lt a.start a.end) (nat_lt b.start b.end) (nat_lt a.start b.end) (nat_lt b.start a.end) i)
 
 pub range_clash-mutual : (s : State) (request other : Request) → range_clash s request other ≡ range_clash s other request
-unfolding range_clash clash
+unfolding range_clash
 range_clash-mutual s request other =
     λ i.
-    share-mutual (touched s request.ask) (touched s other.ask) i
-    && not (apart-mutual (range s request.ask) (range s other.ask) i)
+    room-mutual (limits s.tree) (touched s request.ask) (touched s other.ask) i
+    || (share-mutual (touched s request.ask) (touched s other.ask) i
+    && not (apart-mutual (range s request.ask) (range s other.ask) i))
 
 -- what does not clash does not clash by ranges either
 pub range_clash-less : (s : State) (request other : Request) → clash s request other ≡ false
     → range_clash s request other ≡ false
 unfolding range_clash
-range_clash-less s request other apart =
-    ap (λ b. b && not (are_apart (range s request.ask) (range s other.ask))) apart
+range_clash-less s request other free =
+    let none = clash-none s request other free in
+    λ i. none.0 i || (none.1 i && not (are_apart (range s request.ask) (range s other.ask)))

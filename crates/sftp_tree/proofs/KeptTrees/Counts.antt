@@ -5,11 +5,11 @@ use Rattle.sftp_tree.proofs.Imports.{eq-eqb, leb-true, same_Some, length-filter_
 use Rattle.sftp_tree.proofs.Imports.{place_cmp, Table, InOrder, get, retain, count-found, get-with_values, Content}
 use Rattle.sftp_tree.proofs.Imports.{Stored, Node, Names, Tree, IsKept, IsContent, is_directory, content_at, node_at}
 use Rattle.sftp_tree.proofs.Imports.{with_node, names_file, times_named, trim, with_content, Dir, File, Attrs, Owner}
-use Rattle.sftp_tree.proofs.Imports.{TreeLimits, highest_limits, IsOwner, changed_owner, changed_content}
+use Rattle.sftp_tree.proofs.Imports.{TreeLimits, most_limits, raised_limits, IsOwner, changed_owner, changed_content}
 use Rattle.sftp_tree.proofs.Imports.{with_changed_file, contents, pin_count_at, pins_of, seen, AreCounted, file_named}
 use Rattle.sftp_tree.proofs.Imports.{IsChanged, IsChangedWhereNamed, with_a_name, without_a_name, with_content_made}
 use Rattle.sftp_tree.proofs.Imports.{with_attributes_set, List, [], ◌∷◌, list_all, and_parts, and_from, le-leb}
-use Rattle.sftp_tree.proofs.Imports.{highest_are, Files, content_fits, IsStart, picture}
+use Rattle.sftp_tree.proofs.Imports.{raised_fit, Files, content_fits, IsStart, picture}
 use Rattle.sftp_tree.proofs.Imports.{raised as raised_tree}
 use Rattle.sftp_tree.proofs.Limits.{fits-parts, fits-from}
 use Rattle.sftp_tree.proofs.KeptTrees.{times_named-owner}
@@ -33,7 +33,7 @@ named-at_most names number =
     let both = length-filter_both (λ (e : Place × Node). names_file number e.1) (λ e. not (names_file number e.1)) (λ e. refl) names in
     omega arith
 
-few-entries : (t : Tree) → IsKept t → length t.names ≤ highest_limits.entries + 1
+few-entries : (t : Tree) → IsKept t → length t.names ≤ most_limits.entries + 1
 few-entries t kept = omega (arith, leb-true (length t.names - 1) t.limits.entries (fits-parts t kept.within_limits).entries, kept.well_formed.limits.entries.1)
 
 -- there is room for a further name in each count
@@ -168,24 +168,26 @@ raised-kept t kept =
         given = well.given;
         pins = well.pins;
         pinned = well.pinned;
-        limits = highest_are;
+        limits = raised_fit t.limits well.limits;
         home = well.home;
         uid = well.uid;
         gid = well.gid;
       };
       within_limits = fits-from (raised_tree t) (record {
-        entries = le-leb (length t.names - 1) highest_limits.entries
-            (omega (arith, leb-true (length t.names - 1) t.limits.entries parts.entries, well.limits.entries.1));
+        entries = le-leb (length t.names - 1) (raised_limits t.limits).entries
+            (omega (arith, leb-true (length t.names - 1) t.limits.entries parts.entries));
         depths = parts.depths;
         home = parts.home;
         links = parts.links;
-        files = all-wider t.limits highest_limits well.limits.file_bytes.1 t.files parts.files;
+        files = all-wider t.limits (raised_limits t.limits) (omega arith) t.files parts.files;
+        total = parts.total;
         numbers = parts.numbers;
       });
       trimmed = kept.trimmed;
     }
 
 pub raised-start : (t : Tree) (bytes : List ℕ) → IsStart t bytes → IsStart (raised_tree t) (picture (raised_tree t))
+unfolding picture
 raised-start t bytes start =
     let kept = raised-kept t (record { well_formed = start.well_formed; within_limits = start.within_limits; trimmed = start.trimmed }) in
     record {
@@ -194,5 +196,5 @@ raised-start t bytes start =
       trimmed = kept.trimmed;
       unpinned = start.unpinned;
       numbered = start.numbered;
-      picture_is = refl;
+      picture_is = record { times = []; are = tt; bytes_are = refl };
     }

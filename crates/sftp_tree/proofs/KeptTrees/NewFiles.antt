@@ -24,6 +24,9 @@ use Rattle.sftp_tree.proofs.KeptTrees.{named-put, or_weaker}
 use Rattle.sftp_tree.proofs.KeptTrees.{not-given}
 use Rattle.sftp_tree.proofs.KeptTrees.Counts.{files-in_order}
 use Rattle.sftp_tree.proofs.FileCounts.{by-number, same-pins}
+use Rattle.sftp_tree.proofs.Totals.{total-with}
+use Rattle.sftp_tree.specs.Tree.{total_of}
+use Rattle.sftp_tree.proofs.Imports.{leb-true, le-leb}
 use Rattle.sftp_tree.proofs.FileCounts.{count-at, at-entries, one-here, one-elsewhere, named-put as named-more}
 
 -- ---- a new file
@@ -66,22 +69,33 @@ kept-new t place content kept can =
           t.files kept.trimmed);
     }
 
-in-one : (a b n : Bool) → (a && ((b && true) && (true && ((true && true) && ((true && true) && n))))) ≡ ((a && b) && n)
+in-one : (a b n : Bool) → (a && ((b && true) && (true && ((true && true) && ((true && true) && (true && n)))))) ≡ ((a && b) && n)
 in-one true true n = refl
 in-one true false n = refl
 in-one false b n = refl
 
--- with a new file a tree within the limits fits where there is room
-pub fits-new : (t : Tree) (place : Place) (content : Content) → IsTrue (fits t) → node_at t.names place ≡ None
-    → content_at t.files t.made ≡ None → content_fits (limits t) content ≡ true
+-- all contents are as many bytes as before
+total-new : (t : Tree) (content : Content) → IsKept t → length content.bytes ≡ 0
+    → nat_le (total_of (with_content t.files t.made content)) (limits t).total_bytes ≡ true
+total-new t content kept empty =
+    let most = leb-true (total_of t.files) (limits t).total_bytes (fits-parts t kept.within_limits).total in
+    le-leb (total_of (with_content t.files t.made content)) (limits t).total_bytes
+    (omega (arith, most, empty, total-with t.files t.made content kept.well_formed.numbered))
+
+-- with a new file without bytes a tree within the limits fits where there is room
+pub fits-new : (t : Tree) (place : Place) (content : Content) → IsKept t → node_at t.names place ≡ None
+    → content_at t.files t.made ≡ None → length content.bytes ≡ 0
     → fits (with_new_file t place content) ≡ has_room_for_file t place
 unfolding fits
-fits-new t place content kept absent new short =
-    let fit = fits-parts t kept in
+fits-new t place content kept absent new empty =
+    let fit = fits-parts t kept.within_limits in
+    let short : content_fits (limits t) content ≡ true =
+    le-leb (length content.bytes) (limits t).file_bytes (omega (arith, empty)) in
+    let total = total-new t content kept empty in
     (λ i.
-    entries-with t place (File t.made) absent i && (depths-with t place (File t.made) absent i && (fit.home i && (links-with t place (File t.made) absent i && (files-with t t.made content new i && nat_lt (t.made + 1) (2 ^ 32))))))
+    entries-with t place (File t.made) absent i && (depths-with t place (File t.made) absent i && (fit.home i && (links-with t place (File t.made) absent i && (files-with t t.made content new i && (total i && nat_lt (t.made + 1) (2 ^ 32)))))))
     ∙ (λ i.
-    nat_le (length t.names) (limits t).entries && ((depth_fits place && fit.depths i) && (true && ((true && fit.links i) && ((short i && fit.files i) && nat_lt (t.made + 1) (2 ^ 32))))))
+    nat_le (length t.names) (limits t).entries && ((depth_fits place && fit.depths i) && (true && ((true && fit.links i) && ((short i && fit.files i) && (true && nat_lt (t.made + 1) (2 ^ 32)))))))
     ∙ in-one (nat_le (length t.names) (limits t).entries) (depth_fits place) (nat_lt (t.made + 1) (2 ^ 32))
 
 -- ---- a file that loses its bytes

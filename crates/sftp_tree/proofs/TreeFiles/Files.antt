@@ -4,7 +4,7 @@ use Rattle.sftp_tree.proofs.Imports.{◌≡◌, ℕ, ◌+◌, ◌-◌, ◌<◌, 
 use Rattle.sftp_tree.proofs.Imports.{refl, sym, ap, subst, ◌∙◌, arith, IsTrue, is_some, AllByRecursion, filter}
 use Rattle.sftp_tree.proofs.Imports.{leb-true, ltb-true, le-leb, lt-ltb, or_left, length-append, filter-append, Place}
 use Rattle.sftp_tree.proofs.Imports.{are_names, retain, components-absolute, Owner, Kind, Row, TreeFile, TreeLimits}
-use Rattle.sftp_tree.proofs.Imports.{highest_limits, IsOwner, IsKind, AreRows, IsTreeFile, spelled, IsSpelled}
+use Rattle.sftp_tree.proofs.Imports.{most_limits, IsOwner, IsKind, AreRows, IsTreeFile, spelled, IsSpelled}
 use Rattle.sftp_tree.proofs.Imports.{usual_are, one_file, Content, Node, Dir, File, Link, Names, Files, Tree}
 use Rattle.sftp_tree.proofs.Imports.{WellFormed, IsKept, IsNode, IsContent, limits, node_at, content_at, names_file}
 use Rattle.sftp_tree.proofs.Imports.{times_named, is_named, is_pinned, fits, depths_fit, depth_fits, home_fits}
@@ -13,7 +13,7 @@ use Rattle.sftp_tree.proofs.Imports.{is_numbered, file_of, picture, IsStart, bla
 use Rattle.sftp_tree.proofs.Imports.{only_root, names_of, numbered_from, tree_of, suc, ◌==◌, Bool, true, false}
 use Rattle.sftp_tree.proofs.Imports.{if◌then◌else◌, Option, None, IfSome, flat_map, nat_cmp, is_eq, nat_cmp_total}
 use Rattle.sftp_tree.proofs.Imports.{eqb-true, eq-eqb, absolute, get, get-put, row_text, head_bytes, path_length}
-use Rattle.sftp_tree.proofs.Imports.{target_length, spelled_head, file_bytes_bound, entry_naming, naming, kind_of}
+use Rattle.sftp_tree.proofs.Imports.{target_length, spelled_plain, entry_naming, naming, kind_of}
 use Rattle.sftp_tree.proofs.Imports.{Firsts, firsts_with, known_kind}
 use Rattle.sftp_treefile.specs.declared.files.Kind.TheVariants as kinds
 use Rattle.sftp_tree.specs.PictureParts.{entry_of, entries_after, head_of, with_first, IsShort}
@@ -27,10 +27,17 @@ use Rattle.sftp_tree.proofs.TreeFiles.Numbers.{numbered_contents, numbered_there
 use Rattle.sftp_tree.proofs.TreeFiles.Numbers.{numbered_order, numbered_again, number_is}
 use Rattle.sftp_tree.proofs.TreeFiles.Numbers.{IsBelowRoot, IsFitContent, length-rows, place_text, entry_texts}
 use Rattle.sftp_tree.proofs.TreeFiles.Numbers.{rows_bare, kinds_fit, all_at}
-use Rattle.sftp_tree.proofs.TreeFiles.Stores.{rows_again, rows_numbered, entries_again}
+use Rattle.sftp_tree.proofs.TreeFiles.Stores.{rows_again, rows_numbered, entries_again, numbered_total}
 use Rattle.sftp_tree.proofs.PlaceTables.{each-all, all-each, each-weaker}
 use Rattle.sftp_tree.proofs.Limits.{Stands, fits-parts, fits-from, stands-of}
 use Rattle.std.specs.Option.{option_map}
+use Rattle.sftp_tree.proofs.Imports.{not, nat_cmp-IsAntisymmetric, Equal-is, lookup, is_at, usual_limits, raised_are}
+use Rattle.sftp_treefile.specs.declared.times.Times.{Times}
+use Rattle.sftp_treefile.specs.TreeFile.{contents_length, content_length, AreFileTimes, no_times, opening_with}
+use Rattle.sftp_tree.specs.Tree.{total_of}
+use Rattle.sftp_tree.specs.Changes.{length_of}
+use Rattle.sftp_tree.specs.Picture.{timed_file_of}
+use Rattle.sftp_tree.proofs.Totals.{total-retain}
 
 -- ---- the limits, entry by entry
 
@@ -40,19 +47,20 @@ pub record Limits (t : Tree) : Type 0 where
   pub home : IsTrue (home_fits t)
   pub links : IsTrue (links_fit t)
   pub files : IsTrue (files_fit t)
+  pub total : total_of t.files ≤ t.limits.total_bytes
   pub numbers : t.made < 2 ^ 32
 
 pub limits_from : (t : Tree) → IsTrue (fits t) → Limits t
 limits_from t h =
     let parts = fits-parts t h in
-    record { entries = omega (arith, leb-true (length t.names - 1) t.limits.entries parts.entries); depths = parts.depths; home = parts.home; links = parts.links; files = parts.files; numbers = ltb-true t.made (2 ^ 32) parts.numbers }
+    record { entries = omega (arith, leb-true (length t.names - 1) t.limits.entries parts.entries); depths = parts.depths; home = parts.home; links = parts.links; files = parts.files; total = leb-true (total_of t.files) t.limits.total_bytes parts.total; numbers = ltb-true t.made (2 ^ 32) parts.numbers }
 
 pub limits_fit : (t : Tree) → Limits t → IsTrue (fits t)
 limits_fit t l =
-    fits-from t (record { entries = le-leb (length t.names - 1) t.limits.entries (omega (arith, l.entries)); depths = l.depths; home = l.home; links = l.links; files = l.files; numbers = lt-ltb t.made (2 ^ 32) l.numbers })
+    fits-from t (record { entries = le-leb (length t.names - 1) t.limits.entries (omega (arith, l.entries)); depths = l.depths; home = l.home; links = l.links; files = l.files; total = le-leb (total_of t.files) t.limits.total_bytes l.total; numbers = lt-ltb t.made (2 ^ 32) l.numbers })
 
-pub highest-entries : (t : Tree) → Stands t → t.limits.entries ≤ highest_limits.entries
-highest-entries t kept = kept.well_formed.limits.entries.1
+pub most-entries : (t : Tree) → Stands t → t.limits.entries ≤ most_limits.entries
+most-entries t kept = kept.well_formed.limits.entries.1
 
 -- ---- what the files of rows keep
 
@@ -94,6 +102,125 @@ names_each root rows number below =
     let many = named_between number (names_of root f.at.front) (entry_of f.at.front f.at.row) (entries_after (f.at.front ++ f.at.row ∷ []) f.at.rest) here in
     subst (λ (names : Names). IsTrue (is_named names number)) (sym (ap (names_of root) f.at.rows_are ∙ names_split root f.at.front (f.at.row ∷ f.at.rest))) (lt-ltb 0 (times_named (names_of root f.at.front ++ entries_after f.at.front (f.at.row ∷ f.at.rest)) number) many)
 
+-- ---- the bytes of the files that rows come with
+
+-- an entry more
+abbrev pub then_naming : Option ℕ → Bool → ℕ → Option ℕ
+then_naming (Some first) names entry = Some first
+then_naming None true entry = Some entry
+then_naming None false entry = None
+
+naming_push : (number : ℕ) (front : Names) (e : Place × Node) → entry_naming number (front ++ e ∷ []) ≡ then_naming (entry_naming number front) (names_file number e.1) (length front)
+naming_push number [] e = by (names_file number e.1)
+  where
+    by : (b : Bool) → (if b then Some 0 else option_map suc None) ≡ then_naming None b 0
+    by true = refl
+    by false = refl
+naming_push number (x ∷ front) e =
+    ap (λ (o : Option ℕ). if names_file number x.1 then Some 0 else option_map suc o) (naming_push number front e) ∙ by (names_file number x.1) (entry_naming number front) (names_file number e.1)
+  where
+    by : (b : Bool) (o : Option ℕ) (names : Bool) → (if b then Some 0 else option_map suc (then_naming o names (length front))) ≡ then_naming (if b then Some 0 else option_map suc o) names (suc (length front))
+    by true o names = refl
+    by false None true = refl
+    by false o names = refl
+
+-- whether no entry so far is a name of the file
+abbrev unmet : Names → ℕ × Content → Bool
+unmet earlier f = not (is_some (entry_naming f.0 earlier))
+
+still-unmet : (earlier : Names) (e : Place × Node) (f : ℕ × Content) → unmet (earlier ++ e ∷ []) f ≡ true → unmet earlier f ≡ true
+still-unmet earlier e f later = by (entry_naming f.0 earlier) (names_file f.0 e.1)
+    (ap (λ (o : Option ℕ). not (is_some o)) (sym (naming_push f.0 earlier e)) ∙ later)
+  where
+    by : (o : Option ℕ) (b : Bool) → not (is_some (then_naming o b (length earlier))) ≡ true → not (is_some o) ≡ true
+    by None b h = refl
+    by (Some first) b h = h
+
+-- fewer files have no more bytes
+fewer-total : (p q : ℕ × Content → Bool) (files : Files) → ((f : ℕ × Content) → p f ≡ true → q f ≡ true) → total_of (retain files p) ≤ total_of (retain files q)
+unfolding retain
+fewer-total p q [] less = omega arith
+fewer-total p q (f ∷ files) less = by (p f) (q f) (less f) (fewer-total p q files less)
+  where
+    by : (a b : Bool) → (a ≡ true → b ≡ true) → total_of (filter p files) ≤ total_of (filter q files)
+        → total_of (cond a (f ∷ filter p files) (filter p files)) ≤ total_of (cond b (f ∷ filter q files) (filter q files))
+    by true true less rest = omega (arith, rest)
+    by true false less rest = absurd (let h : false ≡ true = less refl in cc)
+    by false true less rest = omega (arith, rest)
+    by false false less rest = rest
+
+-- and without one that is among the others they have its bytes less
+one-fewer : (p q : ℕ × Content → Bool) (files : Files) (number : ℕ) → ((f : ℕ × Content) → p f ≡ true → q f ≡ true)
+    → ((content : Content) → p (number, content) ≡ false) → ((content : Content) → q (number, content) ≡ true)
+    → total_of (retain files p) + length_of (content_at files number) ≤ total_of (retain files q)
+unfolding retain get
+one-fewer p q [] number less out was = omega arith
+one-fewer p q (f ∷ files) number less out was =
+    by (is_eq (nat_cmp number f.0)) refl (p f) refl (q f) refl (one-fewer p q files number less out was)
+  where
+    by : (here : Bool) → is_eq (nat_cmp number f.0) ≡ here → (a : Bool) → p f ≡ a → (b : Bool) → q f ≡ b
+        → total_of (filter p files) + length_of (lookup (is_at (nat_cmp number)) files) ≤ total_of (filter q files)
+        → total_of (cond a (f ∷ filter p files) (filter p files))
+        + length_of (cond here (Some f.1) (lookup (is_at (nat_cmp number)) files))
+        ≤ total_of (cond b (f ∷ filter q files) (filter q files))
+    by true at a p-is b q-is rest =
+        let same : number ≡ f.0 = nat_cmp-IsAntisymmetric number f.0 ((Equal-is (nat_cmp number f.0)).0 at) in
+        let gone : a ≡ false = sym p-is ∙ ap (λ k. p (k, f.1)) (sym same) ∙ out f.1 in
+        let there : b ≡ true = sym q-is ∙ ap (λ k. q (k, f.1)) (sym same) ∙ was f.1 in
+        let few : total_of (filter p files) ≤ total_of (filter q files) = fewer-total p q files less in
+        let front : total_of (cond a (f ∷ filter p files) (filter p files)) ≡ total_of (filter p files) =
+        ap (λ c. total_of (cond c (f ∷ filter p files) (filter p files))) gone in
+        let back : total_of (cond b (f ∷ filter q files) (filter q files)) ≡ length f.1.bytes + total_of (filter q files) =
+        ap (λ c. total_of (cond c (f ∷ filter q files) (filter q files))) there in
+        omega (arith, front, back, few)
+    by false at true p-is true q-is rest = omega (arith, rest)
+    by false at true p-is false q-is rest = absurd (let h : false ≡ true = sym q-is ∙ less f p-is in cc)
+    by false at false p-is true q-is rest = omega (arith, rest)
+    by false at false p-is false q-is rest = rest
+
+-- the first name of a file comes with its bytes
+named-length : (o : Option Content) → content_length (naming None o) ≡ length_of o
+named-length None = refl
+named-length (Some content) = refl
+
+kind-length : (files : Files) (earlier : Names) (place : Place) (standing : Node)
+    → content_length (kind_of files earlier standing) + total_of (retain files (unmet (earlier ++ (place, standing) ∷ [])))
+    ≤ total_of (retain files (unmet earlier))
+kind-length files earlier place (File number) = by (entry_naming number earlier) refl
+  where
+    few : total_of (retain files (unmet (earlier ++ (place, File number) ∷ []))) ≤ total_of (retain files (unmet earlier))
+    few = fewer-total (unmet (earlier ++ (place, File number) ∷ [])) (unmet earlier) files (still-unmet earlier (place, File number))
+
+    by : (o : Option ℕ) → entry_naming number earlier ≡ o
+        → content_length (naming o (content_at files number)) + total_of (retain files (unmet (earlier ++ (place, File number) ∷ [])))
+        ≤ total_of (retain files (unmet earlier))
+    by (Some first) is = omega (arith, few)
+    by None is =
+        let met : entry_naming number (earlier ++ (place, File number) ∷ []) ≡ Some (length earlier) =
+        naming_push number earlier (place, File number) ∙ (λ i. then_naming (is i) (eq-eqb number number refl i) (length earlier)) in
+        let less = one-fewer (unmet (earlier ++ (place, File number) ∷ [])) (unmet earlier) files number
+        (still-unmet earlier (place, File number)) (λ content. ap (λ (o : Option ℕ). not (is_some o)) met)
+        (λ content. ap (λ (o : Option ℕ). not (is_some o)) is) in
+        omega (arith, less, named-length (content_at files number))
+kind-length files earlier place (Dir owner) =
+    omega (arith, fewer-total (unmet (earlier ++ (place, Dir owner) ∷ [])) (unmet earlier) files (still-unmet earlier (place, Dir owner)))
+kind-length files earlier place (Link target) =
+    omega (arith, fewer-total (unmet (earlier ++ (place, Link target) ∷ [])) (unmet earlier) files (still-unmet earlier (place, Link target)))
+
+met-total : (files : Files) (earlier names : Names) → contents_length (rows_after files earlier names) ≤ total_of (retain files (unmet earlier))
+met-total files earlier [] = omega arith
+met-total files earlier (([], standing) ∷ es) = omega (
+  arith,
+  fewer-total (unmet (earlier ++ ([], standing) ∷ [])) (unmet earlier) files (still-unmet earlier ([], standing)),
+  met-total files (earlier ++ ([], standing) ∷ []) es,
+)
+met-total files earlier ((n ∷ ns, standing) ∷ es) =
+    omega (arith, kind-length files earlier (n ∷ ns) standing, met-total files (earlier ++ (n ∷ ns, standing) ∷ []) es)
+
+-- the rows of a tree come with no more bytes than its files have
+rows-total : (files : Files) (names : Names) → contents_length (rows_after files [] names) ≤ total_of files
+rows-total files names = omega (arith, met-total files [] names, total-retain files (unmet []))
+
 -- ---- from a tree file to its tree
 
 pub table_of_file : (bounds : TreeLimits) → (root : Owner) (rows : List Row) → IsOwner root → AreRows bounds [] rows → IsTable root (names_of root rows)
@@ -134,6 +261,7 @@ kept_of_file file is =
         home = home.1;
         links = all-each (λ (e : Place × Node). link_fits e.1) names (each-weaker (λ (e : Place × Node). IsFitNode e.1) (λ (e : Place × Node). IsTrue (link_fits e.1)) (λ e p. fit_link e.1 p) names t.nodes);
         files = all-each (λ (e : ℕ × Content). content_fits (limits (tree_of file)) e.1) files (each_content (λ c. IsTrue (content_fits (limits (tree_of file)) c)) 0 contents (each-weaker (IsFitContent file.limits) (λ c. IsTrue (content_fits (limits (tree_of file)) c)) (λ c f. le-leb (length c.bytes) file.limits.file_bytes f.1) contents fit));
+        total = omega (arith, is.total, numbered_total 0 file.rows);
         numbers = omega (arith, made_few file.rows, is.count, is.limits.entries.1);
       });
       trimmed = each_number (λ n. IsTrue (is_named names n || is_pinned [] n)) 0 contents (λ n above below. or_left (is_named names n) (is_pinned [] n) (names_each file.root file.rows n (omega arith)));
@@ -142,12 +270,12 @@ kept_of_file file is =
 pub numbered_of_file : (file : TreeFile) → IsTreeFile file → IsTrue (is_numbered 0 (tree_of file).names (tree_of file).made)
 numbered_of_file file is = rows_numbered file.limits [] file.rows is.rows
 
-pub file_again : (file : TreeFile) → IsTreeFile file → file_of (tree_of file) ≡ file
+pub file_again : (file : TreeFile) → IsTreeFile file → timed_file_of (tree_of file) file.times ≡ file
 file_again file is =
     let root : root_owner (node_at (names_of file.root file.rows) []) ≡ file.root = ap root_owner (root_at file.root (entries_after [] file.rows)) in
     let rows : rows_after (numbered_from 0 (contents_of file.rows)) (only_root file.root) (entries_after [] file.rows) ≡ file.rows =
     rows_again file.limits file.root (numbered_from 0 (contents_of file.rows)) [] file.rows tt is.rows (numbered_contents (contents_of file.rows)) in
-    λ i. record { limits = file.limits; home = sym is.home.one i; uid = file.uid; gid = file.gid; root = root i; rows = rows i }
+    λ i. record { limits = file.limits; home = sym is.home.one i; uid = file.uid; gid = file.gid; root = root i; rows = rows i; times = file.times }
 
 -- ---- from a tree to its file
 
@@ -218,10 +346,10 @@ rows_of_split t kept s =
     subst (IsTable s.root) (ap (λ (es : Names). only_root s.root ++ es) (sym (rows_bare t.files (only_root s.root) s.entries s.below))) (table_bare s.root (only_root s.root ++ s.entries) s.table) in
     let fit = all_right (λ (e : Place × Node). IsFitNode e.1) (only_root s.root) s.entries s.table.nodes in
     rows_of_table t.limits s.root [] rows table (entry_texts t.files (only_root s.root) s.entries s.below)
-    (kinds_fit t.limits t.files s.root [] s.entries fit s.nodes (fit_files t kept) tt s.below (omega (arith, s.few, highest-entries t kept)))
+    (kinds_fit t.limits t.files s.root [] s.entries fit s.nodes (fit_files t kept) tt s.below (omega (arith, s.few, most-entries t kept)))
 
-pub file_of_tree : (t : Tree) → Stands t → IsTreeFile (file_of t)
-file_of_tree t kept =
+pub timed_file_of_tree : (t : Tree) → Stands t → (times : List Times) → AreFileTimes (file_of t).rows times → IsTreeFile (timed_file_of t times)
+timed_file_of_tree t kept times are =
     let s = split_tree t kept in
     let l = limits_from t kept.within_limits in
     let rows : rows_after t.files [] t.names ≡ rows_after t.files (only_root s.root) s.entries = ap (rows_after t.files []) s.names_are in
@@ -233,7 +361,12 @@ file_of_tree t kept =
       count = omega (arith, ap length rows, length-rows t.files (only_root s.root) s.entries s.below, s.few);
       root = subst IsOwner (sym (root_of_split t s)) s.table.nodes.0;
       rows = subst (AreRows t.limits []) (sym rows) (rows_of_split t kept s);
+      total = omega (arith, l.total, rows-total t.files t.names);
+      times = are;
     }
+
+pub file_of_tree : (t : Tree) → Stands t → IsTreeFile (file_of t)
+file_of_tree t kept = timed_file_of_tree t kept [] tt
 
 pub tree_again : (t : Tree) → Stands t → t.pins ≡ [] → IsTrue (is_numbered 0 t.names t.made) → tree_of (file_of t) ≡ t
 tree_again t kept unpinned numbered =
@@ -266,12 +399,12 @@ blank_kept =
         given = tt;
         pins = numbered_order 0 [];
         pinned = tt;
-        limits = usual_are;
+        limits = raised_are usual_limits usual_are;
         home = refl;
         uid = omega arith;
         gid = omega arith;
       };
-      within_limits = limits_fit blank (record { entries = omega arith; depths = refl; home = refl; links = refl; files = refl; numbers = omega arith });
+      within_limits = limits_fit blank (record { entries = omega arith; depths = refl; home = refl; links = refl; files = refl; total = omega arith; numbers = omega arith });
       trimmed = tt;
     }
 
@@ -280,21 +413,33 @@ blank_kept =
 pub stands_of_start : (t : Tree) (bytes : List ℕ) → IsStart t bytes → Stands t
 stands_of_start t bytes start = record { well_formed = start.well_formed; within_limits = start.within_limits }
 
-pub spelled_of_start : (t : Tree) (bytes : List ℕ) → IsStart t bytes → IsSpelled (file_of t) bytes
+pub spelled_of_start : (t : Tree) (bytes : List ℕ) (start : IsStart t bytes) → IsSpelled (timed_file_of t start.picture_is.times) bytes
+spelled_of_start t bytes start = record {
+  may_be = timed_file_of_tree t (stands_of_start t bytes start) start.picture_is.times start.picture_is.are;
+  bytes_are = start.picture_is.bytes_are;
+}
+
+-- without times they are the picture
+pub plain_of_start : (t : Tree) (bytes : List ℕ) (start : IsStart t bytes) → start.picture_is.times ≡ [] → bytes ≡ picture t
 unfolding picture
-spelled_of_start t bytes start = record { may_be = file_of_tree t (stands_of_start t bytes start); bytes_are = start.picture_is }
+plain_of_start t bytes start none =
+    start.picture_is.bytes_are ∙ ap (λ (times : List Times). spelled (timed_file_of t times)) none
 
 pub start_of_spelled : (file : TreeFile) (bytes : List ℕ) → IsSpelled file bytes → IsStart (tree_of file) bytes
-unfolding picture
 start_of_spelled file bytes is =
     let kept = kept_of_file file is.may_be in
+    let again = file_again file is.may_be in
     record {
       well_formed = kept.well_formed;
       within_limits = kept.within_limits;
       trimmed = kept.trimmed;
       unpinned = refl;
       numbered = numbered_of_file file is.may_be;
-      picture_is = is.bytes_are ∙ ap spelled (sym (file_again file is.may_be));
+      picture_is = record {
+        times = file.times;
+        are = subst (λ (rows : List Row). AreFileTimes rows file.times) (sym (ap (λ (f : TreeFile). f.rows) again)) is.may_be.times;
+        bytes_are = is.bytes_are ∙ ap spelled (sym again);
+      };
     }
 
 -- the tree file of a tree is that of the tree whose files are numbered anew
@@ -307,7 +452,7 @@ start_of_picture t well within =
 pub one_start : (t u : Tree) (bytes : List ℕ) → IsStart t bytes → IsStart u bytes → t ≡ u
 one_start t u bytes t-start u-start =
     sym (tree_again t (stands_of_start t bytes t-start) t-start.unpinned t-start.numbered)
-    ∙ ap tree_of (one_file (file_of t) (file_of u) bytes (spelled_of_start t bytes t-start) (spelled_of_start u bytes u-start))
+    ∙ ap tree_of (one_file (timed_file_of t t-start.picture_is.times) (timed_file_of u u-start.picture_is.times) bytes (spelled_of_start t bytes t-start) (spelled_of_start u bytes u-start))
     ∙ tree_again u (stands_of_start u bytes u-start) u-start.unpinned u-start.numbered
 
 -- ==== A tree file is written entry by entry.
@@ -317,13 +462,9 @@ one_start t u bytes t-start u-start =
 pub path_short : (place : Place) → IsPlace place → length (absolute place) < 2 ^ 32
 path_short place is = path_length (absolute place) (place_text place is)
 
-bytes_short : (bounds : TreeLimits) → bounds.file_bytes < 2 ^ 32 → (files : Files) (number : ℕ) (content : Option Content) → AllByRecursion (λ e. IsFitContent bounds e.1) files → content_at files number ≡ content → IfSome content (λ (c : Content). length c.bytes < 2 ^ 32)
-bytes_short bounds bound files number None fit is = tt
-bytes_short bounds bound files number (Some content) fit is = omega (arith, bound, (all_at (IsFitContent bounds) files number content fit is).1)
-
 pub node_short : (t : Tree) → IsKept t → (standing : Node) → IsFitNode standing → IsShort t.files standing
 node_short t kept (Dir owner) fits = tt
-node_short t kept (File number) fits = bytes_short t.limits (file_bytes_bound t.limits kept.well_formed.limits) t.files number (content_at t.files number) (fit_files t (stands-of t kept)) refl
+node_short t kept (File number) fits = tt
 node_short t kept (Link target) fits = target_length target (fits.1, fits.0)
 
 -- ---- one entry more
@@ -333,32 +474,12 @@ pub record Entry (t : Tree) (i : ℕ) (e : Place × Node) : Type 0 where
   pub below : IsBelowRoot e
   pub node : IsFitNode e.1
   pub within : i < length t.names
-  pub few : length t.names ≤ highest_limits.entries + 1
+  pub few : length t.names ≤ most_limits.entries + 1
 
 -- ---- the first names that were met
 
 abbrev pub AreFirsts : Firsts → Names → Type 0
 AreFirsts firsts names = (number : ℕ) → get nat_cmp firsts number ≡ entry_naming number names
-
--- an entry more
-abbrev pub then_naming : Option ℕ → Bool → ℕ → Option ℕ
-then_naming (Some first) names entry = Some first
-then_naming None true entry = Some entry
-then_naming None false entry = None
-
-naming_push : (number : ℕ) (front : Names) (e : Place × Node) → entry_naming number (front ++ e ∷ []) ≡ then_naming (entry_naming number front) (names_file number e.1) (length front)
-naming_push number [] e = by (names_file number e.1)
-  where
-    by : (b : Bool) → (if b then Some 0 else option_map suc None) ≡ then_naming None b 0
-    by true = refl
-    by false = refl
-naming_push number (x ∷ front) e =
-    ap (λ (o : Option ℕ). if names_file number x.1 then Some 0 else option_map suc o) (naming_push number front e) ∙ by (names_file number x.1) (entry_naming number front) (names_file number e.1)
-  where
-    by : (b : Bool) (o : Option ℕ) (names : Bool) → (if b then Some 0 else option_map suc (then_naming o names (length front))) ≡ then_naming (if b then Some 0 else option_map suc o) names (suc (length front))
-    by true o names = refl
-    by false None true = refl
-    by false o names = refl
 
 then_same : (o : Option ℕ) (b : Bool) (entry : ℕ) → b ≡ false → o ≡ then_naming o b entry
 then_same None true entry is = absurd cc
@@ -396,10 +517,10 @@ known files firsts front other are = refl
 -- ---- the head
 
 -- the root is one of the places
-pub names_count : (t : Tree) → IsKept t → (1 ≤ length t.names) × (length t.names ≤ highest_limits.entries + 1)
+pub names_count : (t : Tree) → IsKept t → (1 ≤ length t.names) × (length t.names ≤ most_limits.entries + 1)
 names_count t kept =
     let s = split_tree t (stands-of t kept) in
-    (omega (arith, ap length s.names_are), omega (arith, ap length s.names_are, s.few, highest-entries t (stands-of t kept)))
+    (omega (arith, ap length s.names_are), omega (arith, ap length s.names_are, s.few, most-entries t (stands-of t kept)))
 
 pub home_short : (t : Tree) → IsKept t → length (absolute t.home) < 2 ^ 32
 home_short t kept = path_short t.home (kept.well_formed.home, (limits_from t kept.within_limits).home)
@@ -410,5 +531,5 @@ picture_written t kept =
     let s = split_tree t (stands-of t kept) in
     let count : length (rows_after t.files [] t.names) ≡ length t.names - 1 =
     omega (arith, ap length (ap (rows_after t.files []) s.names_are), length-rows t.files (only_root s.root) s.entries s.below, ap length s.names_are) in
-    spelled_head (file_of t)
-    ∙ ap (λ n. head_bytes (record { limits = t.limits; home = absolute t.home; uid = t.uid; gid = t.gid; count = n; root = root_owner (node_at t.names []) }) ++ flat_map row_text (rows_after t.files [] t.names)) count
+    spelled_plain (file_of t) refl
+    ∙ ap (λ n. head_bytes (record { opening = opening_with false t.limits; limits = t.limits; home = absolute t.home; uid = t.uid; gid = t.gid; count = n; root = root_owner (node_at t.names []); root_times = no_times }) ++ flat_map row_text (rows_after t.files [] t.names)) count

@@ -16,7 +16,8 @@ use Rattle.sftp_tree.proofs.Nesting.{front_open}
 use Rattle.sftp_tree.proofs.PlaceTables.{insert_last}
 use Rattle.sftp_tree.proofs.TreeFiles.Files.{table_of_file, blank_kept, kept_of_file, start_of_spelled}
 use Rattle.sftp_tree.proofs.TreeFiles.Stores.{keys_before}
-use Rattle.sftp_treefile.specs.TreeFile.{are_own}
+use Rattle.sftp_treefile.specs.TreeFile.{are_own, are_far, spelled_after}
+use Rattle.sftp_tree.proofs.Imports.{raised_are}
 use Rattle.sftp_tree.proofs.KeptTrees.Counts.{raised-start}
 
 -- ---- the entries are put after all others
@@ -149,17 +150,18 @@ room_for bounds root rows row above depth name text is next text-is whole count 
 -- ---- the root alone
 
 pub blank_picture : picture blank ≡ blank_bytes
-unfolding picture spelled are_own get hex
+unfolding picture spelled spelled_after are_own are_far get hex
 blank_picture = refl
 
 pub blank_start : IsStart blank blank_bytes
+unfolding spelled picture
 blank_start = record {
   well_formed = blank_kept.well_formed;
   within_limits = blank_kept.within_limits;
   trimmed = blank_kept.trimmed;
   unpinned = refl;
   numbered = refl;
-  picture_is = sym blank_picture;
+  picture_is = record { times = []; are = tt; bytes_are = sym blank_picture };
 }
 
 pub raised_length : length raised_bytes ≡ 53
@@ -167,7 +169,7 @@ unfolding hex
 raised_length = refl
 
 pub raised_picture : picture (raised blank) ≡ raised_bytes
-unfolding picture spelled are_own get hex
+unfolding picture spelled spelled_after are_own are_far get hex
 raised_picture = refl
 
 pub raised_blank : IsStart (raised blank) raised_bytes
@@ -183,6 +185,7 @@ linked_file = record {
   gid = 100;
   root = record { uid = 0; gid = 5; permissions = 0o755 };
   rows = record { path = codes "/d"; kind = kinds.Dir user_owner } ∷ record { path = codes "/l"; kind = kinds.Link (codes "d") } ∷ [];
+  times = [];
 }
 
 text_d : IsPlaceText (codes "/d")
@@ -196,7 +199,7 @@ text_l = record { names = refl; depth = omega arith; one = refl }
 may_be : IsTreeFile linked_file
 unfolding linked_file components parts has_dir is_good_path
 may_be = record {
-  limits = usual_are;
+  limits = raised_are usual_limits usual_are;
   home = text_d;
   uid = omega arith;
   gid = omega arith;
@@ -206,6 +209,8 @@ may_be = record {
     record { path = text_d; below_root = omega arith; later = tt; parent = refl; kind = (omega arith, omega arith, omega arith) },
     (record { path = text_l; below_root = omega arith; later = (refl, tt); parent = refl; kind = (refl, refl) }, tt),
   );
+  total = omega arith;
+  times = tt;
 }
 
 pub linked_kept : IsKept linked
@@ -222,6 +227,7 @@ two_names_file = record {
   gid = 0;
   root = record { uid = 0; gid = 0; permissions = 0o755 };
   rows = record { path = codes "/f"; kind = kinds.First (record { uid = 0; gid = 0; permissions = 0o644 }) (codes "abc") } ∷ record { path = codes "/g"; kind = kinds.Further 1 } ∷ [];
+  times = [];
 }
 
 text_root : IsPlaceText (codes "/")
@@ -239,7 +245,7 @@ text_g = record { names = refl; depth = omega arith; one = refl }
 two_names_may_be : IsTreeFile two_names_file
 unfolding two_names_file components parts has_dir
 two_names_may_be = record {
-  limits = usual_are;
+  limits = raised_are usual_limits usual_are;
   home = text_root;
   uid = omega arith;
   gid = omega arith;
@@ -249,10 +255,12 @@ two_names_may_be = record {
     record { path = text_f; below_root = omega arith; later = tt; parent = refl; kind = ((omega arith, omega arith, omega arith), omega arith, refl) },
     (record { path = text_g; below_root = omega arith; later = (refl, tt); parent = refl; kind = (omega arith, refl) }, tt),
   );
+  total = omega arith;
+  times = tt;
 }
 
 two_names_spelled : IsSpelled two_names_file two_names_bytes
-unfolding two_names_file spelled are_own hex
+unfolding two_names_file spelled spelled_after are_own are_far hex
 two_names_spelled = record { may_be = two_names_may_be; bytes_are = refl }
 
 pub two_names_start : IsStart two_names two_names_bytes

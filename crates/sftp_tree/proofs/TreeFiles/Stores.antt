@@ -11,7 +11,7 @@ use Rattle.sftp_tree.proofs.Imports.{option_and_then, not, slice_index, filter, 
 use Rattle.sftp_tree.proofs.Imports.{Less, nat_cmp_total, nat_cmp_is, nat_cmp-IsAntisymmetric, same_Some}
 use Rattle.sftp_tree.proofs.Imports.{length-append, length-map, filter-append, length-filter_both, keys_of-map_values}
 use Rattle.sftp_tree.proofs.Imports.{place_cmp, InOrder, get, put, retain, place_cmp-total, with_values-put, TreeFile}
-use Rattle.sftp_tree.proofs.Imports.{highest_limits, place_of, IsNext, Stored, Dir, Link, with_node, names_file}
+use Rattle.sftp_tree.proofs.Imports.{most_limits, place_of, IsNext, Stored, Dir, Link, with_node, names_file}
 use Rattle.sftp_tree.proofs.Imports.{times_named, contents, seen, AreCounted, file_named, IsChanged}
 use Rattle.sftp_tree.proofs.Imports.{IsChangedWhereNamed, with_a_name, only_root, numbered_from, numbers_from}
 use Rattle.sftp_tree.proofs.Imports.{known_number, known_node, IsKnown, Stores, HaveRoom, AreWithEntry, IsGrown}
@@ -30,6 +30,8 @@ use Rattle.sftp_tree.proofs.FileCounts.{at-number, at-entries, raised}
 use Rattle.sftp_tree.proofs.PlaceTables.{all_both, all_from_map, insert_last}
 use Rattle.sftp_tree.proofs.TreeFiles.{later_than_all, bare_names}
 use Rattle.sftp_tree.proofs.TreeFiles.{bare, names_bare}
+use Rattle.sftp_treefile.specs.TreeFile.{contents_length, content_length}
+use Rattle.sftp_tree.specs.Tree.{total_of}
 
 -- ==== Rows come back from their entries, and entries whose files are numbered in the order of their first names from
 -- their rows.
@@ -419,9 +421,30 @@ many_files root rows names stores grown =
     length-numbered s [] = refl
     length-numbered s (c ∷ cs) = ap suc (length-numbered (suc s) cs)
 
-pub grown_room : (root : Owner) (rows : List Row) (names : Names) (stores : Stores) → IsGrown root rows names stores → length rows ≤ highest_limits.entries → HaveRoom stores
+pub grown_room : (root : Owner) (rows : List Row) (names : Names) (stores : Stores) → IsGrown root rows names stores → length rows ≤ most_limits.entries → HaveRoom stores
 grown_room root rows names stores grown few =
     counted_room names stores grown.counted (omega (arith, ap length grown.names_are, length-entries [] rows))
+
+-- ---- how many bytes the files have
+
+pub contents_append : (xs ys : List Row) → contents_length (xs ++ ys) ≡ contents_length xs + contents_length ys
+contents_append [] ys = omega arith
+contents_append (x ∷ xs) ys = omega (arith, contents_append xs ys)
+
+pub numbered_total : (number : ℕ) (rows : List Row) → total_of (numbered_from number (contents_of rows)) ≡ contents_length rows
+numbered_total number [] = refl
+numbered_total number (row ∷ rows) = by row.kind (numbered_total number rows) (numbered_total (suc number) rows)
+  where
+    by : (kind : Kind) → total_of (numbered_from number (contents_of rows)) ≡ contents_length rows
+        → total_of (numbered_from (suc number) (contents_of rows)) ≡ contents_length rows
+        → total_of (numbered_from number (content_of kind ++ contents_of rows)) ≡ content_length kind + contents_length rows
+    by (kinds.Dir owner) same next = omega (arith, same)
+    by (kinds.First owner bytes) same next = omega (arith, next)
+    by (kinds.Further entry) same next = omega (arith, same)
+    by (kinds.Link target) same next = omega (arith, same)
+
+pub grown_total : (root : Owner) (rows : List Row) (names : Names) (stores : Stores) → IsGrown root rows names stores → total_of (contents stores) ≡ contents_length rows
+grown_total root rows names stores grown = ap total_of grown.contents_are ∙ numbered_total 0 rows
 
 -- nothing but the root
 pub grown_root : (root : Owner) (names : Names) (stores : Stores) → names ≡ only_root root → stores ≡ [] → IsGrown root [] names stores
@@ -433,7 +456,7 @@ grown_root root names stores alone none = record {
 }
 
 -- the number of the next file fits its field
-pub next_fits : (root : Owner) (rows rest : List Row) (names : Names) (stores : Stores) → IsGrown root rows names stores → length (rows ++ rest) ≤ highest_limits.entries → length stores ≤ highest_limits.entries
+pub next_fits : (root : Owner) (rows rest : List Row) (names : Names) (stores : Stores) → IsGrown root rows names stores → length (rows ++ rest) ≤ most_limits.entries → length stores ≤ most_limits.entries
 next_fits root rows rest names stores grown few =
     omega (arith, many_files root rows names stores grown, made_few rows, length-append rows rest)
 

@@ -11,6 +11,9 @@ const OWNED: usize = 13;
 /// The length of a string.
 const LENGTH: usize = 4;
 
+/// The length of the bytes of a file that is long.
+const LONG_LENGTH: usize = 8;
+
 /// The size of the absolute text of a place, with its length.
 fn path_size(place: &Place) -> usize {
     let mut size = LENGTH + 1;
@@ -29,7 +32,7 @@ fn child_size(child: &Child, path: usize) -> usize {
         Child::Dir(dir) => size
             .saturating_add(OWNED)
             .saturating_add(size_below(dir, path)),
-        Child::File(_) => size.saturating_add(OWNED + LENGTH),
+        Child::File(_) => size.saturating_add(OWNED + LONG_LENGTH),
         Child::Link(target) => size
             .saturating_add(1 + LENGTH)
             .saturating_add(target.as_slice().len()),
@@ -50,8 +53,8 @@ fn size_below(dir: &Dir, path: usize) -> usize {
 
 /// How many bytes the tree file takes, at most. The directory is the tree's root.
 pub(super) fn file_size(tree: &Tree, root: &Dir) -> usize {
-    tree.files()
-        .size()
-        .saturating_add(head_size(tree.tree_limits(), path_size(tree.home())))
+    let opening = tree.tree_limits().opening(false);
+    (tree.total() as usize)
+        .saturating_add(head_size(opening, path_size(tree.home())))
         .saturating_add(size_below(root, 0))
 }

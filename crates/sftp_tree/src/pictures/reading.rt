@@ -1,7 +1,9 @@
 //! From what a tree file says to its tree.
-ghost use Rattle.std.specs.Prelude.{◌≡◌, ◌≤◌, [], length, IfOk, OnOk};
+ghost use Rattle.std.specs.Prelude.{◌≡◌, ◌≤◌, ◌<◌, ◌^◌, [], length, IfOk, OnOk};
 ghost use Rattle.sftp_treefile.specs.TreeFile.{usual_limits};
-ghost use Rattle.sftp_treefile.specs.TreeFile.{place_of, IsPlaceText, IsOwner, AreRows, IsTreeFile};
+ghost use Rattle.sftp_treefile.specs.TreeFile.{place_of, IsPlaceText, IsOwner, AreRows, IsTreeFile, content_length};
+ghost use Rattle.sftp_tree.specs.Tree.{total_of};
+ghost use Rattle.sftp_tree.specs.StoredFiles.{contents};
 ghost use Rattle.sftp_tree.specs.PictureParts as parts;
 
 use super::rows::{Grown, grow};
@@ -36,6 +38,8 @@ pub(super) fn node_of(
 ) -> Result<Node, NoMemory>
     requires known { parts.IsKnown numbers.now kind }
     requires room { parts.HaveRoom files.old }
+    requires total { total_of (contents files.old) < 2 ^ 63 }
+    requires count { content_length kind < 2 ^ 63 }
     ensures node { IfOk result (λ node. node ≡ parts.known_node numbers.now next kind) }
     ensures files { OnOk result (parts.AreWithEntry numbers.now next kind files.old files.new) }
 {

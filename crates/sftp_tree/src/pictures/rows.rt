@@ -1,8 +1,8 @@
 //! From the entries of a tree file to directories and files.
-ghost use Rattle.std.specs.Prelude.{◌≡◌, ◌+◌, ◌≤◌, ◌<◌, ◌++◌, [], ◌∷◌, length, take, IfOk, IsTrue};
+ghost use Rattle.std.specs.Prelude.{◌≡◌, ◌+◌, ◌≤◌, ◌<◌, ◌^◌, ◌++◌, [], ◌∷◌, length, take, IfOk, IsTrue};
 ghost use Rattle.std.specs.Iterator.{YieldsFirstRef};
 ghost use Rattle.sftp_path.specs.Place.{is_name};
-ghost use Rattle.sftp_treefile.specs.TreeFile.{highest_limits};
+ghost use Rattle.sftp_treefile.specs.TreeFile.{most_limits, contents_length};
 ghost use Rattle.sftp_treefile.specs.TreeFile.{place_of, IsPlaceText, IsOwner, AreRows};
 ghost use Rattle.sftp_tree.specs.PictureParts as parts;
 
@@ -54,8 +54,9 @@ pub(super) struct Grown {
 // Slow to prove: it owns all that grows, and drops it at each of five exits.
 pub(super) fn grow(alloc: Global, root: Owner, rows: Vec<Row>) -> Result<Grown, NoMemory>
     requires root { IsOwner root }
-    requires rows { AreRows highest_limits [] rows.items }
-    requires count { length rows.items ≤ highest_limits.entries }
+    requires rows { AreRows most_limits [] rows.items }
+    requires count { length rows.items ≤ most_limits.entries }
+    requires total { contents_length rows.items < 2 ^ 63 }
     ensures { IfOk result (λ g. parts.IsGrown root rows.items g.root g.files) }
 {
     let mut growth = Growth::new(alloc, root);

@@ -1,5 +1,5 @@
 //! From a tree to its tree file.
-ghost use Rattle.std.specs.Prelude.{◌≡◌, [], ◌<◌, ◌^◌, length, IfOk, IfSome, OnOk, OnErr};
+ghost use Rattle.std.specs.Prelude.{◌≡◌, [], ◌<◌, ◌^◌, length, IfOk, OnOk, OnErr};
 ghost use Rattle.std.specs.Io.KnownBytes.{Appends};
 ghost use Rattle.std.specs.Ordering.{nat_cmp};
 ghost use Rattle.sftp_path.specs.Table.{get, put};
@@ -7,7 +7,6 @@ ghost use Rattle.sftp_streams.specs.Streams.{AppendsPart};
 ghost use Rattle.sftp_treefile.specs.TreeFile.{row_text};
 ghost use Rattle.sftp_treefile.specs.TreeFileParts.{head_bytes};
 ghost use Rattle.sftp_treefile.specs.Streamed.{CountsSink};
-ghost use Rattle.sftp_tree.specs.declared.file_contents.Content.{Content as content};
 ghost use Rattle.sftp_tree.specs.Tree.{node_at, content_at};
 ghost use Rattle.sftp_tree.specs.Picture as spec;
 ghost use Rattle.sftp_tree.specs.PictureParts as parts;
@@ -20,7 +19,7 @@ use crate::nodes::Node;
 use crate::trees::Tree;
 use sftp_path::{NoMemory, Place, absolute};
 use sftp_streams::{Sink, Tally};
-use sftp_treefile::{Head, Owner, WriteError, send_file, send_further_name, send_head};
+use sftp_treefile::{Head, NO_TIMES, Owner, WriteError, send_file, send_further_name, send_head};
 use sftp_wire::ByteString;
 use std::collections::BTreeMap;
 
@@ -47,13 +46,16 @@ fn send_front<L: Sink>(sink: &mut L, scratch: &mut Vec<u8>, tree: &Tree) -> Resu
 {
     let alloc = tree.home().allocator();
     let home = absolute(alloc, tree.home().names())?;
+    let limits = tree.tree_limits();
     let head = Head {
-        limits: tree.tree_limits(),
+        opening: limits.opening(false),
+        limits,
         home: ByteString::new(home),
         uid: tree.uid(),
         gid: tree.gid(),
         count: (tree.names().len() - 1) as u32,
         root: root_owner(tree.names()),
+        root_times: NO_TIMES,
     };
     send_head(sink, scratch, &head)?;
     Ok(())
@@ -83,8 +85,7 @@ pub(super) fn send_name<L: Sink>(
     entry: u32,
     number: FileNo,
 ) -> Result<(), WriteError>
-    requires path { length path.now < 2 ^ 32 }
-    requires file { IfSome (content_at tree.now.files number) (λ (c : content). length c.bytes < 2 ^ 32) }
+    requires { length path.now < 2 ^ 32 }
     ensures ok { OnOk result (Appends (L.written sink.old) (L.written sink.new)
         (row_text (record {
           path = path.now;

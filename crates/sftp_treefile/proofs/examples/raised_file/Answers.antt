@@ -1,5 +1,6 @@
-use Rattle.sftp_treefile.proofs.Imports.{[], ◌∷◌, drop, refl, true, arith, hex, components, parts, Front, usual_limits}
-use Rattle.sftp_treefile.proofs.Imports.{AreLimits, are_own, spelled, limits_text, Reads, IsFront, front_bytes}
+use Rattle.sftp_treefile.proofs.Imports.{[], ◌∷◌, drop, refl, arith, hex, components, parts, Front, usual_limits}
+use Rattle.sftp_treefile.proofs.Imports.{AreRaised, are_own, are_far, spelled_after, spelled, limits_text, Reads, IsFront, front_bytes}
+use Rattle.sftp_treefile.specs.declared.limits.Opening.TheVariants.{Raised}
 use Rattle.sftp_treefile.specs.Examples.{usual_bytes}
 use Rattle.sftp_treefile.proofs.Texts.Heads.{limits_none, usual_none}
 use Rattle.sftp_treefile.proofs.Texts.{usual_are, usual_not_own}
@@ -11,7 +12,7 @@ unfolding hex
 returns-clause-length c = refl
 
 pub returns-clause-spelled : goal.returns-clause-spelled
-unfolding spelled hex are_own
+unfolding spelled spelled_after hex are_own are_far
 returns-clause-spelled c = refl
 
 pub returns-clause-may_be : goal.returns-clause-may_be
@@ -19,14 +20,14 @@ unfolding components parts
 returns-clause-may_be c = grind arith
 
 front : Front
-front = record { has_limits = true; home = 47 ∷ []; uid = 0; gid = 0 }
+front = record { opening = Raised; home = 47 ∷ []; uid = 0; gid = 0 }
 
 front-read : Reads IsFront front_bytes usual_bytes front (drop 21 usual_bytes)
 unfolding components parts hex front
 front-read =
     (record { home = record { names = refl; depth = omega arith; one = refl }; uid = omega arith; gid = omega arith }, refl)
 
-limits-read : Reads AreLimits (limits_text true) (drop 21 usual_bytes) usual_limits (drop 37 usual_bytes)
+limits-read : Reads AreRaised (limits_text Raised) (drop 21 usual_bytes) usual_limits (drop 37 usual_bytes)
 unfolding hex
 limits-read = (usual_are, refl)
 

@@ -22,4 +22,4 @@ returns-in_err-count-clause-none c =
 pub returns-clause-found : goal.returns-clause-found
 returns-clause-found c = head_read c.args.bytes.now c.in_ok-front.rest.now c.in_ok-front.front c.in_ok-front.ensures.found
     c.in_ok-limits.rest.now c.in_ok-limits.limits c.in_ok-limits.ensures.found c.in_ok-count.rest.now
-    c.in_ok-count.count c.in_ok-count.root c.in_ok-count.ensures.found
+    c.in_ok-count.count (c.in_ok-count.root, c.in_ok-count.root_times) c.in_ok-count.ensures.found

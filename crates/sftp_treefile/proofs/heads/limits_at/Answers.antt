@@ -1,10 +1,8 @@
--- The limits of a file with limits, or of one without.
-use Rattle.sftp_treefile.proofs.Imports.{refl}
-use Rattle.sftp_treefile.proofs.Texts.Heads.{usual_set}
+-- The limits after each opening.
 use Rattle.sftp_treefile.proofs.heads.limits_at.Goals as goal
 
-pub returns-then-has_limits-clause-none : goal.returns-then-has_limits-clause-none
-returns-then-has_limits-clause-none c = rw c.if-has_limits.true c.own_limits_at.ensures.none
+pub returns-in-Raised-clause-none : goal.returns-in-Raised-clause-none
+returns-in-Raised-clause-none c = rw c.in-Raised.is c.raised_limits_at.ensures.none
 
-pub returns-else-has_limits-clause-found : goal.returns-else-has_limits-clause-found
-returns-else-has_limits-clause-found c = rw (c.if-has_limits.false, c.usual_limits.ensures) (usual_set, refl)
+pub returns-in-Wide-clause-none : goal.returns-in-Wide-clause-none
+returns-in-Wide-clause-none c = rw c.in-Wide.is c.wide_limits_at.ensures.none

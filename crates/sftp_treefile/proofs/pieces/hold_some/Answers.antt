@@ -1,5 +1,5 @@
 -- Nothing is held, and nothing is left.
-use Rattle.sftp_treefile.proofs.Imports.{◌≡◌, arith, inr, length}
+use Rattle.sftp_treefile.proofs.Imports.{arith, inr}
 use Rattle.sftp_treefile.proofs.Texts.Front.{nothing_ahead}
 use Rattle.sftp_treefile.proofs.pieces.hold_some.Goals as goal
 

@@ -1,5 +1,5 @@
 -- Some bytes more, or too few.
-use Rattle.sftp_treefile.proofs.Imports.{◌≡◌, ◌<◌, arith, length, ap, err_from_is_err_and, length-append}
+use Rattle.sftp_treefile.proofs.Imports.{arith, err_from_is_err_and, length-append}
 use Rattle.sftp_treefile.proofs.Texts.Front.{still_or, more_taken, too_few}
 use Rattle.sftp_treefile.proofs.pieces.take_bytes.Goals as goal
 

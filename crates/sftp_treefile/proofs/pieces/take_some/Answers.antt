@@ -1,5 +1,5 @@
 -- The bytes held, or as many as are asked for.
-use Rattle.sftp_treefile.proofs.Imports.{◌≡◌, ◌++◌, min, take, length, rules, arith, sym, subst, Ahead, ahead_without, TakesSome, List, ℕ}
+use Rattle.sftp_treefile.proofs.Imports.{◌≡◌, ◌++◌, min, take, length, rules, arith, ahead_without}
 use Rattle.sftp_treefile.proofs.Texts.Front.{some_taken}
 use Rattle.sftp_treefile.proofs.pieces.take_some.Goals as goal
 

@@ -12,7 +12,7 @@ returns-in-Ok-clause-causes g c =
     set-found s c.args.handle.now c.args.attrs.now c.in-Ok.found fits (sym c.in-Ok.ensures.found)
     (set-room s.tree c.in-Ok.found.0 c.args.attrs.now fits (content_at s.tree.files c.in-Ok.found.0)
     (subst (λ (s : State). IsKept s.tree) c.self.view_is c.self.invariant.tree) refl c.in-Ok.ensures.there
-    (c.size_fits.ensures.fits ∙ ap (λ (s : State). size_fits (limits s.tree) c.args.attrs.now.size) c.self.view_is))
+    (c.size_fits.ensures.fits ∙ ap (λ (s : State). size_fits s.tree c.in-Ok.found.0 c.args.attrs.now.size) c.self.view_is))
     ∙ (ap (λ b. with_room (when no_causes NotOpenFor b) fits) (sym c.cannot_resize.ensures)
     ∙ (granted-room c.in-Ok.found c.cannot_resize.result fits ∙ ap refusing (sym c.grant.ensures)))
 
@@ -28,10 +28,10 @@ returns-in-Ok-clause-there g c =
 
 pub returns-in-Ok-clause-fits : goal.returns-in-Ok-clause-fits
 returns-in-Ok-clause-fits g c =
-    granted-has (λ f. IsTrue (size_fits (limits c.args.self.now.tree) c.args.attrs.now.size)) c.in-Ok.found
+    granted-has (λ f. IsTrue (size_fits c.args.self.now.tree f.0 c.args.attrs.now.size)) c.in-Ok.found
     c.cannot_resize.result c.size_fits.result c.grant.result c.grant.ensures
     (λ fit.
-    ap (λ (s : State). size_fits (limits s.tree) c.args.attrs.now.size) (sym c.self.view_is)
+    ap (λ (s : State). size_fits s.tree c.in-Ok.found.0 c.args.attrs.now.size) (sym c.self.view_is)
     ∙ (sym c.size_fits.ensures.fits ∙ fit))
 
 pub returns-in-Err-clause-causes : goal.returns-in-Err-clause-causes

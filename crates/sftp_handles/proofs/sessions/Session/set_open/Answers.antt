@@ -20,10 +20,10 @@ returns-in-Ok-clause-done g c =
 pub returns-in-Ok-clause-refused : goal.returns-in-Ok-clause-refused
 returns-in-Ok-clause-refused g c =
     let s = c.args.self.now in
-    call-refused s (asks.Fsetstat c.args.handle.now c.args.attrs.now) (size_fits (limits s.tree) c.args.attrs.now.size)
+    call-refused s (asks.Fsetstat c.args.handle.now c.args.attrs.now) (size_fits s.tree c.in-Ok.found.0 c.args.attrs.now.size)
     c.set_file.result c.in-Ok.ensures.fits
     (subst
-    (λ (s : State). IfErr c.set_file.result (IsRoomRefusal (size_fits (limits s.tree) c.args.attrs.now.size)))
+    (λ (s : State). IfErr c.set_file.result (IsRoomRefusal (size_fits s.tree c.in-Ok.found.0 c.args.attrs.now.size)))
     c.self.view_is c.set_file.ensures.refused)
 
 pub returns-in-Err-clause-refused : goal.returns-in-Err-clause-refused

@@ -14,7 +14,7 @@ returns-in-Ok-clause-causes g c =
     (content_at s.tree.files c.in-Ok.found.0)
     (subst (λ (s : State). IsKept s.tree) c.self.view_is c.self.invariant.tree) refl c.start_of-start.ensures
     (c.write_fits-fits.ensures
-    ∙ ap (λ (s : State). write_fits (limits s.tree) start c.args.bytes.now) c.self.view_is))
+    ∙ ap (λ (s : State). write_fits s.tree c.in-Ok.found.0 start c.args.bytes.now) c.self.view_is))
     ∙ (ap (λ b. with_room (when no_causes NotOpenFor (not b)) fits) (sym c.may_write.ensures)
     ∙ (granted-room (c.in-Ok.found.0, start) (not c.may_write.result) fits ∙ ap refusing (sym c.grant.ensures)))
 
@@ -29,7 +29,7 @@ returns-in-Ok-clause-found g c =
       found = sym c.in-Ok.ensures.found;
       starts = c.start_of-start.ensures;
       fits =
-          ap (λ (s : State). write_fits (limits s.tree) start c.args.bytes.now) (sym c.self.view_is)
+          ap (λ (s : State). write_fits s.tree c.in-Ok.found.0 start c.args.bytes.now) (sym c.self.view_is)
           ∙ (sym c.write_fits-fits.ensures ∙ fit);
     })
 

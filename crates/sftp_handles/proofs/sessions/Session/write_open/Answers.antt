@@ -22,10 +22,10 @@ pub returns-in-Ok-clause-refused : goal.returns-in-Ok-clause-refused
 returns-in-Ok-clause-refused g c =
     let s = c.args.self.now in
     call-refused s (asks.Write c.args.handle.now c.args.offset c.args.bytes.now)
-    (write_fits (limits s.tree) c.in-Ok.found.1 c.args.bytes.now) c.write_at.result c.in-Ok.ensures.found.fits
+    (write_fits s.tree c.in-Ok.found.0 c.in-Ok.found.1 c.args.bytes.now) c.write_at.result c.in-Ok.ensures.found.fits
     (subst
     (λ (s : State).
-    IfErr c.write_at.result (IsRoomRefusal (write_fits (limits s.tree) c.in-Ok.found.1 c.args.bytes.now)))
+    IfErr c.write_at.result (IsRoomRefusal (write_fits s.tree c.in-Ok.found.0 c.in-Ok.found.1 c.args.bytes.now)))
     c.self.view_is c.write_at.ensures.refused)
 
 pub returns-in-Err-clause-refused : goal.returns-in-Err-clause-refused

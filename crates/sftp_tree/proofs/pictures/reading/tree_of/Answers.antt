@@ -1,21 +1,26 @@
 -- The tree of a tree file is one.
 use Rattle.sftp_tree.proofs.Imports.{◌≡◌, ℕ, List, [], length, sym, ap, subst, ◌∙◌, arith, Place, place_cmp, InOrder}
-use Rattle.sftp_tree.proofs.Imports.{Row, TreeFile, highest_limits, place_of, AreRows, Names, IsKept, is_directory}
+use Rattle.sftp_tree.proofs.Imports.{Row, TreeFile, most_limits, place_of, AreRows, Names, IsKept, is_directory}
 use Rattle.sftp_tree.proofs.Imports.{node_at, seen, AreCounted, Stores, IsGrown, names_of, tree_of, rows_wider}
 use Rattle.sftp_tree.proofs.TreeFiles.Files.{kept_of_file}
 use Rattle.sftp_tree.proofs.TreeFiles.Numbers.{made_few, length-entries}
 use Rattle.sftp_tree.proofs.TreeFiles.Stores.{many_files, tree_grown}
+use Rattle.sftp_treefile.specs.TreeFile.{contents_length}
 use Rattle.sftp_tree.proofs.pictures.reading.tree_of.Goals as goal
 use Rattle.sftp_tree.proofs.pictures.reading.tree_of.Goals.{After-len-made}
 
 pub grow-requires-clause-rows : goal.grow-requires-clause-rows
 grow-requires-clause-rows c =
-    subst (AreRows highest_limits []) (sym c.into_vec-rows.ensures)
-    (rows_wider c.args.file.limits highest_limits c.requires.limits.file_bytes.1 [] c.args.file.rows c.requires.rows)
+    subst (AreRows most_limits []) (sym c.into_vec-rows.ensures)
+    (rows_wider c.args.file.limits most_limits c.requires.limits.file_bytes.1 [] c.args.file.rows c.requires.rows)
 
 pub grow-requires-clause-count : goal.grow-requires-clause-count
 grow-requires-clause-count c =
     omega (arith, ap length c.into_vec-rows.ensures, c.requires.count, c.requires.limits.entries.1)
+
+pub grow-requires-clause-total : goal.grow-requires-clause-total
+grow-requires-clause-total c =
+    omega (arith, ap contents_length c.into_vec-rows.ensures, c.requires.total, c.requires.limits.total_bytes.1)
 
 pub overflow_cast-made : goal.overflow_cast-made
 overflow_cast-made c =

@@ -5,6 +5,9 @@ use Rattle.sftp_streams.proofs.Buffers.{on_err}
 use Rattle.sftp_treefile.proofs.Texts.Front.{AppendsPart-none}
 use Rattle.sftp_tree.specs.PictureParts.{head_of}
 use Rattle.sftp_tree.proofs.TreeFiles.Files.{names_count, home_short}
+use Rattle.sftp_tree.proofs.Imports.{false, sym}
+use Rattle.sftp_treefile.proofs.Texts.Files.{raised_short}
+use Rattle.sftp_treefile.specs.TreeFile.{AreLimits, opening_with, no_times}
 use Rattle.sftp_tree.proofs.pictures.writing.send_front.Goals as goal
 
 pub overflow_sub-head : goal.overflow_sub-head
@@ -13,8 +16,13 @@ overflow_sub-head g c = omega (arith, c.len.ensures, ap length c.names-2.ensures
 pub overflow_cast-head : goal.overflow_cast-head
 overflow_cast-head g c = omega (arith, c.len.ensures, ap length c.names-2.ensures.names, (names_count c.args.tree.now c.names-2.ensures.kept).1)
 
-pub send_head-requires : goal.send_head-requires
-send_head-requires g c =
+pub send_head-requires-clause-limits : goal.send_head-requires-clause-limits
+send_head-requires-clause-limits g c = λ is. raised_short false c.tree_limits-limits.result
+    (subst AreLimits (sym c.tree_limits-limits.ensures.limits) c.tree_limits-limits.ensures.kept.well_formed.limits)
+    (sym c.opening.ensures ∙ is)
+
+pub send_head-requires-clause-home : goal.send_head-requires-clause-home
+send_head-requires-clause-home g c =
     let home = c.new.ensures ∙ c.in_ok-home.ensures ∙ ap absolute (c.names.ensures.names ∙ c.home-2.ensures.home) in
     omega (arith, ap length home, home_short c.args.tree.now c.names-2.ensures.kept)
 
@@ -27,13 +35,16 @@ pub returns-clause-ok : goal.returns-clause-ok
 returns-clause-ok g c =
     let home = c.new.ensures ∙ c.in_ok-home.ensures ∙ ap absolute (c.names.ensures.names ∙ c.home-2.ensures.home) in
     let count = ap (λ n. n - 1) (c.len.ensures ∙ ap length c.names-2.ensures.names) in
+    let opening = c.opening.ensures ∙ ap (opening_with false) c.tree_limits-limits.ensures.limits in
     let root = c.root_owner.ensures ∙ ap (λ (names : Names). root_owner (node_at names [])) c.names-3.ensures.names in
     subst (Appends (g.L.Sink.written c.args.sink.now) (g.L.Sink.written c.send_head.new.sink))
     (λ i. head_bytes (record {
-      limits = c.tree_limits.ensures.limits i;
+      opening = opening i;
+      limits = c.tree_limits-limits.ensures.limits i;
       home = home i;
       uid = c.uid.ensures i;
       gid = c.gid.ensures i;
       count = count i;
       root = root i;
+      root_times = no_times;
     })) c.in_ok-send_head.ensures.ok

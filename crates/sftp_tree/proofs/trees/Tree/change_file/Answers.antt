@@ -3,10 +3,29 @@ use Rattle.sftp_tree.proofs.Imports.{AreCounted}
 use Rattle.sftp_tree.proofs.KeptTrees.{trimmed-already}
 use Rattle.sftp_tree.proofs.KeptTrees.{kept-changed}
 use Rattle.sftp_tree.proofs.KeptTrees.Counts.{owner-there, owner-changed, changed-parts}
+use Rattle.sftp_tree.proofs.KeptTrees.Counts.{each-some}
+use Rattle.sftp_tree.proofs.OpenFiles.{total-small, changed-count}
+use Rattle.sftp_tree.proofs.Imports.{◌<◌, ◌^◌, IsTrue, fits, get, nat_cmp, Option, option_map, get-with_values, Content, Stored}
+use Rattle.sftp_tree.specs.Tree.{total_of}
 use Rattle.sftp_tree.proofs.trees.Tree.change_file.Goals as goal
 
-pub change_at-requires : goal.change_at-requires
-change_at-requires c =
+pub change_at-requires-clause-total : goal.change_at-requires-clause-total
+change_at-requires-clause-total c =
+    subst (λ (t : Tree). total_of t.files < 2 ^ 63) (sym c.self.view_is)
+    (total-small c.args.self.now (subst IsKept c.self.view_is c.self.invariant.0))
+
+pub change_at-requires-clause-count : goal.change_at-requires-clause-count
+change_at-requires-clause-count c = each-some _ (get nat_cmp c.self.inside.files c.args.number) (λ s there.
+    let found = ap (λ (t : Tree). content_at t.files c.args.number) (sym c.self.view_is)
+    ∙ get-with_values nat_cmp (λ (s : Stored). s.content) c.self.inside.files c.args.number
+    ∙ ap (option_map (λ (s : Stored). s.content)) there in
+    changed-count c.args.self.now c.args.number c.args.attrs.now s.content
+    (subst IsKept c.self.view_is c.self.invariant.0)
+    (subst (λ (o : Option Content). IsTrue (fits (with_changed_file c.args.self.now c.args.attrs.now c.args.number o))) found
+    c.requires))
+
+pub change_at-requires-clause-owner : goal.change_at-requires-clause-owner
+change_at-requires-clause-owner c =
     owner-there c.self.inside.names c.self.inside.files c.self.inside.made c.self.inside.limits c.self.inside.home c.self.inside.uid c.self.inside.gid c.self.invariant.0 c.args.number
 
 -- the tree afterwards, and its counts

@@ -4,7 +4,19 @@ use Rattle.sftp_tree.proofs.Limits.{fits-parts}
 use Rattle.sftp_tree.proofs.KeptTrees.{trimmed-already}
 use Rattle.sftp_tree.proofs.KeptTrees.Counts.{files-in_order}
 use Rattle.sftp_tree.proofs.KeptTrees.NewFiles.{kept-new, made-parts, next-free, put-back, one-to-lose}
+use Rattle.sftp_tree.proofs.OpenFiles.{total-small, made-count}
+use Rattle.sftp_tree.proofs.Imports.{◌<◌}
+use Rattle.sftp_tree.specs.Tree.{total_of}
 use Rattle.sftp_tree.proofs.trees.Tree.make_file.Goals as goal
+
+pub put-requires-clause-total : goal.put-requires-clause-total
+put-requires-clause-total c =
+    subst (λ (t : Tree). total_of t.files < 2 ^ 63) (sym c.self.view_is)
+    (total-small c.args.self.now (subst IsKept c.self.view_is c.self.invariant.0))
+
+pub put-requires-clause-count : goal.put-requires-clause-count
+put-requires-clause-count c = made-count c.args.self.now c.args.place c.args.content
+    (subst IsKept c.self.view_is c.self.invariant.0) c.requires.room
 
 -- ---- there was no memory for the name
 

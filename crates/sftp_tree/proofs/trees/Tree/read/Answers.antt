@@ -1,12 +1,13 @@
 -- A tree's file is that of one tree.
-use Rattle.sftp_tree.proofs.Imports.{sym, ap, subst, ◌∙◌, err_from_is_err_and, Tree, IsStart, file_of, tree_of}
+use Rattle.sftp_tree.proofs.Imports.{sym, ap, subst, ◌∙◌, err_from_is_err_and, Tree, IsStart, tree_of}
 use Rattle.sftp_tree.proofs.TreeFiles.Files.{stands_of_start, tree_again, spelled_of_start, start_of_spelled}
+use Rattle.sftp_tree.specs.Picture.{timed_file_of}
 use Rattle.sftp_tree.proofs.trees.Tree.read.Goals as goal
 
 pub returns-in_err-file-clause-only : goal.returns-in_err-file-clause-only
 returns-in_err-file-clause-only c = λ t start.
     let p = err_from_is_err_and c.from_residual.result c.from_residual.ensures.1 in
-    rw (p.1, p.2) (c.in_err-file.ensures.only (file_of t) (spelled_of_start t c.args.bytes.now start))
+    rw (p.1, p.2) (c.in_err-file.ensures.only (timed_file_of t start.picture_is.times) (spelled_of_start t c.args.bytes.now start))
 
 pub returns-clause-found : goal.returns-clause-found
 returns-clause-found c =
@@ -14,4 +15,4 @@ returns-clause-found c =
 
 pub returns-clause-only : goal.returns-clause-only
 returns-clause-only c = λ t start.
-    c.in_ok-tree.ensures ∙ ap tree_of (c.in_ok-file.ensures.only (file_of t) (spelled_of_start t c.args.bytes.now start)) ∙ tree_again t (stands_of_start t c.args.bytes.now start) start.unpinned start.numbered
+    c.in_ok-tree.ensures ∙ ap tree_of (c.in_ok-file.ensures.only (timed_file_of t start.picture_is.times) (spelled_of_start t c.args.bytes.now start)) ∙ tree_again t (stands_of_start t c.args.bytes.now start) start.unpinned start.numbered

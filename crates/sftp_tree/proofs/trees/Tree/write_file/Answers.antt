@@ -2,8 +2,31 @@ use Rattle.sftp_tree.proofs.Imports.{◌≡◌, ℕ, IsTrue, sym, ap, refl, subs
 use Rattle.sftp_tree.proofs.Imports.{IsKept, seen, AreCounted, written_content, with_written_file, after_write}
 use Rattle.sftp_tree.proofs.Requests.{bytes-are}
 use Rattle.sftp_tree.proofs.KeptTrees.Counts.{content-parts}
-use Rattle.sftp_tree.proofs.OpenFiles.{kept-write}
+use Rattle.sftp_tree.proofs.OpenFiles.{kept-write, write-end, written-small, total-small}
+use Rattle.sftp_tree.proofs.KeptTrees.Counts.{each-some}
+use Rattle.sftp_tree.proofs.Imports.{◌<◌, ◌^◌, get, nat_cmp, option_map, get-with_values, content_at}
+use Rattle.sftp_tree.specs.Tree.{total_of}
 use Rattle.sftp_tree.proofs.trees.Tree.write_file.Goals as goal
+
+pub write_at-requires-clause-writable : goal.write_at-requires-clause-writable
+write_at-requires-clause-writable c = λ some. omega (
+  arith,
+  write-end c.args.self.now c.args.number c.args.offset c.args.new.now (subst IsKept c.self.view_is c.self.invariant.0)
+      c.requires some,
+)
+
+pub write_at-requires-clause-total : goal.write_at-requires-clause-total
+write_at-requires-clause-total c =
+    subst (λ (t : Tree). total_of t.files < 2 ^ 63) (sym c.self.view_is)
+    (total-small c.args.self.now (subst IsKept c.self.view_is c.self.invariant.0))
+
+pub write_at-requires-clause-count : goal.write_at-requires-clause-count
+write_at-requires-clause-count c = each-some _ (get nat_cmp c.self.inside.files c.args.number) (λ s there.
+    let found = ap (λ (t : Tree). content_at t.files c.args.number) (sym c.self.view_is)
+    ∙ get-with_values nat_cmp (λ (s : Stored). s.content) c.self.inside.files c.args.number
+    ∙ ap (option_map (λ (s : Stored). s.content)) there in
+    written-small c.args.self.now c.args.number c.args.offset c.args.new.now s.content
+    (subst IsKept c.self.view_is c.self.invariant.0) found c.requires)
 
 -- the tree with other files
 abbrev with_files : (c : goal.In_ok-write_at) → Table ℕ Stored → Tree

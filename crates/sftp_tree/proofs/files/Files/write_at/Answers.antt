@@ -1,0 +1,35 @@
+use Rattle.sftp_tree.proofs.Imports.{◌≡◌, ◌<◌, ◌^◌, subst, sym, arith, Some, IfSome, length, nat_cmp, get, Stored, Stores, contents}
+use Rattle.sftp_tree.proofs.Imports.{with_content_made, written_content}
+use Rattle.sftp_tree.specs.Tree.{total_of}
+use Rattle.sftp_tree.proofs.Totals.{part-summed, summed-where, changed-small}
+use Rattle.sftp_tree.proofs.files.Files.write_at.Goals as goal
+
+pub exchanged-self-inside-requires-clause-before : goal.exchanged-self-inside-requires-clause-before
+exchanged-self-inside-requires-clause-before c =
+    let files = c.self.inside.by_number.entries in
+    omega (
+      arith,
+      c.length_named-before.ensures,
+      part-summed files files c.self.invariant.0 c.self.inside.total (Some c.args.number) c.self.invariant.1,
+    )
+
+pub exchanged-self-inside-requires-clause-total : goal.exchanged-self-inside-requires-clause-total
+exchanged-self-inside-requires-clause-total c =
+    omega (arith, c.self.invariant.1, subst (λ (s : Stores). total_of (contents s) < 2 ^ 63) (sym c.self.view_is) c.requires.total)
+
+pub exchanged-self-inside-requires-clause-after : goal.exchanged-self-inside-requires-clause-after
+exchanged-self-inside-requires-clause-after c =
+    let small = subst (λ (s : Stores). IfSome (get nat_cmp s c.args.number) (λ (s : Stored). length (written_content c.args.offset c.args.new.now s.content).bytes < 2 ^ 63))
+    (sym c.self.view_is) c.requires.count in
+    omega (
+      arith,
+      c.length_named-after.ensures,
+      changed-small c.self.inside.by_number.entries c.write_at.new.files.entries c.self.invariant.0 (written_content c.args.offset c.args.new.now) c.args.number small
+          c.in_ok-write_at.ensures.ok,
+    )
+
+pub invariant_of-self-2 : goal.invariant_of-self-2
+invariant_of-self-2 c =
+    summed-where c.self.inside.by_number.entries c.write_at.new.files.entries c.self.invariant.0 (with_content_made (written_content c.args.offset c.args.new.now))
+    (Some c.args.number) c.self.inside.total c.exchanged-self-inside.result c.self.invariant.1 c.in_ok-write_at.ensures.ok
+    (omega (arith, c.exchanged-self-inside.ensures, c.length_named-before.ensures, c.length_named-after.ensures))
