@@ -14,6 +14,8 @@ mod tables;
 mod timed_names;
 mod times;
 mod touches;
+mod tree_files;
 
 pub use clocked::Clocked;
 pub use moments::{Moments, SystemClock};
+pub use tables::TimeTable;

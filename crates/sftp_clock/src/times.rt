@@ -1,6 +1,8 @@
 //! Times of access and modification.
 ghost use Rattle.sftp_packets.specs.Spelling.{FitsTwo};
 
+use sftp_treefile as treefile;
+
 /// The times of a file, a directory or a link, in seconds since the start of 1970, as packets have them (draft,
 /// section 5).
 #[derive(Clone, Copy)]
@@ -46,6 +48,26 @@ impl Times {
         Times {
             accessed: self.accessed,
             modified: moment,
+        }
+    }
+
+    /// The times that an entry of a tree file has, if it has some.
+    pub(crate) fn read(times: treefile::Times) -> Option<Times> {
+        if times.are_known() {
+            Some(Times {
+                accessed: times.accessed,
+                modified: times.modified,
+            })
+        } else {
+            None
+        }
+    }
+
+    /// The same as an entry of a tree file has them.
+    pub(crate) fn written(self) -> treefile::Times {
+        treefile::Times {
+            accessed: self.accessed,
+            modified: self.modified,
         }
     }
 }
