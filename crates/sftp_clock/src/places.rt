@@ -152,7 +152,7 @@ impl PlaceTimes {
     ///
     /// `NoMemory` if memory runs out.
     pub(crate) fn set_at(&mut self, path: &[u8], times: Times) -> Result<(), NoMemory> {
-        let mut last = None;
+        let mut last: Option<(u64, &[u8])> = None;
         for name in Parts::new(path) {
             let directory = self.directory_at(last)?;
             last = Some((directory, name));

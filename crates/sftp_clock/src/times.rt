@@ -1,7 +1,7 @@
 //! Times of access and modification.
 ghost use Rattle.sftp_packets.specs.Spelling.{FitsTwo};
 
-use sftp_treefile as treefile;
+use sftp_treefile::Times as FileTimes;
 
 /// The times of a file, a directory or a link, in seconds since the start of 1970, as packets have them (draft,
 /// section 5).
@@ -52,7 +52,7 @@ impl Times {
     }
 
     /// The times that an entry of a tree file has, if it has some.
-    pub(crate) fn read(times: treefile::Times) -> Option<Times> {
+    pub(crate) fn read(times: FileTimes) -> Option<Times> {
         if times.are_known() {
             Some(Times {
                 accessed: times.accessed,
@@ -64,8 +64,8 @@ impl Times {
     }
 
     /// The same as an entry of a tree file has them.
-    pub(crate) fn written(self) -> treefile::Times {
-        treefile::Times {
+    pub(crate) fn written(self) -> FileTimes {
+        FileTimes {
             accessed: self.accessed,
             modified: self.modified,
         }

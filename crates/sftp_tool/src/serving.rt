@@ -76,8 +76,8 @@ pub(crate) fn serve<'a, R: System + Clock, I: Read, O: Write, E: Write>(
     let setup = set_up(rt, options, style)?;
     let announcing = Announcing::new(output, errors, options.is_verbose);
     let output = Pieces::new(announcing, style.cuts());
-    let (served, traffic) = run_session(rt, setup, &mut meter, input, output);
-    conclude(rt, served, traffic, options, errors)
+    let (finish, traffic) = run_session(rt, setup, &mut meter, input, output);
+    conclude(rt, finish, traffic, options, errors)
 }
 
 /// What a session needs besides its streams.
@@ -186,7 +186,7 @@ fn run_session<C: Clock, I: Read, O: Write + Drop>(
     meter: &mut Meter,
     input: &mut I,
     output: O,
-) -> (Served, Traffic)
+) -> (Finish, Traffic)
     requires { IsUnused setup.log }
 {
     let Setup {
@@ -258,7 +258,7 @@ fn new_log<'a, R: System>(
 }
 
 /// How a session ended, with the times of the entries if it kept some.
-type Served = (SessionEnd, Option<TimeTable>);
+type Finish = (SessionEnd, Option<TimeTable>);
 
 /// Serves a session on a tree, and returns how it ended and what went through its streams.
 // Slow to prove: each stream is put together of layers, and taken apart again.
@@ -272,7 +272,7 @@ fn session<C: Clock, I: Read, O: Write + Drop>(
     meter: &mut Meter,
     input: &mut I,
     output: O,
-) -> (Served, Traffic)
+) -> (Finish, Traffic)
     requires { IsUnused log }
 {
     let mut reader = Tally::new(Watched::new(input));
@@ -310,14 +310,14 @@ fn session<C: Clock, I: Read, O: Write + Drop>(
 // Slow to prove: it owns the tree that was left, and then how saving it ended.
 fn conclude<'a, R: System, E: Write>(
     rt: &R,
-    served: Served,
+    finish: Finish,
     traffic: Traffic,
     options: &ServeOptions<'a>,
     errors: &mut E,
 ) -> Result<Ending, Unserved<'a>>
     ensures { IfOk result (λ ending. ending ≡ endings.Done) }
 {
-    let (end, times) = served;
+    let (end, times) = finish;
     let (tree, close) = parts(end, traffic.is_over);
     say_parting(traffic, options.is_verbose, errors);
     let saved = save_any(rt, &tree, &times, options);

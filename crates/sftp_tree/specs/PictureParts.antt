@@ -1,5 +1,5 @@
 -- The tree that a tree file describes, and what the code keeps on its way from the one to the other.
-use Rattle.std.specs.Prelude.{◌≡◌, ℕ, suc, ◌+◌, ◌-◌, ◌≤◌, ◌<◌, ◌^◌, List, [], ◌∷◌, ◌++◌, length, take, slice_index, false}
+use Rattle.std.specs.Prelude.{◌≡◌, ℕ, suc, ◌+◌, ◌-◌, ◌≤◌, ◌<◌, ◌^◌, List, [], ◌∷◌, ◌++◌, length, take, slice_index}
 use Rattle.std.specs.Prelude.{Option, Some, None, IfSome, map}
 use Rattle.std.specs.List.{flat_map, AllByRecursion}
 use Rattle.std.specs.Ordering.{nat_cmp}
@@ -189,8 +189,8 @@ rows_from files firsts next text (e ∷ es) =
 abbrev pub entries_from : Files → List Times → Firsts → ℕ → List ℕ → Names → List (Row × Times)
 entries_from files times firsts next text [] = []
 entries_from files times firsts next text (e ∷ es) =
-    (record { path = text ++ text_of e.0; kind = known_kind files firsts e.1 }, times_at times next) ∷ entries_from files
-    times (firsts_with firsts next e.1) (suc next) text es
+    (record { path = text ++ text_of e.0; kind = known_kind files firsts e.1 }, times_at times next)
+    ∷ entries_from files times (firsts_with firsts next e.1) (suc next) text es
 
 -- the first names with these entries
 abbrev pub firsts_from : Firsts → ℕ → Names → Firsts
@@ -202,12 +202,13 @@ firsts_from firsts next (e ∷ es) = firsts_from (firsts_with firsts next e.1) (
 -- those of the entry after those that were met, whose place has this text
 abbrev pub AreKnown : (ℕ → Times → Type 0) → (List ℕ → Times → Type 0) → Firsts → List ℕ → Node → Times → Type 0
 AreKnown OfFile OfDirectory firsts path (Dir owner) times = OfDirectory path times
-AreKnown OfFile OfDirectory firsts path (File number) times = AreOfName (get nat_cmp firsts number) (OfFile number) times
+AreKnown OfFile OfDirectory firsts path (File number) times =
+    AreOfName (get nat_cmp firsts number) (OfFile number) times
 AreKnown OfFile OfDirectory firsts path (Link target) times = times ≡ no_times
 
 -- those of entries, the first of which has this number, by places that start at the place of this text
-abbrev pub AreKnownFrom : (ℕ → Times → Type 0) → (List ℕ → Times → Type 0) → Firsts → ℕ → List ℕ → Names → List Times
-    → Type 0
+abbrev pub AreKnownFrom : (ℕ → Times → Type 0) → (List ℕ → Times → Type 0) → Firsts → ℕ → List ℕ → Names
+    → List Times → Type 0
 AreKnownFrom OfFile OfDirectory firsts next text [] [] = Unit {0}
 AreKnownFrom OfFile OfDirectory firsts next text [] (t ∷ times) = ⊥
 AreKnownFrom OfFile OfDirectory firsts next text (e ∷ es) [] = ⊥

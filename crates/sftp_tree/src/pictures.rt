@@ -126,8 +126,8 @@ impl Tree {
         send_plain_picture(sink, self)
     }
 
-    /// Writes the tree file of the tree to a sink, with the times that something beside it has. Of the tree file no more
-    /// is held than the entry that is written, without the bytes of a file, and of each entry 8 bytes.
+    /// Writes the tree file of the tree to a sink, with the times that something beside it has. No more of it is held
+    /// than the entry that is written, without the bytes of a file, and the times of all: 8 bytes for each entry.
     ///
     /// # Errors
     ///

@@ -28,10 +28,12 @@ fn send_child<L: Sink>(
 ) -> Result<(), WriteError>
     requires writable { AreWritable tree.now.files at.old.path.items (branch child.now) }
     requires few { at.old.next + length (branch child.now) < 2 ^ 32 }
-    ensures ok { OnOk result (Appends (L.written sink.old) (L.written sink.new) (flat_map entry_text
-        (entries_from tree.now.files times.now at.old.firsts.entries at.old.next at.old.path.items (branch child.now)))) }
-    ensures err { OnErr result (AppendsPart (L.written sink.old) (L.written sink.new) (flat_map entry_text
-        (entries_from tree.now.files times.now at.old.firsts.entries at.old.next at.old.path.items (branch child.now)))) }
+    ensures ok { OnOk result (Appends (L.written sink.old) (L.written sink.new)
+        (flat_map entry_text (entries_from tree.now.files times.now at.old.firsts.entries at.old.next
+        at.old.path.items (branch child.now)))) }
+    ensures err { OnErr result (AppendsPart (L.written sink.old) (L.written sink.new)
+        (flat_map entry_text (entries_from tree.now.files times.now at.old.firsts.entries at.old.next
+        at.old.path.items (branch child.now)))) }
     ensures counts { CountsSink result (L.failures sink.old) (L.failures sink.new) }
     ensures path { OnOk result (at.new.path.items ≡ at.old.path.items) }
     ensures next { OnOk result (at.new.next ≡ at.old.next + length (branch child.now)) }
@@ -79,10 +81,12 @@ fn send_below<L: Sink>(
 ) -> Result<(), WriteError>
     requires writable { AreWritable tree.now.files at.old.path.items (drop 1 dir.now) }
     requires few { at.old.next + length (drop 1 dir.now) < 2 ^ 32 }
-    ensures ok { OnOk result (Appends (L.written sink.old) (L.written sink.new) (flat_map entry_text
-        (entries_from tree.now.files times.now at.old.firsts.entries at.old.next at.old.path.items (drop 1 dir.now)))) }
-    ensures err { OnErr result (AppendsPart (L.written sink.old) (L.written sink.new) (flat_map entry_text
-        (entries_from tree.now.files times.now at.old.firsts.entries at.old.next at.old.path.items (drop 1 dir.now)))) }
+    ensures ok { OnOk result (Appends (L.written sink.old) (L.written sink.new)
+        (flat_map entry_text (entries_from tree.now.files times.now at.old.firsts.entries at.old.next
+        at.old.path.items (drop 1 dir.now)))) }
+    ensures err { OnErr result (AppendsPart (L.written sink.old) (L.written sink.new)
+        (flat_map entry_text (entries_from tree.now.files times.now at.old.firsts.entries at.old.next
+        at.old.path.items (drop 1 dir.now)))) }
     ensures counts { CountsSink result (L.failures sink.old) (L.failures sink.new) }
     ensures path { OnOk result (at.new.path.items ≡ at.old.path.items) }
     ensures next { OnOk result (at.new.next ≡ at.old.next + length (drop 1 dir.now)) }

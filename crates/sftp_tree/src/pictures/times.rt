@@ -102,7 +102,7 @@ pub(super) fn entry_times<K: HasTimes>(tree: &Tree, keeper: &K) -> Result<EntryT
     ensures { IfOk result (AreToldTimes (K.of_file keeper.now) (K.of_directory keeper.now) tree.now) }
 {
     let alloc = tree.home().allocator();
-    let mut times = Vec::new(alloc);
+    let mut times = Vec::with_capacity(alloc, tree.names().len())?;
     times.push(keeper.times_of_directory(b"/"))?;
     let mut at = Progress::new(alloc);
     ask_below(keeper, &mut at, &mut times, tree.names().root_directory())?;
