@@ -19,11 +19,11 @@ use Rattle.sftp_packets.specs.declared.requests.Ask.TheVariants as asks
 use Rattle.sftp_path.proofs.Table.Laws.{get-put_elsewhere}
 use Rattle.std.specs.Option.{option_map}
 use Rattle.sftp_tree.proofs.KeptTrees.{kept-content-within}
-use Rattle.sftp_handles.proofs.Imports.{◌||◌, not}
+use Rattle.sftp_handles.proofs.Imports.{◌||◌, not, when, NoRoom}
 use Rattle.sftp_treefile.specs.TreeFile.{are_far}
 use Rattle.sftp_treefile.specs.TreeFileParts.{AreRaised}
 use Rattle.sftp_treefile.proofs.Texts.{not_far}
-use Rattle.sftp_tree.specs.Tree.{Tree, IsKept}
+use Rattle.sftp_tree.specs.Tree.{Tree}
 use Rattle.sftp_handles.specs.RequestRows.{has_file_room}
 use Rattle.sftp_handles.specs.Clash.{clash, share_room, room_clash}
 use Rattle.sftp_handles.proofs.Good.{good-settled, content-room, room-near}
@@ -614,24 +614,24 @@ causes-stay : (s : State) (ask : Ask) (h k : List ℕ) (at : Touched) (change : 
     → causes_of (applied s k change).tree (row_of ask) (seen s (row_of ask).needed h)
     ≡ causes_of s.tree (row_of ask) (seen s (row_of ask).needed h)
 unfolding seen
-causes-stay s ask h k at nothing asked good after is apart room part = refl
-causes-stay s ask h k at (rewrites n next) asked good after is apart room part =
+causes-stay s ask h k at nothing asked good good_after is apart room part = refl
+causes-stay s ask h k at (rewrites n next) asked good good_after is apart room part =
     let own = touched-is s ask h asked in
-    causes-open s ask h n next good after (row_of ask).needed (open_at s.handles h)
+    causes-open s ask h n next good good_after (row_of ask).needed (open_at s.handles h)
     ((λ i. share (sym own i) (sym is i)) ∙ apart) ((λ i. room_clash (limits s.tree) (sym own i) (sym is i)) ∙ room)
-causes-stay s ask h k at (leaves left) asked good after is apart room part = refl
-causes-stay s ask h k at closes asked good after is apart room part = absurd (part is)
+causes-stay s ask h k at (leaves left) asked good good_after is apart room part = refl
+causes-stay s ask h k at closes asked good good_after is apart room part = absurd (part is)
 
 outcome-stays : (s : State) (ask : Ask) (h k : List ℕ) (answer : Answer) (at : Touched) (change : Change)
     → asked_handle ask ≡ Some h → Good s → Good (applied s k change) → IsChangeTo s k at change
     → share (touched s ask) at ≡ false → room_clash (limits s.tree) (touched s ask) at ≡ false → at ≢ everything
     → outcome (applied s k change).tree (row_of ask) (seen (applied s k change) (row_of ask).needed h) answer
     ≡ outcome s.tree (row_of ask) (seen s (row_of ask).needed h) answer
-outcome-stays s ask h k answer at change asked good after is apart room part =
+outcome-stays s ask h k answer at change asked good good_after is apart room part =
     ap (λ (it : Seen). outcome (applied s k change).tree (row_of ask) it answer)
     (seen-stays s ask h k at change asked is apart)
     ∙ (λ i.
-    let set = causes-stay s ask h k at change asked good after is apart room part i in
+    let set = causes-stay s ask h k at change asked good good_after is apart room part i in
     let it = seen s (row_of ask).needed h in
     decided (refuses set answer)
     (is_none set && says (said_of (limits-stay s k at change is part i) (row_of ask) it) answer)
@@ -643,10 +643,10 @@ still-steps : (s : State) (ask : Ask) (h k : List ℕ) (answer : Answer) (at : T
     → share (touched s ask) at ≡ false → room_clash (limits s.tree) (touched s ask) at ≡ false → at ≢ everything
     → outcome s.tree (row_of ask) (seen s (row_of ask).needed h) answer ≡ Some next
     → step (applied s k change) ask answer ≡ Some (applied (applied s k change) h next)
-still-steps s ask h k answer at change next asked good after fit is apart room part found =
-    step-applied (applied s k change) ask h answer asked after fit
+still-steps s ask h k answer at change next asked good good_after fit is apart room part found =
+    step-applied (applied s k change) ask h answer asked good_after fit
     ∙ ap (option_map (applied (applied s k change) h))
-    (outcome-stays s ask h k answer at change asked good after is apart room part ∙ found)
+    (outcome-stays s ask h k answer at change asked good good_after is apart room part ∙ found)
 
 -- the same the other way round
 before-steps : (s : State) (ask : Ask) (h k : List ℕ) (answer : Answer) (at : Touched) (change next : Change)
@@ -655,8 +655,8 @@ before-steps : (s : State) (ask : Ask) (h k : List ℕ) (answer : Answer) (at : 
     → outcome (applied s k change).tree (row_of ask) (seen (applied s k change) (row_of ask).needed h) answer
     ≡ Some next
     → outcome s.tree (row_of ask) (seen s (row_of ask).needed h) answer ≡ Some next
-before-steps s ask h k answer at change next asked good after is apart room part found =
-    sym (outcome-stays s ask h k answer at change asked good after is apart room part) ∙ found
+before-steps s ask h k answer at change next asked good good_after is apart room part found =
+    sym (outcome-stays s ask h k answer at change asked good good_after is apart room part) ∙ found
 
 abbrev pub StaysGood : Type 0
 StaysGood = (s : State) (request : Request) (reply : Reply) (end : State) → Good s → IsAsk request.ask

@@ -130,3 +130,13 @@ make path = asks.Mkdir path no_attributes
 -- whether these two conflict in that state
 abbrev pub clash_there : Ask → Ask → Bool
 clash_there first second = clash with_handles (record { id = 1; ask = first }) (record { id = 2; ask = second })
+
+-- the same handles, on a tree whose files have at most 16 MiB together
+abbrev pub bounded : State
+bounded = record with_handles {
+  tree = record with_handles.tree { limits = record with_handles.tree.limits { total_bytes = 16777216 } };
+}
+
+-- whether these two conflict there
+abbrev pub clash_bounded : Ask → Ask → Bool
+clash_bounded first second = clash bounded (record { id = 1; ask = first }) (record { id = 2; ask = second })

@@ -17,7 +17,7 @@ use Rattle.sftp_packets.specs.declared.attributes.Attrs.{Attrs}
 use Rattle.sftp_packets.specs.Requests.{asked_handle}
 use Rattle.sftp_path.specs.Place.{bytes_cmp}
 use Rattle.sftp_path.specs.Table.{InOrder, size}
-use Rattle.sftp_treefile.specs.TreeFile.{highest_limits}
+use Rattle.sftp_treefile.specs.TreeFile.{most_limits}
 use Rattle.sftp_tree.specs.PlaceCauses.{is_none}
 use Rattle.sftp_handles.specs.declared.payloads.Payload.{Payload}
 use Rattle.sftp_handles.specs.declared.payloads.Payload.TheVariants as payloads
@@ -83,7 +83,7 @@ FitsNamed (Some text) = FitsTwice text
 -- bytes that fit a reply
 pub record FitsData (bytes : List ℕ) : Type 0 where
   pub string : FitsString bytes
-  pub short : length bytes ≤ highest_limits.read_bytes
+  pub short : length bytes ≤ most_limits.read_bytes
 
 -- a listing has a name left, and all that it has left are in order and can be given
 abbrev pub FitsListed : Left → Type 0
@@ -93,7 +93,7 @@ FitsListed (e ∷ es) = IsLeft (e ∷ es)
 -- there are so few handles that one more has a name
 pub record HasNewName (handles : Handles) : Type 0 where
   pub ordered : InOrder bytes_cmp handles
-  pub few : size handles < highest_limits.open_handles
+  pub few : size handles < most_limits.open_handles
 
 -- an answer that can be encoded says it
 abbrev pub FitsSaid : Said → Type 0

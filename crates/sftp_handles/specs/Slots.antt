@@ -20,7 +20,7 @@ use Rattle.sftp_tree.specs.declared.causes.Cause.{Cause}
 use Rattle.sftp_tree.specs.declared.causes.Cause.TheVariants.{BadHandle, WrongKind, NotOpenFor, NoRoom}
 use Rattle.sftp_tree.specs.PlaceCauses.{CauseSet, no_causes, when, is_none}
 use Rattle.sftp_tree.specs.Changes.{write_fits}
-use Rattle.sftp_tree.specs.Tree.{content_at, limits}
+use Rattle.sftp_tree.specs.Tree.{content_at}
 use Rattle.sftp_handles.specs.State.{State}
 use Rattle.sftp_handles.specs.RequestRows.{start_of}
 use Rattle.sftp_handles.specs.declared.requests.Use.{Use}

@@ -87,7 +87,8 @@ impl<T: HandleTable> Session<T> {
     pub(crate) fn share(&self, earlier: &Ask, later: &Ask) -> bool
         ensures { result ≡ share (touched self.now earlier.now) (touched self.now later.now) }
     {
-        self.touch(earlier).shares(earlier, self.touch(later), later)
+        self.touch(earlier)
+            .shares(earlier, self.touch(later), later)
     }
 
     /// Whether the tree bounds the bytes of all files together: whether its limits are beyond those of the first two

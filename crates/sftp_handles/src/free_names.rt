@@ -2,7 +2,7 @@
 ghost use Rattle.std.specs.Prelude.{◌≡◌, ◌<◌, ◌≤◌, false, length, IfOk};
 ghost use Rattle.sftp_packets.specs.Spelling.{uint32, handle_limit};
 ghost use Rattle.sftp_path.specs.Table.{size};
-ghost use Rattle.sftp_treefile.specs.TreeFile.{highest_limits};
+ghost use Rattle.sftp_treefile.specs.TreeFile.{most_limits};
 ghost use Rattle.sftp_handles.specs.State.{is_open};
 ghost use Rattle.sftp_handles.specs.Slots.{handles_in};
 
@@ -14,7 +14,7 @@ use sftp_tree::NoMemory;
 use std::alloc::Global;
 
 /// How many handles are open at most, in any tree.
-const MOST_OPEN: u32 = 1_024;
+const MOST_OPEN: u32 = 65_536;
 
 /// The name of the first number whose name is not open.
 ///
@@ -25,7 +25,7 @@ pub(crate) fn free_name_in(
     opens: &IndexMap<Vec<u8>, Open>,
     alloc: Global,
 ) -> Result<Vec<u8>, NoMemory>
-    requires { size (handles_in (λ k. k.items) opens.now.entries) < highest_limits.open_handles }
+    requires { size (handles_in (λ k. k.items) opens.now.entries) < most_limits.open_handles }
     ensures short { IfOk result (λ name. length name.items ≤ handle_limit) }
     ensures free { IfOk result
         (λ name. is_open (handles_in (λ k. k.items) opens.now.entries) name.items ≡ false) }
@@ -39,7 +39,7 @@ pub(crate) fn free_name_in(
 
 /// The first number whose name is not open.
 fn free_number(opens: &IndexMap<Vec<u8>, Open>) -> u32
-    requires { size (handles_in (λ k. k.items) opens.now.entries) < highest_limits.open_handles }
+    requires { size (handles_in (λ k. k.items) opens.now.entries) < most_limits.open_handles }
     ensures { is_open (handles_in (λ k. k.items) opens.now.entries) (uint32 result) ≡ false }
 {
     let mut number = 0;

@@ -1,11 +1,11 @@
 //! Worked examples: which requests conflict, computed by the checker on the definitions. The functions do nothing; each
 //! promise is in the contract.
-#![tactic(auto, unfolding(crate::specs::Clash::touched, crate::specs::Clash::clash, sftp_path::specs::Table::get))]
+#![tactic(auto, unfolding(crate::specs::Clash::touched, crate::specs::Clash::clash, sftp_treefile::specs::TreeFile::are_far, sftp_path::specs::Table::get))]
 
 ghost use Rattle.std.specs.Prelude.{◌≡◌, true, false, codes};
 ghost use Rattle.sftp_packets.specs.declared.requests.Ask.TheVariants.{Close, Write, Fstat, Readdir, Stat, Fsync};
 ghost use Rattle.sftp_packets.specs.declared.requests.Ask.TheVariants.{Opendir, Limits, Unknown};
-ghost use Rattle.sftp_handles.specs.Examples.{read, write, set, make, clash_there};
+ghost use Rattle.sftp_handles.specs.Examples.{read, write, set, make, clash_there, clash_bounded};
 
 /// A request that may change a file conflicts with every other request on it, through whichever handle.
 pub fn one_file()
@@ -25,6 +25,17 @@ pub fn files_that_are_not_shared()
     ensures synchronized { clash_there (Fsync (codes "b")) (Fstat (codes "a")) ≡ false }
     ensures other_files { clash_there (write (codes "b")) (read (codes "c")) ≡ false }
     ensures both_written { clash_there (write (codes "b")) (write (codes "c")) ≡ false }
+{}
+
+/// In a tree that bounds the bytes of all files together, requests that may change two files conflict; others on two
+/// files do not.
+pub fn files_that_share_room()
+    ensures both_written { clash_bounded (write (codes "b")) (write (codes "c")) ≡ true }
+    ensures written_and_set { clash_bounded (write (codes "b")) (set (codes "c")) ≡ true }
+    ensures both_set { clash_bounded (set (codes "c")) (set (codes "a")) ≡ true }
+    ensures written_and_read { clash_bounded (write (codes "b")) (read (codes "c")) ≡ false }
+    ensures shown_and_set { clash_bounded (Fstat (codes "a")) (set (codes "c")) ≡ false }
+    ensures not_open { clash_bounded (write (codes "b")) (write (codes "x")) ≡ false }
 {}
 
 /// Two READDIRs of one listing conflict; those of two listings do not, and neither do READDIR and a request on a file.

@@ -1,6 +1,6 @@
 //! Worked examples: which READs and WRITEs of one file conflict with ranges compared, computed by the checker on the
 //! definitions. The file has ten bytes. The functions do nothing; each promise is in the contract.
-#![tactic(auto, unfolding(crate::specs::Clash::range, crate::specs::Clash::range_clash, crate::specs::Clash::touched, crate::specs::Clash::clash, crate::specs::State::seen, sftp_path::specs::Table::get))]
+#![tactic(auto, unfolding(crate::specs::Clash::range, crate::specs::Clash::range_clash, crate::specs::Clash::touched, crate::specs::Clash::clash, crate::specs::State::seen, sftp_treefile::specs::TreeFile::are_far, sftp_path::specs::Table::get))]
 
 ghost use Rattle.std.specs.Prelude.{◌≡◌, true, false, Some, None, codes};
 ghost use Rattle.sftp_packets.specs.declared.requests.Ask.TheVariants.{Close, Read, Write, Fstat, Fsetstat};

@@ -6,7 +6,7 @@ ghost use Rattle.std.specs.Option.{option_copied_mut};
 ghost use Rattle.sftp_packets.specs.Spelling.{AreBytes, handle_limit};
 ghost use Rattle.sftp_path.specs.Place.{bytes_cmp};
 ghost use Rattle.sftp_path.specs.Table.{InOrder, size};
-ghost use Rattle.sftp_treefile.specs.TreeFile.{highest_limits};
+ghost use Rattle.sftp_treefile.specs.TreeFile.{most_limits};
 ghost use Rattle.sftp_handles.specs.declared.tables.PutError.TheVariants.{Taken, NoMemory as no_memory};
 ghost use Rattle.sftp_handles.specs.contracts.opens.Open.{the_row};
 ghost use Rattle.sftp_handles.specs.State.{Handles, open_at, with_open, without_open, is_open};
@@ -89,7 +89,7 @@ pub trait HandleTable: Sized + Drop {
     ///
     /// `NoMemory` if memory runs out.
     fn free_name(&self, alloc: Global) -> Result<Vec<u8>, NoMemory>
-        requires { size (handles self.now) < highest_limits.open_handles }
+        requires { size (handles self.now) < most_limits.open_handles }
         ensures short { IfOk result (λ name. length name.items ≤ handle_limit) }
         ensures free { IfOk result (λ name. IsTrue takes_want → is_open (handles self.now) name.items ≡ false) };
 

@@ -4,3 +4,4 @@ pub mod Bytes
 pub mod Readers
 pub mod FieldLaws
 pub mod PacketLaws
+pub mod LayoutLaws

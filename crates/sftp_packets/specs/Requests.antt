@@ -1,7 +1,7 @@
 -- The requests (draft-ietf-secsh-filexfer-02, sections 6 and 8): how each is spelled, how it is read, and which reply
 -- it may get.
 use Rattle.std.specs.Prelude.{◌==◌, ℕ, Bool, false, if◌then◌else◌, List, [], ◌∷◌, codes, map, bytes_eq, find, Option}
-use Rattle.std.specs.Prelude.{Some, None}
+use Rattle.std.specs.Prelude.{Some, None, is_some, ◌||◌}
 use Rattle.std.specs.List.{list_any}
 use Rattle.sftp_packets.specs.declared.errors.Fault.TheVariants.{WrongType}
 use Rattle.sftp_packets.specs.declared.requests.Ask.{Ask}
@@ -180,6 +180,22 @@ asked_at (Some ask) = request_at (ask_at ask)
 abbrev pub request_packet_at : ℕ → Reader Packet
 request_packet_at kind =
     if kind == 200 then request_at extension_at else asked_at (find (λ ask. kind == (ask_row ask).kind) every_ask)
+
+-- ---- what a request has after its id; for contracts of the code, which reads the id of all requests in one place
+
+-- whether it is the type of a request
+abbrev pub is_request : ℕ → Bool
+is_request kind = kind == 200 || is_some (find (λ ask. kind == (ask_row ask).kind) every_ask)
+
+-- the fields of a request like this one, if there is one
+abbrev pub fields_like : Option Ask → Reader Ask
+fields_like None = refuse WrongType
+fields_like (Some ask) = ask_at ask
+
+-- the fields after the id of a request of this type
+abbrev pub request_fields_at : ℕ → Reader Ask
+request_fields_at kind =
+    if kind == 200 then extension_at else fields_like (find (λ ask. kind == (ask_row ask).kind) every_ask)
 
 -- ---- what makes requests; for proofs, which so speak of all rows at once
 

@@ -11,7 +11,7 @@ use Rattle.sftp_treefile.specs.declared.limits.TreeLimits.{TreeLimits}
 use Rattle.sftp_path.specs.Place.{same_bytes}
 use Rattle.sftp_tree.specs.declared.causes.Cause.{Cause}
 use Rattle.sftp_tree.specs.declared.causes.Cause.TheVariants.{NotOpenFor}
-use Rattle.sftp_tree.specs.Tree.{limits}
+use Rattle.sftp_tree.specs.Tree.{Tree, limits}
 use Rattle.sftp_tree.specs.PlaceCauses.{no_causes, when, only, is_none}
 use Rattle.sftp_tree.proofs.CauseLaws.{none-each}
 use Rattle.sftp_handles.specs.State.{State}
@@ -172,22 +172,22 @@ and-false : (b : Bool) → (b && false) ≡ false
 and-false true = refl
 and-false false = refl
 
-never-refused : (bounds : TreeLimits) (handle : List ℕ) (at len end : ℕ) (found : Seen) (c : Cause)
-    → IsTrue (is_readable found end) → causes_of bounds (row_of (Read handle at len)) found c ≡ false
+never-refused : (t : Tree) (handle : List ℕ) (at len end : ℕ) (found : Seen) (c : Cause)
+    → IsTrue (is_readable found end) → causes_of t (row_of (Read handle at len)) found c ≡ false
 unfolding when no_causes
-never-refused bounds handle at len end (file number flags content) c is =
+never-refused t handle at len end (file number flags content) c is =
     ap (λ b. only NotOpenFor c && not b || false) (may-of (may_read flags) (nat_le end (length content.bytes)) is)
     ∙ ap (λ b. b || false) (and-false (only NotOpenFor c))
-never-refused bounds handle at len end absent c is = absurd cc
-never-refused bounds handle at len end other_kind c is = absurd cc
-never-refused bounds handle at len end something c is = absurd cc
-never-refused bounds handle at len end (listing left) c is = absurd cc
+never-refused t handle at len end absent c is = absurd cc
+never-refused t handle at len end other_kind c is = absurd cc
+never-refused t handle at len end something c is = absurd cc
+never-refused t handle at len end (listing left) c is = absurd cc
 
 -- no cause refuses a READ of it
 pub pieces-free : (s : State) (handle : List ℕ) (at len end : ℕ) (c : Cause)
     → IsTrue (is_readable (seen s a_file handle) end) → causes s (Read handle at len) c ≡ false
 unfolding causes
-pieces-free s handle at len end c is = never-refused (limits s.tree) handle at len end (seen s a_file handle) c is
+pieces-free s handle at len end c is = never-refused s.tree handle at len end (seen s a_file handle) c is
 
 pub not-both : (a b : Bool) → (a && not b || false) ≡ false → a ≡ true → b ≡ true
 not-both true true is holds = refl
@@ -217,24 +217,24 @@ counted-fits bounds size offset len count is =
     let few : count ≤ min len (size - offset) = counts.1 in
     omega (arith, some, few)
 
-readable-by : (bounds : TreeLimits) (handle : List ℕ) (offset len size count : ℕ) (found : Seen)
-    → causes_of bounds (row_of (Read handle offset len)) found NotOpenFor ≡ false → size_of found ≡ Some size
-    → IsTrue (is_count bounds size offset len count) → IsTrue (is_readable found (offset + count))
+readable-by : (t : Tree) (handle : List ℕ) (offset len size count : ℕ) (found : Seen)
+    → causes_of t (row_of (Read handle offset len)) found NotOpenFor ≡ false → size_of found ≡ Some size
+    → IsTrue (is_count (limits t) size offset len count) → IsTrue (is_readable found (offset + count))
 unfolding when no_causes
-readable-by bounds handle offset len size count (file number flags content) free sized counted =
+readable-by t handle offset len size count (file number flags content) free sized counted =
     let may : may_read flags ≡ true = not-both (only NotOpenFor NotOpenFor) (may_read flags) free refl in
     let counts : (0 < count) × (count ≤ min len (size - offset)) =
-    counted-of bounds size offset len count counted in
+    counted-of (limits t) size offset len count counted in
     let some : 0 < count = counts.0 in
     let few : count ≤ min len (size - offset) = counts.1 in
     let length_is : length content.bytes ≡ size = some-is (length content.bytes) size sized in
     let within : nat_le (offset + count) (length content.bytes) ≡ true =
     le-leb (offset + count) (length content.bytes) (omega (arith, some, few, length_is)) in
     (λ i. may i && within i)
-readable-by bounds handle offset len size count absent free sized counted = absurd cc
-readable-by bounds handle offset len size count other_kind free sized counted = absurd cc
-readable-by bounds handle offset len size count something free sized counted = absurd cc
-readable-by bounds handle offset len size count (listing left) free sized counted = absurd cc
+readable-by t handle offset len size count absent free sized counted = absurd cc
+readable-by t handle offset len size count other_kind free sized counted = absurd cc
+readable-by t handle offset len size count something free sized counted = absurd cc
+readable-by t handle offset len size count (listing left) free sized counted = absurd cc
 
 -- a READ that no cause refuses, of a file of this size
 pub readable-file : (s : State) (handle : List ℕ) (offset len size count : ℕ)
@@ -243,24 +243,24 @@ pub readable-file : (s : State) (handle : List ℕ) (offset len size count : ℕ
     → IsTrue (is_readable (seen s a_file handle) (offset + count))
 unfolding causes
 readable-file s handle offset len size count free sized counted =
-    readable-by (limits s.tree) handle offset len size count (seen s a_file handle)
+    readable-by s.tree handle offset len size count (seen s a_file handle)
     (none-each (causes s (Read handle offset len)) free NotOpenFor) sized counted
 
 -- ---- of its size
 
-no-size : (bounds : TreeLimits) (handle : List ℕ) (found : Seen) (c : Cause)
-    → IsTrue (causes_of bounds (row_of (Fstat handle)) found c) → None ≡ size_of found
+no-size : (t : Tree) (handle : List ℕ) (found : Seen) (c : Cause)
+    → IsTrue (causes_of t (row_of (Fstat handle)) found c) → None ≡ size_of found
 unfolding no_causes
-no-size bounds handle (file number flags content) c is = absurd cc
-no-size bounds handle absent c is = refl
-no-size bounds handle other_kind c is = refl
-no-size bounds handle something c is = refl
-no-size bounds handle (listing left) c is = refl
+no-size t handle (file number flags content) c is = absurd cc
+no-size t handle absent c is = refl
+no-size t handle other_kind c is = refl
+no-size t handle something c is = refl
+no-size t handle (listing left) c is = refl
 
 pub refused-size : (s : State) (handle : List ℕ) (c : Cause) → IsTrue (causes s (Fstat handle) c)
     → None ≡ size_of (seen s a_file handle)
 unfolding causes
-refused-size s handle c is = no-size (limits s.tree) handle (seen s a_file handle) c is
+refused-size s handle c is = no-size s.tree handle (seen s a_file handle) c is
 
 -- ==== The fields of extensions, as the code reads them.
 
@@ -315,20 +315,20 @@ pub copied-within : (size offset len count : ℕ) → count ≡ copied_count siz
     → offset + count ≤ size
 copied-within size offset len count is some = within-by (len == 0) size offset len count is some
 
-readable-to : (bounds : TreeLimits) (handle : List ℕ) (offset len size end : ℕ) (found : Seen)
-    → causes_of bounds (row_of (Read handle offset len)) found NotOpenFor ≡ false → size_of found ≡ Some size
+readable-to : (t : Tree) (handle : List ℕ) (offset len size end : ℕ) (found : Seen)
+    → causes_of t (row_of (Read handle offset len)) found NotOpenFor ≡ false → size_of found ≡ Some size
     → end ≤ size → IsTrue (is_readable found end)
 unfolding when no_causes
-readable-to bounds handle offset len size end (file number flags content) free sized few =
+readable-to t handle offset len size end (file number flags content) free sized few =
     let may : may_read flags ≡ true = not-both (only NotOpenFor NotOpenFor) (may_read flags) free refl in
     let length_is : length content.bytes ≡ size = some-is (length content.bytes) size sized in
     let within : nat_le end (length content.bytes) ≡ true =
     le-leb end (length content.bytes) (omega (arith, few, length_is)) in
     (λ i. may i && within i)
-readable-to bounds handle offset len size end absent free sized few = absurd cc
-readable-to bounds handle offset len size end other_kind free sized few = absurd cc
-readable-to bounds handle offset len size end something free sized few = absurd cc
-readable-to bounds handle offset len size end (listing left) free sized few = absurd cc
+readable-to t handle offset len size end absent free sized few = absurd cc
+readable-to t handle offset len size end other_kind free sized few = absurd cc
+readable-to t handle offset len size end something free sized few = absurd cc
+readable-to t handle offset len size end (listing left) free sized few = absurd cc
 
 -- a file that may be read, up to an end
 pub readable-up_to : (s : State) (handle : List ℕ) (offset len size end : ℕ)
@@ -336,7 +336,7 @@ pub readable-up_to : (s : State) (handle : List ℕ) (offset len size end : ℕ)
     → end ≤ size → IsTrue (is_readable (seen s a_file handle) end)
 unfolding causes
 readable-up_to s handle offset len size end free sized few =
-    readable-to (limits s.tree) handle offset len size end (seen s a_file handle)
+    readable-to s.tree handle offset len size end (seen s a_file handle)
     (none-each (causes s (Read handle offset len)) free NotOpenFor) sized few
 
 -- ---- what is copied

@@ -10,7 +10,8 @@ use Rattle.sftp_server.proofs.Imports.{portion_now, is_in_way, IsNoted, AreNotes
 use Rattle.sftp_server.proofs.Imports.{IsMarkedAsked, IsSettling}
 use Rattle.sftp_server.specs.Readiness.{is_all}
 use Rattle.sftp_server.proofs.Queues.{length-progress}
-use Rattle.sftp_server.proofs.RangedNotes.{all-none, clash-right, clash-still, late-aside, resized-clashes}
+use Rattle.sftp_server.proofs.RangedNotes.{all-none, clash-right, clash-shared, clash-still, late-aside, resized-clashes}
+use Rattle.sftp_server.proofs.Imports.{limits, are_far}
 use Rattle.sftp_server.proofs.NotePlaces.{part-set, fails-set, fails-still, passed-before, passes-elsewhere, count-set}
 use Rattle.sftp_server.proofs.NotePlaces.{other-progress, ask-progress, worked-here, reply-here, blocked-as}
 use Rattle.sftp_server.proofs.Notes.{by_place}
@@ -23,11 +24,13 @@ abbrev pub done_notes : List Note → ℕ → List Note
 done_notes notes k = set notes k (done_note notes k)
 
 -- What a step leaves as it was, by what is asked, unless that touches everything: what requests touch, and their spans;
--- and the ranges that they keep to, but for those on the file whose length may have changed.
+-- the ranges that they keep to, but for those on the file whose length may have changed; and whether the tree bounds the
+-- bytes of all files together.
 pub record IsStep (before after : State) (asked : Ask) : Type 0 where
   pub aims : touched before asked ≢ everything → (ask : Ask) → aim_in after ask ≡ aim_in before ask
   pub ranges : touched before asked ≢ everything → (ask : Ask)
       → is_of (resized (portion_in before asked)) (touched before ask) ≡ false → range after ask ≡ range before ask
+  pub bounded : touched before asked ≢ everything → are_far (limits after.tree) ≡ are_far (limits before.tree)
 
 module _ (queue : List Entry) (notes : List Note) (k : ℕ) (reply : Reply) where
   abbrev after : List Entry
@@ -182,8 +185,8 @@ module _ {s : State} {queue : List Entry} {notes : List Note} {first opened writ
 
       clash : portions_clash (portion_now s queue j) own ≡ true
       clash =
-          clash-right (portion_now s queue j) own (all-none s (ask_at queue k) all)
-          ∙ (ap (λ (t : Touched). share (at j) t && not false) all ∙ ap (λ b. b && not false) (share-all (at j)))
+          clash-shared (portion_now s queue j) own (clash-right (portion_now s queue j) own (all-none s (ask_at queue k) all)
+          ∙ (ap (λ (t : Touched). share (at j) t && not false) all ∙ ap (λ b. b && not false) (share-all (at j))))
 
       by : (b : Bool) → nat_lt (suc k) opened ≡ b → ⊥
       by true less = true≢false (sym touch-all ∙ are.noted.last k (ltb-true (suc k) opened less) pending)
@@ -222,8 +225,15 @@ module _ {s : State} {queue : List Entry} {notes : List Note} {first opened writ
     range-still i off =
         ap (range end) (done-asks queue notes k reply i) ∙ step.ranges (part j lt was other) (ask_at queue i) off
 
+    bounded-still : are_far (limits end.tree) ≡ are_far (limits s.tree)
+    bounded-still = step.bounded (part j lt was other)
+
     portion-still : (i : ℕ) → is_of file (at i) ≡ false → portion_now end later i ≡ portion_now s queue i
-    portion-still i off = λ n. record { touched = touched-still i n; range = range-still i off n }
+    portion-still i off = λ n. record {
+      bounded = bounded-still n;
+      touched = touched-still i n;
+      range = range-still i off n;
+    }
 
     module _ (aside : is_of file (at j) ≡ false) where
       -- another is in its way as before
@@ -233,7 +243,7 @@ module _ {s : State} {queue : List Entry} {notes : List Note} {first opened writ
           && portions_clash (portion_now end later i) (portion_now end later j))
           ∙ ap (λ b. is_pending_at queue i && b)
           (clash-still file (portion_now s queue i) (portion_now end later i) (portion_now s queue j)
-          (portion_now end later j) (touched-still i) (portion-still j aside) aside (range-still i)
+          (portion_now end later j) bounded-still (touched-still i) (portion-still j aside) aside (range-still i)
           (all-none s (ask_at queue j)))
 
       late-still : (i : ℕ) → IsLate s queue i j → IsLate end later i j

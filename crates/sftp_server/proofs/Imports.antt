@@ -21,7 +21,9 @@ pub use Rattle.std.specs.List.{AllByRecursion, flat_map}
 pub use Rattle.std.specs.Map.{lookup}
 pub use Rattle.sftp_handles.proofs.TotalSteps.{bytes-by}
 pub use Rattle.sftp_handles.specs.Allowed.{Allowed}
-pub use Rattle.sftp_handles.specs.Clash.{Touched, share, untouched, everything, reads_file, writes_file}
+unfoldable pub use Rattle.sftp_treefile.specs.TreeFile.{are_far}
+pub use Rattle.sftp_tree.specs.Tree.{limits}
+pub use Rattle.sftp_handles.specs.Clash.{Touched, share, share_room, untouched, everything, reads_file, writes_file}
 unfoldable pub use Rattle.sftp_handles.specs.Clash.{touched, clash}
 unfoldable pub use Rattle.sftp_handles.specs.State.{pins_of}
 pub use Rattle.sftp_handles.specs.Clash.{are_apart, may_resize}

@@ -14,6 +14,7 @@ use Rattle.std.proofs.Math.Nat.{le-max_left, le-max_right}
 use Rattle.sftp_handles.specs.declared.touch.Touch.TheVariants.{Nothing, ReadsFile, WritesFile, TakesNames, Everything}
 use Rattle.sftp_handles.proofs.RangeLaws.Spans.{HasFileFor, span-touches}
 use Rattle.sftp_server.proofs.RangedNotes.{portion-is, noted-clash}
+use Rattle.sftp_server.proofs.Imports.{◌||◌, and_right, limits, are_far, share_room}
 use Rattle.sftp_server.proofs.NotePlaces.{part-set, blocked-as}
 
 -- ---- notes at positions
@@ -385,6 +386,14 @@ readers-share (WritesFile number) second one other reads too = absurd cc
 readers-share TakesNames second one other reads too = absurd cc
 readers-share Everything second one other reads too = absurd cc
 
+readers-room : (first second : Touch) (one other : Ask) → only_reads first ≡ true
+    → share_room (touched_as first one) (touched_as second other) ≡ false
+readers-room Nothing second one other reads = refl
+readers-room (ReadsFile number) second one other reads = refl
+readers-room (WritesFile number) second one other reads = absurd cc
+readers-room TakesNames second one other reads = absurd cc
+readers-room Everything second one other reads = absurd cc
+
 -- of a pending request that is open, what its note says of another one is in the state too
 module _ {s : State} {queue : List Entry} {notes : List Note} {f o w p k : ℕ} (noted : IsNoted s queue notes f o w p)
     (marks : IsMarked s queue notes o) (within : k < o) (pends : (note_at notes k).pending ≡ true) (j : ℕ)
@@ -405,15 +414,18 @@ module _ {s : State} {queue : List Entry} {notes : List Note} {f o w p k : ℕ} 
   -- one that is pending is in its way as the code finds it
   pub way-noted : (own : Option Extent)
       → own ≡ extent_now s (file_in (touched_at queue notes k)) (ends_of (note_at notes k).span)
-      → (note_at notes j).pending ≡ true
+      → (bounded : Bool) → bounded ≡ are_far (limits s.tree) → (note_at notes j).pending ≡ true
       → is_in_way s queue j k
-      ≡ (share (touched_at queue notes j) (touched_at queue notes k) && not (is_clear own (ends_of (note_at notes j).span)))
-  way-noted own is pending =
+      ≡ ((bounded && share_room (touched_at queue notes j) (touched_at queue notes k))
+      || (share (touched_at queue notes j) (touched_at queue notes k)
+      && not (is_clear own (ends_of (note_at notes j).span))))
+  way-noted own is bounded far pending =
       (λ i. (sym (marks.asked.marked j) ∙ pending) i && portions_clash (portion_now s queue j) (portion_now s queue k))
       ∙ (sym (noted-clash s (aim_at queue notes j) (aim_at queue notes k) has
       ∙ (λ i. portions_clash (portion-noted j open_too pending i) (portion-noted k within pends i)))
-      ∙ (λ i. share (touched_at queue notes j) (touched_at queue notes k)
-      && not (is_clear (sym is i) (ends_of (note_at notes j).span))))
+      ∙ (λ i. (sym far i && share_room (touched_at queue notes j) (touched_at queue notes k))
+      || (share (touched_at queue notes j) (touched_at queue notes k)
+      && not (is_clear (sym is i) (ends_of (note_at notes j).span)))))
     where
       has : HasFileFor (touched_at queue notes j) (ends_of (note_at notes j).span)
       has = subst (λ (aim : Aim). HasFileFor aim.0 aim.1) (sym (marks.aims j open_too pending))
@@ -431,10 +443,13 @@ module _ {s : State} {queue : List Entry} {notes : List Note} {f o w p k : ℕ} 
           → is_in_way s queue j k ≡ false
       by false r is _ = not-pending is
       by true true is too =
-          way-noted own refl is
-          ∙ and_left (share (touched_at queue notes j) (touched_at queue notes k))
+          way-noted own refl (are_far (limits s.tree)) refl is
+          ∙ (λ i.
+          and_right (are_far (limits s.tree)) (share_room (touched_at queue notes j) (touched_at queue notes k))
+          (readers-room (note_at notes j).touch (note_at notes k).touch (ask_at queue j) (ask_at queue k) too) i
+          || and_left (share (touched_at queue notes j) (touched_at queue notes k))
           (not (is_clear own (ends_of (note_at notes j).span)))
-          (readers-share (note_at notes j).touch (note_at notes k).touch (ask_at queue j) (ask_at queue k) too reads)
+          (readers-share (note_at notes j).touch (note_at notes k).touch (ask_at queue j) (ask_at queue k) too reads) i)
       by true false is writes = absurd
           (true≢false (sym (ap (λ b. b && not (only_reads (note_at notes j).touch)) is ∙ ap not writes) ∙ none))
 

@@ -12,13 +12,18 @@ use Rattle.std.proofs.lemmas.Bool.{le-leb, leb-true}
 use Rattle.sftp_handles.specs.Clash.{range_within, range_if, range_from, meet}
 use Rattle.sftp_handles.specs.Spans.{range_sized}
 use Rattle.sftp_handles.proofs.RangeLaws.Spans.{range-is, HasFileFor}
-use Rattle.sftp_server.specs.Sessions.{extent_of, extent_sized, StartsWithin}
+use Rattle.sftp_server.specs.Sessions.{extent_of, extent_sized, StartsWithin, portions_share}
+use Rattle.sftp_server.proofs.Imports.{◌||◌, limits, are_far, share_room}
 
 -- ---- the portion of a request
 
 -- it follows from what the request touches and its span
 pub portion-is : (s : State) (ask : Ask) → portion_in s ask ≡ portion_of s (aim_in s ask)
-portion-is s ask = λ i. record { touched = touched s ask; range = range-is s ask i }
+portion-is s ask = λ i. record {
+  bounded = are_far (limits s.tree);
+  touched = touched s ask;
+  range = range-is s ask i;
+}
 
 -- what touches everything keeps to no range
 pub all-none : (s : State) (ask : Ask) → touched s ask ≡ everything → range s ask ≡ None
@@ -60,13 +65,22 @@ apart-none : (range : Option ByteRange) → are_apart range None ≡ false
 apart-none None = refl
 apart-none (Some at) = refl
 
-pub clash-left : (p q : Portion) → p.range ≡ None → portions_clash p q ≡ (share p.touched q.touched && not false)
+pub clash-left : (p q : Portion) → p.range ≡ None → portions_share p q ≡ (share p.touched q.touched && not false)
 clash-left p q none = ap (λ range. share p.touched q.touched && not (are_apart range q.range)) none
 
-pub clash-right : (p q : Portion) → q.range ≡ None → portions_clash p q ≡ (share p.touched q.touched && not false)
+pub clash-right : (p q : Portion) → q.range ≡ None → portions_share p q ≡ (share p.touched q.touched && not false)
 clash-right p q none =
     ap (λ range. share p.touched q.touched && not (are_apart p.range range)) none
     ∙ ap (λ b. share p.touched q.touched && not b) (apart-none p.range)
+
+-- what is shared conflicts
+pub clash-shared : (p q : Portion) → portions_share p q ≡ true → portions_clash p q ≡ true
+clash-shared p q shared =
+    ap (λ b. (p.bounded && share_room p.touched q.touched) || b) shared ∙ by (p.bounded && share_room p.touched q.touched)
+  where
+    by : (b : Bool) → (b || true) ≡ true
+    by true = refl
+    by false = refl
 
 -- ---- a request that may change the length of its file
 
@@ -82,8 +96,8 @@ pub resized-clashes : (p q : Portion) → is_of (resized p) q.touched ≡ true
     → (portions_clash p q ≡ true) × (portions_clash q p ≡ true)
 resized-clashes p q is =
     let shared = resized-shares p.touched p.range q.touched is in (
-      clash-left p q shared.2 ∙ and_from (share p.touched q.touched) (not false) shared.0 refl,
-      clash-right q p shared.2 ∙ and_from (share q.touched p.touched) (not false) shared.1 refl,
+      clash-shared p q (clash-left p q shared.2 ∙ and_from (share p.touched q.touched) (not false) shared.0 refl),
+      clash-shared q p (clash-right q p shared.2 ∙ and_from (share q.touched p.touched) (not false) shared.1 refl),
     )
 
 -- it is not on a file on which one of its file is not
@@ -96,12 +110,11 @@ late-aside (Some m) (writes_file n) None other is aside = elim (cases_Bool (n ==
 ]
 late-aside file at range other is aside = absurd cc
 
--- Once the length of a file changed, two requests conflict as before if the second is not on that file: the first may be.
-pub clash-still : (file : Option ℕ) (p p' q q' : Portion) → p'.touched ≡ p.touched → q' ≡ q
+shared-still : (file : Option ℕ) (p p' q : Portion) → p'.touched ≡ p.touched
     → is_of file q.touched ≡ false → (is_of file p.touched ≡ false → p'.range ≡ p.range)
-    → (q.touched ≡ everything → q.range ≡ None) → portions_clash p' q' ≡ portions_clash p q
-clash-still file p p' q q' touches same aside kept none =
-    ap (portions_clash p') same ∙ (elim (cases_Bool (is_of file p.touched)) [
+    → (q.touched ≡ everything → q.range ≡ None) → portions_share p' q ≡ portions_share p q
+shared-still file p p' q touches aside kept none =
+    elim (cases_Bool (is_of file p.touched)) [
       | inl on ↦ elim (cases_Bool (share p.touched q.touched)) [
         | inl shared ↦ elim (shared-of file p.touched q.touched shared on) [
           | inl all ↦
@@ -115,7 +128,15 @@ clash-still file p p' q q' touches same aside kept none =
             ∙ sym (and_left (share p.touched q.touched) (not (are_apart p.range q.range)) apart)
       ]
       | inr off ↦ λ i. share (touches i) q.touched && not (are_apart (kept off i) q.range)
-    ])
+    ]
+
+-- Once the length of a file changed, two requests conflict as before if the second is not on that file: the first may be.
+pub clash-still : (file : Option ℕ) (p p' q q' : Portion) → p'.bounded ≡ p.bounded → p'.touched ≡ p.touched → q' ≡ q
+    → is_of file q.touched ≡ false → (is_of file p.touched ≡ false → p'.range ≡ p.range)
+    → (q.touched ≡ everything → q.range ≡ None) → portions_clash p' q' ≡ portions_clash p q
+clash-still file p p' q q' bounded touches same aside kept none =
+    ap (portions_clash p') same
+    ∙ (λ i. (bounded i && share_room (touches i) q.touched) || shared-still file p p' q touches aside kept none i)
 
 -- ---- as the code compares them
 
@@ -204,10 +225,10 @@ clear-before extent start count fits before =
     (and_right (nat_lt one.start other.end) (nat_lt other.start one.end)
     (le-ltb other.start one.end before))))
 
-pub noted-clash : (s : State) (one two : Aim) → HasFileFor one.0 one.1
+noted-shared : (s : State) (one two : Aim) → HasFileFor one.0 one.1
     → (share one.0 two.0 && not (is_clear (extent_now s (file_in two.0) two.1) one.1))
-    ≡ portions_clash (portion_of s one) (portion_of s two)
-noted-clash s one two has = elim (cases_Bool (share one.0 two.0)) [
+    ≡ portions_share (portion_of s one) (portion_of s two)
+noted-shared s one two has = elim (cases_Bool (share one.0 two.0)) [
   | inl shared ↦ ap (λ b. share one.0 two.0 && not b) (clear-is s one two has shared two.1)
   | inr apart ↦
       and_left (share one.0 two.0) (not (is_clear (extent_now s (file_in two.0) two.1) one.1)) apart
@@ -215,3 +236,10 @@ noted-clash s one two has = elim (cases_Bool (share one.0 two.0)) [
       (and_left (share one.0 two.0) (not (are_apart (range_now s (file_in one.0) one.1)
       (range_now s (file_in two.0) two.1))) apart)
 ]
+
+pub noted-clash : (s : State) (one two : Aim) → HasFileFor one.0 one.1
+    → ((are_far (limits s.tree) && share_room one.0 two.0)
+    || (share one.0 two.0 && not (is_clear (extent_now s (file_in two.0) two.1) one.1)))
+    ≡ portions_clash (portion_of s one) (portion_of s two)
+noted-clash s one two has =
+    ap (λ b. (are_far (limits s.tree) && share_room one.0 two.0) || b) (noted-shared s one two has)

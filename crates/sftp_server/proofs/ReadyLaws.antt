@@ -16,10 +16,10 @@ use Rattle.sftp_server.proofs.Imports.{IsWorked, IsSent, IsPossible, steps_left,
 use Rattle.std.proofs.lemmas.Option.{slice_get_within}
 use Rattle.sftp_server.specs.Readiness.{IsShut, IsOpened}
 use Rattle.sftp_server.specs.declared.cores.Choice.TheVariants as choices
-use Rattle.sftp_server.proofs.RangedNotes.{clash-left, all-none}
+use Rattle.sftp_server.proofs.RangedNotes.{clash-left, clash-shared, all-none}
 use Rattle.sftp_server.proofs.DoneNotes.{all-touched, IsStep, done_notes, marked-done}
 use Rattle.sftp_packets.specs.declared.replies.Answer.{Answer}
-use Rattle.sftp_tree.specs.Tree.{limits}
+use Rattle.sftp_server.proofs.Imports.{limits, are_far}
 use Rattle.sftp_handles.specs.State.{open_at}
 use Rattle.sftp_handles.specs.Allowed.{changed, after, after_by}
 use Rattle.sftp_handles.specs.Allowed.{Refuses, Does}
@@ -28,7 +28,7 @@ use Rattle.sftp_handles.specs.Spans.{span_by, span_open}
 use Rattle.sftp_handles.specs.State.{seen}
 use Rattle.sftp_handles.specs.RequestRows.{row_of, Change, nothing, change_of}
 use Rattle.sftp_handles.proofs.ClashLaws.{applied, change-touches, touched-stays}
-use Rattle.sftp_handles.proofs.ClashLaws.{handle-of}
+use Rattle.sftp_handles.proofs.ClashLaws.{handle-of, limits-stay}
 use Rattle.sftp_handles.proofs.RangeLaws.Spans.{spanned-stays}
 use Rattle.sftp_server.proofs.NotePlaces.{ranges-still}
 use Rattle.sftp_server.proofs.Queues.{from_unsent-short}
@@ -64,7 +64,7 @@ free-not clash s (entry ∷ queue) (suc k) (suc j) request before blocks =
 blocks-portions : (s : State) (found : Option Entry) (request : Request)
     → blocks_in range_clash s found request
     ≡ (pending_in found && portions_clash (portion_in s (ask_in found)) (portion_in s request.ask))
-unfolding range_clash clash
+unfolding range_clash
 blocks-portions s None request = refl
 blocks-portions s (Some entry) request = refl
 
@@ -88,8 +88,9 @@ blocks-shut s queue notes opened k entry are shut at =
     ∙ and_from (is_pending_at queue shut.last)
     (portions_clash (portion_now s queue shut.last) (portion_now s queue k))
     (sym (are.asked.marked shut.last) ∙ shut.pending)
+    (clash-shared (portion_now s queue shut.last) (portion_now s queue k)
     (clash-left (portion_now s queue shut.last) (portion_now s queue k) (all-none s (ask_at queue shut.last) all)
-    ∙ ap (λ (at : Touched). share at (touched s (ask_at queue k)) && not false) all)
+    ∙ ap (λ (at : Touched). share at (touched s (ask_at queue k)) && not false) all))
 
 -- ---- what is ready
 
@@ -319,6 +320,27 @@ aims-past s end request reply ask part allowed = by allowed.step
         ap (λ (e : State). aim_in e ask) does.changed
         ∙ aims-done s request.ask ask reply.answer named.0 named.1 part
 
+limits-done : (s : State) (asked : Ask) (answer : Answer) (handle : List ℕ) → asked_handle asked ≡ Some handle
+    → touched s asked ≢ everything → limits (after s asked answer).tree ≡ limits s.tree
+unfolding after
+limits-done s asked answer handle named part =
+    let change = change_of (row_of asked) (seen s (row_of asked).needed handle) answer in
+    let touches = change-touches s asked handle answer named in
+    ap (λ (found : Option (List ℕ)). limits (after_by s asked answer found).tree) named
+    ∙ (changed-limits s handle change ∙ limits-stay s handle (touched s asked) change touches part)
+
+limits-past : (s end : State) (request : Request) (reply : Reply) → touched s request.ask ≢ everything
+    → Allowed s request reply end → limits end.tree ≡ limits s.tree
+limits-past s end request reply part allowed = by allowed.step
+  where
+    by : Refuses s request.ask reply.answer end ⊎ Does s request.ask reply.answer end
+        → limits end.tree ≡ limits s.tree
+    by (inl refused) = ap (λ (e : State). limits e.tree) refused.unchanged
+    by (inr does) =
+        let named = handle-of s request.ask part in
+        ap (λ (e : State). limits e.tree) does.changed
+        ∙ limits-done s request.ask reply.answer named.0 named.1 part
+
 -- what a step leaves as it was, by what was asked
 pub step-leaves : (s end : State) (request : Request) (reply : Reply) (asked : Ask) → asked ≡ request.ask
     → Allowed s request reply end → IsStep s end asked
@@ -327,6 +349,7 @@ step-leaves s end request reply asked named allowed = rw named record {
   ranges = λ part ask other.
       ranges-still s end request reply ask part other
       (ap (λ (aim : Aim). aim.0) (aims-past s end request reply ask part allowed)) allowed;
+  bounded = λ part. ap are_far (limits-past s end request reply part allowed);
 }
 
 -- ---- what the notes say of it

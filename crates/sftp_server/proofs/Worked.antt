@@ -2,7 +2,7 @@
 use Rattle.sftp_server.proofs.Imports.{ℕ, ◌<◌, ◌≤◌, ◌^◌, List, [], ◌∷◌, codes, length, refl, inr, lit<, lit≤}
 use Rattle.sftp_server.proofs.Imports.{request_packet, reply_packet, Request, Reply, spelling, packet_limit}
 use Rattle.sftp_server.proofs.Imports.{HasSpelling, FitsString, retain, get, Tree, State, pins_of, Allowed, clash}
-use Rattle.sftp_server.proofs.Imports.{touched, range, range_clash, bytes-by, Explained, turn_after, in_window}
+use Rattle.sftp_server.proofs.Imports.{touched, range, range_clash, are_far, bytes-by, Explained, turn_after, in_window}
 use Rattle.sftp_server.proofs.Imports.{requests_before_reply, exchanges_of, leading_pairs, next_reply, window, Entry}
 use Rattle.sftp_server.proofs.Imports.{Progress, Pending, Done, Sent, Machine, at_start, AreActs, IsWorked, IsSent}
 use Rattle.sftp_server.proofs.Imports.{is_unsent, is_free_of, from_unsent, server_clash, started, no_attributes, ◌≡◌}
@@ -197,7 +197,7 @@ first_sends = record {
 
 pub keeps_order : AreActs Allowed server_clash (at_start (started blank) window) made_and_removed answered_backwards
     (at_start (started blank) window)
-unfolding is_unsent is_free_of range_clash clash touched range
+unfolding is_unsent is_free_of range_clash clash touched range are_far
 keeps_order =
     let asked_first = mkdir 1 (codes "/a") in
     let asked_second = rmdir 2 (codes "/a") in

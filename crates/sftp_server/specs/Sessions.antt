@@ -1,11 +1,11 @@
 -- A session of the server while it runs: what it read, wrote and logged since it began, and which requests it has
 -- (draft-ietf-secsh-filexfer-02, sections 3 to 7). Words of private contracts: no public one reaches this file.
-use Rattle.std.specs.Prelude.{◌==◌, ◌&&◌, ◌≤◌, not, ℕ, Bool, false, Option, Some, None, ◌≡◌, ◌≢◌, ◌⊎◌, List, [], ◌++◌}
+use Rattle.std.specs.Prelude.{◌==◌, ◌&&◌, ◌||◌, ◌≤◌, not, ℕ, Bool, false, Option, Some, None, ◌≡◌, ◌≢◌, ◌⊎◌, List, [], ◌++◌}
 use Rattle.std.specs.Prelude.{length, Result, Err, MatchResult, IfErr, IsTrue, drop}
 use Rattle.sftp_packets.specs.declared.requests.Ask.{Ask}
 use Rattle.sftp_handles.specs.declared.byte_range.ByteRange.{ByteRange}
 use Rattle.sftp_handles.specs.State.{State, Good, started, closed_tree}
-use Rattle.sftp_handles.specs.Clash.{Touched, reads_file, writes_file, share, touched}
+use Rattle.sftp_handles.specs.Clash.{Touched, reads_file, writes_file, share, share_room, touched}
 use Rattle.sftp_handles.specs.Clash.{range, range_within, are_apart}
 use Rattle.sftp_handles.specs.Spans.{spanned, file_in, size_in, range_now}
 use Rattle.sftp_server.specs.declared.extents.Extent.{Extent}
@@ -22,7 +22,8 @@ use Rattle.sftp_streams.specs.Streams.{AppendsPart}
 use Rattle.sftp_transcript.specs.Log.{Log, opened_text}
 use Rattle.sftp_transcript.specs.Transcript.{record_text, IsEvent}
 use Rattle.sftp_transcript.specs.Explained.{window}
-use Rattle.sftp_tree.specs.Tree.{Tree}
+use Rattle.sftp_tree.specs.Tree.{Tree, limits}
+use Rattle.sftp_treefile.specs.TreeFile.{are_far}
 use Rattle.sftp_server.specs.declared.ends.Ended.{Ended}
 use Rattle.sftp_server.specs.declared.ends.Ended.TheVariants as ends
 use Rattle.sftp_server.specs.declared.ends.SessionEnd.{SessionEnd}
@@ -53,21 +54,31 @@ Aim = Touched × Option (ℕ × ℕ)
 abbrev pub aim_in : State → Ask → Aim
 aim_in s ask = (touched s ask, spanned s ask)
 
--- what a request touches, and the range of its file that it keeps to, if it keeps to one within the file
+-- What a request touches, and the range of its file that it keeps to, if it keeps to one within the file; and whether
+-- the tree bounds the bytes of all files together.
 pub record Portion : Type 0 where
+  pub bounded : Bool
   pub touched : Touched
   pub range : Option ByteRange
 
 abbrev pub portion_in : State → Ask → Portion
-portion_in s ask = record { touched = touched s ask; range = range s ask }
+portion_in s ask = record { bounded = are_far (limits s.tree); touched = touched s ask; range = range s ask }
 
 -- the portion that this is in a state
 abbrev pub portion_of : State → Aim → Portion
-portion_of s aim = record { touched = aim.0; range = range_now s (file_in aim.0) aim.1 }
+portion_of s aim = record {
+  bounded = are_far (limits s.tree);
+  touched = aim.0;
+  range = range_now s (file_in aim.0) aim.1;
+}
 
--- whether two requests conflict that touch these, ranges compared
+-- whether two requests share these, ranges compared
+abbrev pub portions_share : Portion → Portion → Bool
+portions_share a b = share a.touched b.touched && not (are_apart a.range b.range)
+
+-- whether two requests conflict that touch these: they share room, or what they touch
 abbrev pub portions_clash : Portion → Portion → Bool
-portions_clash a b = share a.touched b.touched && not (are_apart a.range b.range)
+portions_clash a b = (a.bounded && share_room a.touched b.touched) || portions_share a b
 
 -- ---- a request that may change the length of its file
 

@@ -3,7 +3,9 @@ ghost use Rattle.std.specs.Prelude.{◌≡◌, ◌≢◌, ◌+◌, ◌-◌, ◌<
 ghost use Rattle.std.specs.Prelude.{OnOk, IfSome, not, length, take, drop, set};
 ghost use Rattle.std.specs.VecDeque.{deque_len, deque_capacity};
 ghost use Rattle.sftp_packets.specs.declared.requests.Ask.{Ask as Asked};
-ghost use Rattle.sftp_handles.specs.Clash.{touched, share, writes_file};
+ghost use Rattle.sftp_treefile.specs.TreeFile.{are_far};
+ghost use Rattle.sftp_tree.specs.Tree.{limits};
+ghost use Rattle.sftp_handles.specs.Clash.{touched, share, share_room, writes_file};
 ghost use Rattle.sftp_handles.specs.Spans.{spanned, ends_of, file_in, range_now};
 ghost use Rattle.sftp_handles.specs.Clash.{touched_as};
 ghost use Rattle.sftp_server.specs.Readiness.{blank, note_at, touched_at, portion_now, ask_at, IsFree, IsBlockedBack};
@@ -517,10 +519,11 @@ impl Readiness {
             return 0;
         }
         let own = self.extent(session, k);
+        let bounded = session.bounds_room();
         if self.only_reads(k) {
-            self.look_for_writer(session, queue, k, own)
+            self.look_for_writer(session, queue, k, own, bounded)
         } else {
-            self.look_for_any(session, queue, k, own)
+            self.look_for_any(session, queue, k, own, bounded)
         }
     }
 
@@ -545,6 +548,7 @@ impl Readiness {
         queue: &Queue,
         k: usize,
         own: Option<Extent>,
+        bounded: bool,
     ) -> usize
         requires within { k < self.now.opened }
         requires noted { IsNoted session.now queue.now self.now.notes.items self.now.first_pending self.now.opened
@@ -554,6 +558,7 @@ impl Readiness {
         requires reads { words.only_reads (note_at self.now.notes.items k).touch ≡ true }
         requires own { own ≡ extent_now session.now (file_in (touched_at queue.now self.now.notes.items k))
             (ends_of (note_at self.now.notes.items k).span) }
+        requires bounded { bounded ≡ are_far (limits session.now.tree) }
         ensures free { result ≡ 0 → IsFree session.now queue.now k }
         ensures blocked { result ≢ 0 → IsBlockedBack session.now queue.now k result }
     {
@@ -561,7 +566,7 @@ impl Readiness {
         let mut j = self.start(k);
         'down: while j > self.first_pending {
             j -= 1;
-            if self.is_pending_writer(j) && self.conflict(queue, j, k, &later, &own) {
+            if self.is_pending_writer(j) && self.conflict(queue, j, k, &later, &own, bounded) {
                 return k - j;
             }
         }
@@ -575,6 +580,7 @@ impl Readiness {
         queue: &Queue,
         k: usize,
         own: Option<Extent>,
+        bounded: bool,
     ) -> usize
         requires within { k < self.now.opened }
         requires noted { IsNoted session.now queue.now self.now.notes.items self.now.first_pending self.now.opened
@@ -583,6 +589,7 @@ impl Readiness {
         requires pending { (note_at self.now.notes.items k).pending ≡ true }
         requires own { own ≡ extent_now session.now (file_in (touched_at queue.now self.now.notes.items k))
             (ends_of (note_at self.now.notes.items k).span) }
+        requires bounded { bounded ≡ are_far (limits session.now.tree) }
         ensures free { result ≡ 0 → IsFree session.now queue.now k }
         ensures blocked { result ≢ 0 → IsBlockedBack session.now queue.now k result }
     {
@@ -590,7 +597,7 @@ impl Readiness {
         let mut j = k;
         'down: while j > self.first_pending {
             j -= 1;
-            if self.notes[j].pending && self.conflict(queue, j, k, &later, &own) {
+            if self.notes[j].pending && self.conflict(queue, j, k, &later, &own, bounded) {
                 return k - j;
             }
         }
@@ -616,8 +623,8 @@ impl Readiness {
         note.pending & !only_reads(&note.touch)
     }
 
-    /// Whether the requests at two positions conflict by their notes, where `later` is the note of the one at `k`, and
-    /// `own` the range that this one keeps to.
+    /// Whether the requests at two positions conflict by their notes, where `later` is the note of the one at `k`,
+    /// `own` the range that this one keeps to, and `bounded` whether the tree bounds the bytes of all files together.
     #[inline(always)]
     fn conflict(
         &self,
@@ -626,17 +633,22 @@ impl Readiness {
         k: usize,
         later: &Note,
         own: &Option<Extent>,
+        bounded: bool,
     ) -> bool
         requires within { j < length queue.now }
         requires there { k < length queue.now }
         requires same { length self.now.notes.items ≡ length queue.now }
         requires later { later.now ≡ note_at self.now.notes.items k }
         requires own { IfSome own.now portions.StartsWithin }
-        ensures { result ≡ (share (touched_at queue.now self.now.notes.items j)
-            (touched_at queue.now self.now.notes.items k)
-            && not (portions.is_clear own.now (ends_of (note_at self.now.notes.items j).span))) }
+        ensures { result ≡ ((bounded && share_room (touched_at queue.now self.now.notes.items j)
+            (touched_at queue.now self.now.notes.items k))
+            || (share (touched_at queue.now self.now.notes.items j) (touched_at queue.now self.now.notes.items k)
+            && not (portions.is_clear own.now (ends_of (note_at self.now.notes.items j).span)))) }
     {
         let earlier = &self.notes[j];
+        if bounded && earlier.touch.shares_room(&later.touch) {
+            return true;
+        }
         // Ranges are compared first: while one file is transferred, most of them are apart.
         !is_clear(own, earlier.span) && shares(queue, j, k, earlier.touch, later.touch)
     }

@@ -17,7 +17,8 @@ use Rattle.sftp_packets.specs.Requests.{ask_row}
 use Rattle.sftp_packets.specs.Requests.{answer_row}
 use Rattle.sftp_packets.specs.Packets as packets
 use Rattle.sftp_packets.specs.Layouts.{Shape, before, kinds_of, mark_of, row_shape, first_packet, packet_shape, layout_of_bytes}
-use Rattle.sftp_packets.proofs.PacketLaws.{has_others, ends_last, ask_ends_last, answer_ends_last, packet_layout}
+use Rattle.sftp_packets.proofs.PacketLaws.{has_others, ends_last, ask_ends_last}
+use Rattle.sftp_packets.proofs.LayoutLaws.{answer_ends_last, packet_layout}
 use Rattle.sftp_text.specs.Formats.{Format, nothing as no_text, ◌then◌, word, mark}
 use Rattle.sftp_text.specs.Digits as digits
 use Rattle.sftp_text.specs.Fields.{field_text, tail_text, fields_text}

@@ -19,7 +19,7 @@ use Rattle.sftp_tree.specs.Requests.{number_at, file, plain_causes, causes as tr
 use Rattle.sftp_tree.specs.Requests as paths
 use Rattle.sftp_handles.proofs.Good.{room-of}
 use Rattle.sftp_handles.proofs.Good.Pins.{state_of}
-use Rattle.sftp_treefile.specs.TreeFile.{highest_limits}
+use Rattle.sftp_treefile.specs.TreeFile.{most_limits}
 use Rattle.sftp_listing.proofs.FirstNames.{struck-first_items}
 use Rattle.sftp_handles.specs.Slots.{first_names}
 use Rattle.sftp_listing.proofs.FirstNames.{items-counted}
@@ -163,7 +163,7 @@ asked-room s (asks.Opendir path) handle it opening none absent =
 asked-room s other handle it opening none absent = absurd cc
 
 -- if one more may be opened, fewer are open than may be in any tree
-pub few-handles : (s : State) → Good s → has_handle_left s ≡ true → size s.handles < highest_limits.open_handles
+pub few-handles : (s : State) → Good s → has_handle_left s ≡ true → size s.handles < most_limits.open_handles
 few-handles s good room =
     let less = leb-true (size s.handles + 1) (limits s.tree).open_handles room in
     let most = good.tree.well_formed.limits.open_handles.1 in

@@ -17,7 +17,7 @@ use Rattle.sftp_handles.proofs.Imports.{asked_handle, NotDir, Loop, Unknown, Cau
 use Rattle.sftp_handles.proofs.Imports.{causes, answers, after, said_to, causes_by, path_causes, path_said}
 use Rattle.sftp_handles.proofs.Imports.{IsAnswerable, status_of}
 use Rattle.sftp_packets.specs.declared.requests.Ask.TheVariants as asks
-use Rattle.sftp_treefile.specs.TreeFile.{highest_limits}
+use Rattle.sftp_treefile.specs.TreeFile.{most_limits}
 use Rattle.sftp_handles.specs.Replies.{gives, ended, shows, names, opens}
 use Rattle.sftp_handles.specs.RequestRows.{listed}
 use Rattle.sftp_listing.proofs.FirstNames.{content-shown, node-shown, short-target}
@@ -44,7 +44,7 @@ pub few-taken : (len limit : ℕ) (bytes : List ℕ) → length (take (min len l
 few-taken len limit bytes = omega (arith, length-take (min len limit) bytes)
 
 module _ (s : State) (good : Good s) where
-  read-limit : (limits s.tree).read_bytes ≤ highest_limits.read_bytes
+  read-limit : (limits s.tree).read_bytes ≤ most_limits.read_bytes
   read-limit = good.tree.well_formed.limits.read_bytes.1
 
   data-fits : (offset len : ℕ) (bytes : List ℕ) → IsTrue (are_bytes bytes)

@@ -9,7 +9,7 @@ use Rattle.sftp_handles.proofs.Imports.{IsItem, IsLeft, is_plain, item_of, first
 use Rattle.sftp_handles.proofs.Imports.{same_attributes, FitsSaid, FitsTwice, FitsData, HasNewName, said_in, answer_of}
 use Rattle.sftp_handles.proofs.Imports.{IsSpelledAnswer, IsReplyOf, status_of, only_name}
 use Rattle.sftp_packets.specs.declared.replies.Answer.TheVariants as replies
-use Rattle.sftp_treefile.specs.TreeFile.{highest_limits}
+use Rattle.sftp_treefile.specs.TreeFile.{most_limits}
 use Rattle.sftp_handles.specs.Slots.{first_names}
 use Rattle.sftp_listing.proofs.FirstNames.{Extended, attributes_of, same-itself, first-some}
 use Rattle.sftp_handles.specs.Replies.{ok, shows, names, gives, ended, lists, opens, extends}
@@ -233,7 +233,7 @@ handle-spelled handle bytes short id small = record {
 
 new-sayable : (handles : Handles) → HasNewName handles → IsSayable (opens handles)
 new-sayable handles fits =
-    let free = name-left highest_limits.open_handles handles (omega arith) fits.ordered fits.few in
+    let free = name-left most_limits.open_handles handles (omega arith) fits.ordered fits.few in
     let handle = uint32 free.count in (
       replies.Handle handle,
       record {

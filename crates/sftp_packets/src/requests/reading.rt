@@ -1,9 +1,9 @@
 //! Requests are read field by field, from left to right and up to the first fault, as the table of requests says
 //! (draft, sections 6 and 8).
 ghost use Rattle.std.specs.Prelude.{◌≡◌};
-ghost use Rattle.sftp_packets.specs.declared.packets.Packet.{Packet};
 ghost use Rattle.sftp_packets.specs.Reading.{Reads, one, rest_at};
-ghost use Rattle.sftp_packets.specs.Requests.{request_at, extension_data_at, extension_at, request_packet_at};
+ghost use Rattle.sftp_packets.specs.Requests.{extension_data_at, extension_at, is_request, request_fields_at};
+ghost use Rattle.sftp_packets.specs.Requests.{request_packet_at};
 
 use crate::errors::{Fault, ReadError};
 use crate::fields::{attributes, handle, long_number, number, rest, string};
@@ -39,7 +39,22 @@ macro_rules! read_extension {
     }};
 }
 
-/// Reads the fields after the type of a request, by the table.
+/// Whether a type is that of a request, by the table.
+macro_rules! is_type {
+    (
+        ($kind:ident)
+        [$($type:ident => $variant:ident { $($field:ident: $field_kind:ident),* },)*]
+        [$($known:ident => $extension:ident { $($part:ident: $part_kind:ident),* },)*]
+    ) => {
+        match $kind {
+            $($type => true,)*
+            EXTENDED => true,
+            _ => false,
+        }
+    };
+}
+
+/// Reads the fields after the id of a request, by the table.
 macro_rules! read_request {
     (
         ($alloc:ident, $kind:ident, $body:ident)
@@ -48,20 +63,13 @@ macro_rules! read_request {
     ) => {
         match $kind {
             $($type => {
-                let id = number($body)?;
                 $(let $field = read_field!($field_kind, $alloc, $body);)*
-                Ok(request(id, Ask::$variant { $($field),* }))
+                Ok(Ask::$variant { $($field),* })
             })*
             EXTENDED => extended($alloc, $body),
             _ => Err(ReadError::Fault(Fault::WrongType)),
         }
     };
-}
-
-fn request(id: u32, ask: Ask) -> Packet
-    ensures { result ≡ Packet.Request (record { id = id; ask = ask }) }
-{
-    Packet::Request(Request { id, ask })
 }
 
 fn unknown(alloc: Global, name: ByteString, body: &mut &[u8]) -> Result<Ask, ReadError>
@@ -81,20 +89,37 @@ fn extension_data(alloc: Global, name: ByteString, body: &mut &[u8]) -> Result<A
 
 /// An extension: its name, and then its data.
 #[tactic(auto, unfolding(crate::specs::Requests::extension_at))]
-fn extended(alloc: Global, body: &mut &[u8]) -> Result<Packet, ReadError>
-    ensures { Reads result body.new.now (request_at extension_at body.old.now) }
+fn extended(alloc: Global, body: &mut &[u8]) -> Result<Ask, ReadError>
+    ensures { Reads result body.new.now (extension_at body.old.now) }
 {
-    let id = number(body)?;
     let name = string(alloc, body)?;
-    let ask = extension_data(alloc, name, body)?;
-    Ok(request(id, ask))
+    extension_data(alloc, name, body)
 }
 
-/// The fields after the type of a request. Inlined into `client_packet`, which is then one `match` over all types.
-// Slow to prove, with an arm for each type of a packet.
+/// Whether it is the type of a request.
+fn is_request(kind: u8) -> bool
+    ensures { result ≡ is_request kind }
+{
+    with_requests!(is_type!(kind))
+}
+
+/// The fields after the id of a request.
+// Slow to prove, with an arm for each type of a request.
+fn request_fields(alloc: Global, kind: u8, body: &mut &[u8]) -> Result<Ask, ReadError>
+    ensures { Reads result body.new.now (request_fields_at kind body.old.now) }
+{
+    with_requests!(read_request!(alloc, kind, body))
+}
+
+/// The fields after the type of a request. Inlined into `client_packet`, so that the packet is not copied again.
 #[inline(always)]
 pub(crate) fn request_packet(alloc: Global, kind: u8, body: &mut &[u8]) -> Result<Packet, ReadError>
     ensures { Reads result body.new.now (request_packet_at kind body.old.now) }
 {
-    with_requests!(read_request!(alloc, kind, body))
+    if !is_request(kind) {
+        return Err(ReadError::Fault(Fault::WrongType));
+    }
+    let id = number(body)?;
+    let ask = request_fields(alloc, kind, body)?;
+    Ok(Packet::Request(Request { id, ask }))
 }

@@ -3,7 +3,7 @@ use Rattle.sftp_handles.proofs.HandleTables.SlotTables.{AreOpenBelow}
 use Rattle.sftp_handles.proofs.free_names.free_number.Given as goal
 
 abbrev pub invariant-taken : goal.invariant-taken
-invariant-taken l = AreOpenBelow l.number (handles_in (λ k. k.items) l.opens.entries) × (l.number ≤ 1024)
+invariant-taken l = AreOpenBelow l.number (handles_in (λ k. k.items) l.opens.entries) × (l.number ≤ 65536)
 
 abbrev pub decreases-taken : goal.decreases-taken
-decreases-taken l = 1024 - l.number
+decreases-taken l = 65536 - l.number

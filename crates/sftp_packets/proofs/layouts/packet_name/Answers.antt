@@ -1,6 +1,6 @@
 use Rattle.std.proofs.Common.{◌∙◌}
 use Rattle.sftp_packets.specs.Layouts.{shapes}
-use Rattle.sftp_packets.proofs.PacketLaws.{ask_name, answer_name}
+use Rattle.sftp_packets.proofs.LayoutLaws.{ask_name, answer_name}
 use Rattle.sftp_packets.proofs.layouts.packet_name.Goals as goal
 
 pub returns-in-Init : goal.returns-in-Init

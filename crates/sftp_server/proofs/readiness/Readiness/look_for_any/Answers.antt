@@ -24,7 +24,7 @@ down-preserved g c =
     (note-read notes j c.index-in-down.result.now there c.index-in-down.ensures) in
     let none : is_in_way s queue j c.args.k ≡ false = elim c.else-index.branch [
       | else-index-via-then-index+else-conflict w ↦
-          way-noted noted c.requires.marks c.requires.within c.requires.pending j before c.args.own c.requires.own
+          way-noted noted c.requires.marks c.requires.within c.requires.pending j before c.args.own c.requires.own c.args.bounded c.requires.bounded
           (pending ∙ w.if-index.true)
           ∙ (sym w.conflict.ensures ∙ w.if-conflict.false)
       | else-index-via-else-index w ↦
@@ -47,7 +47,7 @@ returns-then-conflict-clause-blocked g c = λ _.
       j,
       omega (arith, within, c.down-test.true),
       before,
-      way-noted noted c.requires.marks c.requires.within c.requires.pending j before c.args.own c.requires.own
+      way-noted noted c.requires.marks c.requires.within c.requires.pending j before c.args.own c.requires.own c.args.bounded c.requires.bounded
           (pending ∙ c.if-index.true)
           ∙ (sym c.conflict.ensures ∙ c.if-conflict.true),
     )

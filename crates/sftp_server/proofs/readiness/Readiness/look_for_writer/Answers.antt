@@ -22,7 +22,7 @@ down-preserved g c =
       | else-is_pending_writer-via-then-is_pending_writer+else-conflict w ↦
           let note = note_at c.args.self.now.notes.items j in
           way-noted c.requires.noted c.requires.marks c.requires.within c.requires.pending j before c.args.own
-          c.requires.own
+          c.requires.own c.args.bounded c.requires.bounded
           (and_parts note.pending (not (only_reads note.touch)) (sym c.is_pending_writer.ensures
           ∙ w.if-is_pending_writer.true)).0
           ∙ (sym w.conflict.ensures ∙ w.if-conflict.false)
@@ -44,7 +44,7 @@ returns-then-conflict-clause-blocked g c = λ _.
       omega (arith, within, c.down-test.true),
       before,
       way-noted c.requires.noted c.requires.marks c.requires.within c.requires.pending j before c.args.own
-          c.requires.own
+          c.requires.own c.args.bounded c.requires.bounded
           (and_parts note.pending (not (only_reads note.touch)) (sym c.is_pending_writer.ensures
           ∙ c.if-is_pending_writer.true)).0
           ∙ (sym c.conflict.ensures ∙ c.if-conflict.true),
