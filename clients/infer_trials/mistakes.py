@@ -4,7 +4,7 @@ import os
 import random
 
 import sftp3
-from infer_trials import judging, strict
+from infer_trials import judging
 from probing import mutated, program
 from probing.plans import Step
 from sftp3 import trees
@@ -124,9 +124,9 @@ MISTAKES = [wrong_byte, mutated.lost_write, swapped, mutated.exchanged_writes, w
 
 def attempt(folder, seed, looks_first):
     """For each kind of mistake, pairs of whether it was caught and where its transcript is."""
-    tree = judging.start(seed, seed % strict.LINKS == 0, False)
+    tree = judging.start(seed, seed % judging.LINKS == 0, False)
     steps = plan_of(seed, tree, looks_first)
-    records, tree_file, transcript = strict.record(folder, tree, steps, seed, 1)
+    records, tree_file, transcript = judging.record(folder, tree, steps, seed, 1)
     is_right, said = judging.accepted_without(program.program(), transcript)
     if not is_right:
         raise judging.Wrong(f"seed {seed}: the session without a mistake is refused: {said}")

@@ -7,7 +7,7 @@ from dataclasses import dataclass, field
 from typing import List, Tuple
 
 import sftp3
-from paging import differing, exchanges, folding, packets
+from paging import differing, exchanges, packets
 from paging.picture import Picture, counted, safe
 from probing import files
 
@@ -138,7 +138,7 @@ def version(records):
     return [f"version {number}"] + [f"{packets.quoted(name)} {packets.quoted(value)}" for name, value in pairs]
 
 
-def page_of_session(name, records, said, difference=None, centre=(), around=folding.AROUND):
+def page_of_session(name, records, said, difference=None, centre=(), around=exchanges.AROUND):
     """The text of the page: `said` has pairs of what is said above the picture; `difference` is the refusal."""
     session = exchanges.Session(records)
     asked = len(session.exchanges)
@@ -152,7 +152,7 @@ def page_of_session(name, records, said, difference=None, centre=(), around=fold
             "</header>", "<main>", "<section><h2>The session</h2>", facts(about), "</section>",
             key()]
     if difference:
-        body.append(differing.html("d1", difference, folding.WHOLE, around))
+        body.append(differing.html("d1", difference, exchanges.WHOLE, around))
     else:
         body += ['<section id="d1"><h2>Its packets</h2>',
                  Picture("d1a", session, centre=centre, around=around).html(), "</section>"]

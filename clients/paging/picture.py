@@ -2,7 +2,7 @@
 request in flight, from its row to the row of its reply."""
 from html import escape
 
-from paging import exchanges, folding, packets
+from paging import exchanges, packets
 
 # A pause of so many seconds between two rows is told.
 PAUSE = 0.5
@@ -25,15 +25,15 @@ class Picture:
     """One session. `name` begins the ids of its rows; `differing` has the places of the request and of the reply that
     differ; `why` is a word for what is wrong."""
 
-    def __init__(self, name, session, differing=(), why="differs", whole=folding.WHOLE, around=folding.AROUND,
+    def __init__(self, name, session, differing=(), why="differs", whole=exchanges.WHOLE, around=exchanges.AROUND,
                  centre=()):
         self.name, self.session, self.why = name, session, why
         self.differing = {place for place in differing if place is not None}
-        self.parts = folding.parts(session, sorted(self.differing or centre), whole, around)
+        self.parts = exchanges.parts(session, sorted(self.differing or centre), whole, around)
         # the row of each record; records that are folded have the row of their fold
         self.row, self.folds = {}, []
         for row, part in enumerate(self.parts, 1):
-            if isinstance(part, folding.Fold):
+            if isinstance(part, exchanges.Fold):
                 self.folds.append((part.first, part.last, row))
             else:
                 self.row[part] = row
@@ -42,7 +42,7 @@ class Picture:
     def html(self):
         found = [f'<ol class="picture" style="--lanes:{self.lanes}">']
         for row, part in enumerate(self.parts, 1):
-            found.append(self.fold(part, row) if isinstance(part, folding.Fold) else self.record(part, row))
+            found.append(self.fold(part, row) if isinstance(part, exchanges.Fold) else self.record(part, row))
         found += [self.bar(exchange) for exchange in self.passing()]
         return "\n".join([*found, "</ol>"])
 

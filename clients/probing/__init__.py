@@ -10,19 +10,19 @@ scenes      small scenes that make sense; refusals: requests that some cause ref
 transfers   large scenes with much data, or with many names or handles
 servers     starts and ends the server, with packets to and from it, and ends what it leaves running
 sessions    plays a plan against a server, and records it
-below       a plan below a directory of its own; removes what sessions made there
+below       a plan below a directory of its own; removes what sessions made there; sessions with a server whose files
+            nobody can see, which look first
 ownfiles    refuses to play where the server has other files than the tree's
 verdicts    asks `sftpv3 audit`, and goes on after a difference
 groups      differences that are alike, and those that have one cause
 shrinking   the shortest session that still shows a difference, by guesses at what it may need
 options     the command line, and the exit statuses
 limits      what ends a run early, what was played, and how far the probe is; plays sessions side by side
-unseen      sessions with a server whose files nobody can see, which look first
 runs        one run of the probe
-reports     what is printed, kept and reported, also as JUnit; printed: a difference as pages and reports show it
+reports     what is printed, kept and reported, also as JUnit; a difference as pages and reports show it
 planted     servers with bugs, for clients/test-probe
-faults      servers with one fault each, for clients/test-probe-faults: faulty_writes, faulty_reads, faulty_names,
-            faulty_replies and faulty_order have them, faulty what they are made of
+faults      servers with one fault each, for clients/test-probe-faults: faulty_writes, faulty_reads, faulty_names and
+            faulty_replies have them, faulty what they are made of
 misbehaving servers that end, hang and are late, for clients/test-probe-runs
 mutated     mistakes in sessions that are right, for clients/test-profiles
 """

@@ -1,5 +1,6 @@
-"""What is printed, kept and reported. JUnit has a case for each seed that is accepted, and one for each kind of
-difference in each other seed."""
+"""What is printed, kept and reported, with the session of a difference as text, in which the request and the reply that
+differ are marked. JUnit has a case for each seed that is accepted, and one for each kind of difference in each other
+seed."""
 import json
 import os
 import re
@@ -11,8 +12,9 @@ from contextlib import suppress
 from xml.sax import saxutils
 
 import sftp3
-from paging import document, packets
-from probing import files, printed, program
+from paging import differing, document, exchanges, packets
+from paging.picture import counted
+from probing import files, program, verdicts
 from recording import ways
 from sftp3 import trees
 
@@ -53,8 +55,8 @@ def keep(judge, folder, number, group, kept):
     verdict = kept.difference.verdict
     files.write_text(os.path.join(place, "verdict.txt"), "\n".join(
         [verdict.text] + [f"{label}: {words}" for label, words in verdict.lines.items()]) + "\n")
-    session = printed.judged(kept.difference, "")
-    lines = printed.session(session, texts["session.transcript"].splitlines()) + printed.byte(verdict.lines, session)
+    session = judged(kept.difference, "")
+    lines = session_lines(session, texts["session.transcript"].splitlines()) + byte_lines(verdict.lines, session)
     return place, lines + warned(kept.difference.session.errors)
 
 
@@ -102,7 +104,7 @@ def summary(tally, found):
 def of_group(number, group):
     """What a JSON line says of a group."""
     difference = group.shortest.difference if group.shortest else group.first
-    byte = printed.byte_of(difference.verdict.lines, printed.judged(difference, ""))
+    byte = byte_of(difference.verdict.lines, judged(difference, ""))
     return {"kind": number, "group": group.leader.number if group.leader else number, "request": group.request,
             "causes": list(group.causes), "expected": group.expected, "found": group.found,
             "allowed_by": group.allowed, "count": group.count, "seeds": group.seeds,
@@ -130,7 +132,7 @@ def clean(value):
 def write_page(name, given, tally, found):
     """The page of the run."""
     seeds = [(one.seed, [group.number for group in one.groups]) for one in tally.judged]
-    differences = [printed.of_group(number, group, notes_of(group)) for number, group in enumerate(found, 1)]
+    differences = [shown_group(number, group, notes_of(group)) for number, group in enumerate(found, 1)]
     facts = [("server", shlex.join(given.command)), ("its VERSION", tally.version or "none came"),
              ("sftpv3", subprocess.run([program.program(), "--version"], stdout=subprocess.PIPE, check=False)
               .stdout.decode(errors="replace").splitlines() or "unknown"),
@@ -204,3 +206,81 @@ def junit_case(played, group):
             f'time="{played.seconds:.3f}">\n'
             f'    <failure type={kind} message={junit_quoted(f"expected {group.expected}; found {group.found}")}>'
             + junit_text("\n".join(lines)) + "</failure>\n  </testcase>")
+
+
+# A session of more records is printed around what differs, so many before and behind; and the most signs of a line.
+WHOLE, AROUND, COLUMNS = 30, 6, 160
+
+
+def session_lines(shown, texts):
+    """The lines of a session, `texts` as `sftpv3 show --full` prints them, a line for each record that is whole. Says
+    of all that is left out that it is."""
+    marked = sorted({place for place in (shown.request, shown.reply) if place is not None and place < len(texts)})
+    parts = exchanges.parts(exchanges.Session(shown.records), marked, WHOLE, AROUND)
+    lines = []
+    for part in parts:
+        if isinstance(part, exchanges.Fold):
+            asked = sum(part.requests.values())
+            lines.append(f"  ... {counted(asked, 'request')} and {counted(part.replies, 'reply', 'replies')} are left "
+                         "out here")
+        elif part >= 2:
+            lines.append(("> " if part in marked else "  ") + cut_line(record_text(shown, texts, part)))
+    return lines
+
+
+def record_text(shown, texts, place):
+    if place < len(texts):
+        return texts[place]
+    side, data = shown.records[place]
+    packet = packets.of(side, data)
+    return f"{side.decode()} {packet.name} {packet.line}: {packet.trouble}"
+
+
+def cut_line(line):
+    if len(line) <= COLUMNS:
+        return line
+    kept = line[:COLUMNS - 24]
+    return f"{kept}... {len(line) - len(kept):,} signs more"
+
+
+def byte_lines(lines, shown):
+    """A line on the byte that differs, or none."""
+    found = byte_of(lines, shown)
+    return [f"differs: {found.text()}"] if found else []
+
+
+def byte_of(lines, shown):
+    return differing.byte_of_reply(lines, shown.packet(shown.request), shown.packet(shown.reply))
+
+
+def sessions_of(group):
+    """The sessions of a group, the one to read first: the shrunk one, and the first that came."""
+    found = []
+    if group.shortest:
+        found.append(judged(group.shortest.difference, "The shortest session that shows it"))
+    first = group.first
+    title = f"The session in which it came first, of seed {first.seed}"
+    found.append(differing.Shown(title, first.session.records, first.session.times, first.request, first.reply))
+    return found
+
+
+def judged(difference, title):
+    """The records that were judged, with their times where they are all that passed."""
+    records, session = difference.records, difference.session
+    times = session.times if len(records) == len(session.records) else None
+    concerned = (None, None) if difference.verdict.record is None else verdicts.concerned(records, difference.verdict)
+    return differing.Shown(title, records, times, *concerned)
+
+
+def shown_group(number, group, notes):
+    """A group as a page shows it."""
+    first = group.shortest.difference if group.shortest else group.first
+    return differing.Difference(f"{number}. {group.title()}", notes, first.verdict.kind, first.verdict.lines,
+                                first.expected, first.found, sessions_of(group), errors_of(group))
+
+
+def errors_of(group):
+    """The last lines that the server wrote to standard error in the first session, and how it ended, if it did."""
+    session = group.first.session
+    ended = [f"the server ended {session.ending()}"] if session.end and session.status is not None else []
+    return session.last_words(20) + ended

@@ -6,8 +6,8 @@ from dataclasses import dataclass, field
 from typing import List, Optional
 
 from paging import document
-from probing import (features, groups, limits, options, ownfiles, planner, plans, program, reports, sessions,
-                     shrinking, starting, unseen, verdicts)
+from probing import (below, features, groups, limits, options, ownfiles, planner, plans, program, reports, sessions,
+                     shrinking, starting, verdicts)
 from probing.sessions import NotStarted
 from sftp3 import trees
 from walking import bounds
@@ -137,8 +137,8 @@ class Run:
         folders = [self.place(folder, number) for number in range(options.jobs(self.given))]
         if self.given.look_first is None:
             return [limits.Worker(one, server, auditor, self.given.timeout) for one in folders]
-        place = unseen.Place(server, self.given.look_first, self.given.timeout, self.halt)
-        return [unseen.Worker(one, server, auditor, self.given.timeout, place) for one in folders]
+        place = below.Place(server, self.given.look_first, self.given.timeout, self.halt)
+        return [below.Worker(one, server, auditor, self.given.timeout, place) for one in folders]
 
     def place(self, folder, number):
         """The folder of a worker."""

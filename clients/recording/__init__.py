@@ -2,13 +2,12 @@
 
 standard  the three standard descriptors; keeps other processes of the user out
 packets   a stream of bytes as packets, one direction of a session; VERSION without extensions
-times     the file of times beside a transcript
 notices   lines to standard error, to a log, to syslog
 ways      the way to a file by open folders, past links of others; whether others could replace it, and whether two
           names lead to one file
 replacing files that are replaced whole
 naming    names of transcripts, and how they are opened
-sinks     where records go: files, pipes, a spool
+sinks     where records go: files, pipes, a spool; the file of times beside a transcript
 signals   the module `signal`, quickly imported
 server    the server's process: its start, its end, its status
 auditing  an audit that reads along

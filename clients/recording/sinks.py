@@ -1,9 +1,10 @@
-"""Where records go: files, pipes, a spool. A sink that has not written all is busy, and then nothing is passed on."""
+"""Where records go: files, pipes, a spool. A sink that has not written all is busy, and then nothing is passed on. And
+the file of times beside a transcript: when each record was there, as docs/FORMATS.md has it."""
 import os
 import select
 import struct
 
-from recording import times, ways
+from recording import ways
 
 # The form of the socket of a spool: recording/keeping.py has it.
 SPOOL_OPENING = b"SFTPSP01"
@@ -12,6 +13,8 @@ SPOOL_SECONDS = 5
 PEER = struct.Struct("3i")
 # How long a spool may take for a batch, lest a daemon that hangs holds up every session.
 SPOOL_PATIENCE = 10
+
+TIMES_OPENING = b"SFTPTM01"
 
 # How many pieces one call writes at most.
 MOST_PIECES = 256
@@ -205,7 +208,35 @@ class TimesSink:
 
     def begin(self, date):
         self.start = self.clock()
-        self.sink.begin(times.opening(date))
+        self.sink.begin(times_opening(date))
 
     def put_count(self, count):
-        self.sink.put(times.entries([self.clock() - self.start] * count))
+        self.sink.put(time_entries([self.clock() - self.start] * count))
+
+
+class Malformed(Exception):
+    """A file of times that cannot be read."""
+
+
+def times_opening(date):
+    """The beginning of a file: the date of the start, in nanoseconds from 1970 on."""
+    return TIMES_OPENING + struct.pack(">Q", date)
+
+
+def time_entries(times):
+    """An entry for each record: nanoseconds from the start on, by a clock that is never set."""
+    return struct.pack(f">{len(times)}Q", *times)
+
+
+def read_times(data):
+    """The date of the start, and the time of each record. Raises Malformed if the file is cut, or a time is less than
+    the one before it, which no clock that is never set gives."""
+    if data[:8] != TIMES_OPENING or len(data) < 16:
+        raise Malformed("the file has no times")
+    if len(data) % 8:
+        raise Malformed("the file ends inside an entry")
+    date, *times = struct.unpack(f">{len(data) // 8 - 1}Q", data[8:])
+    for number, (last, time) in enumerate(zip(times, times[1:]), 2):
+        if time < last:
+            raise Malformed(f"the time of record {number} is less than the one before")
+    return date, times

@@ -6,10 +6,9 @@ ghost use Rattle.sftp_handles.specs.Allowed.{Allowed};
 ghost use Rattle.sftp_vary.specs.Bare.{bare};
 
 use crate::listings::OpenListings;
-use crate::moments::Moments;
 use crate::replies::{with_times, with_times_of_names};
 use crate::tables::TimeTable;
-use crate::times::Times;
+use crate::times::{Moments, Times};
 use crate::touches::{Touch, touch_of};
 use sftp_handles::{HandleTable, Session};
 use sftp_path::Name;

@@ -3,19 +3,14 @@
 #![tactic(auto)]
 
 mod clocked;
-mod ends;
-mod files;
 mod listings;
-mod moments;
-mod noting;
 mod places;
 mod replies;
 mod tables;
-mod timed_names;
 mod times;
 mod touches;
 mod tree_files;
 
 pub use clocked::Clocked;
-pub use moments::{Moments, SystemClock};
 pub use tables::TimeTable;
+pub use times::{Moments, SystemClock};

@@ -1,12 +1,12 @@
-//! The times of a tree's entries.
+//! The times of a tree's entries, and what requests that were done did to them.
 
-use crate::ends::{End, end_of};
-use crate::files::FileTimes;
 use crate::places::PlaceTimes;
 use crate::times::Times;
+use crate::touches::{Change, End, Given, Touch, end_of};
 use sftp_path::Name;
 use sftp_tree::{FileNo, NoMemory, Tree};
 use std::alloc::Global;
+use std::collections::BTreeMap;
 
 /// The times of the entries of a tree: of files by their numbers, of directories and links by their places. What was
 /// given no times, and has none in the tree file of the start, has those of the start.
@@ -147,5 +147,114 @@ impl TimeTable {
     /// `NoMemory` if memory runs out; then what was there has the times of the start.
     pub(crate) fn rename(&mut self, old: &[Name], new: &[Name]) -> Result<(), NoMemory> {
         self.places.rename(old, new)
+    }
+}
+
+// What finds no memory for its times keeps those that it had, or has those of the start.
+impl TimeTable {
+    /// Notes what a request did to times at this moment. `tree` is the tree behind it.
+    pub(crate) fn note(&mut self, tree: &Tree, touch: Touch, now: u32) {
+        match touch {
+            Touch::File(number, change) => self.change_file(number, change, now),
+            Touch::Set(names, times) => self.change_place(names, times),
+            Touch::Make(names, given) => self.make(tree, names, given, now),
+            Touch::Name(names) => self.modify_above(names, now),
+            Touch::Remove(end) => self.remove(tree, end, now),
+            Touch::Move(old, new) => self.move_end(tree, old, new, now),
+            other => drop(other),
+        }
+    }
+
+    fn change_file(&mut self, number: FileNo, change: Change, now: u32) {
+        let times = match change {
+            Change::Set(times) => times,
+            Change::Modify => self.of_file(number).modified_at(now),
+        };
+        let _ = self.set_file(number, times);
+    }
+
+    fn change_place(&mut self, names: Vec<Name>, times: Times) {
+        let _ = self.set_place(names.as_slice(), times);
+        drop(names);
+    }
+
+    fn make(&mut self, tree: &Tree, names: Vec<Name>, given: Given, now: u32) {
+        let times = Times::given_or(given, now);
+        match tree.file_at(names.as_slice()) {
+            Some(number) => {
+                let _ = self.set_file(number, times);
+            }
+            None => {
+                let _ = self.set_place(names.as_slice(), times);
+            }
+        }
+        self.modify_above(names, now);
+    }
+
+    fn remove(&mut self, tree: &Tree, end: End, now: u32) {
+        self.forget(tree, &end);
+        let End { names, .. } = end;
+        self.modify_above(names, now);
+    }
+
+    fn move_end(&mut self, tree: &Tree, old: End, new: End, now: u32) {
+        self.forget(tree, &new);
+        let End { names: old, .. } = old;
+        let End { names: new, .. } = new;
+        let _ = self.rename(old.as_slice(), new.as_slice());
+        self.modify_above(old, now);
+        self.modify_above(new, now);
+    }
+
+    /// The names of the directory above a place changed.
+    fn modify_above(&mut self, names: Vec<Name>, now: u32) {
+        let mut above = names;
+        above.pop();
+        let times = self.of_place(above.as_slice()).modified_at(now);
+        let _ = self.set_place(above.as_slice(), times);
+        drop(above);
+    }
+}
+
+/// The times of the files that have some of their own.
+#[derive(Drop)]
+pub(crate) struct FileTimes {
+    by_number: BTreeMap<FileNo, Times>,
+}
+
+impl FileTimes {
+    /// No file has times of its own. Does not allocate.
+    pub(crate) fn new(alloc: Global) -> FileTimes {
+        FileTimes {
+            by_number: BTreeMap::new(alloc),
+        }
+    }
+
+    /// Whether no file has times of its own.
+    pub(crate) fn is_empty(&self) -> bool {
+        self.by_number.is_empty()
+    }
+
+    /// The times of a file, if it has some of its own.
+    pub(crate) fn get(&self, number: FileNo) -> Option<Times> {
+        match self.by_number.get(&number) {
+            Some(times) => Some(*times),
+            None => None,
+        }
+    }
+
+    /// Gives a file times of its own.
+    ///
+    /// # Errors
+    ///
+    /// `NoMemory` if memory runs out.
+    pub(crate) fn set(&mut self, number: FileNo, times: Times) -> Result<(), NoMemory> {
+        self.by_number.insert(number, times)?;
+        Ok(())
+    }
+
+    /// Forgets the times of a file.
+    pub(crate) fn forget(&mut self, number: FileNo) {
+        self.by_number.remove(&number);
     }
 }

@@ -1,11 +1,11 @@
-//! What requests do to times (POSIX, the descriptions of `write`, `ftruncate`, `open`, `mkdir` and others).
+//! What requests do to times (POSIX, the descriptions of `write`, `ftruncate`, `open`, `mkdir` and others), by what
+//! their paths lead to.
 
-use crate::ends::{End, end_of};
 use crate::times::Times;
 use bitflags::Flags;
 use sftp_handles::{HandleTable, Session};
 use sftp_path::Name;
-use sftp_tree::{FileNo, NoMemory, Tree};
+use sftp_tree::{FileNo, NoMemory, Refused, Ticks, Tree};
 use sftp_wire::{Ask, Attrs, ByteString, OpenFlags};
 
 /// Times of access and modification as a request gives them.
@@ -18,6 +18,15 @@ pub(crate) enum Change {
     Set(Times),
     /// It is modified now.
     Modify,
+}
+
+/// The place that a path leads to, which may be free, and the file that it is a name of.
+#[derive(Drop)]
+pub(crate) struct End {
+    /// The names that lead from the root to the place.
+    pub(crate) names: Vec<Name>,
+    /// The file, if the place is a name of one.
+    pub(crate) file: Option<FileNo>,
 }
 
 /// What a request does to times if it is done. It is found before that: the paths may lead elsewhere behind it.
@@ -240,5 +249,22 @@ fn are_one(old: &End, new: &End) -> bool {
     match (old.file, new.file) {
         (Some(old), Some(new)) => old == new,
         _ => old.names.as_slice() == new.names.as_slice(),
+    }
+}
+
+/// What a path leads to, if it leads anywhere. A last link is followed if `follow` says so.
+///
+/// # Errors
+///
+/// `NoMemory` if memory runs out.
+pub(crate) fn end_of(tree: &Tree, path: &[u8], follow: bool) -> Result<Option<End>, NoMemory> {
+    let mut ticks = Ticks::new();
+    match tree.walk(path, follow, &mut ticks) {
+        Ok(names) => {
+            let file = tree.file_at(names.as_slice());
+            Ok(Some(End { names, file }))
+        }
+        Err(Refused::Cause(_)) => Ok(None),
+        Err(Refused::NoMemory) => Err(NoMemory),
     }
 }

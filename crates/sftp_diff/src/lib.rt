@@ -4,7 +4,6 @@
 mod differences;
 mod lines;
 mod objects;
-mod order;
 mod steps;
 
 pub use lines::put_differences;

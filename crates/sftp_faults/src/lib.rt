@@ -4,9 +4,8 @@
 mod fields;
 mod packets;
 mod records;
-mod spots;
 mod trees;
 
+pub use fields::Spot;
 pub use records::spot_in_record;
-pub use spots::Spot;
 pub use trees::spot_in_tree;

@@ -1,7 +1,6 @@
 //! Where the fault of a packet is (draft, sections 3 to 8; OpenSSH's PROTOCOL, section 4).
 
-use crate::fields::Fields;
-use crate::spots::Spot;
+use crate::fields::{Fields, Spot};
 use sftp_wire::{FieldKind, HANDLE_LIMIT, Layout, Tail};
 
 /// Reads the body of a packet of this layout, which goes up to the end of the bytes. Without a layout any bytes follow

@@ -1,8 +1,7 @@
 //! Where the fault of a record is.
 
-use crate::fields::Fields;
+use crate::fields::{Fields, Spot};
 use crate::packets::judge_body;
-use crate::spots::Spot;
 use sftp_transcript::TranscriptError;
 use sftp_wire::{Fault, Side, layout_of};
 

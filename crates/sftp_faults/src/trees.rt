@@ -1,7 +1,6 @@
 //! Where the fault of a tree file is.
 
-use crate::fields::Fields;
-use crate::spots::Spot;
+use crate::fields::{Fields, Spot};
 use sftp_path::{DEPTH_LIMIT, good_path, place_of_text};
 use sftp_treefile::{
     Opening, TreeError, TreeLimits, highest_limits, least_limits, most_limits, usual_limits,

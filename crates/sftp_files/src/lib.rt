@@ -11,7 +11,6 @@ mod options;
 mod reading;
 mod recording;
 mod saving;
-mod system;
 mod watching;
 
 pub use contents::{Content, FileSink};
@@ -24,5 +23,11 @@ pub use options::{DiffForm, ImportOptions, RaiseTo, ServeOptions, ShowOptions};
 pub use reading::{open, read, read_at_most};
 pub use recording::{Record, Recording};
 pub use saving::{Keeping, PRIVATE, require_fit, write, write_content, write_last};
-pub use system::System;
+use std::fs::{File, Files};
+use std::random::RandomSource;
 pub use watching::{Announcing, Flow, Watched};
+
+/// Files that are open by descriptors, memory, and random bytes.
+pub trait System: Files<File = File> + AllocGlobal + RandomSource {}
+
+impl<R: Files<File = File> + AllocGlobal + RandomSource> System for R {}

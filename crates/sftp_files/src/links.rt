@@ -3,7 +3,7 @@
 ghost use Rattle.std.specs.Prelude.{◌↔◌, IsTrue};
 ghost use Rattle.sftp_files.specs.Failures.{IsPlanted, IsTrusted};
 
-use crate::system::System;
+use crate::System;
 use std::fs::{Files, Metadata};
 use std::os::unix::fs::MetadataExt;
 use std::{fs, io};

@@ -2,8 +2,8 @@
 ghost use Rattle.std.specs.Prelude.{◌≡◌, ◌<◌, IfErr};
 ghost use Rattle.sftp_files.specs.Failures.{IsUnread};
 
+use crate::System;
 use crate::messages::Failure;
-use crate::system::System;
 use sftp_tar::Gauge;
 use std::fs::File;
 use std::io::{ErrorKind, Read, Seek, SeekFrom, Write};

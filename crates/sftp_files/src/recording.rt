@@ -1,9 +1,9 @@
 //! Where the record of a session goes.
+use crate::System;
 use crate::links::{TOO_MANY_LINKS, UNTRUSTED, is_link, is_planted_at, path_of, user};
 use crate::messages::{Failure, MORE};
 use crate::options::ServeOptions;
 use crate::saving::{Keeping, is_file_of, is_own, new_file, sync_folder};
-use crate::system::System;
 use crate::watching::{Flow, Watched};
 use std::alloc::{AllocError, Global};
 use std::fs::{File, Files, Metadata, OpenOptions, TryLockError};

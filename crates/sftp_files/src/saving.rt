@@ -5,10 +5,10 @@ ghost use Rattle.std.specs.Int.RustNames.{bit_and};
 ghost use Rattle.sftp_files.specs.declared.messages.Ending.TheVariants as endings;
 ghost use Rattle.sftp_files.specs.Failures.{IsUnwritten};
 
+use crate::System;
 use crate::contents::Content;
 use crate::links::{Owned, UNTRUSTED, folder_of, is_link, is_planted_at, owner_of, path_of};
 use crate::messages::{Ending, Failure};
-use crate::system::System;
 use std::fs::{File, Files, Metadata, OpenOptions, Permissions};
 use std::io::ErrorKind;
 use std::os::fd::AsFd;

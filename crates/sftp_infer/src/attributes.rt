@@ -1,7 +1,6 @@
 //! What shown attributes tell of an entry.
 
-use crate::clashes::What;
-use crate::errors::Stop;
+use crate::errors::{Stop, What};
 use crate::facts::Says;
 use crate::nodes::{Rights, Sort};
 use crate::world::World;

@@ -1,6 +1,10 @@
-//! Facts about the start that a search takes beyond what replies tell at their turn.
+//! Facts about the start that a search takes beyond what replies tell at their turn. A pass begins with them.
 
-use sftp_path::NoMemory;
+use crate::errors::{Stop, What};
+use crate::look::next_part;
+use crate::nodes::{Held, Sort};
+use crate::world::World;
+use sftp_path::{DEPTH_LIMIT, NoMemory};
 use std::alloc::Global;
 
 /// What a fact takes beside its texts.
@@ -68,4 +72,120 @@ impl Fact {
             told: self.told,
         })
     }
+}
+
+impl<'a> World<'a> {
+    /// Begins with a fact about the start.
+    pub(crate) fn begin_with(&mut self, fact: &Fact) -> Result<(), Stop> {
+        self.replied = fact.told;
+        self.teller = fact.told;
+        match &fact.says {
+            Says::Home => {
+                self.home = Vec::from_slice(self.alloc, fact.place.as_slice())?;
+                Ok(())
+            }
+            Says::SameFile(other) => self.begin_same(fact.place.as_slice(), other.as_slice()),
+            says => {
+                let at = self.begin_at(fact.place.as_slice(), sort_said(says))?;
+                self.begin_as(at, says)
+            }
+        }
+    }
+
+    /// The entry at a place of the start, which is made if nothing is known of it. What is above it is a directory.
+    fn begin_at(&mut self, place: &[u8], sort: Sort) -> Result<usize, Stop> {
+        let mut at: usize = 0;
+        let mut rest = place;
+        for _ in 0..DEPTH_LIMIT.saturating_mul(2) {
+            match next_part(rest) {
+                Some((name, behind)) => {
+                    let is_last = next_part(behind).is_none();
+                    let sort = if is_last { sort } else { Sort::Directory };
+                    at = self.begin_name(at, name, sort)?;
+                    rest = behind;
+                }
+                None => return Ok(at),
+            }
+        }
+        Ok(at)
+    }
+
+    fn begin_name(&mut self, parent: usize, name: &[u8], sort: Sort) -> Result<usize, Stop> {
+        let spot = self.spot(parent, name);
+        match self.held(spot) {
+            Some((Held::Entry(at), _)) => {
+                self.set_sort(at, sort);
+                let known = self.sort(at);
+                if sort != Sort::Unknown && known != sort {
+                    let told = self.told(at);
+                    return Err(self.clash_at(at, told, What::Kind(known, sort)));
+                }
+                Ok(at)
+            }
+            Some((Held::Nothing, told)) => { Err(self.clash_name(spot, told, What::There)) }
+            None => Ok(self.tell(spot, sort)?),
+        }
+    }
+
+    fn begin_as(&mut self, at: usize, says: &Says) -> Result<(), Stop> {
+        match says {
+            Says::Size(size) => self.begin_sized(at, *size),
+            Says::Link(target) => {
+                let text = Vec::from_slice(self.alloc, target.as_slice())?;
+                match self.entry_mut(at) {
+                    Some(link) => link.target = Some(text),
+                    None => drop(text),
+                }
+                Ok(())
+            }
+            _ => Ok(()),
+        }
+    }
+
+    fn begin_sized(&mut self, at: usize, size: u64) -> Result<(), Stop> {
+        if let Some(entry) = self.entry_mut(at) {
+            entry.file.least = size;
+            entry.file.most = size;
+            entry.file.is_guessed = true;
+            entry.file.unguessed = (size, size);
+        }
+        Ok(())
+    }
+
+    /// One place is a name of the file that another one names.
+    fn begin_same(&mut self, place: &[u8], other: &[u8]) -> Result<(), Stop> {
+        let first = self.begin_at(other, Sort::File)?;
+        let Some((above, name)) = cut_last(place) else {
+            return Ok(());
+        };
+        let parent = self.begin_at(above, Sort::Directory)?;
+        let spot = self.spot(parent, name);
+        let told = self.teller;
+        if let Some(slot) = self.slot_mut(spot)? {
+            slot.start = Some(Held::Entry(first));
+            slot.told = told;
+        }
+        Ok(())
+    }
+}
+
+/// The kind that goes with what a fact says.
+fn sort_said(says: &Says) -> Sort {
+    match says {
+        Says::Directory => Sort::Directory,
+        Says::File | Says::Size(_) | Says::SameFile(_) => Sort::File,
+        Says::Link(_) => Sort::Link,
+        Says::There | Says::Home => Sort::Unknown,
+    }
+}
+
+/// The text before the last slash, and the name behind it.
+fn cut_last(place: &[u8]) -> Option<(&[u8], &[u8])> {
+    let slash = place.iter().rposition(|byte| *byte == b'/')?;
+    let above = place.get(..slash)?;
+    let name = place.get(slash.saturating_add(1)..)?;
+    if name.is_empty() {
+        return None;
+    }
+    Some((above, name))
 }

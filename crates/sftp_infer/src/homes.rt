@@ -1,7 +1,6 @@
 //! Where relative paths begin, and what REALPATH tells.
 
-use crate::clashes::What;
-use crate::errors::Stop;
+use crate::errors::{Stop, What};
 use crate::facts::{Fact, Says};
 use crate::look::Look;
 use crate::nodes::Sort;

@@ -2,18 +2,13 @@
 //! has to judge: nothing is proved of it but that each call is safe, and that it returns.
 #![tactic(auto)]
 
-mod appended;
 mod asks;
 mod attributes;
-mod base;
 mod candidates;
-mod clashes;
 mod errors;
 mod exchanges;
 mod facts;
 mod files;
-mod first_look;
-mod granted;
 mod handles;
 mod homes;
 mod listings;
@@ -28,7 +23,6 @@ mod places;
 mod reads;
 mod reasons;
 mod refusals;
-mod rewinding;
 mod rows;
 mod search;
 mod settings;
@@ -40,7 +34,7 @@ mod ways;
 mod world;
 
 pub use candidates::{Candidate, Excess};
-pub use clashes::{Clash, What};
+pub use errors::{Clash, What};
 pub use facts::{Fact, Says};
 pub use nodes::Sort;
 pub use search::{Search, Step};

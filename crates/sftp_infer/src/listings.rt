@@ -1,8 +1,7 @@
 //! What READDIR tells.
 
 use crate::attributes::{PERMISSIONS, sort_of};
-use crate::clashes::What;
-use crate::errors::Stop;
+use crate::errors::{Stop, What};
 use crate::handles::Opened;
 use crate::names::{Named, Spot};
 use crate::nodes::{Held, Node, Slot, Sort};

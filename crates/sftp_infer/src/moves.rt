@@ -1,7 +1,6 @@
 //! Requests that make, remove and move names.
 
-use crate::clashes::What;
-use crate::errors::Stop;
+use crate::errors::{Stop, What};
 use crate::look::{Found, Look};
 use crate::names::Spot;
 use crate::nodes::{Held, Sort};

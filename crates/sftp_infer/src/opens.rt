@@ -1,7 +1,6 @@
 //! What it tells that something was opened.
 
-use crate::clashes::What;
-use crate::errors::Stop;
+use crate::errors::{Stop, What};
 use crate::handles::Opened;
 use crate::look::{Found, Look};
 use crate::nodes::Sort;

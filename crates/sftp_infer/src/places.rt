@@ -1,7 +1,6 @@
 //! The texts of places, and what is said of them: facts and contradictions.
 
-use crate::clashes::{Clash, What};
-use crate::errors::Stop;
+use crate::errors::{Clash, Stop, What};
 use crate::facts::{Fact, Says};
 use crate::names::{Seat, Spot};
 use crate::world::World;

@@ -1,7 +1,6 @@
 //! What READ tells of a file's bytes.
 
-use crate::clashes::What;
-use crate::errors::Stop;
+use crate::errors::{Stop, What};
 use crate::facts::Says;
 use crate::pieces::{Known, Piece};
 use crate::world::World;

@@ -1,8 +1,7 @@
 //! What a refusal may mean: all reasons that could hold, and of those that nothing tells the cheapest one.
 
 use crate::asks::Seen;
-use crate::clashes::What;
-use crate::errors::Stop;
+use crate::errors::{Stop, What};
 use crate::facts::Says;
 use crate::look::{Found, Look};
 use crate::reasons::{Case, Reason, are_bad, case_of, has_loose_end, is_bad_target};

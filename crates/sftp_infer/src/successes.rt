@@ -1,8 +1,7 @@
 //! What a success tells.
 
 use crate::attributes::sort_of;
-use crate::clashes::What;
-use crate::errors::Stop;
+use crate::errors::{Stop, What};
 use crate::exchanges::Exchange;
 use crate::facts::Says;
 use crate::handles::Opened;

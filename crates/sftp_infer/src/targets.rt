@@ -192,7 +192,7 @@ impl<'a> World<'a> {
                 let told = self.told(at);
                 let target = self.invented(at, Some(length))?;
                 self.propose_of(at, Says::Link(target))?;
-                Err(self.clash_at(at, told, crate::clashes::What::Size(known, length)))
+                Err(self.clash_at(at, told, crate::errors::What::Size(known, length)))
             }
             _ => {
                 if let Some(link) = self.entry_mut(at) {

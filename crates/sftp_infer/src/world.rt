@@ -1,6 +1,6 @@
 //! The lazy tree: what replies told so far, and what the session made of it.
 
-use crate::clashes::Clash;
+use crate::errors::Clash;
 use crate::facts::{Fact, Says};
 use crate::handles::Handles;
 use crate::names::{Place, Seat, Spot};

@@ -1,7 +1,7 @@
 //! Who answers the requests of a session.
 ghost use Rattle.sftp_server.specs.Served.{IsUnused};
 
-use crate::recorded::Recorded;
+use crate::replaying::Recorded;
 use sftp_clock::{Clocked, SystemClock, TimeTable};
 use sftp_files::{Failure, ServeOptions, System};
 use sftp_handles::{GivenTable, SlabTable};

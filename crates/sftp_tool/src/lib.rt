@@ -14,7 +14,6 @@ mod inferring;
 mod newcomers;
 mod pieces;
 mod readings;
-mod recorded;
 mod replaying;
 mod serving;
 mod subcommands;

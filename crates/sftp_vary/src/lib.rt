@@ -3,13 +3,10 @@
 //! that people read.
 #![tactic(auto)]
 
-mod attributes;
 mod cuts;
-mod dates;
 mod dice;
 mod freedoms;
 mod handles;
-mod limits_met;
 mod lined;
 mod listings;
 mod long_names;

@@ -1,11 +1,10 @@
 //! Proposals of replies that vary.
-use crate::attributes::{any_pairs, any_times, dummy};
 use crate::dice::Dice;
 use crate::freedoms::{Freedom, Freedoms, Variation};
 use crate::handles::{any_handle, plain_handle};
 use crate::listings::{Order, any_most};
 use crate::proposed::Proposer;
-use crate::texts::{longname, message, tag};
+use crate::texts::{any_pairs, any_times, dummy, longname, message, tag};
 use sftp_handles::{GivenTable, Listing, Session};
 use sftp_path::Name;
 use sftp_tree::{Causes, EVERY_CAUSE, NoMemory};

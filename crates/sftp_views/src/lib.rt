@@ -8,7 +8,6 @@ mod lines;
 mod packets;
 mod records;
 mod selections;
-mod texts;
 mod trees;
 mod views;
 

@@ -1,11 +1,12 @@
-//! A line for each record that is shown: of text, or a JSON object.
+//! A line for each record that is shown: of text, with its time and what a reply has beside its packet, or a JSON
+//! object.
 
 use crate::packets::put_packet;
 use crate::records::{Answered, Recorded};
-use crate::texts::TextLine;
 use sftp_json::JsonLines;
-use std::io;
+use sftp_show::RecordLine;
 use std::io::Write;
+use std::{fmt, io};
 
 /// In which form records are shown.
 #[derive(Clone, Copy)]
@@ -104,13 +105,13 @@ fn put_object<O: Write>(
     }
     put_packet(record.side, &record.packet, record.length, json);
     if let Some(answered) = answered {
-        put_answered(answered, json);
+        put_members(answered, json);
     }
     json.end_line();
 }
 
 /// Writes the members that a reply has beside its packet.
-fn put_answered<O: Write>(answered: Answered, json: &mut JsonLines<'_, O>) {
+fn put_members<O: Write>(answered: Answered, json: &mut JsonLines<'_, O>) {
     json.number("request", answered.request);
     if let Some(took) = answered.took {
         json.number("took_ns", took);
@@ -118,4 +119,65 @@ fn put_answered<O: Write>(answered: Answered, json: &mut JsonLines<'_, O>) {
     if let Some(number) = answered.overtook {
         json.number("overtook", number);
     }
+}
+
+/// A record as text, without a line feed: its time in a column, if there is one; the line that `show` prints; and of a
+/// reply how long its request took, and which request it overtook.
+#[derive(Clone, Copy)]
+pub(crate) struct TextLine<'a> {
+    pub(crate) record: &'a Recorded,
+    pub(crate) answered: Option<Answered>,
+    pub(crate) has_times: bool,
+}
+
+impl fmt::Display for TextLine<'_> {
+    fn fmt<W: fmt::Write>(&self, f: &mut fmt::Formatter<W>) -> fmt::Result {
+        if self.has_times {
+            put_time(self.record.time, f)?;
+        }
+        put_record(self.record, f)?;
+        match self.answered {
+            Some(answered) => put_answered(answered, f),
+            None => Ok(()),
+        }
+    }
+}
+
+fn put_record<W: fmt::Write>(record: &Recorded, f: &mut fmt::Formatter<W>) -> fmt::Result {
+    let line = RecordLine {
+        number: record.number,
+        side: record.side,
+        packet: &record.packet,
+        length: record.length,
+    };
+    write!(f, "{line}")
+}
+
+/// Writes how long a request took, if that is known, and which request the reply overtook, if it did.
+fn put_answered<W: fmt::Write>(answered: Answered, f: &mut fmt::Formatter<W>) -> fmt::Result {
+    if let Some(took) = answered.took {
+        let (seconds, micros) = parts(took);
+        write!(f, " took {seconds}.{micros:06}")?;
+    }
+    match answered.overtook {
+        Some(number) => write!(f, " overtook {number}"),
+        None => Ok(()),
+    }
+}
+
+/// Writes a time in a column, and a space.
+fn put_time<W: fmt::Write>(time: Option<u64>, f: &mut fmt::Formatter<W>) -> fmt::Result {
+    match time {
+        Some(time) => {
+            let (seconds, micros) = parts(time);
+            write!(f, "{seconds:5}.{micros:06} ")
+        }
+        None => f.write_str("           - "),
+    }
+}
+
+/// The whole seconds of so many nanoseconds, and the whole microseconds beside them.
+fn parts(nanoseconds: u64) -> (u64, u64) {
+    let micros = nanoseconds / 1_000;
+    (micros / 1_000_000, micros % 1_000_000)
 }

@@ -1,7 +1,7 @@
 //! Records of a transcript with their numbers.
 
 use crate::records::RecordLine;
-use crate::refusals::errors::ExplainError;
+use crate::refusals::ExplainError;
 use sftp_wire::{Answer, Ask, Packet, Side};
 use std::io::Write;
 

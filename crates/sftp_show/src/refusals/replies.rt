@@ -1,9 +1,9 @@
 //! Why a reply is not allowed, and which one is.
 
+use crate::refusals::ExplainError;
 use crate::refusals::answers::{AnswerText, put_first};
 use crate::refusals::causes::{AllowedCodes, CauseList};
 use crate::refusals::differences::{first_difference, first_wrong_name};
-use crate::refusals::errors::ExplainError;
 use sftp_handles::{HandleTable, Listing, Session};
 use sftp_tree::Causes;
 use sftp_wire::{Answer, Ask, ByteString, Names};

@@ -3,7 +3,7 @@ use Rattle.std.proofs.Common.{◌≡◌, map, take, drop}
 use Rattle.std.specs.List.{AllByRecursion}
 use Rattle.sftp_packets.specs.Spelling.{FitsNameItem}
 use Rattle.sftp_clock.specs.Timed.{untimed, IsTimed}
-use Rattle.sftp_clock.proofs.timed_names.put_times.Given as goal
+use Rattle.sftp_clock.proofs.replies.put_times.Given as goal
 
 abbrev pub invariant-loop-item : goal.invariant-loop-item
 invariant-loop-item l = record {

@@ -6,7 +6,7 @@ use Rattle.sftp_packets.specs.Spelling.{FitsNameItem}
 use Rattle.sftp_vary.specs.Bare.{bare_item}
 use Rattle.sftp_clock.specs.Timed.{listing, untimed, ArePlain}
 use Rattle.sftp_clock.proofs.TimedItems.{names-spelled, bare-same}
-use Rattle.sftp_clock.proofs.timed_names.with_name_times.Goals as goal
+use Rattle.sftp_clock.proofs.replies.with_name_times.Goals as goal
 
 pub returns-then-are_plain-clause-same : goal.returns-then-are_plain-clause-same
 returns-then-are_plain-clause-same c =

@@ -6,7 +6,7 @@ use Rattle.sftp_packets.specs.Spelling.{FitsNameItem}
 use Rattle.sftp_clock.specs.Timed.{untimed, IsTimed}
 use Rattle.sftp_clock.proofs.TimedItems.{untimed-taken, timed-taken, rest-taken, untimed-all, timed-all, untimed-length}
 use Rattle.sftp_clock.proofs.TimedItems.{fits-at}
-use Rattle.sftp_clock.proofs.timed_names.put_times.Goals as goal
+use Rattle.sftp_clock.proofs.replies.put_times.Goals as goal
 
 pub loop-item-preserved : goal.loop-item-preserved
 loop-item-preserved c =
