@@ -30,7 +30,7 @@ fn times_of_name<K: HasTimes>(
     ensures firsts { OnOk result
         (firsts.new.entries ≡ with_first firsts.old.entries entry number (get nat_cmp firsts.old.entries number)) }
 {
-    if firsts.contains_key(&number) {
+    if let Some(_first) = firsts.get(&number) {
         return Ok(NO_TIMES);
     }
     note_first(firsts, number, entry)?;
@@ -55,12 +55,14 @@ fn ask_child<K: HasTimes>(
 {
     match child {
         Child::Dir(dir) => {
-            times.push(keeper.times_of_directory(&at.path))?;
+            let time = keeper.times_of_directory(&at.path);
+            times.push(time)?;
             at.next += 1;
             ask_below(keeper, at, times, dir)?;
         }
         Child::File(number) => {
-            times.push(times_of_name(keeper, &mut at.firsts, at.next, *number)?)?;
+            let time = times_of_name(keeper, &mut at.firsts, at.next, *number)?;
+            times.push(time)?;
             at.next += 1;
         }
         Child::Link(_) => {
@@ -99,12 +101,15 @@ fn ask_below<K: HasTimes>(
 
 /// The times of a tree file of a tree: of the root, and then of each entry.
 pub(super) fn entry_times<K: HasTimes>(tree: &Tree, keeper: &K) -> Result<EntryTimes, NoMemory>
-    ensures { IfOk result (AreToldTimes (K.of_file keeper.now) (K.of_directory keeper.now) tree.now) }
+    ensures { IfOk result
+        (λ times. AreToldTimes (K.of_file keeper.now) (K.of_directory keeper.now) tree.now times) }
 {
     let alloc = tree.home().allocator();
     let mut times = Vec::with_capacity(alloc, tree.names().len())?;
-    times.push(keeper.times_of_directory(b"/"))?;
+    let root = tree.names().root_directory();
+    let time = keeper.times_of_directory(b"/");
+    times.push(time)?;
     let mut at = Progress::new(alloc);
-    ask_below(keeper, &mut at, &mut times, tree.names().root_directory())?;
+    ask_below(keeper, &mut at, &mut times, root)?;
     Ok(EntryTimes::new(alloc, times))
 }

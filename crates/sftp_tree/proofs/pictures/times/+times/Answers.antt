@@ -49,7 +49,7 @@ ask_below-ask_child-requires g t c =
     at.invariant.few in
     λ κs held. (
       omega (arith, c.decreases, smaller),
-      (held, omega (arith, entered.next, child_numbers F D whole start here name (branch child) rest left c.requires)),
+      (held, omega (arith, entered.next, child_numbers F D whole start here name (branch child) rest left c.requires.few)),
     )
 
 pub ask_below-loop-name-preserved : goal.ask_below-loop-name-preserved
