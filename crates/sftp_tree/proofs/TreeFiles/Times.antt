@@ -2,8 +2,8 @@
 use Rattle.sftp_tree.proofs.Imports.{◌≡◌, ℕ, suc, zero, ◌+◌, ◌<◌, ◌^◌, List, [], ◌∷◌, ◌++◌, length, take, drop, Some, None}
 use Rattle.sftp_tree.proofs.Imports.{Option, Bool, true, false, refl, sym, ap, subst, ◌∙◌, append_assoc, append-nil, arith}
 use Rattle.sftp_tree.proofs.Imports.{length-append, take-append_seam, AllByRecursion, nat_cmp, IsTrue, Name, get, get-empty}
-use Rattle.sftp_tree.proofs.Imports.{Place, place_cmp, absolute, InOrder, Owner, Row, Node, Dir, File, Link, Names, Files}
-use Rattle.sftp_tree.proofs.Imports.{Tree, IsKept, Content, node_at, content_at, branch, placed, flat, rows_after, only_root}
+use Rattle.sftp_tree.proofs.Imports.{Place, absolute, Owner, Row, Node, Dir, File, Link, Names, Files}
+use Rattle.sftp_tree.proofs.Imports.{Tree, IsKept, Content, content_at, branch, placed, IsBranch, rows_after, only_root}
 use Rattle.sftp_tree.proofs.Imports.{Firsts, firsts_with, text_of, firsts_from, naming, kind_of, entry_naming}
 use Rattle.sftp_treefile.specs.declared.times.Times.{Times}
 use Rattle.sftp_treefile.specs.TreeFile.{no_times, any_times, AreTimes, AreTimesOf, AreFileTimes, MayHaveTimes}
@@ -15,7 +15,9 @@ use Rattle.sftp_tree.proofs.Limits.{stands-of}
 use Rattle.sftp_tree.proofs.PlaceTables.{all_both}
 use Rattle.sftp_tree.proofs.TreeFiles.Files.{split_tree, AreFirsts, firsts_push}
 use Rattle.sftp_tree.proofs.TreeFiles.Numbers.{rows_cons, IsBelowRoot}
-use Rattle.sftp_tree.proofs.TreeFiles.Branches.{further, text_absolute, length-placed, firsts_both, firsts_placed, own_entry}
+use Rattle.sftp_tree.proofs.TreeFiles.Branches.{further, text_absolute, length-placed, firsts_both, firsts_placed}
+use Rattle.sftp_tree.proofs.TreeFiles.{root_first}
+use Rattle.sftp_tree.specs.declared.entries.directories.Child.TheVariants as children
 
 -- what is said of files and of directories
 abbrev pub OfFiles : Type 1
@@ -104,16 +106,25 @@ alone_asked F D node firsts next text old new t pushed known small = record {
   numbers = (small, tt);
 }
 
+-- a directory has itself first
+own_first : (names : Names) → IsBranch (children.Dir names) → (owner : Owner) × (names ≡ only_root owner ++ drop 1 names)
+own_first names is =
+    let first = root_first names is.0 is.1 in
+    (first.0, first.2 ∙ ap (λ (ns : Names). only_root first.0 ++ ns) (ap (drop 1) (sym first.2)))
+
+pub own_length : (names : Names) → IsBranch (children.Dir names) → length names ≡ length (drop 1 names) + 1
+own_length names is = omega (arith, ap length (own_first names is).1)
+
 -- a directory's own times, and then those below it
-pub dir_asked : (F : OfFiles) (D : OfDirectories) (names : Names) (owner : Owner) (firsts : Firsts) (next : ℕ)
-    (text : List ℕ) (old middle new : List Times) (t : Times) → InOrder place_cmp names
-    → node_at names [] ≡ Some (Dir owner) → middle ≡ old ++ t ∷ [] → D text t → AreTimes t
+pub dir_asked : (F : OfFiles) (D : OfDirectories) (names : Names) (firsts : Firsts) (next : ℕ)
+    (text : List ℕ) (old middle new : List Times) (t : Times) → IsBranch (children.Dir names)
+    → middle ≡ old ++ t ∷ [] → D text t → AreTimes t
     → AddsTimes F D firsts (next + 1) text (drop 1 names) middle new → AddsTimes F D firsts next text names old new
-dir_asked F D names owner firsts next text old middle new t sorted there pushed told small below =
+dir_asked F D names firsts next text old middle new t is pushed told small below =
     let count : next + 1 ≡ suc next = omega arith in
     let own : D (text ++ []) t = subst (λ (path : List ℕ). D path t) (sym (append-nil text)) told in
     let rest = subst (λ n. AreKnownFrom F D firsts n text (drop 1 names) below.more) count below.known in
-    subst (λ (ns : Names). AddsTimes F D firsts next text ns old new) (sym (own_entry names owner sorted there))
+    subst (λ (ns : Names). AddsTimes F D firsts next text ns old new) (sym (own_first names is).1)
     (record {
       more = t ∷ below.more;
       appended = below.appended ∙ ap (λ (ts : List Times). ts ++ below.more) pushed
@@ -121,6 +132,12 @@ dir_asked F D names owner firsts next text old middle new t sorted there pushed 
       known = (own, rest);
       numbers = (small, below.numbers);
     })
+
+pub dir_firsts : (names : Names) (firsts : Firsts) (next : ℕ) → IsBranch (children.Dir names)
+    → firsts_from firsts (next + 1) (drop 1 names) ≡ firsts_from firsts next names
+dir_firsts names firsts next is =
+    let count : next + 1 ≡ suc next = omega arith in
+    ap (λ n. firsts_from firsts n (drop 1 names)) count ∙ ap (firsts_from firsts next) (sym (own_first names is).1)
 
 -- the next child is asked for, at the text that its name makes, which is then cut back
 pub child_asked : (F : OfFiles) (D : OfDirectories) (whole : Names) (start at inside after : Here) (name : Name)

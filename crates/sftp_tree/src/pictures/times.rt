@@ -3,7 +3,7 @@ ghost use Rattle.std.specs.Prelude.{◌≡◌, [], ◌+◌, ◌<◌, ◌^◌, le
 ghost use Rattle.std.specs.Ordering.{nat_cmp};
 ghost use Rattle.sftp_path.specs.Table.{get};
 ghost use Rattle.sftp_treefile.specs.TreeFile.{AreFileTimes, AreTimes};
-ghost use Rattle.sftp_tree.specs.Nesting.{branch};
+ghost use Rattle.sftp_tree.specs.Nesting.{branch, IsBranch};
 ghost use Rattle.sftp_tree.specs.Picture.{AreToldTimes, AreOfName};
 ghost use Rattle.sftp_tree.specs.PictureParts.{AddsTimes, with_first, firsts_from};
 
@@ -37,6 +37,14 @@ fn times_of_name<K: HasTimes>(
     Ok(keeper.times_of_file(number))
 }
 
+/// The times of a directory, whose place has this text.
+fn times_of_directory<K: HasTimes>(keeper: &K, path: &[u8]) -> Times
+    ensures told { K.of_directory keeper.now path.now result }
+    ensures small { AreTimes result }
+{
+    keeper.times_of_directory(path)
+}
+
 /// Appends the times of a child, whose place has the text `at.path`, and of all below it.
 #[cycle(times)]
 fn ask_child<K: HasTimes>(
@@ -45,6 +53,7 @@ fn ask_child<K: HasTimes>(
     times: &mut Vec<Times>,
     child: &Child,
 ) -> Result<(), NoMemory>
+    requires branch { IsBranch child.now }
     requires few { at.old.next + length (branch child.now) < 2 ^ 32 }
     ensures told { OnOk result (AddsTimes (K.of_file keeper.now) (K.of_directory keeper.now) at.old.firsts.entries
         at.old.next at.old.path.items (branch child.now) times.old.items times.new.items) }
@@ -55,7 +64,7 @@ fn ask_child<K: HasTimes>(
 {
     match child {
         Child::Dir(dir) => {
-            let time = keeper.times_of_directory(&at.path);
+            let time = times_of_directory(keeper, &at.path);
             times.push(time)?;
             at.next += 1;
             ask_below(keeper, at, times, dir)?;
@@ -107,7 +116,7 @@ pub(super) fn entry_times<K: HasTimes>(tree: &Tree, keeper: &K) -> Result<EntryT
     let alloc = tree.home().allocator();
     let mut times = Vec::with_capacity(alloc, tree.names().len())?;
     let root = tree.names().root_directory();
-    let time = keeper.times_of_directory(b"/");
+    let time = times_of_directory(keeper, b"/");
     times.push(time)?;
     let mut at = Progress::new(alloc);
     ask_below(keeper, &mut at, &mut times, root)?;
