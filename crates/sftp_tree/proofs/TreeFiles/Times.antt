@@ -1,12 +1,12 @@
 -- Times are asked of what keeps them branch by branch, and they are those of a tree file.
-use Rattle.sftp_tree.proofs.Imports.{◌≡◌, ℕ, suc, zero, ◌+◌, ◌<◌, ◌^◌, List, [], ◌∷◌, ◌++◌, length, take, drop, Some, None}
+use Rattle.sftp_tree.proofs.Imports.{◌≡◌, ℕ, suc, ◌+◌, ◌<◌, ◌^◌, List, [], ◌∷◌, ◌++◌, length, take, drop, Some, None}
 use Rattle.sftp_tree.proofs.Imports.{Option, Bool, true, false, refl, sym, ap, subst, ◌∙◌, append_assoc, append-nil, arith}
-use Rattle.sftp_tree.proofs.Imports.{length-append, take-append_seam, AllByRecursion, nat_cmp, IsTrue, Name, get, get-empty}
+use Rattle.sftp_tree.proofs.Imports.{length-append, take-append_seam, AllByRecursion, nat_cmp, Name, get, get-empty}
 use Rattle.sftp_tree.proofs.Imports.{Place, absolute, Owner, Row, Node, Dir, File, Link, Names, Files}
 use Rattle.sftp_tree.proofs.Imports.{Tree, IsKept, Content, content_at, branch, placed, IsBranch, rows_after, only_root}
 use Rattle.sftp_tree.proofs.Imports.{Firsts, firsts_with, text_of, firsts_from, naming, kind_of, entry_naming}
 use Rattle.sftp_treefile.specs.declared.times.Times.{Times}
-use Rattle.sftp_treefile.specs.TreeFile.{no_times, any_times, AreTimes, AreTimesOf, AreFileTimes, MayHaveTimes}
+use Rattle.sftp_treefile.specs.TreeFile.{any_times, AreTimes, AreTimesOf, AreFileTimes, MayHaveTimes}
 use Rattle.sftp_treefile.specs.TreeFileParts.{kept, kept_by}
 use Rattle.sftp_tree.specs.declared.pictures.progress.Progress.{Progress}
 use Rattle.sftp_tree.specs.Picture.{AreOfName, AreTold, AreToldAfter, AreToldTimes, file_of}
@@ -218,11 +218,12 @@ told_after : (F : OfFiles) (D : OfDirectories) (firsts : Firsts) (front es : Nam
 told_after F D firsts front [] [] are below known = tt
 told_after F D firsts front [] (t ∷ ts) are below known = absurd known
 told_after F D firsts front (e ∷ es) [] are below known = absurd known
-told_after F D firsts front (e ∷ es) (t ∷ ts) are below known =
-    let more = firsts_with firsts (length front) e.1 in
-    let count : suc (length front) ≡ length (front ++ e ∷ []) = omega (arith, length-append front (e ∷ [])) in (
-      told_entry F D firsts front e.0 e.1 t are below.0.1 known.0,
-      told_after F D more (front ++ e ∷ []) es ts (firsts_push firsts front e are) below.1
+told_after F D firsts front ((place, node) ∷ es) (t ∷ ts) are below known =
+    let more = firsts_with firsts (length front) node in
+    let front-more = front ++ (place, node) ∷ [] in
+    let count : suc (length front) ≡ length front-more = omega (arith, length-append front ((place, node) ∷ [])) in (
+      told_entry F D firsts front place node t are below.0.1 known.0,
+      told_after F D more front-more es ts (firsts_push firsts front (place, node) are) below.1
           (subst (λ n. AreKnownFrom F D more n [] es ts) count known.1),
     )
 
@@ -245,9 +246,12 @@ rows_told : (F : OfFiles) (D : OfDirectories) (files : Files) (front es : Names)
 rows_told F D files front [] [] below told small = tt
 rows_told F D files front [] (t ∷ ts) below told small = absurd told
 rows_told F D files front (e ∷ es) [] below told small = absurd told
-rows_told F D files front (e ∷ es) (t ∷ ts) below told small =
-    subst (λ (rows : List Row). AreTimesOf rows (t ∷ ts)) (sym (rows_cons files front e es below.0.1))
-    (may_have F D files front e.0 e.1 t told.0 small.0, rows_told F D files (front ++ e ∷ []) es ts below.1 told.1 small.1)
+rows_told F D files front ((place, node) ∷ es) (t ∷ ts) below told small =
+    let front-more = front ++ (place, node) ∷ [] in
+    subst (λ (rows : List Row). AreTimesOf rows (t ∷ ts)) (sym (rows_cons files front (place, node) es below.0.1)) (
+      may_have F D files front place node t told.0 small.0,
+      rows_told F D files front-more es ts below.1 told.1 small.1,
+    )
 
 -- none are kept if all are 0
 kept_told : (rows : List Row) (t : Times) (ts : List Times) (any : Bool) → any_times (t ∷ ts) ≡ any → AreTimes t

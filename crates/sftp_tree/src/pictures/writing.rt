@@ -85,15 +85,21 @@ pub(super) fn send_name<L: Sink>(
 ) -> Result<(), WriteError>
     requires { length path.now < 2 ^ 32 }
     ensures ok { OnOk result (Appends (L.written sink.old) (L.written sink.new)
-        (entry_text (record {
-          path = path.now;
-          kind = spec.naming (get nat_cmp firsts.old.entries number) (content_at tree.now.files number);
-        }, times))) }
+        (entry_text (
+          record {
+            path = path.now;
+            kind = spec.naming (get nat_cmp firsts.old.entries number) (content_at tree.now.files number);
+          },
+          times,
+        ))) }
     ensures err { OnErr result (AppendsPart (L.written sink.old) (L.written sink.new)
-        (entry_text (record {
-          path = path.now;
-          kind = spec.naming (get nat_cmp firsts.old.entries number) (content_at tree.now.files number);
-        }, times))) }
+        (entry_text (
+          record {
+            path = path.now;
+            kind = spec.naming (get nat_cmp firsts.old.entries number) (content_at tree.now.files number);
+          },
+          times,
+        ))) }
     ensures counts { CountsSink result (L.failures sink.old) (L.failures sink.new) }
     ensures firsts { OnOk result
         (firsts.new.entries

@@ -1,5 +1,5 @@
 -- The times of the root and of what is below it are those of the tree.
-use Rattle.sftp_tree.proofs.Imports.{◌++◌, ◌∷◌, [], ◌∙◌, ap, sym, subst, drop, length, arith, Names}
+use Rattle.sftp_tree.proofs.Imports.{◌++◌, ◌∷◌, [], ◌∙◌, ap, subst, drop, length, arith, Names}
 use Rattle.sftp_tree.specs.PictureParts.{AddsTimes}
 use Rattle.sftp_tree.proofs.TreeFiles.Branches.{tree_few}
 use Rattle.sftp_tree.proofs.TreeFiles.Times.{tree_told}
