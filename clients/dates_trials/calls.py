@@ -243,7 +243,7 @@ def in_lines(steps, room):
 
 
 def audited(steps, room):
-    """A session with times is accepted with the tree that it left."""
+    """A session with times is accepted with the tree that it left, but for the times."""
     tree, end, record = (str(room.folder / it) for it in ("t", "end", "record"))
     server = room.tree("--times", "--record", record, "--save", end)
     fill(server)
@@ -252,9 +252,9 @@ def audited(steps, room):
     server.end()
     ran = subprocess.run([PROGRAM, "audit", "--tree", tree, "--transcript", record, "--out", end + "2"],
                          stdout=subprocess.PIPE, text=True)
-    with open(end, "rb") as left, open(end + "2", "rb") as judged:
-        steps.check("audit accepts the session with the tree that it left",
-                    ran.returncode == 0 and left.read() == judged.read(), ran.stdout)
+    same = subprocess.run([PROGRAM, "diff", end, end + "2"], stdout=subprocess.PIPE, text=True)
+    steps.check("audit accepts the session with the tree that it left", ran.returncode == same.returncode == 0,
+                ran.stdout + same.stdout)
 
 
 TRIALS = (by_tree, by_openssh, shown_everywhere, in_names, in_many_names, while_open, in_lines, audited)

@@ -37,15 +37,26 @@ pub struct Clocked<C: Drop> {
 }
 
 impl<C: Moments + Drop> Clocked<C> {
-    /// The answerer by this clock on a tree all of whose entries have the time that it is now.
-    pub fn new(alloc: Global, clock: C) -> Clocked<C> {
+    /// The answerer by this clock on a tree whose entries have the times of this table, or the time that it is now.
+    pub fn new(alloc: Global, clock: C, table: TimeTable) -> Clocked<C> {
         let mut clock = clock;
-        let start = Times::at(clock.now());
+        let mut table = table;
+        table.start_at(Times::at(clock.now()));
         Clocked {
             clock,
-            table: TimeTable::new(alloc, start),
+            table,
             listings: OpenListings::new(alloc),
         }
+    }
+
+    /// The times of the entries as they are now.
+    pub fn into_table(self) -> TimeTable {
+        let Clocked {
+            clock: _,
+            table,
+            listings: _,
+        } = self;
+        table
     }
 }
 

@@ -9,6 +9,8 @@ mod replies;
 mod tables;
 mod times;
 mod touches;
+mod tree_files;
 
 pub use clocked::Clocked;
+pub use tables::TimeTable;
 pub use times::{Moments, SystemClock};

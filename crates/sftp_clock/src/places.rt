@@ -4,7 +4,7 @@
 //! directory moves with it, however much that is.
 
 use crate::times::Times;
-use sftp_path::Name;
+use sftp_path::{Name, Parts};
 use sftp_tree::NoMemory;
 use std::alloc::Global;
 use std::collections::HashMap;
@@ -37,8 +37,7 @@ struct Key {
 }
 
 impl Key {
-    fn new(parent: u64, name: &Name) -> Key {
-        let name = name.as_slice();
+    fn new(parent: u64, name: &[u8]) -> Key {
         let mut bytes = [0; KEY];
         let count = name.len().min(NAME);
         bytes[..NUMBER].copy_from_slice(&parent.to_be_bytes());
@@ -97,14 +96,26 @@ impl PlaceTimes {
         }
         let mut number = ROOT;
         for name in names {
-            number = self.entry(number, name)?.number;
+            number = self.entry(number, name.as_slice())?.number;
         }
         Some(number)
     }
 
     /// The times of what is in the directory of a number, if it has some of its own.
     pub(crate) fn get_in(&self, directory: u64, name: &Name) -> Option<Times> {
-        self.entry(directory, name)?.times
+        self.entry(directory, name.as_slice())?.times
+    }
+
+    /// The times of that to which an absolute text leads, if it has some of its own. Looks up each name of it.
+    pub(crate) fn get_at(&self, path: &[u8]) -> Option<Times> {
+        let mut number = ROOT;
+        let mut times = self.root;
+        for name in Parts::new(path) {
+            let entry = self.entry(number, name)?;
+            number = entry.number;
+            times = entry.times;
+        }
+        times
     }
 
     /// Gives that to which these names lead times of its own. Looks up each of them, and may make an entry for each.
@@ -124,9 +135,44 @@ impl PlaceTimes {
 
     fn set_below(&mut self, above: &[Name], name: &Name, times: Times) -> Result<(), NoMemory> {
         let directory = self.make_number(above)?;
+        self.set_in(directory, name.as_slice(), times)
+    }
+
+    /// Gives what is in the directory of a number times of its own.
+    fn set_in(&mut self, directory: u64, name: &[u8], times: Times) -> Result<(), NoMemory> {
         let number = self.make_entry(directory, name)?;
         let times = Some(times);
         self.put(directory, name, Entry { number, times })
+    }
+
+    /// Gives that to which an absolute text leads times of its own. Looks up each name of it, and may make an entry for
+    /// each.
+    ///
+    /// # Errors
+    ///
+    /// `NoMemory` if memory runs out.
+    pub(crate) fn set_at(&mut self, path: &[u8], times: Times) -> Result<(), NoMemory> {
+        let mut last: Option<(u64, &[u8])> = None;
+        for name in Parts::new(path) {
+            let directory = self.directory_at(last)?;
+            last = Some((directory, name));
+        }
+        match last {
+            Some((directory, name)) => self.set_in(directory, name, times),
+            None => {
+                self.root = Some(times);
+                Ok(())
+            }
+        }
+    }
+
+    /// The number of what is in the directory of a number, which is made if it has none; that of the root if there is
+    /// no such.
+    fn directory_at(&mut self, last: Option<(u64, &[u8])>) -> Result<u64, NoMemory> {
+        match last {
+            Some((directory, name)) => self.make_entry(directory, name),
+            None => Ok(ROOT),
+        }
     }
 
     /// Forgets that to which these names lead.
@@ -138,7 +184,7 @@ impl PlaceTimes {
 
     fn forget_below(&mut self, above: &[Name], name: &Name) {
         if let Some(directory) = self.number_of(above) {
-            let key = Key::new(directory, name);
+            let key = Key::new(directory, name.as_slice());
             self.below.remove(key.as_slice());
         }
     }
@@ -160,15 +206,15 @@ impl PlaceTimes {
 
     fn entry_at(&self, names: &[Name]) -> Option<Entry> {
         let (name, above) = names.split_last()?;
-        self.entry(self.number_of(above)?, name)
+        self.entry(self.number_of(above)?, name.as_slice())
     }
 
     fn put_below(&mut self, above: &[Name], name: &Name, entry: Entry) -> Result<(), NoMemory> {
         let directory = self.make_number(above)?;
-        self.put(directory, name, entry)
+        self.put(directory, name.as_slice(), entry)
     }
 
-    fn entry(&self, directory: u64, name: &Name) -> Option<Entry> {
+    fn entry(&self, directory: u64, name: &[u8]) -> Option<Entry> {
         let key = Key::new(directory, name);
         match self.below.get(key.as_slice()) {
             Some(entry) => Some(*entry),
@@ -180,13 +226,13 @@ impl PlaceTimes {
     fn make_number(&mut self, names: &[Name]) -> Result<u64, NoMemory> {
         let mut number = ROOT;
         for name in names {
-            number = self.make_entry(number, name)?;
+            number = self.make_entry(number, name.as_slice())?;
         }
         Ok(number)
     }
 
     /// The number of what is in the directory of a number, which is made if it has none.
-    fn make_entry(&mut self, directory: u64, name: &Name) -> Result<u64, NoMemory> {
+    fn make_entry(&mut self, directory: u64, name: &[u8]) -> Result<u64, NoMemory> {
         if let Some(entry) = self.entry(directory, name) {
             return Ok(entry.number);
         }
@@ -197,7 +243,7 @@ impl PlaceTimes {
         Ok(number)
     }
 
-    fn put(&mut self, directory: u64, name: &Name, entry: Entry) -> Result<(), NoMemory> {
+    fn put(&mut self, directory: u64, name: &[u8], entry: Entry) -> Result<(), NoMemory> {
         let key = Key::new(directory, name);
         let key = Vec::from_slice(self.alloc, key.as_slice())?;
         self.below.insert(key, entry)?;

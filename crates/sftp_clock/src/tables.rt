@@ -9,25 +9,49 @@ use std::alloc::Global;
 use std::collections::BTreeMap;
 
 /// The times of the entries of a tree: of files by their numbers, of directories and links by their places. What was
-/// given no times has those of the start.
+/// given no times, and has none in the tree file of the start, has those of the start.
 ///
 /// It takes some 30 bytes for each file that was given times, and some 60 and the length of the name for each directory
 /// and link that was, and for each directory above one. A call looks up each name of a place at most three times.
 #[derive(Drop)]
-pub(crate) struct TimeTable {
+pub struct TimeTable {
     files: FileTimes,
     places: PlaceTimes,
     start: Times,
 }
 
 impl TimeTable {
-    /// The table in which all have the times of the start. Does not allocate.
-    pub(crate) fn new(alloc: Global, start: Times) -> TimeTable {
+    /// The table in which nothing has times of its own. Does not allocate.
+    pub fn new(alloc: Global) -> TimeTable {
         TimeTable {
             files: FileTimes::new(alloc),
             places: PlaceTimes::new(alloc),
-            start,
+            start: Times::at(0),
         }
+    }
+
+    /// What has no times of its own has these.
+    pub(crate) fn start_at(&mut self, start: Times) {
+        self.start = start;
+    }
+
+    /// The times of a file if it has some of its own.
+    pub(crate) fn own_of_file(&self, number: FileNo) -> Option<Times> {
+        self.files.get(number)
+    }
+
+    /// The times of the directory of an absolute text if it has some of its own.
+    pub(crate) fn own_of_directory(&self, path: &[u8]) -> Option<Times> {
+        self.places.get_at(path)
+    }
+
+    /// Gives the directory of an absolute text times.
+    ///
+    /// # Errors
+    ///
+    /// `NoMemory` if memory runs out.
+    pub(crate) fn set_directory(&mut self, path: &[u8], times: Times) -> Result<(), NoMemory> {
+        self.places.set_at(path, times)
     }
 
     /// The times of what was given none.

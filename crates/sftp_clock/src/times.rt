@@ -1,6 +1,7 @@
 //! Times of access and modification, and what tells the time.
 ghost use Rattle.sftp_packets.specs.Spelling.{FitsTwo};
 
+use sftp_treefile::Times as FileTimes;
 use std::time::{Clock, SystemTime, UNIX_EPOCH};
 
 /// The times of a file, a directory or a link, in seconds since the start of 1970, as packets have them (draft,
@@ -48,6 +49,26 @@ impl Times {
         Times {
             accessed: self.accessed,
             modified: moment,
+        }
+    }
+
+    /// The times that an entry of a tree file has, if it has some.
+    pub(crate) fn read(times: FileTimes) -> Option<Times> {
+        if times.are_known() {
+            Some(Times {
+                accessed: times.accessed,
+                modified: times.modified,
+            })
+        } else {
+            None
+        }
+    }
+
+    /// The same as an entry of a tree file has them.
+    pub(crate) fn written(self) -> FileTimes {
+        FileTimes {
+            accessed: self.accessed,
+            modified: self.modified,
         }
     }
 }

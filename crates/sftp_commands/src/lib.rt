@@ -32,7 +32,7 @@ pub use spotting::spot_of;
 use std::fs::Files;
 use std::io::Write;
 pub use texts::make;
-pub use trees::{is_read_again, write_tree};
+pub use trees::{is_read_again, write_timed_tree, write_tree};
 
 /// Shows every field of a file, a line for each record or entry that sums it up, or what was selected.
 pub fn show<'a, R: Files + AllocGlobal, O: Write>(

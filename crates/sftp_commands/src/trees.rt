@@ -8,7 +8,7 @@ ghost use Rattle.sftp_files.specs.Failures.{failure_status};
 use sftp_files::{Content, Failure, FileSink, Keeping, System, Watched, open, write_content};
 use sftp_progress::{Console, Progress, Task, Tracked};
 use sftp_streams::Tally;
-use sftp_tree::Tree;
+use sftp_tree::{HasTimes, Tree};
 use sftp_treefile::{TreeError, TreeFile, read_rows_from};
 use std::alloc::Global;
 use std::fs::{File, Files};
@@ -87,6 +87,18 @@ impl Content for Picture<'_> {
     }
 }
 
+/// The tree file of a tree with the times that something beside it has.
+#[derive(Drop)]
+struct TimedPicture<'t, K>(&'t Tree, &'t K);
+
+impl<K: HasTimes> Content for TimedPicture<'_, K> {
+    fn put(&self, alloc: Global, file: &mut File) -> io::Result<()> {
+        let mut sink = FileSink::new(alloc, file)?;
+        let sent = self.0.write_timed_to(&mut sink, self.1);
+        sink.finish(sent)
+    }
+}
+
 /// Writes the tree file of a tree to the file `name`, which is made or replaced. If that fails, the file is unchanged.
 ///
 /// # Errors
@@ -101,4 +113,21 @@ pub fn write_tree<'a, R: System>(
     ensures { IfErr result IsUnwritten }
 {
     write_content(rt, name, keeping, &Picture(tree))
+}
+
+/// The same, with the times that something beside the tree has.
+///
+/// # Errors
+///
+/// As `write_tree`.
+pub fn write_timed_tree<'a, R: System, K: HasTimes>(
+    rt: &R,
+    name: &'a str,
+    keeping: Keeping,
+    tree: &Tree,
+    keeper: &K,
+) -> Result<(), Failure<'a>>
+    ensures { IfErr result IsUnwritten }
+{
+    write_content(rt, name, keeping, &TimedPicture(tree, keeper))
 }

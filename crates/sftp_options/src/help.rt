@@ -50,7 +50,8 @@ year, and is that of 1970 without --times. The freedoms texts and longnames of -
 
 With --times, all attributes have times of access and modification. Requests give some; otherwise what is made has the
 time of then, and a file that is written to or truncated, and a directory whose names change, is modified then. At the
-start all have the time of the start, and no tree file keeps times. --vary and --replay come before it.
+start all have the times of the tree file, or that of the start where it has none. --save writes times, but for those of
+what had none and was left alone. --vary and --replay come before it.
 
 With --verbose, standard error has a line when the session opens, and one when it ends: how, the number of requests, the
 bytes read and written, the number of entries in the tree, and whether the tree was saved.

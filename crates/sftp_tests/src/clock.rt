@@ -1,6 +1,6 @@
 //! Times of access and modification, by a clock that a test sets.
 use crate::wire::attributes;
-use sftp_clock::{Clocked, Moments};
+use sftp_clock::{Clocked, Moments, TimeTable};
 use sftp_handles::{Session, SlabTable};
 use sftp_server::Answerer;
 use sftp_tree::{NoMemory, Tree};
@@ -60,7 +60,7 @@ fn by_the_clock(
     alloc: Global,
     session: &mut Session<SlabTable>,
 ) -> Result<[Option<(u32, u32)>; 4], NoMemory> {
-    let mut clocked = Clocked::new(alloc, Ticking(10));
+    let mut clocked = Clocked::new(alloc, Ticking(10), TimeTable::new(alloc));
     let before = [
         lstat(alloc, &mut clocked, session, b"/")?,
         lstat(alloc, &mut clocked, session, b"/d")?,

@@ -2,13 +2,13 @@
 ghost use Rattle.sftp_server.specs.Served.{IsUnused};
 
 use crate::replaying::Recorded;
-use sftp_clock::{Clocked, SystemClock};
+use sftp_clock::{Clocked, SystemClock, TimeTable};
 use sftp_files::{Failure, ServeOptions, System};
 use sftp_handles::{GivenTable, SlabTable};
 use sftp_server::{Plain, Schedule, SessionEnd, serve_announcing, serve_as, serve_keeping_tree};
 use sftp_transcript::{Sink, Source, Writer};
 use sftp_tree::Tree;
-use sftp_vary::{Freedoms, Proposed, Style, Variation, Vary, Worded, any_version};
+use sftp_vary::{Freedoms, Proposed, Style, Variation, Vary, Worded, Words, any_version};
 use std::time::Clock;
 
 /// The answerer of sessions some of whose replies are proposed: first those of a record, then varied ones. Each is
@@ -37,11 +37,75 @@ impl Answers {
             recorded: Recorded::new(rt, options.replay)?,
         })
     }
+
+    /// Whether the session keeps times.
+    pub(crate) fn keep_times(&self) -> bool {
+        !self.propose() && self.style.has_times
+    }
+
+    /// Whether some of the replies are proposed.
+    fn propose(&self) -> bool {
+        self.style.varies_replies() || self.recorded.has_more()
+    }
 }
 
-/// Serves a session with such replies.
+/// Serves a session with such replies, and returns how it ended, with the times of the entries if it kept some.
 pub(crate) fn served<C: Clock, R: Source, W: Sink, L: Sink, S: Schedule>(
     clock: &C,
+    tree: Tree,
+    times: Option<TimeTable>,
+    reader: &mut R,
+    writer: &mut W,
+    log: &mut Writer<L>,
+    schedule: &mut S,
+    answers: Answers,
+) -> (SessionEnd, Option<TimeTable>)
+    requires { IsUnused log.old }
+{
+    match times {
+        Some(times) => {
+            let words = answers.style.words;
+            drop(answers);
+            let (end, times) = serve_dated(
+                clock, tree, times, reader, writer, log, schedule, words,
+            );
+            (end, Some(times))
+        }
+        None => {
+            let end = serve_undated(tree, reader, writer, log, schedule, answers);
+            (end, None)
+        }
+    }
+}
+
+/// Serves a session that keeps times, from those of this table on.
+fn serve_dated<C: Clock, R: Source, W: Sink, L: Sink, S: Schedule>(
+    clock: &C,
+    tree: Tree,
+    times: TimeTable,
+    reader: &mut R,
+    writer: &mut W,
+    log: &mut Writer<L>,
+    schedule: &mut S,
+    words: Words,
+) -> (SessionEnd, TimeTable)
+    requires { IsUnused log.old }
+{
+    let inner = Clocked::new(tree.allocator(), SystemClock::new(clock), times);
+    let mut answerer = Worded::new(inner, words);
+    let end = serve_as::<R, W, L, S, SlabTable, Dated<C>>(
+        tree,
+        reader,
+        writer,
+        log,
+        schedule,
+        &mut answerer,
+    );
+    (end, answerer.into_inner().into_table())
+}
+
+/// Serves a session that keeps no times.
+fn serve_undated<R: Source, W: Sink, L: Sink, S: Schedule>(
     tree: Tree,
     reader: &mut R,
     writer: &mut W,
@@ -51,23 +115,11 @@ pub(crate) fn served<C: Clock, R: Source, W: Sink, L: Sink, S: Schedule>(
 ) -> SessionEnd
     requires { IsUnused log.old }
 {
-    let style = answers.style;
-    let words = style.words;
-    if style.varies_replies() || answers.recorded.has_more() {
+    if answers.propose() {
         return serve_proposing(tree, reader, writer, log, schedule, answers);
     }
+    let words = answers.style.words;
     drop(answers);
-    if style.has_times {
-        let inner = Clocked::new(tree.allocator(), SystemClock::new(clock));
-        return serve_as::<R, W, L, S, SlabTable, Dated<C>>(
-            tree,
-            reader,
-            writer,
-            log,
-            schedule,
-            &mut Worded::new(inner, words),
-        );
-    }
     if words.has_any() {
         return serve_as::<R, W, L, S, SlabTable, Worded<Plain>>(
             tree,

@@ -8,10 +8,11 @@ use crate::answers::{Answers, served};
 use crate::pieces::Pieces;
 use crate::replaying::{Parting, Replay};
 use crate::summaries::{Close, Summary, Traffic};
-use crate::trees::read_tree;
+use crate::trees::{read_tree, read_tree_looking};
 use crate::twice::is_lost;
 use sftp_audit::keep_freed_memory;
-use sftp_commands::write_tree;
+use sftp_clock::TimeTable;
+use sftp_commands::{write_timed_tree, write_tree};
 use sftp_files::{
     Announcing, Bounded, Ending, Failure, Keeping, Meter, Record, Recording, STANDARD_INPUT,
     STANDARD_OUTPUT, ServeOptions, System, Watched, report, require_fit, write_flushed,
@@ -27,6 +28,9 @@ use std::time::Clock;
 /// How many bytes are set aside for saving: buffers, and 32 bytes for each entry that a tree has at most, since the
 /// first names of files are kept in mind.
 const ROOM_TO_SAVE: usize = 33_816_576;
+
+/// And with times: 8 bytes for each entry.
+const ROOM_FOR_TIMES: usize = 8_388_608;
 
 /// How many bytes the allocator keeps for a session after they were freed. Else each larger packet takes its memory
 /// from the system anew and gives it back.
@@ -72,8 +76,8 @@ pub(crate) fn serve<'a, R: System + Clock, I: Read, O: Write, E: Write>(
     let setup = set_up(rt, options, style)?;
     let announcing = Announcing::new(output, errors, options.is_verbose);
     let output = Pieces::new(announcing, style.cuts());
-    let (end, traffic) = run_session(rt, setup, &mut meter, input, output);
-    conclude(rt, end, traffic, options, errors)
+    let (finish, traffic) = run_session(rt, setup, &mut meter, input, output);
+    conclude(rt, finish, traffic, options, errors)
 }
 
 /// What a session needs besides its streams.
@@ -83,10 +87,12 @@ struct Setup {
     log: Writer<Tally<Record>>,
 }
 
-/// The tree that a session starts from, and memory that is set aside until it ends.
+/// The tree that a session starts from, its times if the session keeps some, and memory that is set aside until it
+/// ends.
 #[derive(Drop)]
 struct Start {
     tree: Tree,
+    times: Option<TimeTable>,
     room: Vec<u8>,
 }
 
@@ -106,7 +112,7 @@ fn set_up<'a, R: System>(
     ensures { IfOk result (λ setup. IsUnused setup.log) }
 {
     let conduct = Conduct::new(rt, options, style)?;
-    match Start::new(rt, options) {
+    match Start::new(rt, options, conduct.answers.keep_times()) {
         Ok(start) => record(rt, options, start, conduct),
         Err(failure) => {
             drop(conduct);
@@ -139,10 +145,14 @@ fn record<'a, R: System>(
 }
 
 impl Start {
-    fn new<'a, R: System>(rt: &R, options: &ServeOptions<'a>) -> Result<Start, Failure<'a>> {
-        let room = room_to_save(rt, options)?;
-        match first_tree(rt, options) {
-            Ok(tree) => Ok(Start { tree, room }),
+    fn new<'a, R: System>(
+        rt: &R,
+        options: &ServeOptions<'a>,
+        keeps_times: bool,
+    ) -> Result<Start, Failure<'a>> {
+        let room = room_to_save(rt, options, keeps_times)?;
+        match first_tree(rt, options, keeps_times) {
+            Ok((tree, times)) => Ok(Start { tree, times, room }),
             Err(failure) => {
                 drop(room);
                 Err(failure)
@@ -168,15 +178,15 @@ impl Conduct {
     }
 }
 
-/// Serves a session that is set up, and returns how it ended and what went through its streams. What is set aside is
-/// free then.
+/// Serves a session that is set up, and returns how it ended, with the times of the entries if it kept some, and what
+/// went through its streams. What is set aside is free then.
 fn run_session<C: Clock, I: Read, O: Write + Drop>(
     clock: &C,
     setup: Setup,
     meter: &mut Meter,
     input: &mut I,
     output: O,
-) -> (SessionEnd, Traffic)
+) -> (Finish, Traffic)
     requires { IsUnused setup.log }
 {
     let Setup {
@@ -184,9 +194,11 @@ fn run_session<C: Clock, I: Read, O: Write + Drop>(
         conduct,
         log,
     } = setup;
-    let Start { tree, room } = start;
+    let Start { tree, times, room } = start;
     let Conduct { order, answers } = conduct;
-    let ended = session(clock, tree, log, order, answers, meter, input, output);
+    let ended = session(
+        clock, tree, times, log, order, answers, meter, input, output,
+    );
     drop(room);
     ended
 }
@@ -204,17 +216,31 @@ fn require_place<'a, R: System>(rt: &R, options: &ServeOptions<'a>) -> Result<()
 
 /// Memory that is set aside until the session ends, so that its tree is saved where the system gives no more. Within a
 /// limit of the program's own, a session ends before the system refuses memory.
-fn room_to_save<'a, R: System>(rt: &R, options: &ServeOptions<'a>) -> Result<Vec<u8>, Failure<'a>> {
+fn room_to_save<'a, R: System>(
+    rt: &R,
+    options: &ServeOptions<'a>,
+    keeps_times: bool,
+) -> Result<Vec<u8>, Failure<'a>> {
     let bytes = match (options.save, options.memory) {
+        (Some(_), None) if keeps_times => ROOM_TO_SAVE + ROOM_FOR_TIMES,
         (Some(_), None) => ROOM_TO_SAVE,
         _ => 0,
     };
     Ok(Vec::with_capacity(rt.alloc(), bytes)?)
 }
 
-/// The tree that the session starts from.
-fn first_tree<'a, R: System>(rt: &R, options: &ServeOptions<'a>) -> Result<Tree, Failure<'a>> {
-    Ok(read_tree(rt, options.tree, options.memory)??)
+/// The tree that the session starts from, and its times if the session keeps some.
+fn first_tree<'a, R: System>(
+    rt: &R,
+    options: &ServeOptions<'a>,
+    keeps_times: bool,
+) -> Result<(Tree, Option<TimeTable>), Failure<'a>> {
+    if !keeps_times {
+        return Ok((read_tree(rt, options.tree, options.memory)??, None));
+    }
+    let mut times = TimeTable::new(rt.alloc());
+    let tree = read_tree_looking(rt, options.tree, options.memory, &mut times)??;
+    Ok((tree, Some(times)))
 }
 
 /// The writer of a new record.
@@ -231,18 +257,22 @@ fn new_log<'a, R: System>(
     }
 }
 
+/// How a session ended, with the times of the entries if it kept some.
+type Finish = (SessionEnd, Option<TimeTable>);
+
 /// Serves a session on a tree, and returns how it ended and what went through its streams.
 // Slow to prove: each stream is put together of layers, and taken apart again.
 fn session<C: Clock, I: Read, O: Write + Drop>(
     clock: &C,
     tree: Tree,
+    times: Option<TimeTable>,
     mut log: Writer<Tally<Record>>,
     mut order: Order,
     answers: Answers,
     meter: &mut Meter,
     input: &mut I,
     output: O,
-) -> (SessionEnd, Traffic)
+) -> (Finish, Traffic)
     requires { IsUnused log }
 {
     let mut reader = Tally::new(Watched::new(input));
@@ -250,6 +280,7 @@ fn session<C: Clock, I: Read, O: Write + Drop>(
     let end = served(
         clock,
         tree,
+        times,
         &mut reader,
         &mut writer,
         &mut log,
@@ -279,18 +310,20 @@ fn session<C: Clock, I: Read, O: Write + Drop>(
 // Slow to prove: it owns the tree that was left, and then how saving it ended.
 fn conclude<'a, R: System, E: Write>(
     rt: &R,
-    end: SessionEnd,
+    finish: Finish,
     traffic: Traffic,
     options: &ServeOptions<'a>,
     errors: &mut E,
 ) -> Result<Ending, Unserved<'a>>
     ensures { IfOk result (λ ending. ending ≡ endings.Done) }
 {
+    let (end, times) = finish;
     let (tree, close) = parts(end, traffic.is_over);
     say_parting(traffic, options.is_verbose, errors);
-    let saved = save_any(rt, &tree, options);
+    let saved = save_any(rt, &tree, &times, options);
     let has_tree = tree.is_some();
     drop(tree);
+    drop(times);
     if options.is_verbose {
         let summary = Summary {
             close,
@@ -418,23 +451,28 @@ fn report_unsaved<E: Write>(errors: &mut E, close: Close, failure: &Failure<'_>)
 fn save_any<'a, R: System>(
     rt: &R,
     tree: &Option<Tree>,
+    times: &Option<TimeTable>,
     options: &ServeOptions<'a>,
 ) -> Result<Option<u32>, Failure<'a>> {
     match (tree, options.save) {
-        (Some(tree), Some(name)) => save(rt, tree, name, options.keeping),
+        (Some(tree), Some(name)) => save(rt, tree, times, name, options.keeping),
         (Some(tree), None) if options.is_verbose => Ok(Some(tree.entry_count())),
         _ => Ok(None),
     }
 }
 
-/// Writes a tree to the file `name`, and returns how many entries it has.
+/// Writes a tree to the file `name`, with its times if there are some, and returns how many entries it has.
 fn save<'a, R: System>(
     rt: &R,
     tree: &Tree,
+    times: &Option<TimeTable>,
     name: &'a str,
     keeping: Keeping,
 ) -> Result<Option<u32>, Failure<'a>> {
-    write_tree(rt, name, keeping, tree)?;
+    match times {
+        Some(times) => write_timed_tree(rt, name, keeping, tree, times)?,
+        None => write_tree(rt, name, keeping, tree)?,
+    }
     Ok(Some(tree.entry_count()))
 }
 

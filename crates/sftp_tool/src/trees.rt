@@ -2,10 +2,10 @@
 ghost use Rattle.std.specs.Prelude.{◌≡◌, IfErr};
 ghost use Rattle.sftp_files.specs.Failures.{failure_status};
 
-use sftp_files::{Failure, System, Watched, open};
+use sftp_files::{Failure, Flow, System, Watched, open};
 use sftp_progress::{Progress, Task, Tracked};
 use sftp_transcript::Tally;
-use sftp_tree::Tree;
+use sftp_tree::{Looks, Tree};
 use sftp_treefile::TreeError;
 use std::alloc::Global;
 use std::fs::Files;
@@ -54,6 +54,28 @@ pub(crate) fn read_tree<'a, R: System>(
     tree_of(rt.alloc(), name, limit, file)
 }
 
+/// The same, while something looks at what the file says.
+///
+/// # Errors
+///
+/// As `read_tree`.
+pub(crate) fn read_tree_looking<'a, R: System, K: Looks>(
+    rt: &R,
+    name: &'a str,
+    limit: Option<u64>,
+    looker: &mut K,
+) -> Result<Result<Tree, TreeError>, Failure<'a>>
+    ensures { IfErr result (λ failure. failure_status failure ≡ 3) }
+{
+    let file = open(rt, name)?;
+    let most = most_of(limit);
+    let mut bytes = Watched::new(file.take(most.saturating_add(1)));
+    let tree = Tree::read_looking_from(rt.alloc(), Tally::new(&mut bytes), looker);
+    let flow = bytes.flow();
+    drop(bytes);
+    judged(name, most, flow, tree)
+}
+
 /// The same, while standard error says how much of the file is read; where it is no terminal, if that is asked for.
 ///
 /// # Errors
@@ -85,11 +107,28 @@ fn tree_of<'a, F: Read + Drop>(
 ) -> Result<Result<Tree, TreeError>, Failure<'a>>
     ensures { IfErr result (λ failure. failure_status failure ≡ 3) }
 {
-    let most = limit.unwrap_or(u64::MAX);
+    let most = most_of(limit);
     let mut bytes = Watched::new(file.take(most.saturating_add(1)));
     let tree = Tree::read_from(alloc, Tally::new(&mut bytes));
     let flow = bytes.flow();
     drop(bytes);
+    judged(name, most, flow, tree)
+}
+
+/// The most bytes that a file may have.
+fn most_of(limit: Option<u64>) -> u64 {
+    limit.unwrap_or(u64::MAX)
+}
+
+/// What was read of the file `name`, which may have so many bytes, if it could be read and has no more.
+fn judged<'a>(
+    name: &'a str,
+    most: u64,
+    flow: Flow,
+    tree: Result<Tree, TreeError>,
+) -> Result<Result<Tree, TreeError>, Failure<'a>>
+    ensures { IfErr result (λ failure. failure_status failure ≡ 3) }
+{
     if flow.bytes > most {
         drop(tree);
         return Err(Failure::OverLimit(name));

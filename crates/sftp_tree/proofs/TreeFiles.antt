@@ -22,6 +22,7 @@ pub mod Numbers
 pub mod Stores
 pub mod Files
 pub mod Branches
+pub mod Times
 pub mod Growing
 
 -- ==== The table of a root and of rows, each of which may come after those before it, is the table of a tree, and the

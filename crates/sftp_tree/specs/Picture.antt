@@ -1,6 +1,8 @@
 -- Trees as tree files. This profile's own.
 use Rattle.std.specs.Prelude.{◌≡◌, ◌&&◌, ◌==◌, nat_le, ℕ, suc, Bool, true, if◌then◌else◌, List, [], ◌∷◌, ◌++◌}
 use Rattle.std.specs.Prelude.{Option, Some, None, Result, MatchResult, IsTrue}
+use Rattle.std.specs.Io.KnownBytes.{Appends}
+use Rattle.sftp_streams.specs.Streams.{AppendsPart}
 use Rattle.std.specs.Option.{option_map}
 use Rattle.sftp_path.specs.Place.{Place, absolute}
 use Rattle.sftp_treefile.specs.declared.errors.TreeError.{TreeError}
@@ -12,7 +14,8 @@ use Rattle.sftp_treefile.specs.declared.files.Kind.TheVariants as kinds
 use Rattle.sftp_treefile.specs.declared.files.Row.{Row}
 use Rattle.sftp_treefile.specs.declared.files.TreeFile.{TreeFile}
 use Rattle.sftp_treefile.specs.declared.times.Times.{Times}
-use Rattle.sftp_treefile.specs.TreeFile.{spelled, AreFileTimes}
+use Rattle.sftp_treefile.specs.TreeFile.{spelled, no_times, AreFileTimes}
+use Rattle.sftp_treefile.specs.TreeFileParts.{kept}
 use Rattle.sftp_treefile.specs.TreeFile.{usual_limits}
 use Rattle.sftp_tree.specs.declared.file_contents.Content.{Content}
 use Rattle.sftp_tree.specs.declared.nodes.Node.{Node}
@@ -85,6 +88,49 @@ pub record IsPicture (t : Tree) (bytes : List ℕ) : Type 0 where
   pub times : List Times
   pub are : AreFileTimes (file_of t).rows times
   pub bytes_are : bytes ≡ spelled (timed_file_of t times)
+
+-- ---- times that something beside a tree has: of files by their numbers, of directories by their absolute texts
+
+-- a file has its times with its first name, and a further name has none
+abbrev pub AreOfName : Option ℕ → (Times → Type 0) → Times → Type 0
+AreOfName (Some entry) Of times = times ≡ no_times
+AreOfName None Of times = Of times
+
+-- those of an entry after these, the root among them
+abbrev pub AreTold : (ℕ → Times → Type 0) → (List ℕ → Times → Type 0) → Names → Place × Node → Times → Type 0
+AreTold OfFile OfDirectory earlier (place, Dir owner) times = OfDirectory (absolute place) times
+AreTold OfFile OfDirectory earlier (place, File number) times =
+    AreOfName (entry_naming number earlier) (OfFile number) times
+AreTold OfFile OfDirectory earlier (place, Link target) times = times ≡ no_times
+
+-- and one for each of the entries after them
+abbrev pub AreToldAfter : (ℕ → Times → Type 0) → (List ℕ → Times → Type 0) → Names → Names → List Times → Type 0
+AreToldAfter OfFile OfDirectory earlier [] [] = Unit {0}
+AreToldAfter OfFile OfDirectory earlier [] (t ∷ times) = ⊥
+AreToldAfter OfFile OfDirectory earlier (e ∷ es) [] = ⊥
+AreToldAfter OfFile OfDirectory earlier (e ∷ es) (t ∷ times) =
+    AreTold OfFile OfDirectory earlier e t × AreToldAfter OfFile OfDirectory (earlier ++ e ∷ []) es times
+
+-- these are the times of a tree file of the tree, and none if all are 0
+pub record AreToldTimes (OfFile : ℕ → Times → Type 0) (OfDirectory : List ℕ → Times → Type 0) (t : Tree)
+    (times : List Times) : Type 0 where
+  pub told : List Times
+  pub are_told : AreToldAfter OfFile OfDirectory [] t.names told
+  pub times_are : times ≡ kept told
+  pub of_file : AreFileTimes (file_of t).rows times
+
+-- the tree file of the tree is appended, with these times
+pub record AppendsTimed (OfFile : ℕ → Times → Type 0) (OfDirectory : List ℕ → Times → Type 0) (t : Tree)
+    (old new : Option (List ℕ)) : Type 0 where
+  pub times : List Times
+  pub are : AreToldTimes OfFile OfDirectory t times
+  pub appended : Appends old new (spelled (timed_file_of t times))
+
+-- a beginning of a tree file of the tree is appended, with times or without
+pub record AppendsSome (t : Tree) (old new : Option (List ℕ)) : Type 0 where
+  pub bytes : List ℕ
+  pub are : IsPicture t bytes
+  pub part : AppendsPart old new bytes
 
 -- ---- the tree of a tree file
 

@@ -1,5 +1,5 @@
 -- The tree that a tree file describes, and what the code keeps on its way from the one to the other.
-use Rattle.std.specs.Prelude.{◌≡◌, ℕ, suc, ◌+◌, ◌-◌, ◌≤◌, ◌<◌, ◌^◌, List, [], ◌∷◌, ◌++◌, length, take, slice_index, false}
+use Rattle.std.specs.Prelude.{◌≡◌, ℕ, suc, ◌+◌, ◌-◌, ◌≤◌, ◌<◌, ◌^◌, List, [], ◌∷◌, ◌++◌, length, take, slice_index}
 use Rattle.std.specs.Prelude.{Option, Some, None, IfSome, map}
 use Rattle.std.specs.List.{flat_map, AllByRecursion}
 use Rattle.std.specs.Ordering.{nat_cmp}
@@ -11,14 +11,17 @@ use Rattle.sftp_treefile.specs.declared.files.Kind.TheVariants as kinds
 use Rattle.sftp_treefile.specs.declared.files.Row.{Row}
 use Rattle.sftp_treefile.specs.declared.files.TreeFile.{TreeFile}
 use Rattle.sftp_treefile.specs.declared.heads.Head.{Head}
-use Rattle.sftp_treefile.specs.TreeFile.{place_of, opening_with, no_times}
+use Rattle.sftp_treefile.specs.declared.times.Times.{Times}
+use Rattle.sftp_treefile.specs.TreeFile.{place_of, opening_with, no_times, any_times, times_of_root, times_of_rows}
+use Rattle.sftp_treefile.specs.TreeFile.{times_at, AreTimes}
+use Rattle.sftp_treefile.specs.TreeFileParts.{paired}
 use Rattle.sftp_tree.specs.declared.file_contents.Content.{Content}
 use Rattle.sftp_tree.specs.declared.file_contents.Stored.{Stored}
 use Rattle.sftp_tree.specs.declared.nodes.Node.{Node}
 use Rattle.sftp_tree.specs.declared.nodes.Node.TheVariants.{Dir, File, Link}
 use Rattle.sftp_tree.specs.Tree.{Names, Files, Tree, node_at, content_at}
 use Rattle.sftp_tree.specs.StoredFiles.{contents, AreCounted, IsChanged, with_a_name}
-use Rattle.sftp_tree.specs.Picture.{naming, root_owner}
+use Rattle.sftp_tree.specs.Picture.{naming, root_owner, rows_after, AreOfName}
 use Rattle.sftp_tree.specs.declared.entries.growing.Opened.{Opened}
 use Rattle.sftp_tree.specs.declared.entries.growing.Growth.{Growth}
 use Rattle.sftp_tree.specs.Nesting.{placed}
@@ -125,17 +128,21 @@ pub record IsGrown (root : Owner) (rows : List Row) (names : Names) (stores : St
 -- ---- on the way to the tree file
 
 -- what comes before the entries
-abbrev pub head_of : Tree → Head
-head_of t = record {
-  opening = opening_with false t.limits;
+abbrev pub head_of : Tree → List Times → Head
+head_of t times = record {
+  opening = opening_with (any_times times) t.limits;
   limits = t.limits;
   home = absolute t.home;
   uid = t.uid;
   gid = t.gid;
   count = length t.names - 1;
   root = root_owner (node_at t.names []);
-  root_times = no_times;
+  root_times = times_of_root times;
 }
+
+-- the entries with their times
+abbrev pub timed_entries : Tree → List Times → List (Row × Times)
+timed_entries t times = paired (rows_after t.files [] t.names) (times_of_rows times)
 
 -- for each file that was met the number of the entry that is its first name
 abbrev pub Firsts : Type 0
@@ -178,10 +185,44 @@ rows_from files firsts next text (e ∷ es) =
     record { path = text ++ text_of e.0; kind = known_kind files firsts e.1 } ∷ rows_from files
     (firsts_with firsts next e.1) (suc next) text es
 
+-- with the times of their numbers
+abbrev pub entries_from : Files → List Times → Firsts → ℕ → List ℕ → Names → List (Row × Times)
+entries_from files times firsts next text [] = []
+entries_from files times firsts next text (e ∷ es) =
+    (record { path = text ++ text_of e.0; kind = known_kind files firsts e.1 }, times_at times next)
+    ∷ entries_from files times (firsts_with firsts next e.1) (suc next) text es
+
 -- the first names with these entries
 abbrev pub firsts_from : Firsts → ℕ → Names → Firsts
 firsts_from firsts next [] = firsts
 firsts_from firsts next (e ∷ es) = firsts_from (firsts_with firsts next e.1) (suc next) es
+
+-- ---- the times of entries, as they are asked one after the other
+
+-- those of the entry after those that were met, whose place has this text
+abbrev pub AreKnown : (ℕ → Times → Type 0) → (List ℕ → Times → Type 0) → Firsts → List ℕ → Node → Times → Type 0
+AreKnown OfFile OfDirectory firsts path (Dir owner) times = OfDirectory path times
+AreKnown OfFile OfDirectory firsts path (File number) times =
+    AreOfName (get nat_cmp firsts number) (OfFile number) times
+AreKnown OfFile OfDirectory firsts path (Link target) times = times ≡ no_times
+
+-- those of entries, the first of which has this number, by places that start at the place of this text
+abbrev pub AreKnownFrom : (ℕ → Times → Type 0) → (List ℕ → Times → Type 0) → Firsts → ℕ → List ℕ → Names
+    → List Times → Type 0
+AreKnownFrom OfFile OfDirectory firsts next text [] [] = Unit {0}
+AreKnownFrom OfFile OfDirectory firsts next text [] (t ∷ times) = ⊥
+AreKnownFrom OfFile OfDirectory firsts next text (e ∷ es) [] = ⊥
+AreKnownFrom OfFile OfDirectory firsts next text (e ∷ es) (t ∷ times) =
+    AreKnown OfFile OfDirectory firsts (text ++ text_of e.0) e.1 t
+    × AreKnownFrom OfFile OfDirectory (firsts_with firsts next e.1) (suc next) text es times
+
+-- they are appended
+pub record AddsTimes (OfFile : ℕ → Times → Type 0) (OfDirectory : List ℕ → Times → Type 0) (firsts : Firsts) (next : ℕ)
+    (text : List ℕ) (names : Names) (old new : List Times) : Type 0 where
+  pub more : List Times
+  pub appended : new ≡ old ++ more
+  pub known : AreKnownFrom OfFile OfDirectory firsts next text names more
+  pub numbers : AllByRecursion AreTimes more
 
 -- the lengths of the strings of each entry can be written
 abbrev pub AreWritable : Files → List ℕ → Names → Type 0

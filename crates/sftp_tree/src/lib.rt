@@ -7,6 +7,7 @@ mod attributes;
 mod causes;
 mod ends;
 mod entries;
+mod entry_times;
 mod file_contents;
 pub mod file_examples;
 pub mod file_laws;
@@ -35,6 +36,7 @@ mod walking;
 
 pub use asks::{new_path_of, path_of};
 pub use causes::{Cause, Causes, EVERY_CAUSE, Refused};
+pub use entry_times::{HasTimes, Looks};
 pub use file_numbers::FileNo;
 pub use listings::Item;
 pub use sftp_treefile::{NoMemory, TreeError, TreeLimits, WriteError};

@@ -4,7 +4,8 @@ ghost use Rattle.std.specs.Prelude.{◌≡◌, ◌++◌, ℕ, List, [], length, 
 ghost use Rattle.sftp_treefile.specs.Examples.{blank_bytes, raised_bytes};
 ghost use Rattle.sftp_treefile.specs.TreeFile.{highest_limits};
 ghost use Rattle.sftp_treefile.specs.TreeFileParts.{AreRaised};
-ghost use Rattle.sftp_treefile.specs.TreeFile.{IsSpelled};
+ghost use Rattle.sftp_treefile.specs.declared.times.Times.{Times};
+ghost use Rattle.sftp_treefile.specs.TreeFile.{IsSpelled, AreFileTimes, spelled};
 ghost use Rattle.sftp_treefile.specs.declared.files.TreeFile.{TreeFile};
 ghost use Rattle.sftp_tree.specs.Tree.{Tree, WellFormed, IsKept, fits, limits, raised};
 ghost use Rattle.sftp_tree.specs.Picture.{IsStart, file_of, timed_file_of, picture, blank};
@@ -24,7 +25,8 @@ pub fn pictures_are_starts()
 {}
 
 /// The tree of a tree file by the grammar is a start, and the tree file of a start is one by the grammar: it is the
-/// start's, with times that the tree does not have. Without times it is the tree's picture.
+/// start's, with times that the tree does not have. Without times it is the tree's picture. So is one that is written
+/// with times, where these are a tree file's.
 pub fn starts_have_tree_files()
     ensures start { (file : TreeFile) (bytes : List ℕ) → IsSpelled file bytes → IsStart (tree_of file) bytes }
     ensures file { (t : Tree) (bytes : List ℕ) (start : IsStart t bytes) →
@@ -33,6 +35,8 @@ pub fn starts_have_tree_files()
         bytes ≡ picture t }
     ensures narrow { (t : Tree) (bytes : List ℕ) → bytes ≡ picture t → WellFormed t → IsTrue (fits t) →
         IsSpelled (file_of t) bytes }
+    ensures timed { (t : Tree) (times : List Times) → WellFormed t → IsTrue (fits t) →
+        AreFileTimes (file_of t).rows times → IsSpelled (timed_file_of t times) (spelled (timed_file_of t times)) }
 {}
 
 /// A tree of the program may have the highest limits of the second opening too, or those that it has where they are

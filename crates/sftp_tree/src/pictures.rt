@@ -6,14 +6,18 @@ ghost use Rattle.sftp_treefile.specs.Streamed.{CountsSink};
 ghost use Rattle.sftp_treefile.specs.Streamed.{MayFail};
 ghost use Rattle.sftp_tree.specs.Tree.{Tree as tree};
 ghost use Rattle.sftp_tree.specs.Picture.{IsStart, GivesTree, GivesTreeUnless, picture, blank};
+ghost use Rattle.sftp_tree.specs.Picture.{AppendsTimed, AppendsSome};
 
 mod branches;
 mod measuring;
+mod progress;
 mod reading;
 mod rows;
+mod times;
 mod writing;
 
 use crate::entries::Entries;
+use crate::entry_times::{HasTimes, Looks};
 use crate::files::Files;
 use crate::trees::Tree;
 use reading::tree_of;
@@ -21,7 +25,8 @@ use sftp_path::{NoMemory, Place};
 use sftp_streams::{Sink, Source};
 use sftp_treefile::{Owner, TreeError, WriteError, read_rows, read_rows_from, usual_limits};
 use std::alloc::Global;
-use writing::{picture_of, send_picture};
+use times::entry_times;
+use writing::{picture_of, send_picture, send_plain_picture};
 
 impl Tree {
     /// The blank tree: the root alone, which is the home and has permissions 0o755. The user 0 and the group 0 own it,
@@ -77,6 +82,29 @@ impl Tree {
         Ok(grown)
     }
 
+    /// The same, while something looks at what the tree file says, which has times that the tree does not keep.
+    ///
+    /// # Errors
+    ///
+    /// As `read_from`, and those of what looks.
+    pub fn read_looking_from<R: Source, K: Looks>(
+        alloc: Global,
+        source: R,
+        looker: &mut K,
+    ) -> Result<Tree, TreeError>
+    where
+        R: Drop,
+        ensures found { IfOk result (λ t. (bytes : List ℕ) → R.left source ≡ Some bytes → IsStart t bytes) }
+        ensures only { (bytes : List ℕ) → R.left source ≡ Some bytes → (t : tree) → IsStart t bytes
+            → GivesTreeUnless result t }
+        ensures may_fail { IfErr result (MayFail R.may_fail) }
+    {
+        let file = read_rows_from(alloc, source)?;
+        looker.look(&file)?;
+        let grown = tree_of(alloc, file)?;
+        Ok(grown)
+    }
+
     /// How many entries the tree has below its root.
     pub fn entry_count(&self) -> u32
         ensures { result + 1 ≡ length self.now.names }
@@ -95,7 +123,29 @@ impl Tree {
         ensures err { OnErr result (AppendsPart (L.written sink.old) (L.written sink.new) (picture self.now)) }
         ensures counts { CountsSink result (L.failures sink.old) (L.failures sink.new) }
     {
-        send_picture(sink, self)
+        send_plain_picture(sink, self)
+    }
+
+    /// Writes the tree file of the tree to a sink, with the times that something beside it has. No more of it is held
+    /// than the entry that is written, without the bytes of a file, and the times of all: 8 bytes for each entry.
+    ///
+    /// # Errors
+    ///
+    /// `NoMemory` if memory runs out, and `Failed` if the sink fails. A beginning of a tree file of the tree is written
+    /// then.
+    pub fn write_timed_to<L: Sink, K: HasTimes>(
+        &self,
+        sink: &mut L,
+        keeper: &K,
+    ) -> Result<(), WriteError>
+        ensures ok { OnOk result (AppendsTimed (K.of_file keeper.now) (K.of_directory keeper.now) self.now
+            (L.written sink.old) (L.written sink.new)) }
+        ensures err { OnErr result (AppendsSome self.now (L.written sink.old) (L.written sink.new)) }
+        ensures counts { CountsSink result (L.failures sink.old) (L.failures sink.new) }
+    {
+        let times = entry_times(self, keeper)?;
+        send_picture(sink, self, &times)?;
+        Ok(())
     }
 
     /// The tree file of the tree.

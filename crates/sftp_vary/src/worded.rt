@@ -85,6 +85,11 @@ impl<A: Drop> Worded<A> {
     pub fn new(inner: A, words: Words) -> Worded<A> {
         Worded { inner, words }
     }
+
+    /// The other answerer.
+    pub fn into_inner(self) -> A {
+        self.inner
+    }
 }
 
 impl<T: HandleTable, A: Answerer<T> + Drop> Answerer<T> for Worded<A> {

@@ -7,14 +7,18 @@ use Rattle.sftp_streams.specs.Streams.{AppendsPart}
 use Rattle.sftp_streams.proofs.Buffers.{Appends-then, AppendsPart-first, AppendsPart-then}
 use Rattle.sftp_tree.proofs.Imports.{refl, sym, ap, subst, ◌∙◌, append_assoc, append-nil, arith, flat_map-append}
 use Rattle.sftp_tree.proofs.Imports.{length-append, take-append_seam, flat_map, AllByRecursion, nat_cmp, IsTrue, Name}
-use Rattle.sftp_tree.proofs.Imports.{Place, place_cmp, absolute, InOrder, get, get-empty, Owner, Row, row_text, Child}
+use Rattle.sftp_tree.proofs.Imports.{Place, place_cmp, absolute, InOrder, get, get-empty, Owner, Row, Child, Node, zero}
+use Rattle.sftp_treefile.specs.declared.times.Times.{Times}
+use Rattle.sftp_treefile.specs.TreeFile.{entry_text, times_at, times_of_root, times_of_rows}
+use Rattle.sftp_treefile.specs.TreeFileParts.{paired}
+use Rattle.sftp_tree.specs.PictureParts.{entries_from, timed_entries}
 use Rattle.sftp_tree.proofs.Imports.{Dir, Names, Files, Tree, IsKept, node_at, is_directory, Children, branch, placed}
 use Rattle.sftp_tree.proofs.Imports.{flat, IsBranch, AreBranches, rows_after, only_root, Firsts, firsts_with}
 use Rattle.sftp_tree.proofs.Imports.{known_kind, text_of, rows_from, firsts_from, AreWritable}
 use Rattle.sftp_treefile.specs.declared.files.Kind.{Kind}
 use Rattle.sftp_treefile.specs.declared.files.Kind.TheVariants as kinds
 use Rattle.sftp_tree.specs.declared.entries.directories.Child.TheVariants as children
-use Rattle.sftp_tree.specs.declared.pictures.branches.Progress.{Progress}
+use Rattle.sftp_tree.specs.declared.pictures.progress.Progress.{Progress}
 use Rattle.sftp_tree.proofs.Limits.{stands-of}
 use Rattle.sftp_tree.proofs.PlaceTables.{all_left, all_right}
 use Rattle.sftp_tree.proofs.TreeFiles.Files.{split_tree}
@@ -24,18 +28,24 @@ use Rattle.sftp_tree.proofs.TreeFiles.Files.{AreFirsts, firsts_push, known, path
 
 -- ---- one table after another
 
-pub rows_both : (files : Files) (firsts : Firsts) (next : ℕ) (text : List ℕ) (xs ys : Names)
-    → rows_from files firsts next text (xs ++ ys)
-    ≡ rows_from files firsts next text xs ++ rows_from files (firsts_from firsts next xs) (next + length xs) text ys
-rows_both files firsts next text [] ys =
-    let same : next ≡ next + 0 = omega arith in ap (λ n. rows_from files firsts n text ys) same
-rows_both files firsts next text (e ∷ xs) ys =
-    let row : Row = record { path = text ++ text_of e.0; kind = known_kind files firsts e.1 } in
+-- the entry of this number, with its times
+abbrev entry_here : Files → List Times → Firsts → ℕ → List ℕ → Node → Row × Times
+entry_here files times firsts next path standing =
+    (record { path = path; kind = known_kind files firsts standing }, times_at times next)
+
+pub entries_both : (files : Files) (times : List Times) (firsts : Firsts) (next : ℕ) (text : List ℕ) (xs ys : Names)
+    → entries_from files times firsts next text (xs ++ ys)
+    ≡ entries_from files times firsts next text xs
+    ++ entries_from files times (firsts_from firsts next xs) (next + length xs) text ys
+entries_both files times firsts next text [] ys =
+    let same : next ≡ next + 0 = omega arith in ap (λ n. entries_from files times firsts n text ys) same
+entries_both files times firsts next text (e ∷ xs) ys =
+    let entry : Row × Times = entry_here files times firsts next (text ++ text_of e.0) e.1 in
     let more = firsts_with firsts next e.1 in
-    let front = rows_from files more (suc next) text xs in
+    let front = entries_from files times more (suc next) text xs in
     let count : suc next + length xs ≡ next + length (e ∷ xs) = omega arith in
-    ap (λ (rs : List Row). row ∷ rs) (rows_both files more (suc next) text xs ys
-    ∙ ap (λ n. front ++ rows_from files (firsts_from more (suc next) xs) n text ys) count)
+    ap (λ (es : List (Row × Times)). entry ∷ es) (entries_both files times more (suc next) text xs ys
+    ∙ ap (λ n. front ++ entries_from files times (firsts_from more (suc next) xs) n text ys) count)
 
 pub firsts_both : (firsts : Firsts) (next : ℕ) (xs ys : Names)
     → firsts_from firsts next (xs ++ ys) ≡ firsts_from (firsts_from firsts next xs) (next + length xs) ys
@@ -47,20 +57,22 @@ firsts_both firsts next (e ∷ xs) ys =
 
 -- ---- one name further down
 
-length-placed : (name : Name) (es : Names) → length (placed name es) ≡ length es
+pub length-placed : (name : Name) (es : Names) → length (placed name es) ≡ length es
 length-placed name [] = refl
 length-placed name (e ∷ es) = ap suc (length-placed name es)
 
-further : (text : List ℕ) (name : Name) (place : Place)
+pub further : (text : List ℕ) (name : Name) (place : Place)
     → text ++ text_of (name ∷ place) ≡ (text ++ 47 ∷ name) ++ text_of place
 further text name place = sym (append_assoc text (47 ∷ name) (text_of place))
 
-pub rows_placed : (files : Files) (firsts : Firsts) (next : ℕ) (text : List ℕ) (name : Name) (es : Names)
-    → rows_from files firsts next text (placed name es) ≡ rows_from files firsts next (text ++ 47 ∷ name) es
-rows_placed files firsts next text name [] = refl
-rows_placed files firsts next text name (e ∷ es) =
-    let rest = rows_placed files (firsts_with firsts next e.1) (suc next) text name es in
-    λ i. record { path = further text name e.0 i; kind = known_kind files firsts e.1 } ∷ rest i
+pub entries_placed : (files : Files) (times : List Times) (firsts : Firsts) (next : ℕ) (text : List ℕ) (name : Name)
+    (es : Names)
+    → entries_from files times firsts next text (placed name es)
+    ≡ entries_from files times firsts next (text ++ 47 ∷ name) es
+entries_placed files times firsts next text name [] = refl
+entries_placed files times firsts next text name (e ∷ es) =
+    let rest = entries_placed files times (firsts_with firsts next e.1) (suc next) text name es in
+    λ i. entry_here files times firsts next (further text name e.0 i) e.1 ∷ rest i
 
 pub firsts_placed : (firsts : Firsts) (next : ℕ) (name : Name) (es : Names)
     → firsts_from firsts next (placed name es) ≡ firsts_from firsts next es
@@ -87,33 +99,33 @@ abbrev pub state_of : Progress → Option (List ℕ) → At
 state_of at out = record { text = at.path.items; next = at.next; firsts = at.firsts.entries; out = out }
 
 -- the bytes of these entries, which are written from there on, by places that start at the place of the text
-abbrev pub entries_text : Files → At → Names → List ℕ
-entries_text files at es = flat_map row_text (rows_from files at.firsts at.next at.text es)
+abbrev pub entries_text : Files → List Times → At → Names → List ℕ
+entries_text files times at es = flat_map entry_text (entries_from files times at.firsts at.next at.text es)
 
 -- these entries were written
-pub record IsWritten (files : Files) (es : Names) (before after : At) : Type 0 where
-  pub out : Appends before.out after.out (entries_text files before es)
+pub record IsWritten (files : Files) (times : List Times) (es : Names) (before after : At) : Type 0 where
+  pub out : Appends before.out after.out (entries_text files times before es)
   pub path : after.text ≡ before.text
   pub next : after.next ≡ before.next + length es
   pub firsts : after.firsts ≡ firsts_from before.firsts before.next es
 
 -- of a whole, these entries are left
-pub record IsLeft (files : Files) (whole : Names) (start at : At) (rest : Names) : Type 0 where
+pub record IsLeft (files : Files) (times : List Times) (whole : Names) (start at : At) (rest : Names) : Type 0 where
   pub done : List ℕ
   pub out : Appends start.out at.out done
-  pub bytes : entries_text files start whole ≡ done ++ entries_text files at rest
+  pub bytes : entries_text files times start whole ≡ done ++ entries_text files times at rest
   pub path : at.text ≡ start.text
   pub next : at.next + length rest ≡ start.next + length whole
   pub firsts : firsts_from at.firsts at.next rest ≡ firsts_from start.firsts start.next whole
   pub writable : AreWritable files at.text rest
 
 -- at first all are left
-pub none_written : (files : Files) (whole : Names) (at : At) (rest : Names) → rest ≡ whole
-    → AreWritable files at.text whole → IsLeft files whole at at rest
-none_written files whole at rest all fit = record {
+pub none_written : (files : Files) (times : List Times) (whole : Names) (at : At) (rest : Names) → rest ≡ whole
+    → AreWritable files at.text whole → IsLeft files times whole at at rest
+none_written files times whole at rest all fit = record {
   done = [];
   out = Appends-nil at.out;
-  bytes = ap (entries_text files at) (sym all);
+  bytes = ap (entries_text files times at) (sym all);
   path = refl;
   next = ap (λ (ns : Names). at.next + length ns) all;
   firsts = ap (firsts_from at.firsts at.next) all;
@@ -121,37 +133,37 @@ none_written files whole at rest all fit = record {
 }
 
 -- one name further down the same is written
-written_placed : (files : Files) (es : Names) (name : Name) (at inside after : At)
-    → inside ≡ record at { text = at.text ++ 47 ∷ name } → IsWritten files es inside after
-    → IsWritten files (placed name es) at (record after { text = take (length at.text) after.text })
-written_placed files es name at inside after entered written =
-    let w = subst (λ (s : At). IsWritten files es s after) entered written in
-    let rows = sym (rows_placed files at.firsts at.next at.text name es) in
+written_placed : (files : Files) (times : List Times) (es : Names) (name : Name) (at inside after : At)
+    → inside ≡ record at { text = at.text ++ 47 ∷ name } → IsWritten files times es inside after
+    → IsWritten files times (placed name es) at (record after { text = take (length at.text) after.text })
+written_placed files times es name at inside after entered written =
+    let w = subst (λ (s : At). IsWritten files times es s after) entered written in
+    let rows = sym (entries_placed files times at.firsts at.next at.text name es) in
     record {
-      out = subst (Appends at.out after.out) (ap (flat_map row_text) rows) w.out;
+      out = subst (Appends at.out after.out) (ap (flat_map entry_text) rows) w.out;
       path = ap (take (length at.text)) w.path ∙ take-append_seam at.text (47 ∷ name);
       next = omega (arith, w.next, length-placed name es);
       firsts = w.firsts ∙ sym (firsts_placed at.firsts at.next name es);
     }
 
 -- and of what is left the first entries
-left_both : (files : Files) (whole : Names) (start at after : At) (es rest : Names)
-    → IsLeft files whole start at (es ++ rest) → IsWritten files es at after → IsLeft files whole start after rest
-left_both files whole start at after es rest left w =
+left_both : (files : Files) (times : List Times) (whole : Names) (start at after : At) (es rest : Names)
+    → IsLeft files times whole start at (es ++ rest) → IsWritten files times es at after → IsLeft files times whole start after rest
+left_both files times whole start at after es rest left w =
     let firsts = firsts_from at.firsts at.next es in
     let next = at.next + length es in
-    let here = rows_from files at.firsts at.next at.text es in
-    let behind = rows_from files firsts next at.text rest in
-    let bytes : flat_map row_text (rows_from files at.firsts at.next at.text (es ++ rest))
-    ≡ flat_map row_text here ++ flat_map row_text behind =
-    ap (flat_map row_text) (rows_both files at.firsts at.next at.text es rest) ∙ flat_map-append row_text here behind in
+    let here = entries_from files times at.firsts at.next at.text es in
+    let behind = entries_from files times firsts next at.text rest in
+    let bytes : flat_map entry_text (entries_from files times at.firsts at.next at.text (es ++ rest))
+    ≡ flat_map entry_text here ++ flat_map entry_text behind =
+    ap (flat_map entry_text) (entries_both files times at.firsts at.next at.text es rest) ∙ flat_map-append entry_text here behind in
     record {
-      done = left.done ++ flat_map row_text here;
-      out = Appends-then start.out at.out after.out left.done (flat_map row_text here) left.out w.out;
+      done = left.done ++ flat_map entry_text here;
+      out = Appends-then start.out at.out after.out left.done (flat_map entry_text here) left.out w.out;
       bytes = left.bytes ∙ ap (λ (bs : List ℕ). left.done ++ bs) bytes
-          ∙ sym (append_assoc left.done (flat_map row_text here) (flat_map row_text behind))
-          ∙ (λ i. (left.done ++ flat_map row_text here) ++ flat_map row_text
-          (rows_from files (sym w.firsts i) (sym w.next i) (sym w.path i) rest));
+          ∙ sym (append_assoc left.done (flat_map entry_text here) (flat_map entry_text behind))
+          ∙ (λ i. (left.done ++ flat_map entry_text here) ++ flat_map entry_text
+          (entries_from files times (sym w.firsts i) (sym w.next i) (sym w.path i) rest));
       path = w.path ∙ left.path;
       next = omega (arith, w.next, left.next, length-append es rest);
       firsts = (λ i. firsts_from (w.firsts i) (w.next i) rest) ∙ sym (firsts_both at.firsts at.next es rest)
@@ -160,37 +172,37 @@ left_both files whole start at after es rest left w =
     }
 
 -- the next child is written, at the text that its name makes, which is then cut back
-pub child_step : (files : Files) (whole : Names) (start at inside after : At) (name : Name) (es rest : Names)
+pub child_step : (files : Files) (times : List Times) (whole : Names) (start at inside after : At) (name : Name) (es rest : Names)
     (end : ℕ) (cut : List ℕ)
-    → IsLeft files whole start at (placed name es ++ rest) → inside ≡ record at { text = at.text ++ 47 ∷ name }
-    → IsWritten files es inside after → end ≡ length at.text → cut ≡ take end after.text
-    → IsLeft files whole start (record after { text = cut }) rest × (end ≡ length cut)
-child_step files whole start at inside after name es rest end cut left entered written end-is cut-is =
+    → IsLeft files times whole start at (placed name es ++ rest) → inside ≡ record at { text = at.text ++ 47 ∷ name }
+    → IsWritten files times es inside after → end ≡ length at.text → cut ≡ take end after.text
+    → IsLeft files times whole start (record after { text = cut }) rest × (end ≡ length cut)
+child_step files times whole start at inside after name es rest end cut left entered written end-is cut-is =
     let back : take (length at.text) after.text ≡ cut = ap (λ n. take n after.text) (sym end-is) ∙ sym cut-is in
     let trimmed : At = record after { text = take (length at.text) after.text } in
-    let l = left_both files whole start at trimmed (placed name es) rest left
-    (written_placed files es name at inside after entered written) in (
-      subst (λ (t : List ℕ). IsLeft files whole start (record after { text = t }) rest) back l,
+    let l = left_both files times whole start at trimmed (placed name es) rest left
+    (written_placed files times es name at inside after entered written) in (
+      subst (λ (t : List ℕ). IsLeft files times whole start (record after { text = t }) rest) back l,
       end-is ∙ ap length (left.path ∙ sym l.path ∙ back),
     )
 
 -- it can be written, and its entries have numbers
-pub child_writable : (files : Files) (whole : Names) (start at : At) (name : Name) (es rest : Names) (text : List ℕ)
-    → IsLeft files whole start at (placed name es ++ rest) → text ≡ at.text ++ 47 ∷ name → AreWritable files text es
-child_writable files whole start at name es rest text left entered =
+pub child_writable : (files : Files) (times : List Times) (whole : Names) (start at : At) (name : Name) (es rest : Names) (text : List ℕ)
+    → IsLeft files times whole start at (placed name es ++ rest) → text ≡ at.text ++ 47 ∷ name → AreWritable files text es
+child_writable files times whole start at name es rest text left entered =
     subst (λ (t : List ℕ). AreWritable files t es) (sym entered)
     (writable_placed files at.text name es (all_left _ (placed name es) rest left.writable))
 
-pub child_few : (files : Files) (whole : Names) (start at : At) (name : Name) (es rest : Names)
-    → IsLeft files whole start at (placed name es ++ rest) → start.next + length whole < 2 ^ 32
+pub child_few : (files : Files) (times : List Times) (whole : Names) (start at : At) (name : Name) (es rest : Names)
+    → IsLeft files times whole start at (placed name es ++ rest) → start.next + length whole < 2 ^ 32
     → at.next + length es < 2 ^ 32
-child_few files whole start at name es rest left few =
+child_few files times whole start at name es rest left few =
     omega (arith, few, left.next, length-append (placed name es) rest, length-placed name es)
 
 -- ---- the rows of a tree
 
 -- an absolute text is the text of its names
-text_absolute : (place : Place) → 0 < length place → text_of place ≡ absolute place
+pub text_absolute : (place : Place) → 0 < length place → text_of place ≡ absolute place
 text_absolute [] below = absurd (omega arith)
 text_absolute (n ∷ ns) below = refl
 
@@ -226,14 +238,54 @@ tree_few t kept =
     omega (arith, ap length (ap (drop 1) s.names_are), ap length s.names_are, (names_count t kept).1)
 
 -- and they are written after the root, which has none
-pub tree_written : (t : Tree) → IsKept t → (firsts : Firsts) → firsts ≡ []
+tree_rows : (t : Tree) → IsKept t → (firsts : Firsts) → firsts ≡ []
     → rows_from t.files firsts 1 [] (drop 1 t.names) ≡ rows_after t.files [] t.names
-tree_written t kept firsts none =
+tree_rows t kept firsts none =
     let s = split_tree t (stands-of t kept) in
     let are : AreFirsts firsts (only_root s.root) =
     λ number. ap (λ (f : Firsts). get nat_cmp f number) none ∙ get-empty nat_cmp number in
     ap (rows_from t.files firsts 1 []) (ap (drop 1) s.names_are)
     ∙ rows_are t.files firsts (only_root s.root) s.entries are s.below ∙ ap (rows_after t.files []) (sym s.names_are)
+
+-- each with the times of its number
+
+drop_more : (times : List Times) (n : ℕ) → times_of_rows (drop n times) ≡ drop (suc n) times
+drop_more [] zero = refl
+drop_more [] (suc n) = refl
+drop_more (t ∷ times) zero = refl
+drop_more (t ∷ times) (suc n) = drop_more times n
+
+drop_here : (times : List Times) (n : ℕ) → times_of_root (drop n times) ≡ times_at times n
+drop_here [] zero = refl
+drop_here [] (suc n) = refl
+drop_here (t ∷ times) zero = refl
+drop_here (t ∷ times) (suc n) = drop_here times n
+
+paired_first : (row : Row) (rows : List Row) (times : List Times)
+    → paired (row ∷ rows) times ≡ (row, times_of_root times) ∷ paired rows (times_of_rows times)
+paired_first row rows [] = refl
+paired_first row rows (t ∷ times) = refl
+
+pairs_from : (files : Files) (times : List Times) (firsts : Firsts) (next : ℕ) (text : List ℕ) (es : Names)
+    → entries_from files times firsts next text es ≡ paired (rows_from files firsts next text es) (drop next times)
+pairs_from files times firsts next text [] = refl
+pairs_from files times firsts next text (e ∷ es) =
+    let row : Row = record { path = text ++ text_of e.0; kind = known_kind files firsts e.1 } in
+    let more = firsts_with firsts next e.1 in
+    let rows = rows_from files more (suc next) text es in
+    let rest = pairs_from files times more (suc next) text es
+    ∙ ap (paired rows) (sym (drop_more times next)) in
+    (λ i. (row, sym (drop_here times next) i) ∷ rest i) ∙ sym (paired_first row rows (drop next times))
+
+first_dropped : (times : List Times) → drop 1 times ≡ times_of_rows times
+first_dropped [] = refl
+first_dropped (t ∷ times) = refl
+
+pub tree_written : (t : Tree) → IsKept t → (times : List Times) (firsts : Firsts) → firsts ≡ []
+    → entries_from t.files times firsts 1 [] (drop 1 t.names) ≡ timed_entries t times
+tree_written t kept times firsts none =
+    pairs_from t.files times firsts 1 [] (drop 1 t.names)
+    ∙ (λ i. paired (tree_rows t kept firsts none i) (first_dropped times i))
 
 -- ---- a directory, and then what is below it
 
@@ -262,31 +314,31 @@ pub own_count : (names : Names) (owner : Owner) → InOrder place_cmp names → 
     → length names ≡ length (drop 1 names) + 1
 own_count names owner sorted there = omega (arith, ap length (own_entry names owner sorted there))
 
-dir_text : (files : Files) (names : Names) (owner : Owner) (at : At) → InOrder place_cmp names
+dir_text : (files : Files) (times : List Times) (names : Names) (owner : Owner) (at : At) → InOrder place_cmp names
     → node_at names [] ≡ Some (Dir owner)
-    → row_text (record { path = at.text; kind = kinds.Dir owner })
-    ++ entries_text files (record at { next = at.next + 1 }) (drop 1 names) ≡ entries_text files at names
-dir_text files names owner at sorted there =
+    → entry_text (record { path = at.text; kind = kinds.Dir owner }, times_at times at.next)
+    ++ entries_text files times (record at { next = at.next + 1 }) (drop 1 names) ≡ entries_text files times at names
+dir_text files times names owner at sorted there =
     let rest = drop 1 names in
     let count : at.next + 1 ≡ suc at.next = omega arith in
-    (λ i. row_text (record { path = sym (append-nil at.text) i; kind = kinds.Dir owner })
-    ++ flat_map row_text (rows_from files at.firsts (count i) at.text rest))
-    ∙ ap (λ (ns : Names). flat_map row_text (rows_from files at.firsts at.next at.text ns))
+    (λ i. entry_text (record { path = sym (append-nil at.text) i; kind = kinds.Dir owner }, times_at times at.next)
+    ++ flat_map entry_text (entries_from files times at.firsts (count i) at.text rest))
+    ∙ ap (λ (ns : Names). flat_map entry_text (entries_from files times at.firsts at.next at.text ns))
     (sym (own_entry names owner sorted there))
 
-pub dir_written : (files : Files) (names : Names) (owner : Owner) (at after : At) (own-out : Option (List ℕ))
+pub dir_written : (files : Files) (times : List Times) (names : Names) (owner : Owner) (at after : At) (own-out : Option (List ℕ))
     → InOrder place_cmp names → node_at names [] ≡ Some (Dir owner)
-    → Appends at.out own-out (row_text (record { path = at.text; kind = kinds.Dir owner }))
-    → IsWritten files (drop 1 names) (record at { next = at.next + 1; out = own-out }) after
-    → IsWritten files names at after
-dir_written files names owner at after own-out sorted there own below =
+    → Appends at.out own-out (entry_text (record { path = at.text; kind = kinds.Dir owner }, times_at times at.next))
+    → IsWritten files times (drop 1 names) (record at { next = at.next + 1; out = own-out }) after
+    → IsWritten files times names at after
+dir_written files times names owner at after own-out sorted there own below =
     let whole = own_entry names owner sorted there in
     let rest = drop 1 names in
     let count : at.next + 1 ≡ suc at.next = omega arith in
-    let row = row_text (record { path = at.text; kind = kinds.Dir owner }) in
-    let bytes = entries_text files (record at { next = at.next + 1 }) rest in
+    let row = entry_text (record { path = at.text; kind = kinds.Dir owner }, times_at times at.next) in
+    let bytes = entries_text files times (record at { next = at.next + 1 }) rest in
     record {
-      out = subst (Appends at.out after.out) (dir_text files names owner at sorted there)
+      out = subst (Appends at.out after.out) (dir_text files times names owner at sorted there)
           (Appends-then at.out own-out after.out row bytes own below.out);
       path = below.path;
       next = omega (arith, below.next, own_count names owner sorted there);
@@ -295,75 +347,75 @@ dir_written files names owner at after own-out sorted there own below =
     }
 
 -- the writing failed in its own entry, or below it
-pub dir_unwritten : (files : Files) (names : Names) (owner : Owner) (at : At) (out : Option (List ℕ))
+pub dir_unwritten : (files : Files) (times : List Times) (names : Names) (owner : Owner) (at : At) (out : Option (List ℕ))
     → InOrder place_cmp names → node_at names [] ≡ Some (Dir owner)
-    → AppendsPart at.out out (row_text (record { path = at.text; kind = kinds.Dir owner }))
-    → AppendsPart at.out out (entries_text files at names)
-dir_unwritten files names owner at out sorted there part =
-    let row = row_text (record { path = at.text; kind = kinds.Dir owner }) in
-    let bytes = entries_text files (record at { next = at.next + 1 }) (drop 1 names) in
-    subst (AppendsPart at.out out) (dir_text files names owner at sorted there)
+    → AppendsPart at.out out (entry_text (record { path = at.text; kind = kinds.Dir owner }, times_at times at.next))
+    → AppendsPart at.out out (entries_text files times at names)
+dir_unwritten files times names owner at out sorted there part =
+    let row = entry_text (record { path = at.text; kind = kinds.Dir owner }, times_at times at.next) in
+    let bytes = entries_text files times (record at { next = at.next + 1 }) (drop 1 names) in
+    subst (AppendsPart at.out out) (dir_text files times names owner at sorted there)
     (AppendsPart-first at.out out row bytes part)
 
-pub below_unwritten : (files : Files) (names : Names) (owner : Owner) (at : At) (own-out out : Option (List ℕ))
+pub below_unwritten : (files : Files) (times : List Times) (names : Names) (owner : Owner) (at : At) (own-out out : Option (List ℕ))
     → InOrder place_cmp names → node_at names [] ≡ Some (Dir owner)
-    → Appends at.out own-out (row_text (record { path = at.text; kind = kinds.Dir owner }))
-    → AppendsPart own-out out (entries_text files (record at { next = at.next + 1 }) (drop 1 names))
-    → AppendsPart at.out out (entries_text files at names)
-below_unwritten files names owner at own-out out sorted there own part =
-    let row = row_text (record { path = at.text; kind = kinds.Dir owner }) in
-    let bytes = entries_text files (record at { next = at.next + 1 }) (drop 1 names) in
-    subst (AppendsPart at.out out) (dir_text files names owner at sorted there)
+    → Appends at.out own-out (entry_text (record { path = at.text; kind = kinds.Dir owner }, times_at times at.next))
+    → AppendsPart own-out out (entries_text files times (record at { next = at.next + 1 }) (drop 1 names))
+    → AppendsPart at.out out (entries_text files times at names)
+below_unwritten files times names owner at own-out out sorted there own part =
+    let row = entry_text (record { path = at.text; kind = kinds.Dir owner }, times_at times at.next) in
+    let bytes = entries_text files times (record at { next = at.next + 1 }) (drop 1 names) in
+    subst (AppendsPart at.out out) (dir_text files times names owner at sorted there)
     (AppendsPart-then at.out own-out out row bytes own part)
 
 -- ---- an entry alone
 
-row_alone : (path : List ℕ) (kind : Kind) → row_text (record { path = path; kind = kind })
-    ≡ flat_map row_text (record { path = path ++ []; kind = kind } ∷ [])
-row_alone path kind =
-    ap (λ (p : List ℕ). row_text (record { path = p; kind = kind })) (sym (append-nil path))
-    ∙ sym (append-nil (row_text (record { path = path ++ []; kind = kind })))
+entry_alone : (path : List ℕ) (kind : Kind) (time : Times) → entry_text (record { path = path; kind = kind }, time)
+    ≡ flat_map entry_text ((record { path = path ++ []; kind = kind }, time) ∷ [])
+entry_alone path kind time =
+    ap (λ (p : List ℕ). entry_text (record { path = p; kind = kind }, time)) (sym (append-nil path))
+    ∙ sym (append-nil (entry_text (record { path = path ++ []; kind = kind }, time)))
 
-pub alone_written : (old new : Option (List ℕ)) (path : List ℕ) (kind : Kind)
-    → Appends old new (row_text (record { path = path; kind = kind }))
-    → Appends old new (flat_map row_text (record { path = path ++ []; kind = kind } ∷ []))
-alone_written old new path kind done = subst (Appends old new) (row_alone path kind) done
+pub alone_written : (old new : Option (List ℕ)) (path : List ℕ) (kind : Kind) (time : Times)
+    → Appends old new (entry_text (record { path = path; kind = kind }, time))
+    → Appends old new (flat_map entry_text ((record { path = path ++ []; kind = kind }, time) ∷ []))
+alone_written old new path kind time done = subst (Appends old new) (entry_alone path kind time) done
 
-pub alone_unwritten : (old new : Option (List ℕ)) (path : List ℕ) (kind : Kind)
-    → AppendsPart old new (row_text (record { path = path; kind = kind }))
-    → AppendsPart old new (flat_map row_text (record { path = path ++ []; kind = kind } ∷ []))
-alone_unwritten old new path kind part = subst (AppendsPart old new) (row_alone path kind) part
+pub alone_unwritten : (old new : Option (List ℕ)) (path : List ℕ) (kind : Kind) (time : Times)
+    → AppendsPart old new (entry_text (record { path = path; kind = kind }, time))
+    → AppendsPart old new (flat_map entry_text ((record { path = path ++ []; kind = kind }, time) ∷ []))
+alone_unwritten old new path kind time part = subst (AppendsPart old new) (entry_alone path kind time) part
 
 -- ---- a failure among children
 
 -- before a child
-pub left_unwritten : (files : Files) (whole : Names) (start at : At) (rest : Names)
-    → IsLeft files whole start at rest → AppendsPart start.out at.out (entries_text files start whole)
-left_unwritten files whole start at rest left = record {
+pub left_unwritten : (files : Files) (times : List Times) (whole : Names) (start at : At) (rest : Names)
+    → IsLeft files times whole start at rest → AppendsPart start.out at.out (entries_text files times start whole)
+left_unwritten files times whole start at rest left = record {
   part = left.done;
-  rest = entries_text files at rest;
+  rest = entries_text files times at rest;
   parts = left.bytes;
   appended = left.out;
 }
 
 -- in a child, at the text that its name makes
-pub child_unwritten : (files : Files) (whole : Names) (start at inside : At) (out : Option (List ℕ)) (name : Name)
-    (es rest : Names) → IsLeft files whole start at (placed name es ++ rest)
-    → inside ≡ record at { text = at.text ++ 47 ∷ name } → AppendsPart at.out out (entries_text files inside es)
-    → AppendsPart start.out out (entries_text files start whole)
-child_unwritten files whole start at inside out name es rest left entered part =
-    let here = rows_from files at.firsts at.next at.text (placed name es) in
+pub child_unwritten : (files : Files) (times : List Times) (whole : Names) (start at inside : At) (out : Option (List ℕ)) (name : Name)
+    (es rest : Names) → IsLeft files times whole start at (placed name es ++ rest)
+    → inside ≡ record at { text = at.text ++ 47 ∷ name } → AppendsPart at.out out (entries_text files times inside es)
+    → AppendsPart start.out out (entries_text files times start whole)
+child_unwritten files times whole start at inside out name es rest left entered part =
+    let here = entries_from files times at.firsts at.next at.text (placed name es) in
     let behind =
-    rows_from files (firsts_from at.firsts at.next (placed name es)) (at.next + length (placed name es)) at.text rest in
-    let text : entries_text files inside es ≡ flat_map row_text here =
-    ap (λ (s : At). entries_text files s es) entered
-    ∙ ap (flat_map row_text) (sym (rows_placed files at.firsts at.next at.text name es)) in
-    let bytes : flat_map row_text here ++ flat_map row_text behind ≡ entries_text files at (placed name es ++ rest) =
-    sym (flat_map-append row_text here behind)
-    ∙ ap (flat_map row_text) (sym (rows_both files at.firsts at.next at.text (placed name es) rest)) in
+    entries_from files times (firsts_from at.firsts at.next (placed name es)) (at.next + length (placed name es)) at.text rest in
+    let text : entries_text files times inside es ≡ flat_map entry_text here =
+    ap (λ (s : At). entries_text files times s es) entered
+    ∙ ap (flat_map entry_text) (sym (entries_placed files times at.firsts at.next at.text name es)) in
+    let bytes : flat_map entry_text here ++ flat_map entry_text behind ≡ entries_text files times at (placed name es ++ rest) =
+    sym (flat_map-append entry_text here behind)
+    ∙ ap (flat_map entry_text) (sym (entries_both files times at.firsts at.next at.text (placed name es) rest)) in
     subst (AppendsPart start.out out) (ap (λ (bs : List ℕ). left.done ++ bs) bytes ∙ sym left.bytes)
-    (AppendsPart-then start.out at.out out left.done (flat_map row_text here ++ flat_map row_text behind) left.out
-    (AppendsPart-first at.out out (flat_map row_text here) (flat_map row_text behind)
+    (AppendsPart-then start.out at.out out left.done (flat_map entry_text here ++ flat_map entry_text behind) left.out
+    (AppendsPart-first at.out out (flat_map entry_text here) (flat_map entry_text behind)
     (subst (AppendsPart at.out out) text part)))
 
 -- a child has an entry of its own, and so fewer than its directory

@@ -12,8 +12,8 @@ use Rattle.sftp_tree.proofs.Imports.{links_fit, link_fits, files_fit, content_fi
 use Rattle.sftp_tree.proofs.Imports.{is_numbered, file_of, picture, IsStart, blank, content_of, contents_of, node_of}
 use Rattle.sftp_tree.proofs.Imports.{only_root, names_of, numbered_from, tree_of, suc, ◌==◌, Bool, true, false}
 use Rattle.sftp_tree.proofs.Imports.{if◌then◌else◌, Option, None, IfSome, flat_map, nat_cmp, is_eq, nat_cmp_total}
-use Rattle.sftp_tree.proofs.Imports.{eqb-true, eq-eqb, absolute, get, get-put, row_text, head_bytes, path_length}
-use Rattle.sftp_tree.proofs.Imports.{target_length, spelled_plain, entry_naming, naming, kind_of}
+use Rattle.sftp_tree.proofs.Imports.{eqb-true, eq-eqb, absolute, get, get-put, head_bytes, path_length}
+use Rattle.sftp_tree.proofs.Imports.{target_length, entry_naming, naming, kind_of}
 use Rattle.sftp_tree.proofs.Imports.{Firsts, firsts_with, known_kind}
 use Rattle.sftp_treefile.specs.declared.files.Kind.TheVariants as kinds
 use Rattle.sftp_tree.specs.PictureParts.{entry_of, entries_after, head_of, with_first, IsShort}
@@ -33,7 +33,10 @@ use Rattle.sftp_tree.proofs.Limits.{Stands, fits-parts, fits-from, stands-of}
 use Rattle.std.specs.Option.{option_map}
 use Rattle.sftp_tree.proofs.Imports.{not, nat_cmp-IsAntisymmetric, Equal-is, lookup, is_at, usual_limits, raised_are}
 use Rattle.sftp_treefile.specs.declared.times.Times.{Times}
-use Rattle.sftp_treefile.specs.TreeFile.{contents_length, content_length, AreFileTimes, no_times, opening_with}
+use Rattle.sftp_treefile.specs.TreeFile.{contents_length, content_length, AreFileTimes, opening_with, entry_text}
+use Rattle.sftp_treefile.specs.TreeFile.{any_times, times_of_root}
+use Rattle.sftp_treefile.proofs.Texts.Files.{spelled_parts, entries_of}
+use Rattle.sftp_tree.specs.PictureParts.{timed_entries}
 use Rattle.sftp_tree.specs.Tree.{total_of}
 use Rattle.sftp_tree.specs.Changes.{length_of}
 use Rattle.sftp_tree.specs.Picture.{timed_file_of}
@@ -525,11 +528,17 @@ names_count t kept =
 pub home_short : (t : Tree) → IsKept t → length (absolute t.home) < 2 ^ 32
 home_short t kept = path_short t.home (kept.well_formed.home, (limits_from t kept.within_limits).home)
 
-pub picture_written : (t : Tree) → IsKept t → picture t ≡ head_bytes (head_of t) ++ flat_map row_text (rows_after t.files [] t.names)
-unfolding picture
-picture_written t kept =
+pub picture_written : (t : Tree) → IsKept t → (times : List Times)
+    → spelled (timed_file_of t times) ≡ head_bytes (head_of t times) ++ flat_map entry_text (timed_entries t times)
+unfolding entries_of
+picture_written t kept times =
     let s = split_tree t (stands-of t kept) in
     let count : length (rows_after t.files [] t.names) ≡ length t.names - 1 =
     omega (arith, ap length (ap (rows_after t.files []) s.names_are), length-rows t.files (only_root s.root) s.entries s.below, ap length s.names_are) in
-    spelled_plain (file_of t) refl
-    ∙ ap (λ n. head_bytes (record { opening = opening_with false t.limits; limits = t.limits; home = absolute t.home; uid = t.uid; gid = t.gid; count = n; root = root_owner (node_at t.names []); root_times = no_times }) ++ flat_map row_text (rows_after t.files [] t.names)) count
+    spelled_parts (timed_file_of t times)
+    ∙ ap (λ n. head_bytes (record { opening = opening_with (any_times times) t.limits; limits = t.limits; home = absolute t.home; uid = t.uid; gid = t.gid; count = n; root = root_owner (node_at t.names []); root_times = times_of_root times }) ++ flat_map entry_text (timed_entries t times)) count
+
+-- a file that has times says so at once
+pub some_times : (rows : List Row) (times : List Times) → AreFileTimes rows times → any_times times ≡ not (length times == 0)
+some_times rows [] are = refl
+some_times rows (t ∷ times) are = are.2

@@ -1,5 +1,6 @@
 use Rattle.sftp_tree.proofs.Imports.{subst, sym, refl, picture, file_of, IsSpelled}
 use Rattle.sftp_tree.proofs.TreeFiles.Files.{start_of_spelled, spelled_of_start, plain_of_start, file_of_tree}
+use Rattle.sftp_tree.proofs.TreeFiles.Files.{timed_file_of_tree}
 use Rattle.sftp_tree.proofs.picture_laws.starts_have_tree_files.Goals as goal
 
 pub returns-clause-start : goal.returns-clause-start
@@ -15,3 +16,9 @@ pub returns-clause-narrow : goal.returns-clause-narrow
 unfolding picture
 returns-clause-narrow c = λ t bytes is well within.
     record { may_be = file_of_tree t (record { well_formed = well; within_limits = within }); bytes_are = is }
+
+pub returns-clause-timed : goal.returns-clause-timed
+returns-clause-timed c = λ t times well within are. record {
+  may_be = timed_file_of_tree t (record { well_formed = well; within_limits = within }) times are;
+  bytes_are = refl;
+}

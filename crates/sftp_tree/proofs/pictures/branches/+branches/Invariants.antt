@@ -11,7 +11,7 @@ decreases-send_child g l = 2 * length (branch l.child.now) + 1
 
 abbrev pub invariant-send_below-loop-name : goal.invariant-send_below-loop-name
 invariant-send_below-loop-name g l = record {
-  left : IsLeft l.tree.files (drop 1 l.dir) (state_of l.initial.at (g.L.Sink.written l.initial.sink))
+  left : IsLeft l.tree.files l.times (drop 1 l.dir) (state_of l.initial.at (g.L.Sink.written l.initial.sink))
       (state_of l.at (g.L.Sink.written l.sink)) (flat l.name-iterator);
   none_failed : g.L.Sink.failures l.sink ≡ g.L.Sink.failures l.initial.sink;
   end : l.end ≡ length l.at.path.items;

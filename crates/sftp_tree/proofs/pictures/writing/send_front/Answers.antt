@@ -4,11 +4,14 @@ use Rattle.std.specs.Io.KnownBytes.{Appends}
 use Rattle.sftp_streams.proofs.Buffers.{on_err}
 use Rattle.sftp_treefile.proofs.Texts.Front.{AppendsPart-none}
 use Rattle.sftp_tree.specs.PictureParts.{head_of}
-use Rattle.sftp_tree.proofs.TreeFiles.Files.{names_count, home_short}
-use Rattle.sftp_tree.proofs.Imports.{false, sym}
+use Rattle.sftp_tree.proofs.TreeFiles.Files.{names_count, home_short, some_times}
+use Rattle.sftp_tree.proofs.Imports.{◌≡◌, ◌==◌, not, sym, List, file_of}
+use Rattle.sftp_treefile.specs.declared.times.Times.{Times}
+use Rattle.sftp_treefile.proofs.Texts.Front.{root_at}
 use Rattle.sftp_treefile.proofs.Texts.Files.{raised_short}
-use Rattle.sftp_treefile.specs.TreeFile.{AreLimits, opening_with, no_times}
+use Rattle.sftp_treefile.specs.TreeFile.{AreLimits, opening_with, any_times}
 use Rattle.sftp_tree.proofs.pictures.writing.send_front.Goals as goal
+use Rattle.sftp_tree.proofs.pictures.writing.send_front.Goals.{After-opening}
 
 pub overflow_sub-head : goal.overflow_sub-head
 overflow_sub-head g c = omega (arith, c.len.ensures, ap length c.names-2.ensures.names, (names_count c.args.tree.now c.names-2.ensures.kept).0)
@@ -17,7 +20,7 @@ pub overflow_cast-head : goal.overflow_cast-head
 overflow_cast-head g c = omega (arith, c.len.ensures, ap length c.names-2.ensures.names, (names_count c.args.tree.now c.names-2.ensures.kept).1)
 
 pub send_head-requires-clause-limits : goal.send_head-requires-clause-limits
-send_head-requires-clause-limits g c = λ is. raised_short false c.tree_limits-limits.result
+send_head-requires-clause-limits g c = λ is. raised_short (not c.is_empty.result) c.tree_limits-limits.result
     (subst AreLimits (sym c.tree_limits-limits.ensures.limits) c.tree_limits-limits.ensures.kept.well_formed.limits)
     (sym c.opening.ensures ∙ is)
 
@@ -29,13 +32,20 @@ send_head-requires-clause-home g c =
 pub returns-in_err-home-clause-err : goal.returns-in_err-home-clause-err
 returns-in_err-home-clause-err g c =
     on_err c.from_residual.result
-    (AppendsPart-none (g.L.Sink.written c.args.sink.now) (head_bytes (head_of c.args.tree.now)))
+    (AppendsPart-none (g.L.Sink.written c.args.sink.now) (head_bytes (head_of c.args.tree.now c.args.times.now)))
+
+has_some : (g : _) (c : After-opening g) → not c.is_empty.result ≡ any_times c.args.times.now
+has_some g c =
+    ap not (c.is_empty.ensures ∙ ap (λ (ts : List Times). length ts == 0) c.as_slice.ensures)
+    ∙ sym (some_times (file_of c.args.tree.now).rows c.args.times.now c.requires)
 
 pub returns-clause-ok : goal.returns-clause-ok
 returns-clause-ok g c =
     let home = c.new.ensures ∙ c.in_ok-home.ensures ∙ ap absolute (c.names.ensures.names ∙ c.home-2.ensures.home) in
     let count = ap (λ n. n - 1) (c.len.ensures ∙ ap length c.names-2.ensures.names) in
-    let opening = c.opening.ensures ∙ ap (opening_with false) c.tree_limits-limits.ensures.limits in
+    let times = c.args.times.now in
+    let opening = c.opening.ensures ∙ (λ i. opening_with (has_some g c i) (c.tree_limits-limits.ensures.limits i)) in
+    let root_times = c.get.ensures ∙ root_at times in
     let root = c.root_owner.ensures ∙ ap (λ (names : Names). root_owner (node_at names [])) c.names-3.ensures.names in
     subst (Appends (g.L.Sink.written c.args.sink.now) (g.L.Sink.written c.send_head.new.sink))
     (λ i. head_bytes (record {
@@ -46,5 +56,5 @@ returns-clause-ok g c =
       gid = c.gid.ensures i;
       count = count i;
       root = root i;
-      root_times = no_times;
+      root_times = root_times i;
     })) c.in_ok-send_head.ensures.ok

@@ -1,0 +1,76 @@
+//! The times of tree files of the third kind: a table has those of the start's, and says those of the end's.
+ghost use Rattle.std.specs.Prelude.{⊤};
+
+use crate::tables::TimeTable;
+use crate::times::Times;
+use sftp_tree::{FileNo, HasTimes, Looks, NoMemory};
+use sftp_treefile::{Kind, NO_TIMES, Times as FileTimes, TreeFile};
+
+impl Looks for TimeTable {
+    fn look(&mut self, file: &TreeFile) -> Result<(), NoMemory> {
+        if file.times.as_slice().is_empty() {
+            return Ok(());
+        }
+        self.take_directory(b"/", file.times.get(0))?;
+        self.take_entries(file)
+    }
+}
+
+impl TimeTable {
+    /// Takes the times of the entries of a tree file.
+    fn take_entries(&mut self, file: &TreeFile) -> Result<(), NoMemory> {
+        let mut entry: usize = 1;
+        let mut made: u32 = 0;
+        for row in file.rows.as_slice() {
+            let times = file.times.get(entry);
+            entry = entry.wrapping_add(1);
+            match &row.kind {
+                Kind::Dir(_) => self.take_directory(row.path.as_slice(), times)?,
+                Kind::First(..) => {
+                    self.take_file(FileNo::new(made), times)?;
+                    made = made.wrapping_add(1);
+                }
+                _ => {}
+            }
+        }
+        Ok(())
+    }
+
+    fn take_directory(&mut self, path: &[u8], times: FileTimes) -> Result<(), NoMemory> {
+        match Times::read(times) {
+            Some(times) => self.set_directory(path, times),
+            None => Ok(()),
+        }
+    }
+
+    fn take_file(&mut self, number: FileNo, times: FileTimes) -> Result<(), NoMemory> {
+        match Times::read(times) {
+            Some(times) => self.set_file(number, times),
+            None => Ok(()),
+        }
+    }
+}
+
+// What has no times of its own has none in the tree file: a session does not give what it leaves alone those of its
+// start.
+impl HasTimes for TimeTable {
+    ghost of_file = { λ _ _ _. ⊤ };
+
+    ghost of_directory = { λ _ _ _. ⊤ };
+
+    fn times_of_file(&self, number: FileNo) -> FileTimes {
+        written(self.own_of_file(number))
+    }
+
+    fn times_of_directory(&self, path: &[u8]) -> FileTimes {
+        written(self.own_of_directory(path))
+    }
+}
+
+/// Times as an entry of a tree file has them.
+fn written(times: Option<Times>) -> FileTimes {
+    match times {
+        Some(times) => times.written(),
+        None => NO_TIMES,
+    }
+}
