@@ -41,6 +41,7 @@ use Rattle.sftp_tree.specs.Tree.{total_of}
 use Rattle.sftp_tree.specs.Changes.{length_of}
 use Rattle.sftp_tree.specs.Picture.{timed_file_of}
 use Rattle.sftp_tree.proofs.Totals.{total-retain}
+use Rattle.std.proofs.Math.Dec.{eqb-suc-zero}
 
 -- ---- the limits, entry by entry
 
@@ -541,4 +542,4 @@ picture_written t kept times =
 -- a file that has times says so at once
 pub some_times : (rows : List Row) (times : List Times) → AreFileTimes rows times → any_times times ≡ not (length times == 0)
 some_times rows [] are = refl
-some_times rows (t ∷ times) are = are.2
+some_times rows (t ∷ times) are = are.2 ∙ sym (ap not (eqb-suc-zero (length times)))
