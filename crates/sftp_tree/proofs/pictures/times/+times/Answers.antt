@@ -1,7 +1,6 @@
 -- A directory is asked for and then what is below it, child by child.
 use Rattle.sftp_tree.proofs.Imports.{◌≡◌, ℕ, List, ◌∷◌, ◌++◌, ◌∙◌, ap, sym, subst, length, drop, length-append, arith}
 use Rattle.sftp_tree.proofs.Imports.{branch, placed, flat, AreBranches, IsBranch, Names, File, Link, firsts_from, refl}
-use Rattle.sftp_treefile.specs.declared.times.Times.{Times}
 use Rattle.sftp_tree.specs.PictureParts.{AddsTimes}
 use Rattle.sftp_treefile.specs.TreeFile.{no_times}
 use Rattle.sftp_tree.proofs.TreeFiles.Branches.{next_smaller}

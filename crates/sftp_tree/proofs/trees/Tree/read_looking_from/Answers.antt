@@ -11,8 +11,8 @@ returns-in_err-file-clause-only g c = λ bytes known t start.
 
 pub returns-clause-found : goal.returns-clause-found
 returns-clause-found g c = λ bytes known.
-    subst (λ (t : Tree). IsStart t bytes) (sym c.in_ok-grown.ensures) (start_of_spelled c.in_ok-file.file bytes (c.in_ok-file.ensures.found bytes known))
+    subst (λ (t : Tree). IsStart t bytes) (sym c.in_ok-told.ensures) (start_of_spelled c.in_ok-file.file bytes (c.in_ok-file.ensures.found bytes known))
 
 pub returns-clause-only : goal.returns-clause-only
 returns-clause-only g c = λ bytes known t start.
-    c.in_ok-grown.ensures ∙ ap tree_of (c.in_ok-file.ensures.only bytes known (timed_file_of t start.picture_is.times) (spelled_of_start t bytes start)) ∙ tree_again t (stands_of_start t bytes start) start.unpinned start.numbered
+    c.in_ok-told.ensures ∙ ap tree_of (c.in_ok-file.ensures.only bytes known (timed_file_of t start.picture_is.times) (spelled_of_start t bytes start)) ∙ tree_again t (stands_of_start t bytes start) start.unpinned start.numbered
