@@ -101,8 +101,8 @@ impl Tree {
     {
         let file = read_rows_from(alloc, source)?;
         looker.look(&file)?;
-        let grown = tree_of(alloc, file)?;
-        Ok(grown)
+        let told = tree_of(alloc, file)?;
+        Ok(told)
     }
 
     /// How many entries the tree has below its root.
