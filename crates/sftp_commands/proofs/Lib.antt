@@ -1,1 +1,2 @@
 mod CutLaws
+mod ComparedParts
