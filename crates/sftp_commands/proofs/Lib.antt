@@ -1,2 +1,1 @@
 mod CutLaws
-mod ComparedParts
