@@ -738,10 +738,7 @@ impl<R: Files + AllocGlobal, E: Write> Explanation<'_, '_, R, E> {
 const TRIED: u64 = 67_108_864;
 
 /// Whether the packets up to the record of this number have no more bytes than `TRIED`.
-fn are_few_bytes<S: Source>(
-    records: &mut Reader<S>,
-    number: u64,
-) -> Result<bool, TranscriptError> {
+fn are_few_bytes<S: Source>(records: &mut Reader<S>, number: u64) -> Result<bool, TranscriptError> {
     let mut bytes: u64 = 0;
     for _ in 0..number {
         let Some((_, packet, size)) = records.next_record()? else {
