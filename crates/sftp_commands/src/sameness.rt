@@ -1,5 +1,5 @@
 //! Whether two tree files say the same. A tree has one tree file, so they do if they have the same bytes.
-ghost use Rattle.std.specs.Prelude.{◌≡◌, Decides};
+ghost use Rattle.std.specs.Prelude.{◌≡◌, Decides, false};
 ghost use Rattle.sftp_commands.specs.Sameness.{compared_part};
 
 use sftp_treefile::{EntryTimes, Kind, Row, TreeFile};

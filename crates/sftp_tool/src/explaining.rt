@@ -480,8 +480,8 @@ impl<R: Files + AllocGlobal, E: Write> Explanation<'_, '_, R, E> {
         self.is_written(written)
     }
 
-    /// The names of the departures each of which, accepted besides, makes the session go on beyond its refusal. For each
-    /// of them the session is read and judged again, so that they are not tried of one that is long.
+    /// The names of the departures each of which, accepted besides, makes the session go on beyond its refusal. For
+    /// each of them the session is read and judged again, so that they are not tried of one that is long.
     fn put_departures(&mut self) -> bool {
         match self.is_short() {
             Some(true) => self.put_each_departure(),
@@ -490,8 +490,8 @@ impl<R: Files + AllocGlobal, E: Write> Explanation<'_, '_, R, E> {
         }
     }
 
-    /// Whether the packets up to the refusal have few enough bytes for departures to be tried. `None` if the explanation
-    /// stops.
+    /// Whether the packets up to the refusal have few enough bytes for departures to be tried. `None` if the
+    /// explanation stops.
     fn is_short(&mut self) -> Option<bool> {
         let mut records = self.records()?;
         let short = are_few_bytes(&mut records, record_of(self.refusal));
@@ -738,10 +738,7 @@ impl<R: Files + AllocGlobal, E: Write> Explanation<'_, '_, R, E> {
 const TRIED: u64 = 67_108_864;
 
 /// Whether the packets up to the record of this number have no more bytes than `TRIED`.
-fn are_few_bytes<S: Source>(
-    records: &mut Reader<S>,
-    number: u64,
-) -> Result<bool, TranscriptError> {
+fn are_few_bytes<S: Source>(records: &mut Reader<S>, number: u64) -> Result<bool, TranscriptError> {
     let mut bytes: u64 = 0;
     for _ in 0..number {
         let Some((_, packet, size)) = records.next_record()? else {

@@ -1,5 +1,5 @@
 -- What is read is the one file of the bytes, so what is made of it is that file with other limits.
-use Rattle.std.proofs.Common.{◌≡◌, ap, ◌∙◌}
+use Rattle.std.proofs.Common.{ap, ◌∙◌}
 use Rattle.sftp_commands.specs.RaisedFiles.{raised_to}
 use Rattle.sftp_commands.proofs.raising.raised_rows.Goals as goal
 
