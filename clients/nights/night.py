@@ -202,7 +202,7 @@ class Night:
         """The tree of the folders as they are now, and what is said of them; None if a session ran meanwhile."""
         now = f"{self.tree}.now"
         words = [sys.executable, "-IS", TREE, "--out", now, "--most", str(self.given.memory // SHARE),
-                 "--limits", "raised", "--user", self.given.user]
+                 "--limits", "most", "--user", self.given.user]
         for name in ("home", "group"):
             words += [f"--{name}", getattr(self.given, name)] if getattr(self.given, name) else []
         words += [f"--{it.replace('_', '-')}" for it in ("chroot", "without_mounts") if getattr(self.given, it)]
