@@ -67,76 +67,36 @@ impl<C: Moments + Drop> Clocked<C> {
 
 impl<C: Moments + Drop, T: HandleTable> Answerer<T> for Clocked<C> {
     fn answer(&mut self, session: &mut Session<T>, request: &Request) -> Result<Reply, NoMemory> {
-        match &request.ask {
-            Ask::Stat { .. } => self.answer_shown(session, request),
-            Ask::Lstat { .. } => self.answer_shown(session, request),
-            Ask::Fstat { .. } => self.answer_shown(session, request),
-            Ask::Readdir { handle } => self.answer_named(session, request, handle.as_slice()),
-            Ask::Read { .. } => session.answer(request),
-            Ask::Realpath { .. } => session.answer(request),
-            Ask::Readlink { .. } => session.answer(request),
-            _ => self.answer_noted(session, request),
+        let touch = touch_of(&mut self.table, session, &request.ask)?;
+        match session.answer(request) {
+            Ok(reply) => Ok(self.timed(session, &request.ask, touch, reply)),
+            Err(error) => Err(error),
         }
     }
 }
 
-// The parts of `answer`, by what becomes of the reply.
 impl<C: Moments + Drop> Clocked<C> {
-    /// Answers a request whose reply shows attributes.
-    fn answer_shown<T: HandleTable>(
+    /// The reply to a request that was done or refused, with times. What it did to times is noted.
+    fn timed<T: HandleTable>(
         &mut self,
-        session: &mut Session<T>,
-        request: &Request,
-    ) -> Result<Reply, NoMemory>
-        ensures allowed { IfOk result (λ reply. Allowed session.old request.now reply session.new) }
-        ensures spelled { IfOk result (λ reply. HasSpelling (reply_packet reply)) }
-        ensures err { OnErr result (session.new ≡ session.old) }
+        session: &Session<T>,
+        ask: &Ask,
+        touch: Touch,
+        reply: Reply,
+    ) -> Reply
+        ensures same_id { result.id ≡ reply.id }
+        ensures same { bare result.answer ≡ bare reply.answer }
+        ensures spelled { HasSpelling (reply_packet reply) → HasSpelling (reply_packet result) }
     {
-        match session.answer(request) {
-            Ok(reply) => {
-                let mut reply = reply;
-                self.show(session, &request.ask, &mut reply);
-                Ok(reply)
-            }
-            Err(error) => Err(error),
+        let mut reply = reply;
+        match ask {
+            Ask::Readdir { handle } => return self.named(handle.as_slice(), reply),
+            Ask::Stat { .. } => self.show(session, ask, &mut reply),
+            Ask::Lstat { .. } => self.show(session, ask, &mut reply),
+            Ask::Fstat { .. } => self.show(session, ask, &mut reply),
+            _ => self.note(session, ask, touch, &reply.answer),
         }
-    }
-
-    /// Answers a READDIR through a handle.
-    fn answer_named<T: HandleTable>(
-        &mut self,
-        session: &mut Session<T>,
-        request: &Request,
-        handle: &[u8],
-    ) -> Result<Reply, NoMemory>
-        ensures allowed { IfOk result (λ reply. Allowed session.old request.now reply session.new) }
-        ensures spelled { IfOk result (λ reply. HasSpelling (reply_packet reply)) }
-        ensures err { OnErr result (session.new ≡ session.old) }
-    {
-        match session.answer(request) {
-            Ok(reply) => Ok(self.named(handle, reply)),
-            Err(error) => Err(error),
-        }
-    }
-
-    /// Answers a request that may change times. Its reply is the session's.
-    fn answer_noted<T: HandleTable>(
-        &mut self,
-        session: &mut Session<T>,
-        request: &Request,
-    ) -> Result<Reply, NoMemory>
-        ensures allowed { IfOk result (λ reply. Allowed session.old request.now reply session.new) }
-        ensures spelled { IfOk result (λ reply. HasSpelling (reply_packet reply)) }
-        ensures err { OnErr result (session.new ≡ session.old) }
-    {
-        let touch = touch_of(&mut self.table, session, &request.ask)?;
-        match session.answer(request) {
-            Ok(reply) => {
-                self.note(session, &request.ask, touch, &reply.answer);
-                Ok(reply)
-            }
-            Err(error) => Err(error),
-        }
+        reply
     }
 }
 

@@ -1,6 +1,6 @@
 //! Where paths lead in a tree, and their texts.
 
-use sftp_path::{Name, is_name};
+use sftp_path::Name;
 use sftp_tree::{FileNo, NoMemory, Refused, Ticks, Tree};
 
 /// The place that a path leads to, which may be free, and the file that it is a name of.
@@ -39,15 +39,15 @@ pub(crate) fn end_of(tree: &Tree, path: &[u8], follow: bool) -> Result<Option<En
     }
 }
 
-/// The text of the directory above and the last name of a path that ends in a name.
+/// The text of the directory above and the last component of a path, unless that is `.` or `..`.
 pub(crate) fn split(path: &[u8]) -> Option<(&[u8], &[u8])> {
     let text = without_slashes(path);
     let above = up_to_slash(text);
-    let name = text.get(above.len()..)?;
-    if is_name(name) {
-        Some((directory_text(above), name))
-    } else {
-        None
+    match text.get(above.len()..)? {
+        [] => None,
+        [b'.'] => None,
+        [b'.', b'.'] => None,
+        name => Some((directory_text(above), name)),
     }
 }
 

@@ -102,6 +102,12 @@ impl Entry {
     fn leads_on(&self) -> bool {
         self.is_link || self.is_passed
     }
+
+    fn forget_children(&mut self, alloc: Global) {
+        if !self.children.is_empty() {
+            self.children = Vec::new(alloc);
+        }
+    }
 }
 
 /// The times of the directories and links that have some of their own.
@@ -328,13 +334,20 @@ impl PlaceTimes {
         }
     }
 
-    /// The names of a directory change.
-    pub(crate) fn forget_children(&mut self, directory: PlaceNo) {
+    /// The names of a directory change at this moment. If it has no times of its own, it had those of the start.
+    pub(crate) fn modify_names(&mut self, directory: PlaceNo, start: Times, now: u32) {
         let alloc = self.alloc;
         if let Some(entry) = self.entry_mut(directory) {
-            if !entry.children.is_empty() {
-                entry.children = Vec::new(alloc);
-            }
+            let times = entry.times.unwrap_or(start);
+            entry.times = Some(times.modified_at(now));
+            entry.forget_children(alloc);
+        }
+    }
+
+    fn forget_children(&mut self, directory: PlaceNo) {
+        let alloc = self.alloc;
+        if let Some(entry) = self.entry_mut(directory) {
+            entry.forget_children(alloc);
         }
     }
 

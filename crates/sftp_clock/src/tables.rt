@@ -306,9 +306,8 @@ impl TimeTable {
 
     /// The names of a directory changed.
     pub(crate) fn modify_names(&mut self, directory: PlaceNo, now: u32) {
-        let times = self.of_place(directory).modified_at(now);
-        self.set_place(directory, times);
-        self.places.forget_children(directory);
+        self.is_touched = true;
+        self.places.modify_names(directory, self.start, now);
     }
 
     /// A directory was made.

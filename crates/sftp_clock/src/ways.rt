@@ -3,6 +3,7 @@
 use crate::places::PlaceNo;
 use sftp_tree::FileNo;
 use std::alloc::Global;
+use std::mem;
 
 /// How many slots a path has, one after the other.
 const TRIES: usize = 4;
@@ -39,8 +40,8 @@ pub(crate) struct Ways {
     alloc: Global,
     /// As many as a power of two, or none.
     slots: Vec<Option<Way>>,
-    /// How many ways were replaced since there were so many slots.
-    replaced: usize,
+    /// In how many of them something was put.
+    taken: usize,
     /// How often the ways to files were forgotten, and to directories.
     files: u64,
     directories: u64,
@@ -52,7 +53,7 @@ impl Ways {
         Ways {
             alloc,
             slots: Vec::new(alloc),
-            replaced: 0,
+            taken: 0,
             files: 0,
             directories: 0,
         }
@@ -77,8 +78,14 @@ impl Ways {
             return;
         }
         self.make_room();
-        if let Ok(copy) = Vec::from_slice(self.alloc, path) {
-            self.put(hash_of(path), copy, led);
+        let (hash, age) = (hash_of(path), self.age_of(led));
+        if let Ok(path) = Vec::from_slice(self.alloc, path) {
+            self.put(Way {
+                hash,
+                path,
+                led,
+                age,
+            });
         }
     }
 
@@ -93,19 +100,16 @@ impl Ways {
         self.directories = self.directories.wrapping_add(1);
     }
 
-    fn put(&mut self, hash: u32, path: Vec<u8>, led: Led) {
-        let age = self.age_of(led);
-        let number = self.room(hash, path.as_slice());
+    fn put(&mut self, way: Way) {
+        let number = self.room(way.hash, way.path.as_slice());
         match self.slots.get_mut(number) {
             Some(slot) => {
-                *slot = Some(Way {
-                    hash,
-                    path,
-                    led,
-                    age,
-                });
+                if slot.is_none() {
+                    self.taken = self.taken.saturating_add(1);
+                }
+                *slot = Some(way);
             }
-            None => drop(path),
+            None => drop(way),
         }
     }
 
@@ -130,13 +134,12 @@ impl Ways {
     }
 
     /// The slot for the way of a path: one that is free, or has the path, or else the first.
-    fn room(&mut self, hash: u32, path: &[u8]) -> usize {
+    fn room(&self, hash: u32, path: &[u8]) -> usize {
         for step in 0..TRIES {
             if self.is_free(hash, step, path) {
                 return self.slot(hash, step);
             }
         }
-        self.replaced = self.replaced.saturating_add(1);
         self.slot(hash, 0)
     }
 
@@ -147,12 +150,31 @@ impl Ways {
         }
     }
 
-    /// Takes more slots, empty ones, if many ways were replaced.
+    /// Takes twice as many slots if half of them are taken.
     fn make_room(&mut self) {
         let count = self.slots.len();
-        if count == 0 || count < MOST && self.replaced > count / 4 {
-            self.replaced = 0;
-            self.slots = free_slots(self.alloc, count.saturating_mul(2).max(FEWEST));
+        if self.taken >= count / 2 && count < MOST {
+            let more = free_slots(self.alloc, count.saturating_mul(2).max(FEWEST));
+            let before = mem::replace(&mut self.slots, more);
+            self.taken = 0;
+            self.put_all(before);
+        }
+    }
+
+    /// Puts the ways of these slots that were not forgotten.
+    fn put_all(&mut self, slots: Vec<Option<Way>>) {
+        for slot in slots {
+            if let Some(way) = slot {
+                self.put_back(way);
+            }
+        }
+    }
+
+    fn put_back(&mut self, way: Way) {
+        if self.counts(&way) {
+            self.put(way);
+        } else {
+            drop(way);
         }
     }
 }
