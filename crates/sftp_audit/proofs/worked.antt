@@ -17,7 +17,7 @@ use Rattle.sftp_path.specs.Place.{is_good_path, components, parts}
 use Rattle.sftp_handles.specs.State.{seen}
 use Rattle.sftp_transcript.proofs.pairing.{ids_of, turn_after-others, Matching-from_ids}
 use Rattle.sftp_audit.proofs.steps.{run_end, run-of_run_end, no_run-of_run_end}
-use Rattle.sftp_treefile.specs.TreeFile.{are_own, spelled}
+use Rattle.sftp_treefile.specs.TreeFile.{are_own, are_far, spelled, spelled_after}
 use Rattle.sftp_audit.specs.Examples.{with_a, with_a_and_b, with_a_and_b_bytes, backward_replies, one_unanswered}
 use Rattle.sftp_audit.specs.Examples.{one_answered_twice, same_directory_twice, data_for_mkdir, opendir_of_nothing}
 use Rattle.sftp_audit.specs.Examples.{with_link, link_session, above_the_root, with_five_letters, read_in_parts}
@@ -114,7 +114,7 @@ backwards =
     explained_by blank (backward_replies 4) with_a_and_b (refl, (refl, (refl, (refl, (refl, (refl, tt)))))) refl refl
 
 pub backwards_picture : picture with_a_and_b ≡ with_a_and_b_bytes
-unfolding picture spelled are_own get hex
+unfolding picture spelled spelled_after are_own are_far get hex
 backwards_picture = refl
 
 -- the removal would have to succeed after what came before it in the order asked

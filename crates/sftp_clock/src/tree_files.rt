@@ -7,6 +7,8 @@ use sftp_tree::{FileNo, HasTimes, Looks, NoMemory};
 use sftp_treefile::{Kind, NO_TIMES, Times as FileTimes, TreeFile};
 
 impl Looks for TimeTable {
+    ghost looked = { λ _ _ _. ⊤ };
+
     fn look(&mut self, file: &TreeFile) -> Result<(), NoMemory> {
         self.take_all();
         self.look_at_directory(b"/", file.times.get(0))?;

@@ -113,6 +113,7 @@ room-mutual bounds at other = ap (λ b. are_far bounds && b) (by at other)
   where
     by : (at other : Touched) → share_room at other ≡ share_room other at
     by (writes_file m) (writes_file n) = ap not (nat_eq_equiv.symm m n)
+    by at (writes_file n) = refl
     by at other = refl
 
 pub or-none : (a b : Bool) → (a || b) ≡ false → (a ≡ false) × (b ≡ false)

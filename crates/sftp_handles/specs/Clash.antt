@@ -1,9 +1,9 @@
 -- When two requests conflict, and so are done in the order asked. The draft asks that requests on one file are
 -- processed in the order received, with the results as if each had waited for the reply to the one before; those that
 -- do not overlap may run in parallel (draft-ietf-secsh-filexfer-02, section 6.1). What a request touches is this
--- profile's own. Here requests conflict by that alone; `Ranges` also compares the ranges of those that share a file
--- (`range_clash`), and the server goes by that. That files share room, where the tree bounds the bytes of all of them,
--- is this profile's own, too.
+-- profile's own. `clash` goes by that alone; `range_clash` also compares the ranges of those that share a file, and the
+-- server goes by that. That files share room, where the tree bounds the bytes of all of them, is this profile's own,
+-- too.
 use Rattle.std.specs.Prelude.{◌≡◌, ℕ, ◌<◌, ◌^◌, Bool, true, false, List, IfSome, IsTrue, ◌==◌, if◌then◌else◌, Option}
 use Rattle.std.specs.Prelude.{Some, None, [], ◌&&◌, ◌||◌, not, nat_lt, nat_le, ◌+◌, min, length}
 use Rattle.sftp_packets.specs.declared.requests.Ask.{Ask}

@@ -1,7 +1,7 @@
 -- The table of requests, and what follows from it for those through handles: by what each sees of its handle, by the
--- limits and by how many bytes all files have, the causes that hold, what its reply says, and what it changes (draft-ietf-secsh-filexfer-02, sections
--- 6.3, 6.4 and 6.7 to 6.9; OpenSSH's PROTOCOL, section 4.6 for fsync). The causes are this profile's own. That an
--- unknown extension is always refused is the draft's, section 8.
+-- limits and by how many bytes all files have, the causes that hold, what its reply says, and what it changes
+-- (draft-ietf-secsh-filexfer-02, sections 6.3, 6.4 and 6.7 to 6.9; OpenSSH's PROTOCOL, section 4.6 for fsync). The
+-- causes are this profile's own. That an unknown extension is always refused is the draft's, section 8.
 use Rattle.std.specs.Prelude.{◌&&◌, not, nat_lt, ℕ, Bool, true, if◌then◌else◌, List, [], ◌∷◌, ◌++◌, length, Option}
 use Rattle.std.specs.Prelude.{Some, None, is_some}
 use Rattle.sftp_packets.specs.declared.open_flags.OpenFlags.{OpenFlags}

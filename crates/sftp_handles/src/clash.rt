@@ -21,7 +21,7 @@ use sftp_tree::FileNo;
 use sftp_wire::{Ask, Request};
 
 impl Touch {
-    /// Whether two requests, each with what it touches in the same state, conflict there: whether one of them touches
+    /// Whether two requests, each with what it touches in the same state, share that: whether one of them touches
     /// everything, or both touch one file or one listing and not both only read it. Does not allocate.
     pub fn shares(self, ask: &Ask, other: Touch, other_ask: &Ask) -> bool
         ensures { result ≡ share (touched_as self ask.now) (touched_as other other_ask.now) }

@@ -6,7 +6,7 @@ use crate::nodes::Sort;
 use crate::world::World;
 
 /// What has to be at the end of a path, or on the way.
-#[derive(Clone, Copy, Debug, PartialEq, Eq)]
+#[derive(Clone, Copy)]
 pub(crate) enum Asks {
     Nothing,
     Something,
@@ -36,14 +36,6 @@ const RETRACTED: u32 = 4;
 const WAY: u32 = 2;
 
 impl Asks {
-    /// Whether it is about the way alone.
-    pub(crate) fn is_of_way(self) -> bool {
-        match self {
-            Asks::Lost | Asks::Blocked => true,
-            _ => false,
-        }
-    }
-
     /// The kind of something at the end that does what is asked, if nothing is known of it.
     pub(crate) fn sort(self) -> Sort {
         match self {
@@ -51,6 +43,14 @@ impl Asks {
             Asks::NoDirectory | Asks::NoLink => Sort::File,
             Asks::Astray => Sort::Link,
             _ => Sort::Unknown,
+        }
+    }
+
+    /// The kind of something on the way that does what is asked, if nothing is known of it.
+    pub(crate) fn sort_of_way(self) -> Sort {
+        match self {
+            Asks::Blocked => Sort::File,
+            _ => Sort::Directory,
         }
     }
 
@@ -95,34 +95,54 @@ impl<'a> World<'a> {
         match seen.look {
             Look::Entry(at) => self.cost_of_entry(at, asks),
             Look::Nothing(_) => cost_of_nothing(asks, is_assumed),
-            Look::Unknown if asks.is_of_way() => None,
-            Look::Unknown if asks == Asks::Place => Some(0),
-            Look::Unknown if asks == Asks::Astray => Some(WAY),
-            Look::Unknown => Some(1),
-            Look::NoEntry(_) if asks == Asks::Lost || asks == Asks::Astray => Some(0),
-            Look::NoEntry(_) if is_assumed => Some(RETRACTED),
-            Look::NoEntry(_) => None,
-            Look::NotDir(_) | Look::Loop | Look::Bad if asks == Asks::Blocked => Some(0),
-            Look::NotDir(_) | Look::Loop | Look::Bad => None,
-            Look::UnknownWay if asks.is_of_way() || asks == Asks::Astray => Some(1),
-            Look::UnknownWay => Some(WAY),
-            Look::Unsure(_) if asks == Asks::Blocked => Some(1),
-            Look::Unsure(_) if asks == Asks::Lost => None,
-            Look::Unsure(_) => Some(WAY),
+            Look::Unknown => cost_of_unknown(asks),
+            Look::NoEntry(_) => cost_of_no_entry(asks, is_assumed),
+            Look::NotDir(_) | Look::Loop | Look::Bad => match asks {
+                Asks::Blocked => Some(0),
+                _ => None,
+            },
+            Look::UnknownWay => match asks {
+                Asks::Lost | Asks::Blocked | Asks::Astray => Some(1),
+                _ => Some(WAY),
+            },
+            Look::Unsure(_) => match asks {
+                Asks::Blocked => Some(1),
+                Asks::Lost => None,
+                _ => Some(WAY),
+            },
             Look::Blind(_) => Some(WAY),
         }
     }
 
     fn cost_of_entry(&self, at: usize, asks: Asks) -> Option<u32> {
         let cost = asks.cost_of_sort(self.sort(at))?;
-        if asks != Asks::Full {
-            return Some(cost);
+        match asks {
+            Asks::Full => match self.has_entries(at) {
+                Some(true) => Some(cost),
+                Some(false) => None,
+                None => Some(cost.saturating_add(1)),
+            },
+            _ => Some(cost),
         }
-        match self.has_entries(at) {
-            Some(true) => Some(cost),
-            Some(false) => None,
-            None => Some(cost.saturating_add(1)),
-        }
+    }
+}
+
+/// What is asked of a name of which nothing is known.
+fn cost_of_unknown(asks: Asks) -> Option<u32> {
+    match asks {
+        Asks::Lost | Asks::Blocked => None,
+        Asks::Place => Some(0),
+        Asks::Astray => Some(WAY),
+        _ => Some(1),
+    }
+}
+
+/// What is asked of a path with a name on the way at which nothing is, which may be only assumed.
+fn cost_of_no_entry(asks: Asks, is_assumed: bool) -> Option<u32> {
+    match asks {
+        Asks::Lost | Asks::Astray => Some(0),
+        _ if is_assumed => Some(RETRACTED),
+        _ => None,
     }
 }
 

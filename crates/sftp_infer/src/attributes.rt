@@ -72,8 +72,7 @@ impl<'a> World<'a> {
             return Ok(());
         }
         self.propose_sort(at, sort, size)?;
-        let told = self.told(at);
-        Err(self.clash_at(at, told, What::Kind(known, sort)))
+        Err(self.clash_of(at, What::Kind(known, sort)))
     }
 
     /// Proposes that an entry of the start, whose kind no reply showed, is of this kind.
@@ -89,8 +88,7 @@ impl<'a> World<'a> {
         } else {
             Says::File
         };
-        self.propose_of(at, says)?;
-        Ok(())
+        self.propose_of(at, says)
     }
 
     /// Proposes that an entry is a link of this length, to something else that is of its kind, or to nothing.
@@ -103,9 +101,7 @@ impl<'a> World<'a> {
             return Ok(());
         }
         self.propose_ends(at, length)?;
-        let target = self.invented(at, length)?;
-        self.propose_of(at, Says::Link(target))?;
-        Ok(())
+        self.propose_link_astray(at, length)
     }
 
     /// Whether a reply showed the kind of an entry, or the session made it.
@@ -173,15 +169,14 @@ impl<'a> World<'a> {
 
     fn tell_owner(&mut self, at: usize, owner: (u32, u32)) -> Result<(), Stop> {
         let mut rights = self.rights(at);
-        let known = if rights.owner.is_some() {
-            rights.owner
-        } else if self.is_old(at) {
-            rights.start_owner
-        } else {
-            self.owner
+        let is_old = self.is_old(at);
+        let known = match rights.owner {
+            Some(owner) => Some(owner),
+            None if is_old => rights.start_owner,
+            None => self.owner,
         };
         match known {
-            None if self.is_old(at) => {
+            None if is_old => {
                 rights.start_owner = Some(owner);
                 self.set_rights(at, rights);
                 Ok(())
@@ -193,8 +188,7 @@ impl<'a> World<'a> {
             }
             Some(known) if known == owner || !self.settings.is_strict => Ok(()),
             Some(known) => {
-                let is_of_new = rights.owner.is_none() && !self.is_old(at);
-                if is_of_new {
+                if rights.owner.is_none() && !is_old {
                     self.revive(self.owner_by)?;
                 }
                 self.mismatch(at, What::Owner(known, owner))

@@ -21,7 +21,7 @@ pub struct Candidate<'a> {
 }
 
 /// Why there is no tree of what a session tells: it would be larger than it may.
-#[derive(Clone, Copy, Debug)]
+#[derive(Clone, Copy)]
 pub enum Excess {
     /// The files of the session, each as large as it was at most, would have so many bytes in all.
     Files(u64),
@@ -77,20 +77,25 @@ impl<'a> Search<'a> {
         assumed: &mut Vec<Fact>,
     ) -> Result<(), NoMemory> {
         let chain = self.chain(choice)?;
-        let mut done = Ok(());
-        for index in chain.iter().rev() {
-            if done.is_ok() {
-                done = self.put_assumed_of(*index, assumed);
-            }
-        }
+        let put = self.put_assumed_of_each(chain.as_slice(), assumed);
         drop(chain);
-        done?;
+        put?;
         if !self.is_home_told && world.needs_home {
-            assumed.push(Fact {
-                place: Vec::from_slice(self.alloc, world.home.as_slice())?,
-                says: Says::Home,
-                told: 0,
-            })?;
+            let place = Vec::from_slice(self.alloc, world.home.as_slice())?;
+            let (says, told) = (Says::Home, 0);
+            assumed.push(Fact { place, says, told })?;
+        }
+        Ok(())
+    }
+
+    /// Appends the facts of choices that no reply tells, those of the last one first.
+    fn put_assumed_of_each(
+        &self,
+        chain: &[usize],
+        assumed: &mut Vec<Fact>,
+    ) -> Result<(), NoMemory> {
+        for index in chain.iter().rev() {
+            self.put_assumed_of(*index, assumed)?;
         }
         Ok(())
     }

@@ -5,7 +5,7 @@ use sftp_path::NoMemory;
 use std::alloc::{AllocError, AllocFailed};
 
 /// Why a pass over a session stops.
-#[derive(Clone, Copy, Debug)]
+#[derive(Clone, Copy)]
 pub(crate) enum Stop {
     /// Two records contradict each other; the world says which.
     Clash,
@@ -34,7 +34,7 @@ impl<T: Drop> From<AllocFailed<T>> for Stop {
 }
 
 /// What two records say of one thing.
-#[derive(Clone, Copy, Debug)]
+#[derive(Clone, Copy)]
 pub enum What {
     /// The first one that something is there, the second one that there is nothing.
     Gone,

@@ -125,11 +125,18 @@ impl<'a> Exchanges<'a> {
     /// Has the next request be the first one that waits.
     fn drop_first(&mut self) {
         self.is_given = false;
-        self.waiting.pop_front();
-        self.reply = None;
-        if !self.early.is_empty() {
-            self.reply = self.take_early();
-        }
+        drop(self.waiting.pop_front());
+        let early = if self.early.is_empty() {
+            None
+        } else {
+            self.take_early()
+        };
+        self.set_reply(early);
+    }
+
+    /// Has this be the reply to the first request that waits, in the place of the one before.
+    fn set_reply(&mut self, reply: Option<Record>) {
+        drop(std::mem::replace(&mut self.reply, reply));
     }
 
     /// Takes out the reply to the first request that waits, if it came early.
@@ -233,7 +240,7 @@ impl<'a> Exchanges<'a> {
             Some(place) => {
                 let asked = self.mark_answered(place);
                 if place == 0 {
-                    self.reply = Some(record);
+                    self.set_reply(Some(record));
                 } else {
                     self.early.push(Early { asked, record })?;
                 }

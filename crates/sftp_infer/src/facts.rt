@@ -1,7 +1,7 @@
 //! Facts about the start that a search takes beyond what replies tell at their turn. A pass begins with them.
 
 use crate::errors::{Stop, What};
-use crate::look::next_part;
+use crate::look::{cut_last, next_part};
 use crate::nodes::{Held, Sort};
 use crate::world::World;
 use sftp_path::{DEPTH_LIMIT, NoMemory};
@@ -11,7 +11,7 @@ use std::alloc::Global;
 const FACT_BYTES: u64 = 128;
 
 /// What a fact says of a place at the start.
-#[derive(Debug, Drop)]
+#[derive(Drop)]
 pub enum Says {
     /// Something is there.
     There,
@@ -44,7 +44,7 @@ impl Says {
 }
 
 /// A fact about a place at the start.
-#[derive(Debug, Drop)]
+#[derive(Drop)]
 pub struct Fact {
     /// The absolute text of the place.
     pub place: Vec<u8>,
@@ -117,13 +117,12 @@ impl<'a> World<'a> {
                 self.set_sort(at, sort);
                 let known = self.sort(at);
                 if sort != Sort::Unknown && known != sort {
-                    let told = self.told(at);
-                    return Err(self.clash_at(at, told, What::Kind(known, sort)));
+                    return Err(self.clash_of(at, What::Kind(known, sort)));
                 }
                 Ok(at)
             }
             Some((Held::Nothing, told)) => { Err(self.clash_name(spot, told, What::There)) }
-            None => Ok(self.tell(spot, sort)?),
+            None => self.tell(spot, sort),
         }
     }
 
@@ -132,10 +131,7 @@ impl<'a> World<'a> {
             Says::Size(size) => self.begin_sized(at, *size),
             Says::Link(target) => {
                 let text = Vec::from_slice(self.alloc, target.as_slice())?;
-                match self.entry_mut(at) {
-                    Some(link) => link.target = Some(text),
-                    None => drop(text),
-                }
+                self.lead(at, text);
                 Ok(())
             }
             _ => Ok(()),
@@ -155,9 +151,10 @@ impl<'a> World<'a> {
     /// One place is a name of the file that another one names.
     fn begin_same(&mut self, place: &[u8], other: &[u8]) -> Result<(), Stop> {
         let first = self.begin_at(other, Sort::File)?;
-        let Some((above, name)) = cut_last(place) else {
+        let (above, name) = cut_last(place).unwrap_or((&[], &[]));
+        if name.is_empty() {
             return Ok(());
-        };
+        }
         let parent = self.begin_at(above, Sort::Directory)?;
         let spot = self.spot(parent, name);
         let told = self.teller;
@@ -177,15 +174,4 @@ fn sort_said(says: &Says) -> Sort {
         Says::Link(_) => Sort::Link,
         Says::There | Says::Home => Sort::Unknown,
     }
-}
-
-/// The text before the last slash, and the name behind it.
-fn cut_last(place: &[u8]) -> Option<(&[u8], &[u8])> {
-    let slash = place.iter().rposition(|byte| *byte == b'/')?;
-    let above = place.get(..slash)?;
-    let name = place.get(slash.saturating_add(1)..)?;
-    if name.is_empty() {
-        return None;
-    }
-    Some((above, name))
 }

@@ -2,10 +2,9 @@
 
 use crate::errors::{Stop, What};
 use crate::facts::{Fact, Says};
-use crate::look::Look;
+use crate::look::{Found, Look};
 use crate::nodes::Sort;
 use crate::world::World;
-use sftp_path::NoMemory;
 
 /// The home that a REALPATH of a relative path tells: the text before that path.
 pub(crate) fn home_of<'t>(path: &[u8], text: &'t [u8]) -> Option<&'t [u8]> {
@@ -32,34 +31,36 @@ impl<'a> World<'a> {
     /// REALPATH told where a path leads.
     pub(crate) fn take_real(&mut self, path: &[u8], text: &[u8]) -> Result<(), Stop> {
         let found = self.reach(path, true)?;
-        let place = self.place(found.parent, found.name(), false);
-        let told = self.take_place(path, text, &found, place?);
+        let told = self.take_place(path, text, &found);
         drop(found);
         told
     }
 
-    fn take_place(
-        &mut self,
-        path: &[u8],
-        text: &[u8],
-        found: &crate::look::Found<'_>,
-        place: Vec<u8>,
-    ) -> Result<(), Stop> {
+    fn take_place(&mut self, path: &[u8], text: &[u8], found: &Found<'_>) -> Result<(), Stop> {
+        let place = self.place(found.parent, found.name(), false)?;
         if place.as_slice() == text || !self.settings.is_strict {
             drop(place);
             return Ok(());
         }
+        match self.propose_places(path, text, found) {
+            Ok(told) => self.clash_at_place(place, told, text),
+            Err(stop) => {
+                drop(place);
+                Err(stop)
+            }
+        }
+    }
+
+    /// Proposes why a path leads to another place than it seems. Returns the record that told of what is there.
+    fn propose_places(&mut self, path: &[u8], text: &[u8], found: &Found<'_>) -> Result<u64, Stop> {
         let told = match found.look {
             Look::Entry(at) => {
                 self.propose_link(at, text)?;
                 self.told(at)
             }
             Look::Unknown => {
-                self.propose(
-                    found.parent,
-                    found.name(),
-                    Says::Link(Vec::from_slice(self.alloc, text)?),
-                )?;
+                let target = Vec::from_slice(self.alloc, text)?;
+                self.propose(found.parent, found.name(), Says::Link(target))?;
                 0
             }
             _ => 0,
@@ -68,30 +69,33 @@ impl<'a> World<'a> {
         if path.first() != Some(&b'/') {
             self.propose_home(path, text)?;
         }
-        self.clash_at_place(place, told, text)
+        Ok(told)
     }
 
     /// The contradiction of two places to which a path leads.
     fn clash_at_place(&mut self, place: Vec<u8>, told: u64, text: &[u8]) -> Result<(), Stop> {
-        let known = Vec::from_slice(self.alloc, place.as_slice());
-        let stop = self.clash(place, told, What::Place);
-        let known = known?;
-        let noted = self.note_texts(known.as_slice(), text);
-        drop(known);
-        noted?;
-        Err(stop)
+        match Vec::from_slice(self.alloc, place.as_slice()) {
+            Ok(known) => {
+                let stop = self.clash(place, told, What::Place);
+                self.note_texts(known, text)?;
+                Err(stop)
+            }
+            Err(_) => {
+                drop(place);
+                Err(Stop::NoMemory)
+            }
+        }
     }
 
     /// Proposes that an entry, or the directory that it is in, is a link to what this text is the place of.
-    fn propose_link(&mut self, at: usize, text: &[u8]) -> Result<(), NoMemory> {
+    fn propose_link(&mut self, at: usize, text: &[u8]) -> Result<(), Stop> {
         if !self.is_shown(at) || self.sort(at) == Sort::Unknown {
-            let target = Vec::from_slice(self.alloc, text)?;
-            self.propose_of(at, Says::Link(target))?;
+            return self.propose_link_to(at, text);
         }
         Ok(())
     }
 
-    fn propose_home(&mut self, path: &[u8], text: &[u8]) -> Result<(), NoMemory> {
+    fn propose_home(&mut self, path: &[u8], text: &[u8]) -> Result<(), Stop> {
         match home_of(path, text) {
             Some(home) => {
                 let place = Vec::from_slice(self.alloc, home)?;

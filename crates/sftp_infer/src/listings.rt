@@ -25,26 +25,16 @@ impl<'a> World<'a> {
             return Ok(());
         }
         let spot = self.spot(listing.entry, name);
-        if self.name_changed(spot) > listing.asked {
+        if self.slot(spot).changed > listing.asked {
             return self.mark(listing, spot);
         }
-        match self.held(spot) {
-            Some((Held::Entry(at), _)) => self.list_entry(listing, at, item)?,
-            Some((Held::Nothing, told)) => self.list_absent(listing, spot, item, told)?,
-            None => self.list_unknown(spot, item)?,
-        }
+        let listed = match self.held(spot) {
+            Some((Held::Entry(at), _)) => self.list_entry(listing, at, item),
+            Some((Held::Nothing, told)) => self.list_absent(listing, spot, item, told),
+            None => self.list_unknown(spot, item),
+        };
+        listed?;
         self.mark(listing, spot)
-    }
-
-    /// The last request that changed what a name leads to.
-    fn name_changed(&self, spot: Spot<'_>) -> u64 {
-        match self.nodes.get(spot.parent) {
-            Some(directory) => match directory.names.get(spot) {
-                Some(slot) => slot.changed,
-                None => 0,
-            },
-            None => 0,
-        }
     }
 
     /// Notes that a listing gave a name.

@@ -4,6 +4,7 @@ use crate::names::{Place, Spot};
 use crate::nodes::{Held, Sort};
 use crate::world::World;
 use sftp_path::{NoMemory, good_path, is_dot, is_dot_dot};
+use std::alloc::Global;
 
 /// The most components that a walk looks at.
 const COMPONENT_LIMIT: u64 = 90_000;
@@ -106,13 +107,19 @@ enum Step<'w> {
 
 /// The first component of a path and what is behind it, if there is any.
 pub(crate) fn next_part(path: &[u8]) -> Option<(&[u8], &[u8])> {
-    let start = path.iter().position(|byte| *byte != b'/')?;
-    let inner = path.get(start..)?;
+    let inner = path.get(start_of_part(path)?..)?;
     let end = inner
         .iter()
         .position(|byte| *byte == b'/')
         .unwrap_or(inner.len());
-    Some((inner.get(..end)?, inner.get(end..)?))
+    inner.split_at_checked(end)
+}
+
+/// The text before the last slash, and the name behind it.
+pub(crate) fn cut_last(place: &[u8]) -> Option<(&[u8], &[u8])> {
+    let slash = place.iter().rposition(|byte| *byte == b'/')?;
+    let (above, rest) = place.split_at_checked(slash)?;
+    Some((above, rest.get(1..)?))
 }
 
 /// So many bytes of a path, behind which so many are left.
@@ -121,12 +128,37 @@ fn part_before(path: &[u8], len: usize, left: usize) -> Option<&[u8]> {
     path.get(end.checked_sub(len)?..end)
 }
 
+/// Where the first component of a path begins, if there is any.
+fn start_of_part(path: &[u8]) -> Option<usize> {
+    path.iter().position(|byte| *byte != b'/')
+}
+
 /// Whether a path has a component.
 fn has_part(path: &[u8]) -> bool {
-    path.iter().any(|byte| *byte != b'/')
+    start_of_part(path).is_some()
 }
 
 impl<'w> Walk<'w> {
+    /// A walk along a path from the root, that has not begun.
+    fn new(alloc: Global, path: &'w [u8]) -> Walk<'w> {
+        Walk {
+            at: 0,
+            found: Place::NotSought,
+            rest: path,
+            is_given: true,
+            waiting: Vec::new(alloc),
+            links: 0,
+        }
+    }
+
+    /// Goes along the path of the home first.
+    fn begin_at(&mut self, home: &'w [u8]) -> Result<(), NoMemory> {
+        self.waiting.push(self.rest)?;
+        self.rest = home;
+        self.is_given = false;
+        Ok(())
+    }
+
     /// Whether no component is left.
     fn is_done(&self) -> bool {
         self.waiting.is_empty() && !has_part(self.rest)
@@ -177,20 +209,10 @@ impl<'a> World<'a> {
         if !good_path(path) {
             return Ok(self.nowhere(Look::Bad, 0));
         }
-        let mut walk = Walk {
-            at: 0,
-            found: Place::NotSought,
-            rest: path,
-            is_given: true,
-            waiting: Vec::new(self.alloc),
-            links: 0,
-        };
-        if path.first() != Some(&b'/') {
-            walk.waiting.push(path)?;
-            walk.rest = self.home.as_slice();
-            walk.is_given = false;
-        }
-        self.walk(walk, follows)
+        let mut walk = Walk::new(self.alloc, path);
+        let ended = self.walk(&mut walk, follows);
+        drop(walk);
+        ended
     }
 
     /// A walk that led nowhere.
@@ -222,19 +244,16 @@ impl<'a> World<'a> {
         })
     }
 
-    fn walk<'w>(&'w self, walk: Walk<'w>, follows: bool) -> Result<Ended, NoMemory> {
-        let mut walk = walk;
+    fn walk<'w>(&'w self, walk: &mut Walk<'w>, follows: bool) -> Result<Ended, NoMemory> {
+        if walk.rest.first() != Some(&b'/') {
+            walk.begin_at(self.home.as_slice())?;
+        }
         for steps in 0..COMPONENT_LIMIT {
-            match self.step(&mut walk, follows)? {
+            match self.step(walk, follows)? {
                 Step::On => {}
-                Step::End(look, name) => {
-                    let ended = self.end(&walk, look, name, steps);
-                    drop(walk);
-                    return ended;
-                }
+                Step::End(look, name) => return self.end(walk, look, name, steps),
             }
         }
-        drop(walk);
         Ok(self.nowhere(Look::Loop, COMPONENT_LIMIT))
     }
 

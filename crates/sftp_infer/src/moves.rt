@@ -81,14 +81,15 @@ impl<'a> World<'a> {
         at
     }
 
-    fn entry_of(&mut self, found: &Found<'_>, sort: Sort) -> Result<usize, Stop> {
+    /// The same of a path that was looked at.
+    pub(crate) fn entry_of(&mut self, found: &Found<'_>, sort: Sort) -> Result<usize, Stop> {
         let spot = found.spot();
         match found.look {
             Look::Entry(at) => {
                 self.set_sort(at, sort);
                 Ok(at)
             }
-            Look::Unknown => Ok(self.tell(spot, sort)?),
+            Look::Unknown => self.tell(spot, sort),
             Look::Nothing(told) => {
                 let at = self.require(spot, told)?;
                 self.set_sort(at, sort);
@@ -113,12 +114,9 @@ impl<'a> World<'a> {
     fn require_free(&mut self, found: &Found<'_>) -> Result<(), Stop> {
         let spot = found.spot();
         match found.look {
-            Look::Unknown => Ok(self.tell_nothing(spot, false)?),
+            Look::Unknown => self.tell_nothing(spot, false),
             Look::Nothing(_) => Ok(()),
-            Look::Entry(at) => {
-                let told = self.told(at);
-                Err(self.clash_at(at, told, What::Gone))
-            }
+            Look::Entry(at) => Err(self.clash_of(at, What::Gone)),
             _ => Err(self.clash_name(spot, 0, What::Place)),
         }
     }
@@ -143,10 +141,7 @@ impl<'a> World<'a> {
         drop(found);
         let at = done?;
         let text = Vec::from_slice(self.alloc, target)?;
-        match self.entry_mut(at) {
-            Some(made) => made.target = Some(text),
-            None => drop(text),
-        }
+        self.lead(at, text);
         Ok(())
     }
 
@@ -163,7 +158,7 @@ impl<'a> World<'a> {
         if self.sort(at) == Sort::Directory {
             self.tell_sort(at, Sort::File, None)?;
         }
-        Ok(self.change(found.spot(), Held::Nothing)?)
+        self.change(found.spot(), Held::Nothing)
     }
 
     /// An empty directory was removed.
@@ -178,11 +173,10 @@ impl<'a> World<'a> {
         let at = self.entry_of(found, Sort::Directory)?;
         self.tell_sort(at, Sort::Directory, None)?;
         if self.has_entries(at) == Some(true) {
-            let told = self.told(at);
-            return Err(self.clash_at(at, told, What::Entries));
+            return Err(self.clash_of(at, What::Entries));
         }
         self.complete(at);
-        Ok(self.change(found.spot(), Held::Nothing)?)
+        self.change(found.spot(), Held::Nothing)
     }
 
     /// Tells that a directory has no names but those that are known.
@@ -233,7 +227,7 @@ impl<'a> World<'a> {
     /// Moves an entry from one name to another.
     fn move_to(&mut self, from: &Found<'_>, at: usize, to: &Found<'_>) -> Result<(), Stop> {
         self.change(from.spot(), Held::Nothing)?;
-        Ok(self.seat_entry(at, to.spot())?)
+        self.seat_entry(at, to.spot())
     }
 
     /// A file got a further name.
@@ -245,7 +239,6 @@ impl<'a> World<'a> {
         let to = self.reach_free(new)?;
         let done = self.change(to.spot(), Held::Entry(at));
         drop(to);
-        done?;
-        Ok(())
+        done
     }
 }

@@ -1,8 +1,8 @@
 //! The names of a directory. Where there are many, each is found by a number that is made of it, so that names are
 //! hardly ever compared.
 
+use crate::errors::Stop;
 use crate::nodes::Slot;
-use sftp_path::NoMemory;
 use std::alloc::Global;
 use std::collections::BTreeMap;
 use std::hash::{DefaultHasher, Hasher};
@@ -165,16 +165,16 @@ impl DirectoryNames {
         &mut self,
         alloc: Global,
         spot: Spot<'_>,
-    ) -> Result<Option<&mut Slot>, NoMemory> {
+    ) -> Result<Option<&mut Slot>, Stop> {
         let place = self.seat(alloc, spot)?;
         Ok(self.slot_at(place))
     }
 
     /// Where in the list a name is, which is added if it is not there.
-    pub(crate) fn seat(&mut self, alloc: Global, spot: Spot<'_>) -> Result<usize, NoMemory> {
+    pub(crate) fn seat(&mut self, alloc: Global, spot: Spot<'_>) -> Result<usize, Stop> {
         match self.place_again(spot) {
             Some(place) => Ok(place),
-            None => self.add(Vec::from_slice(alloc, spot.name)?),
+            None => self.add(alloc, spot.name),
         }
     }
 
@@ -246,23 +246,25 @@ impl DirectoryNames {
     }
 
     /// Adds a name of which nothing is known, and returns where it is in the list.
-    fn add(&mut self, name: Vec<u8>) -> Result<usize, NoMemory> {
+    fn add(&mut self, alloc: Global, name: &[u8]) -> Result<usize, Stop> {
         let added = self.names.len();
-        if self.names.is_empty() {
+        if added == 0 {
             self.names.reserve_exact(1)?;
         }
+        let name = Vec::from_slice(alloc, name)?;
         let slot = Slot::unknown();
         self.names.push(Named { name, slot })?;
-        if self.names.len() > self.cells.len() / 2 && self.names.len() > FEW {
-            self.number_all()?;
+        let numbered = if added >= FEW && added >= self.cells.len() / 2 {
+            self.number_all()
         } else {
-            self.number(added)?;
-        }
+            self.number(added)
+        };
+        numbered?;
         Ok(added)
     }
 
     /// Makes a table of twice as many cells, and gives each name a cell.
-    fn number_all(&mut self) -> Result<(), NoMemory> {
+    fn number_all(&mut self) -> Result<(), Stop> {
         let alloc = *self.names.allocator();
         let count = self.cells.len().saturating_mul(2).max(CELLS);
         self.others = BTreeMap::new(alloc);
@@ -275,7 +277,7 @@ impl DirectoryNames {
     }
 
     /// Gives the name at this place a cell, if there is a table.
-    fn number(&mut self, place: usize) -> Result<(), NoMemory> {
+    fn number(&mut self, place: usize) -> Result<(), Stop> {
         let Some(named) = self.names.get(place) else {
             return Ok(());
         };
@@ -294,7 +296,7 @@ impl DirectoryNames {
                 }
                 self.number_other(place)
             }
-            Err(_) => Err(NoMemory),
+            Err(_) => Err(Stop::NoMemory),
         }
     }
 
@@ -315,7 +317,7 @@ impl DirectoryNames {
     }
 
     /// Gives the name at this place, which got no cell, another number.
-    fn number_other(&mut self, place: usize) -> Result<(), NoMemory> {
+    fn number_other(&mut self, place: usize) -> Result<(), Stop> {
         let mut number = other_number_of(self.name(place));
         for _ in 0..TRIES {
             if !self.others.contains_key(&number) {
@@ -324,7 +326,7 @@ impl DirectoryNames {
             }
             number = number.wrapping_add(1);
         }
-        Err(NoMemory)
+        Err(Stop::NoMemory)
     }
 
     /// Makes of each name what it was at the start.

@@ -5,7 +5,7 @@ use crate::names::{DirectoryNames, Seat};
 use std::alloc::Global;
 
 /// What an entry is.
-#[derive(Clone, Copy, Debug, PartialEq, Eq)]
+#[derive(Clone, Copy, PartialEq, Eq)]
 pub enum Sort {
     /// Something, of no known kind.
     Unknown,

@@ -1,6 +1,6 @@
 //! What it tells that something was opened.
 
-use crate::errors::{Stop, What};
+use crate::errors::Stop;
 use crate::handles::Opened;
 use crate::look::{Found, Look};
 use crate::nodes::Sort;
@@ -11,24 +11,17 @@ use sftp_wire::{Ask, Attrs, ByteString, OpenFlags};
 impl<'a> World<'a> {
     /// A reply gave a handle.
     pub(crate) fn take_handle(&mut self, ask: &Ask, handle: &ByteString) -> Result<(), Stop> {
-        let (at, flags, is_listing) = match ask {
+        let (entry, flags, is_listing) = match ask {
             Ask::Open {
                 path,
                 pflags,
                 attrs,
-            } => {
-                let at = self.open(path.as_slice(), *pflags, attrs)?;
-                (at, *pflags, false)
-            }
-            Ask::Opendir { path } => {
-                let at = self.reach_entry(path.as_slice(), true, Sort::Directory)?;
-                self.tell_sort(at, Sort::Directory, None)?;
-                (at, 0, true)
-            }
+            } => (self.open(path.as_slice(), *pflags, attrs), *pflags, false),
+            Ask::Opendir { path } => (self.open_directory(path.as_slice()), 0, true),
             _ => return Ok(()),
         };
         let opened = Opened {
-            entry: at,
+            entry: entry?,
             told: self.replied,
             asked: self.asked,
             is_listing,
@@ -38,6 +31,13 @@ impl<'a> World<'a> {
         self.handles.insert(alloc, handle.as_slice(), opened)?;
         self.most_handles = self.most_handles.max(self.handles.len() as u64);
         Ok(())
+    }
+
+    /// OPENDIR was done.
+    fn open_directory(&mut self, path: &[u8]) -> Result<usize, Stop> {
+        let at = self.reach_entry(path, true, Sort::Directory)?;
+        self.tell_sort(at, Sort::Directory, None)?;
+        Ok(at)
     }
 
     /// OPEN was done.
@@ -62,13 +62,6 @@ impl<'a> World<'a> {
     fn open_found(&mut self, found: &Found<'_>, makes: bool, attrs: &Attrs) -> Result<usize, Stop> {
         let spot = found.spot();
         match found.look {
-            Look::Entry(at) => {
-                self.set_sort(at, Sort::File);
-                if self.sort(at) == Sort::Directory && self.settings.is_strict {
-                    self.tell_sort(at, Sort::File, None)?;
-                }
-                Ok(at)
-            }
             Look::Nothing(_) if makes => {
                 let is_assumed = self.slot(spot).is_assumed;
                 self.make_file(found, attrs, is_assumed)
@@ -77,16 +70,17 @@ impl<'a> World<'a> {
                 self.tell_nothing(spot, true)?;
                 self.make_file(found, attrs, true)
             }
-            Look::Unknown => Ok(self.tell(spot, Sort::File)?),
-            Look::Nothing(told) => {
-                if let Some(at) = self.retract(spot)? {
-                    self.set_sort(at, Sort::File);
-                    return Ok(at);
-                }
-                Err(self.clash_name(spot, told, What::There))
-            }
-            _ => Err(self.clash_name(spot, 0, What::Place)),
+            _ => self.open_entry(found),
         }
+    }
+
+    /// Opens what was there.
+    fn open_entry(&mut self, found: &Found<'_>) -> Result<usize, Stop> {
+        let at = self.entry_of(found, Sort::File)?;
+        if self.sort(at) == Sort::Directory && self.settings.is_strict {
+            self.tell_sort(at, Sort::File, None)?;
+        }
+        Ok(at)
     }
 
     /// Makes a file; `is_chosen` says whether it may as well have been there.

@@ -20,7 +20,7 @@ const FREE_BYTES: u64 = 1 << 20;
 const PLACE_BYTES: u64 = 128;
 
 /// What a pass comes to.
-#[derive(Clone, Copy, Debug, PartialEq, Eq)]
+#[derive(Clone, Copy, PartialEq, Eq)]
 pub(crate) enum Passed {
     /// Every reply fits.
     Clean,
@@ -30,6 +30,15 @@ pub(crate) enum Passed {
     Stuck,
     /// The pass took more steps, or more memory, than it may.
     Over,
+}
+
+/// What a pass comes to that stops for this reason.
+fn passed_by(stop: Stop) -> Result<Passed, NoMemory> {
+    match stop {
+        Stop::Clash => Ok(Passed::Stuck),
+        Stop::Again => Ok(Passed::Dirty),
+        Stop::NoMemory => Err(NoMemory),
+    }
 }
 
 impl<'a> World<'a> {
@@ -62,11 +71,8 @@ impl<'a> World<'a> {
         for _ in 0..u64::MAX {
             match exchanges.next()? {
                 Some(exchange) => {
-                    match self.take(exchange) {
-                        Ok(()) => {}
-                        Err(Stop::Clash) => return Ok(Passed::Stuck),
-                        Err(Stop::Again) => return Ok(Passed::Dirty),
-                        Err(Stop::NoMemory) => return Err(NoMemory),
+                    if let Err(stop) = self.take(exchange) {
+                        return passed_by(stop);
                     }
                 }
                 None => break,
@@ -105,7 +111,7 @@ impl File {
         self.last = 0;
         self.is_appended = false;
         self.is_blurred = false;
-        self.written = Pieces::new(alloc);
+        drop(std::mem::replace(&mut self.written, Pieces::new(alloc)));
         if self.is_guessed {
             let (least, most) = self.unguessed;
             self.least = least;
@@ -153,7 +159,7 @@ fn bytes_of(facts: &[Fact]) -> u64 {
 impl<'a> World<'a> {
     /// Goes back to the start of the session, with what is known of it.
     pub(crate) fn rewind(&mut self) -> Result<(), NoMemory> {
-        self.handles = Handles::new(self.alloc);
+        drop(std::mem::replace(&mut self.handles, Handles::new(self.alloc)));
         self.asked = 0;
         self.replied = 0;
         self.teller = 0;
@@ -172,7 +178,7 @@ impl<'a> World<'a> {
     /// Rewinds an entry; one that the session made is there no more.
     fn rewind_at(&mut self, at: usize) -> Result<(), NoMemory> {
         let alloc = self.alloc;
-        let Some(entry) = self.nodes.get_mut(at) else {
+        let Some(entry) = self.entry_mut(at) else {
             return Ok(());
         };
         if entry.is_old {

@@ -5,7 +5,7 @@ use std::alloc::Global;
 use std::collections::{BTreeMap, btree_map};
 
 /// Some bytes in a row.
-#[derive(Clone, Copy, Debug)]
+#[derive(Clone, Copy)]
 pub(crate) struct Piece {
     /// How many they are.
     pub(crate) len: u64,
@@ -36,7 +36,7 @@ impl Piece {
 }
 
 /// A piece as it is kept: shorter than a packet.
-#[derive(Clone, Copy, Debug)]
+#[derive(Clone, Copy)]
 pub(crate) struct Kept {
     len: u32,
     told: u32,

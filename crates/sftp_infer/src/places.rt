@@ -4,11 +4,11 @@ use crate::errors::{Clash, Stop, What};
 use crate::facts::{Fact, Says};
 use crate::names::{Seat, Spot};
 use crate::world::World;
-use sftp_path::{DEPTH_LIMIT, NoMemory};
+use sftp_path::DEPTH_LIMIT;
 
 impl<'a> World<'a> {
     /// Learns a fact about a place of the start.
-    pub(crate) fn learn(&mut self, parent: usize, name: &[u8], says: Says) -> Result<(), NoMemory> {
+    pub(crate) fn learn(&mut self, parent: usize, name: &[u8], says: Says) -> Result<(), Stop> {
         match self.old_place(parent, name) {
             Ok(place) => {
                 let told = self.replied;
@@ -25,7 +25,7 @@ impl<'a> World<'a> {
     }
 
     /// Keeps what is made up.
-    pub(crate) fn invent(&mut self, place: Vec<u8>, says: Says) -> Result<(), NoMemory> {
+    pub(crate) fn invent(&mut self, place: Vec<u8>, says: Says) -> Result<(), Stop> {
         let told = self.replied;
         let fact = Fact { place, says, told };
         self.taken = self.taken.saturating_add(fact.bytes());
@@ -34,12 +34,7 @@ impl<'a> World<'a> {
     }
 
     /// Proposes a fact about a place of the start.
-    pub(crate) fn propose(
-        &mut self,
-        parent: usize,
-        name: &[u8],
-        says: Says,
-    ) -> Result<(), NoMemory> {
+    pub(crate) fn propose(&mut self, parent: usize, name: &[u8], says: Says) -> Result<(), Stop> {
         match self.old_place(parent, name) {
             Ok(place) => {
                 let told = self.replied;
@@ -54,41 +49,60 @@ impl<'a> World<'a> {
     }
 
     /// The text of a place at the start.
-    pub(crate) fn old_place(&self, parent: usize, name: &[u8]) -> Result<Vec<u8>, NoMemory> {
+    pub(crate) fn old_place(&self, parent: usize, name: &[u8]) -> Result<Vec<u8>, Stop> {
         self.place(parent, name, true)
     }
 
     /// The text of a place, at the start or now.
-    pub(crate) fn place(
-        &self,
-        parent: usize,
-        name: &[u8],
-        is_old: bool,
-    ) -> Result<Vec<u8>, NoMemory> {
+    pub(crate) fn place(&self, parent: usize, name: &[u8], is_old: bool) -> Result<Vec<u8>, Stop> {
+        let above = self.directories_to(parent, is_old)?;
+        let mut text = Vec::new(self.alloc);
+        let put = self.put_place(above.as_slice(), name, is_old, &mut text);
+        drop(above);
+        match put {
+            Ok(()) => Ok(text),
+            Err(stop) => {
+                drop(text);
+                Err(stop)
+            }
+        }
+    }
+
+    /// A directory, and those above it but for the root.
+    fn directories_to(&self, parent: usize, is_old: bool) -> Result<Vec<usize>, Stop> {
         let mut above: Vec<usize> = Vec::new(self.alloc);
         let mut at = parent;
         for _ in 0..DEPTH_LIMIT.saturating_mul(2) {
             if at == 0 {
-                break;
+                return Ok(above);
             }
             above.push(at)?;
             at = self.parent_of(at, is_old);
         }
-        let mut text = Vec::new(self.alloc);
+        Ok(above)
+    }
+
+    /// Appends the text of the place of a name below directories, the last of which is the highest.
+    fn put_place(
+        &self,
+        above: &[usize],
+        name: &[u8],
+        is_old: bool,
+        text: &mut Vec<u8>,
+    ) -> Result<(), Stop> {
         for at in above.iter().rev() {
-            self.put_name(*at, is_old, &mut text)?;
+            self.put_name(*at, is_old, text)?;
         }
         if !name.is_empty() || text.is_empty() {
             text.push(b'/')?;
             text.extend_from_slice(name)?;
         }
-        drop(above);
-        Ok(text)
+        Ok(())
     }
 
     /// The directory that an entry is in, at the start or now.
     fn parent_of(&self, at: usize, is_old: bool) -> usize {
-        match self.nodes.get(at) {
+        match self.entry(at) {
             Some(entry) if is_old => entry.old_seat.parent,
             Some(entry) => entry.seat.parent,
             None => 0,
@@ -97,16 +111,16 @@ impl<'a> World<'a> {
 
     /// The name at a seat.
     pub(crate) fn name_at(&self, seat: Seat) -> &[u8] {
-        match self.nodes.get(seat.parent) {
+        match self.entry(seat.parent) {
             Some(directory) => directory.names.name(seat.place),
             None => &[],
         }
     }
 
     /// Appends a slash and the name of an entry.
-    fn put_name(&self, at: usize, is_old: bool, text: &mut Vec<u8>) -> Result<(), NoMemory> {
+    fn put_name(&self, at: usize, is_old: bool, text: &mut Vec<u8>) -> Result<(), Stop> {
         text.push(b'/')?;
-        if let Some(entry) = self.nodes.get(at) {
+        if let Some(entry) = self.entry(at) {
             let seat = if is_old { entry.old_seat } else { entry.seat };
             text.extend_from_slice(self.name_at(seat))?;
         }
@@ -114,8 +128,8 @@ impl<'a> World<'a> {
     }
 
     /// The text of the place where an entry is now.
-    pub(crate) fn place_now(&self, at: usize) -> Result<Vec<u8>, NoMemory> {
-        match self.nodes.get(at) {
+    pub(crate) fn place_now(&self, at: usize) -> Result<Vec<u8>, Stop> {
+        match self.entry(at) {
             Some(entry) if at != 0 => {
                 self.place(entry.seat.parent, self.name_at(entry.seat), false)
             }
@@ -123,11 +137,17 @@ impl<'a> World<'a> {
         }
     }
 
+    /// The contradiction of the reply at hand with the record that told of an entry.
+    pub(crate) fn clash_of(&mut self, at: usize, what: What) -> Stop {
+        let told = self.told(at);
+        self.clash_at(at, told, what)
+    }
+
     /// The contradiction of the reply at hand with what this record told.
     pub(crate) fn clash_at(&mut self, at: usize, told: u64, what: What) -> Stop {
         match self.place_now(at) {
             Ok(place) => self.clash(place, told, what),
-            Err(_) => Stop::NoMemory,
+            Err(stop) => stop,
         }
     }
 
@@ -147,21 +167,22 @@ impl<'a> World<'a> {
     }
 
     /// Notes what the two records of the contradiction at hand say.
-    pub(crate) fn note_texts(&mut self, told: &[u8], found: &[u8]) -> Result<(), Stop> {
-        let told = Vec::from_slice(self.alloc, told)?;
+    pub(crate) fn note_texts(&mut self, told: Vec<u8>, found: &[u8]) -> Result<(), Stop> {
         match Vec::from_slice(self.alloc, found) {
-            Ok(found) => self.set_texts(told, found),
+            Ok(found) => {
+                self.set_texts(told, found);
+                Ok(())
+            }
             Err(_) => {
                 drop(told);
-                return Err(Stop::NoMemory);
+                Err(Stop::NoMemory)
             }
         }
-        Ok(())
     }
 
     fn set_texts(&mut self, told: Vec<u8>, found: Vec<u8>) {
         match &mut self.clash {
-            Some(clash) => clash.texts = Some((told, found)),
+            Some(clash) => drop(std::mem::replace(&mut clash.texts, Some((told, found)))),
             None => {
                 drop(told);
                 drop(found);
@@ -179,7 +200,7 @@ impl<'a> World<'a> {
                 }
                 self.clash(place, told, what)
             }
-            Err(_) => Stop::NoMemory,
+            Err(stop) => stop,
         }
     }
 }

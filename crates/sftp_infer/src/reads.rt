@@ -19,6 +19,16 @@ enum Segment {
     Fresh(u64),
 }
 
+/// A byte that a READ shows where another one is known.
+#[derive(Clone, Copy)]
+struct Byte {
+    offset: u64,
+    known: u8,
+    /// The record that told the one that is known.
+    told: u64,
+    shown: u8,
+}
+
 /// The place of the first byte in which these differ.
 fn first_difference(one: &[u8], other: &[u8]) -> Option<usize> {
     if one == other {
@@ -122,10 +132,7 @@ impl<'a> World<'a> {
     /// Takes the first bytes of a piece, and says how many; none if they are to be looked at again.
     fn read_segment(&mut self, at: usize, offset: u64, piece: Piece) -> Result<u64, Stop> {
         match self.segment(at, offset, piece.len) {
-            Segment::Bytes(known, len) => {
-                self.compare(at, offset, known, piece, len)?;
-                Ok(len)
-            }
+            Segment::Bytes(known, len) => self.compare(at, offset, known, piece, len),
             Segment::Zeros(len) => self.compare_zeros(at, offset, piece, len),
             Segment::Fresh(len) => {
                 self.show(at, offset, piece, len)?;
@@ -160,26 +167,46 @@ impl<'a> World<'a> {
         known: Piece,
         piece: Piece,
         len: u64,
-    ) -> Result<(), Stop> {
+    ) -> Result<u64, Stop> {
         let session = self.session;
-        let end = offset.saturating_add(piece.len);
         let one = part(session, known.from, len);
         let other = part(session, piece.from, len);
         match first_difference(one, other) {
-            None => Ok(()),
+            None => Ok(len),
             Some(place) => {
-                let left = one.get(place).copied().unwrap_or(0);
-                let right = other.get(place).copied().unwrap_or(0);
+                let byte = Byte {
+                    offset: offset.saturating_add(place as u64),
+                    known: one.get(place).copied().unwrap_or(0),
+                    told: known.told,
+                    shown: other.get(place).copied().unwrap_or(0),
+                };
                 self.revive(at)?;
-                if self.is_guessed(at) {
-                    self.propose_sizes(at, offset, piece)?;
-                    self.propose_of(at, Says::Size(end))?;
-                }
-                let offset = offset.saturating_add(place as u64);
-                self.propose_same(at, Some((offset, right)))?;
-                Err(self.clash_at(at, known.told, What::Byte(offset, left, right)))
+                self.refuse_byte(at, offset, piece, byte)
             }
         }
+    }
+
+    /// Refuses a byte that a READ at an offset shows, since another one is known there.
+    fn refuse_byte(
+        &mut self,
+        at: usize,
+        offset: u64,
+        piece: Piece,
+        byte: Byte,
+    ) -> Result<u64, Stop> {
+        self.propose_other_sizes(at, offset, piece)?;
+        self.propose_same(at, Some((byte.offset, byte.shown)))?;
+        let what = What::Byte(byte.offset, byte.known, byte.shown);
+        Err(self.clash_at(at, byte.told, what))
+    }
+
+    /// Proposes other sizes at the start for a file whose size there is assumed, by what a READ at an offset shows.
+    fn propose_other_sizes(&mut self, at: usize, offset: u64, piece: Piece) -> Result<(), Stop> {
+        if !self.is_guessed(at) {
+            return Ok(());
+        }
+        self.propose_sizes(at, offset, piece)?;
+        self.propose_of(at, Says::Size(offset.saturating_add(piece.len)))
     }
 
     /// Whether the size of a file at the start is assumed.
@@ -203,20 +230,23 @@ impl<'a> World<'a> {
                 if self.revive(at)? && self.can_show(at, offset) {
                     return Ok(0);
                 }
-                if self.is_guessed(at) {
-                    let end = offset.saturating_add(piece.len);
-                    self.propose_sizes(at, offset, piece)?;
-                    self.propose_of(at, Says::Size(end))?;
-                }
-                let offset = offset.saturating_add(place as u64);
-                let told = match self.entry(at) {
-                    Some(entry) if entry.file.sized == 0 => entry.file.most_told,
-                    Some(entry) => entry.file.sized,
-                    None => 0,
+                let byte = Byte {
+                    offset: offset.saturating_add(place as u64),
+                    known: 0,
+                    told: self.end_told(at),
+                    shown: byte,
                 };
-                self.propose_same(at, Some((offset, byte)))?;
-                Err(self.clash_at(at, told, What::Byte(offset, 0, byte)))
+                self.refuse_byte(at, offset, piece, byte)
             }
+        }
+    }
+
+    /// The record that told where the bytes of a file end that may be any.
+    fn end_told(&self, at: usize) -> u64 {
+        match self.entry(at) {
+            Some(entry) if entry.file.sized == 0 => entry.file.most_told,
+            Some(entry) => entry.file.sized,
+            None => 0,
         }
     }
 

@@ -14,7 +14,7 @@ use sftp_wire::{Ask, OpenFlags, status};
 const FILE_LIMIT: u64 = 16_777_216;
 
 /// The codes that a reason may have.
-#[derive(Clone, Copy, PartialEq, Eq)]
+#[derive(Clone, Copy)]
 pub(crate) enum Codes {
     NoSuchFile,
     Failure,
@@ -334,26 +334,13 @@ impl<'a> World<'a> {
         let spot = found.spot();
         match found.look {
             Look::Entry(at) => self.grant_of_entry(at, asks),
-            Look::Unknown if asks == Asks::Nothing => Ok(self.tell_nothing(spot, true)?),
-            Look::Unknown => {
-                let at = self.tell(spot, asks.sort())?;
-                if asks == Asks::Astray {
-                    return self.lead_astray(at);
-                }
-                Ok(())
-            }
-            Look::Blind(at) if asks == Asks::Astray => self.lead_astray(at),
+            Look::Unknown => self.grant_unknown(spot, asks),
             Look::UnknownWay => self.grant_way(spot, asks),
             Look::Unsure(at) => {
-                let sort = if asks == Asks::Blocked {
-                    Sort::File
-                } else {
-                    Sort::Directory
-                };
-                self.set_sort(at, sort);
+                self.set_sort(at, asks.sort_of_way());
                 Ok(())
             }
-            Look::Blind(at) => self.invent_target(at),
+            Look::Blind(at) => self.grant_target(at, asks),
             Look::Nothing(_) | Look::NoEntry(_) => {
                 self.retract(spot)?;
                 Ok(())
@@ -362,16 +349,35 @@ impl<'a> World<'a> {
         }
     }
 
+    /// Nothing is known of the name at the end.
+    fn grant_unknown(&mut self, spot: Spot<'_>, asks: Asks) -> Result<(), Stop> {
+        match asks {
+            Asks::Nothing => self.tell_nothing(spot, true),
+            Asks::Astray => {
+                let at = self.tell(spot, Sort::Link)?;
+                self.lead_astray(at)
+            }
+            _ => {
+                self.tell(spot, asks.sort())?;
+                Ok(())
+            }
+        }
+    }
+
+    /// The target of a link is not known.
+    fn grant_target(&mut self, at: usize, asks: Asks) -> Result<(), Stop> {
+        match asks {
+            Asks::Astray => self.lead_astray(at),
+            _ => self.invent_target(at),
+        }
+    }
+
     /// Nothing is known of a name on the way.
     fn grant_way(&mut self, spot: Spot<'_>, asks: Asks) -> Result<(), Stop> {
         match asks {
-            Asks::Lost | Asks::Astray => Ok(self.tell_nothing(spot, true)?),
-            Asks::Blocked => {
-                self.tell(spot, Sort::File)?;
-                Ok(())
-            }
+            Asks::Lost | Asks::Astray => self.tell_nothing(spot, true),
             _ => {
-                self.tell(spot, Sort::Directory)?;
+                self.tell(spot, asks.sort_of_way())?;
                 Ok(())
             }
         }
@@ -382,9 +388,9 @@ impl<'a> World<'a> {
             self.set_sort(at, asks.sort());
             return Ok(());
         }
-        if asks == Asks::Full && self.has_entries(at).is_none() {
-            return self.invent_entry(at);
+        match asks {
+            Asks::Full if self.has_entries(at).is_none() => self.invent_entry(at),
+            _ => Ok(()),
         }
-        Ok(())
     }
 }

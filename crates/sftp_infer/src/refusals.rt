@@ -2,7 +2,6 @@
 
 use crate::asks::Seen;
 use crate::errors::{Stop, What};
-use crate::facts::Says;
 use crate::look::{Found, Look};
 use crate::reasons::{Case, Reason, are_bad, case_of, has_loose_end, is_bad_target};
 use crate::world::World;
@@ -52,6 +51,32 @@ impl Choice {
         }
         if is_forced {
             self.is_forced = true;
+        }
+    }
+}
+
+/// Where a path ends: what it leads to, and the directory where the walk ended.
+#[derive(Clone, Copy)]
+struct End {
+    look: Look,
+    parent: usize,
+}
+
+impl End {
+    /// Whether it is the root, or nowhere at all.
+    fn is_root(self) -> bool {
+        match self.look {
+            Look::Entry(0) => true,
+            Look::Bad => true,
+            _ => false,
+        }
+    }
+
+    /// Whether it is a place, at which something may be or not.
+    fn is_place(self) -> bool {
+        match self.look {
+            Look::Entry(_) | Look::Nothing(_) | Look::Unknown => true,
+            _ => false,
         }
     }
 }
@@ -116,45 +141,37 @@ impl<'a> World<'a> {
     /// Whether the root would be moved, replaced or removed, or something moved into itself.
     fn is_of_places(&self, ask: &Ask) -> Result<bool, Stop> {
         match ask {
-            Ask::Rmdir { path } => self.is_root(path.as_slice()),
+            Ask::Rmdir { path } => Ok(self.end_of(path.as_slice())?.is_root()),
             Ask::Rename { oldpath, newpath } => {
-                let (old, new) = (oldpath.as_slice(), newpath.as_slice());
-                Ok(self.is_root(old)? || self.is_moved_inside(old, new)?)
+                let old = self.end_of(oldpath.as_slice())?;
+                let new = self.end_of(newpath.as_slice())?;
+                Ok(old.is_root() || self.is_moved_inside(old, new))
             }
             Ask::PosixRename { oldpath, newpath } => {
-                let (old, new) = (oldpath.as_slice(), newpath.as_slice());
-                Ok(self.is_root(old)? || self.is_root(new)? || self.is_moved_inside(old, new)?)
+                let old = self.end_of(oldpath.as_slice())?;
+                let new = self.end_of(newpath.as_slice())?;
+                Ok(old.is_root() || new.is_root() || self.is_moved_inside(old, new))
             }
             _ => Ok(false),
         }
     }
 
-    fn is_root(&self, path: &[u8]) -> Result<bool, Stop> {
+    /// Where a path ends, whose last link is not followed.
+    fn end_of(&self, path: &[u8]) -> Result<End, Stop> {
         let found = self.look(path, false)?;
-        let look = found.look;
+        let end = End {
+            look: found.look,
+            parent: found.parent,
+        };
         drop(found);
-        Ok(match look {
-            Look::Entry(0) => true,
-            Look::Bad => true,
-            _ => false,
-        })
+        Ok(end)
     }
 
     /// Whether the old path leads to a directory on the way to the new one.
-    fn is_moved_inside(&self, old: &[u8], new: &[u8]) -> Result<bool, Stop> {
-        let from = self.look(old, false)?;
-        let look = from.look;
-        drop(from);
-        let to = self.look(new, false)?;
-        let (end, parent) = (to.look, to.parent);
-        drop(to);
-        let is_place = match end {
-            Look::Entry(_) | Look::Nothing(_) | Look::Unknown => true,
+    fn is_moved_inside(&self, old: End, new: End) -> bool {
+        match old.look {
+            Look::Entry(moved) if new.is_place() => self.is_above(moved, new.parent),
             _ => false,
-        };
-        match look {
-            Look::Entry(moved) if is_place => Ok(self.is_above(moved, parent)),
-            _ => Ok(false),
         }
     }
 
@@ -257,30 +274,27 @@ impl<'a> World<'a> {
     /// No reason is left. What is at the end of the first path may be something else than it seems.
     fn leave_unexplained(&mut self, case: &Case<'_>) -> Result<(), Stop> {
         let found = self.look(case.old, case.follows)?;
-        let stop = self.unexplained(&found);
+        let done = self.unexplained(&found);
         drop(found);
-        Err(stop?)
+        done
     }
 
-    fn unexplained(&mut self, found: &Found<'_>) -> Result<Stop, Stop> {
-        match found.look {
+    fn unexplained(&mut self, found: &Found<'_>) -> Result<(), Stop> {
+        let told = match found.look {
             Look::Entry(at) | Look::NotDir(at) | Look::Unsure(at) | Look::Blind(at) => {
-                if !self.is_shown(at) {
-                    let target = self.invented(at, None)?;
-                    self.propose_of(at, Says::Link(target))?;
-                }
-                let told = self.told(at);
-                let sort = self.sort(at);
-                Ok(self.clash_at(at, told, What::Refused(Some(sort))))
+                return self.unexplained_at(at);
             }
-            Look::Nothing(told) | Look::NoEntry(told) => {
-                let what = What::Refused(None);
-                Ok(self.clash_name(found.spot(), told, what))
-            }
-            _ => {
-                let what = What::Refused(None);
-                Ok(self.clash_name(found.spot(), 0, what))
-            }
+            Look::Nothing(told) | Look::NoEntry(told) => told,
+            _ => 0,
+        };
+        Err(self.clash_name(found.spot(), told, What::Refused(None)))
+    }
+
+    fn unexplained_at(&mut self, at: usize) -> Result<(), Stop> {
+        if !self.is_shown(at) {
+            self.propose_link_astray(at, None)?;
         }
+        let sort = self.sort(at);
+        Err(self.clash_of(at, What::Refused(Some(sort))))
     }
 }

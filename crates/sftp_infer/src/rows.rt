@@ -353,12 +353,14 @@ impl<'a> World<'a> {
         };
         match &link.target {
             Some(target) => put_target(path, target.as_slice(), out),
-            None => {
-                let target = self.invented(at, link.length)?;
-                let put = put_target(path, target.as_slice(), out);
-                drop(target);
-                put
-            }
+            None => match self.invented(at, link.length) {
+                Ok(target) => {
+                    let put = put_target(path, target.as_slice(), out);
+                    drop(target);
+                    put
+                }
+                Err(_) => Err(NoMemory),
+            },
         }
     }
 

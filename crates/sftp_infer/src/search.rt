@@ -73,6 +73,15 @@ pub enum Step<'a> {
     TooLarge(Excess),
 }
 
+impl Step<'_> {
+    fn is_nothing(&self) -> bool {
+        match self {
+            Step::Nothing => true,
+            _ => false,
+        }
+    }
+}
+
 /// A search for a tree at the start of a session.
 #[derive(Drop)]
 pub struct Search<'a> {
@@ -110,14 +119,6 @@ impl<'a> Search<'a> {
         session: &'a [u8],
         settings: Settings<'a>,
     ) -> Result<Search<'a>, NoMemory> {
-        let mut choices = Vec::new(alloc);
-        choices.push(Choice {
-            parent: None,
-            facts: Vec::new(alloc),
-            take: None,
-            cost: 0,
-            is_waiting: true,
-        })?;
         let mut search = Search {
             alloc,
             session,
@@ -125,7 +126,7 @@ impl<'a> Search<'a> {
             home: Vec::from_slice(alloc, settings.home.unwrap_or(b"/"))?,
             is_home_told: settings.home.is_some(),
             requests: 0,
-            choices,
+            choices: Vec::new(alloc),
             passes: 0,
             work: 0,
             is_spent: false,
@@ -135,13 +136,25 @@ impl<'a> Search<'a> {
             last: 0,
             guesses: Vec::new(alloc),
         };
-        match search.look_first() {
+        match search.prepare() {
             Ok(()) => Ok(search),
             Err(error) => {
                 drop(search);
                 Err(error)
             }
         }
+    }
+
+    /// Adds a choice with no facts, and looks at the session.
+    fn prepare(&mut self) -> Result<(), NoMemory> {
+        self.add(Choice {
+            parent: None,
+            facts: Vec::new(self.alloc),
+            take: None,
+            cost: 0,
+            is_waiting: true,
+        })?;
+        self.look_first()
     }
 
     /// How many passes were made.
@@ -177,10 +190,11 @@ impl<'a> Search<'a> {
             if self.passes >= self.settings.passes || self.work_left() == 0 || self.is_full() {
                 break;
             }
-            match self.try_choice(choice)? {
-                Step::Nothing => {}
-                step => return Ok(step),
+            let step = self.try_choice(choice)?;
+            if !step.is_nothing() {
+                return Ok(step);
             }
+            drop(step);
         }
         self.is_spent = true;
         Ok(Step::Nothing)
@@ -250,14 +264,17 @@ impl<'a> Search<'a> {
     /// Begins with the facts of a choice, and of those that it adds to.
     fn begin(&self, choice: usize, world: &mut World<'a>) -> Result<(), Stop> {
         let chain = self.chain(choice)?;
-        let mut begun = Ok(());
-        for index in chain.iter().rev() {
-            if begun.is_ok() {
-                begun = self.begin_choice(*index, world);
-            }
-        }
+        let begun = self.begin_each(chain.as_slice(), world);
         drop(chain);
         begun
+    }
+
+    /// Begins with the facts of choices, the last one first.
+    fn begin_each(&self, chain: &[usize], world: &mut World<'a>) -> Result<(), Stop> {
+        for index in chain.iter().rev() {
+            self.begin_choice(*index, world)?;
+        }
+        Ok(())
     }
 
     fn begin_choice(&self, index: usize, world: &mut World<'a>) -> Result<(), Stop> {
@@ -446,10 +463,16 @@ impl<'a> Search<'a> {
         if found < self.furthest || self.clash.is_some() && found == self.furthest {
             return Ok(());
         }
-        self.furthest = found;
-        self.clash = world.clash.take();
-        self.best = best_of(world)?;
+        self.set_clash(found, world.clash.take());
+        let best = best_of(world)?;
+        drop(std::mem::replace(&mut self.best, best));
         Ok(())
+    }
+
+    /// Keeps a contradiction, of which the second record has this number.
+    fn set_clash(&mut self, found: u64, clash: Option<Clash>) {
+        self.furthest = found;
+        drop(std::mem::replace(&mut self.clash, clash));
     }
 
     /// Takes that an audit refused the last tree at this record, with no reason that a pass knows: refusals before it
@@ -461,14 +484,14 @@ impl<'a> Search<'a> {
         let _ = self.guess_otherwise(last, cost, guesses.as_slice(), found, false);
         drop(guesses);
         if found > self.furthest {
-            self.furthest = found;
-            self.clash = Some(Clash {
+            let clash = Clash {
                 told: 0,
                 found,
                 place: Vec::new(self.alloc),
                 what: What::Refused(None),
                 texts: None,
-            });
+            };
+            self.set_clash(found, Some(clash));
         }
     }
 }
@@ -485,34 +508,43 @@ impl<'a> Search<'a> {
     /// Counts the requests and the names in replies, and looks for the home.
     pub(crate) fn look_first(&mut self) -> Result<(), NoMemory> {
         let mut exchanges = Exchanges::new(self.alloc, self.session);
+        let looked = self.look_at_each(&mut exchanges);
+        drop(exchanges);
+        looked
+    }
+
+    fn look_at_each(&mut self, exchanges: &mut Exchanges<'_>) -> Result<(), NoMemory> {
         for _ in 0..u64::MAX {
             match exchanges.next()? {
-                Some(exchange) => {
-                    self.requests = self.requests.saturating_add(1);
-                    let names = count_of_names(exchange.answer);
-                    self.requests = self.requests.saturating_add(names);
-                    self.look_at(exchange.ask, exchange.answer)?;
-                }
-                None => break,
+                Some(exchange) => self.look_at(exchange.ask, exchange.answer)?,
+                None => return Ok(()),
             }
         }
-        drop(exchanges);
         Ok(())
     }
 
     fn look_at(&mut self, ask: &Ask, answer: &Answer) -> Result<(), NoMemory> {
+        let steps = count_of_names(answer).saturating_add(1);
+        self.requests = self.requests.saturating_add(steps);
         if self.is_home_told {
             return Ok(());
         }
-        if let (Ask::Realpath { path }, Answer::Name(names)) = (ask, answer) {
-            if let Some(item) = names.as_slice().first() {
-                if let Some(home) = home_of(path.as_slice(), item.filename.as_slice()) {
-                    self.home = Vec::from_slice(self.alloc, home)?;
-                    self.is_home_told = true;
-                }
-            }
+        if let Some(home) = home_told(ask, answer) {
+            self.home = Vec::from_slice(self.alloc, home)?;
+            self.is_home_told = true;
         }
         Ok(())
+    }
+}
+
+/// The home that an exchange tells.
+fn home_told<'t>(ask: &Ask, answer: &'t Answer) -> Option<&'t [u8]> {
+    match (ask, answer) {
+        (Ask::Realpath { path }, Answer::Name(names)) => {
+            let item = names.as_slice().first()?;
+            home_of(path.as_slice(), item.filename.as_slice())
+        }
+        _ => None,
     }
 }
 

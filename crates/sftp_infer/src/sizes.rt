@@ -6,7 +6,6 @@ use crate::facts::Says;
 use crate::nodes::{Held, Sort};
 use crate::pieces::{Known, Piece};
 use crate::world::World;
-use sftp_path::NoMemory;
 
 impl<'a> World<'a> {
     /// Takes the size that a reply shows of a file.
@@ -14,14 +13,18 @@ impl<'a> World<'a> {
         self.most_bytes = self.most_bytes.max(size);
         let (least, most) = self.size_now(at);
         if size < least || size > most {
-            if self.revive(at)? {
-                return self.tell_size_of_old(at, size);
+            if !self.revive(at)? {
+                return self.refuse_size(at, least, most, size);
             }
-            self.propose_size(at, size)?;
-            self.propose_same(at, None)?;
-            return Err(self.clash_size(at, least, most, size));
         }
         self.tell_size_of_old(at, size)
+    }
+
+    /// Refuses a size that the file cannot have.
+    fn refuse_size(&mut self, at: usize, least: u64, most: u64, size: u64) -> Result<(), Stop> {
+        self.propose_size(at, size)?;
+        self.propose_same(at, None)?;
+        Err(self.clash_size(at, least, most, size))
     }
 
     /// The fewest and the most bytes that a file may have now.
@@ -48,11 +51,13 @@ impl<'a> World<'a> {
             Some(entry) if entry.file.is_guessed => Some((entry.file.least, entry.file.furthest)),
             _ => None,
         };
-        if let Some((least, furthest)) = guess {
-            let more = size.saturating_sub(furthest);
-            self.propose_of(at, Says::Size(least.saturating_add(more)))?;
+        match guess {
+            Some((least, furthest)) => {
+                let more = size.saturating_sub(furthest);
+                self.propose_of(at, Says::Size(least.saturating_add(more)))
+            }
+            None => Ok(()),
         }
-        Ok(())
     }
 
     /// Takes a size, which the file may have, for what it says of the start.
@@ -78,10 +83,10 @@ impl<'a> World<'a> {
     /// Tells that a file has at least so many bytes now.
     pub(crate) fn tell_least(&mut self, at: usize, size: u64) -> Result<(), Stop> {
         let (_, most) = self.size_now(at);
-        if size > most && !self.revive(at)? {
-            self.propose_size(at, size)?;
-            self.propose_same(at, None)?;
-            return Err(self.clash_size(at, 0, most, size));
+        if size > most {
+            if !self.revive(at)? {
+                return self.refuse_size(at, 0, most, size);
+            }
         }
         let told = self.teller;
         if let Some(entry) = self.entry_mut(at) {
@@ -190,10 +195,8 @@ impl<'a> World<'a> {
             return Ok(false);
         };
         let done = self.start_with(parent, name.as_slice(), at);
-        let learned = self.learn(parent, name.as_slice(), Says::File);
         drop(name);
         done?;
-        learned?;
         self.age(at);
         if self.owner_by == at && self.owner.is_some() {
             self.owner = None;
@@ -205,14 +208,14 @@ impl<'a> World<'a> {
         Ok(true)
     }
 
-    /// A name led to this entry at the start, which no reply says alone.
-    fn start_with(&mut self, parent: usize, name: &[u8], at: usize) -> Result<(), NoMemory> {
+    /// Learns that a name led to this entry, a file, at the start, which no reply says alone.
+    fn start_with(&mut self, parent: usize, name: &[u8], at: usize) -> Result<(), Stop> {
         let spot = self.spot(parent, name);
         if let Some(slot) = self.slot_mut(spot)? {
             slot.start = Some(Held::Entry(at));
             slot.is_assumed = false;
         }
-        Ok(())
+        self.learn(parent, name, Says::File)
     }
 
     /// Whether something was written at the end of a file, wherever that was.
@@ -226,27 +229,23 @@ impl<'a> World<'a> {
     /// Tells that a file had this size at the start.
     pub(crate) fn tell_start_size(&mut self, at: usize, size: u64) -> Result<(), Stop> {
         let told = self.teller;
-        let (least, most, is_guessed) = match self.entry(at) {
-            Some(entry) => (entry.file.least, entry.file.most, entry.file.is_guessed),
-            None => return Ok(()),
+        let Some(entry) = self.entry_mut(at) else {
+            return Ok(());
         };
+        let file = &mut entry.file;
+        let (least, most, is_guessed) = (file.least, file.most, file.is_guessed);
         if size >= least && size <= most {
-            if let Some(entry) = self.entry_mut(at) {
-                entry.file.least = size;
-                entry.file.most = size;
-                entry.file.least_told = told;
-                entry.file.most_told = told;
-            }
+            file.least = size;
+            file.most = size;
+            file.least_told = told;
+            file.most_told = told;
             return Ok(());
         }
+        let told = file.least_told.max(file.most_told);
         if is_guessed {
             self.propose_of(at, Says::Size(size))?;
         }
         let known = if size < least { least } else { most };
-        let told = match self.entry(at) {
-            Some(entry) => entry.file.least_told.max(entry.file.most_told),
-            None => 0,
-        };
         Err(self.clash_at(at, told, What::Size(known, size)))
     }
 
@@ -323,25 +322,30 @@ impl<'a> World<'a> {
         offset: u64,
         piece: Piece,
     ) -> Result<(), Stop> {
-        let appended = self.appended(at)?;
+        let mut appended = Vec::new(self.alloc);
+        let put = self.put_appended(at, &mut appended);
         let session = self.session;
         let end = piece.from.saturating_add(SHOWN.min(piece.len as usize));
         let shown = session.get(piece.from..end).unwrap_or(&[]);
-        let sizes = sizes(shown, appended.as_slice(), offset);
+        let (at_end, inside) = sizes(shown, appended.as_slice(), offset);
         drop(appended);
-        for size in sizes {
-            if let Some(size) = size {
-                self.propose_of(at, Says::Size(size))?;
-            }
-        }
-        Ok(())
+        put?;
+        self.propose_if_some(at, at_end)?;
+        self.propose_if_some(at, inside)
     }
 
-    /// What was appended to a file whose size at the start is assumed, the first bytes of it.
-    fn appended(&self, at: usize) -> Result<Vec<u8>, Stop> {
-        let mut bytes = Vec::new(self.alloc);
+    /// Proposes a size at the start, if there is one.
+    fn propose_if_some(&mut self, at: usize, size: Option<u64>) -> Result<(), Stop> {
+        match size {
+            Some(size) => self.propose_of(at, Says::Size(size)),
+            None => Ok(()),
+        }
+    }
+
+    /// Appends what was appended to a file whose size at the start is assumed, the first bytes of it.
+    fn put_appended(&self, at: usize, bytes: &mut Vec<u8>) -> Result<(), Stop> {
         let Some(entry) = self.entry(at) else {
-            return Ok(bytes);
+            return Ok(());
         };
         let mut offset = entry.file.least;
         for _ in 0..PIECES {
@@ -353,15 +357,15 @@ impl<'a> World<'a> {
                     bytes.extend_from_slice(some)?;
                     offset = offset.saturating_add(piece.len);
                 }
-                _ => return Ok(bytes),
+                _ => return Ok(()),
             }
         }
-        Ok(bytes)
+        Ok(())
     }
 }
 
 /// The sizes at which what was appended lies where it is shown from an offset on.
-fn sizes(shown: &[u8], appended: &[u8], offset: u64) -> [Option<u64>; 2] {
+fn sizes(shown: &[u8], appended: &[u8], offset: u64) -> (Option<u64>, Option<u64>) {
     let at_end = match end_of(shown, appended) {
         Some(place) => Some(offset.saturating_add(place as u64)),
         None => None,
@@ -370,5 +374,5 @@ fn sizes(shown: &[u8], appended: &[u8], offset: u64) -> [Option<u64>; 2] {
         Some(place) => offset.checked_sub(place as u64),
         None => None,
     };
-    [at_end, inside]
+    (at_end, inside)
 }

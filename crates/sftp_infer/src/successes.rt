@@ -3,7 +3,6 @@
 use crate::attributes::sort_of;
 use crate::errors::{Stop, What};
 use crate::exchanges::Exchange;
-use crate::facts::Says;
 use crate::handles::Opened;
 use crate::nodes::{Node, Sort};
 use crate::pieces::Piece;
@@ -204,16 +203,16 @@ impl<'a> World<'a> {
 
     fn take_attrs(&mut self, ask: &Ask, attrs: &Attrs) -> Result<(), Stop> {
         let sort = sort_of(attrs);
-        let at = match ask {
-            Ask::Stat { path } => self.reach_entry(path.as_slice(), true, sort)?,
-            Ask::Lstat { path } => self.reach_entry(path.as_slice(), false, sort)?,
+        let reached = match ask {
+            Ask::Stat { path } => self.reach_entry(path.as_slice(), true, sort),
+            Ask::Lstat { path } => self.reach_entry(path.as_slice(), false, sort),
             Ask::Fstat { handle } => match self.handle(handle) {
-                Some(opened) => opened.entry,
+                Some(opened) => Ok(opened.entry),
                 None => return Ok(()),
             },
             _ => return Ok(()),
         };
-        self.tell_attrs(at, attrs)
+        self.tell_attrs(reached?, attrs)
     }
 
     fn take_names(&mut self, ask: &Ask, names: &Names) -> Result<(), Stop> {
@@ -238,15 +237,7 @@ impl<'a> World<'a> {
     fn take_target(&mut self, path: &[u8], target: &[u8]) -> Result<(), Stop> {
         let at = self.reach_entry(path, false, Sort::Link)?;
         if self.sort(at) != Sort::Link {
-            let text = Vec::from_slice(self.alloc, target)?;
-            if self.is_shown(at) {
-                drop(text);
-            } else {
-                self.propose_of(at, Says::Link(text))?;
-            }
-            let told = self.told(at);
-            let known = self.sort(at);
-            return Err(self.clash_at(at, told, What::Kind(known, Sort::Link)));
+            return self.refuse_target(at, target);
         }
         let is_known = match self.target(at) {
             Some(known) => Some(known == target),
@@ -259,30 +250,32 @@ impl<'a> World<'a> {
         }
     }
 
+    /// Refuses the target of what is no link.
+    fn refuse_target(&mut self, at: usize, target: &[u8]) -> Result<(), Stop> {
+        if !self.is_shown(at) {
+            self.propose_link_to(at, target)?;
+        }
+        let known = self.sort(at);
+        Err(self.clash_of(at, What::Kind(known, Sort::Link)))
+    }
+
     /// The contradiction of two targets of a link.
     fn clash_target(&mut self, at: usize, target: &[u8]) -> Result<(), Stop> {
-        let text = Vec::from_slice(self.alloc, target)?;
-        self.propose_of(at, Says::Link(text))?;
+        self.propose_link_to(at, target)?;
         let known = match self.target(at) {
             Some(known) => Vec::from_slice(self.alloc, known)?,
             None => Vec::new(self.alloc),
         };
-        let told = self.told(at);
-        let stop = self.clash_at(at, told, What::Target);
-        let noted = self.note_texts(known.as_slice(), target);
-        drop(known);
-        noted?;
+        let stop = self.clash_of(at, What::Target);
+        self.note_texts(known, target)?;
         Err(stop)
     }
 
     fn set_target(&mut self, at: usize, target: &[u8]) -> Result<(), Stop> {
         let text = Vec::from_slice(self.alloc, target)?;
-        match self.entry_mut(at) {
-            Some(link) => {
-                link.target = Some(text);
-                link.is_shown = true;
-            }
-            None => drop(text),
+        self.lead(at, text);
+        if let Some(link) = self.entry_mut(at) {
+            link.is_shown = true;
         }
         Ok(())
     }

@@ -1,12 +1,11 @@
 //! Links whose targets no reply told, and names that nothing mentions.
 
-use crate::errors::Stop;
+use crate::errors::{Stop, What};
 use crate::facts::{Fact, Says};
 use crate::files::File;
 use crate::nodes::{Held, Sort};
 use crate::pieces::Known;
 use crate::world::World;
-use sftp_path::NoMemory;
 
 /// How many names of a directory are looked at for whether it has entries.
 const LOOKED_AT: usize = 256;
@@ -25,7 +24,7 @@ const NAME_LIMIT: u64 = 255;
 
 impl<'a> World<'a> {
     /// Proposes a fact about an entry of the start, if it is one.
-    pub(crate) fn propose_of(&mut self, at: usize, says: Says) -> Result<(), NoMemory> {
+    pub(crate) fn propose_of(&mut self, at: usize, says: Says) -> Result<(), Stop> {
         match self.old_text(at) {
             Ok(Some(place)) => {
                 let told = self.replied;
@@ -43,8 +42,24 @@ impl<'a> World<'a> {
         }
     }
 
+    /// Proposes that an entry is a link with this target.
+    pub(crate) fn propose_link_to(&mut self, at: usize, target: &[u8]) -> Result<(), Stop> {
+        let target = Vec::from_slice(self.alloc, target)?;
+        self.propose_of(at, Says::Link(target))
+    }
+
+    /// Proposes that an entry is a link of this length to nothing.
+    pub(crate) fn propose_link_astray(
+        &mut self,
+        at: usize,
+        length: Option<u64>,
+    ) -> Result<(), Stop> {
+        let target = self.invented(at, length)?;
+        self.propose_of(at, Says::Link(target))
+    }
+
     /// Where an entry was at the start.
-    pub(crate) fn old_text(&self, at: usize) -> Result<Option<Vec<u8>>, NoMemory> {
+    pub(crate) fn old_text(&self, at: usize) -> Result<Option<Vec<u8>>, Stop> {
         match self.entry(at) {
             Some(entry) if (entry.is_old || entry.is_chosen) && at != 0 => {
                 let name = self.name_at(entry.old_seat);
@@ -56,11 +71,7 @@ impl<'a> World<'a> {
 
     /// Proposes that a file of the start is one that the session changed under another name: those first that were
     /// changed last. If an offset and a byte are given, the session wrote that byte there.
-    pub(crate) fn propose_same(
-        &mut self,
-        at: usize,
-        wrote: Option<(u64, u8)>,
-    ) -> Result<(), NoMemory> {
+    pub(crate) fn propose_same(&mut self, at: usize, wrote: Option<(u64, u8)>) -> Result<(), Stop> {
         let mut before = u64::MAX;
         for _ in 0..SAME {
             self.work = self.work.saturating_add(self.nodes.len() as u64);
@@ -112,7 +123,7 @@ impl<'a> World<'a> {
 
     /// The target to assume for a link of the start whose target no reply told: a name beside it that nothing mentions,
     /// of the told length.
-    pub(crate) fn invented(&self, at: usize, length: Option<u64>) -> Result<Vec<u8>, NoMemory> {
+    pub(crate) fn invented(&self, at: usize, length: Option<u64>) -> Result<Vec<u8>, Stop> {
         let parent = match self.entry(at) {
             Some(link) => link.seat.parent,
             None => 0,
@@ -121,7 +132,7 @@ impl<'a> World<'a> {
     }
 
     /// A name of this length that nothing mentions in a directory.
-    pub(crate) fn fresh_name(&self, parent: usize, length: u64) -> Result<Vec<u8>, NoMemory> {
+    pub(crate) fn fresh_name(&self, parent: usize, length: u64) -> Result<Vec<u8>, Stop> {
         let mut name = Vec::new(self.alloc);
         for number in 0..TRIES {
             name.clear();
@@ -148,20 +159,35 @@ impl<'a> World<'a> {
             None => None,
         };
         let target = self.invented(at, length)?;
-        let place = self.place_now(at)?;
-        let says = Says::Link(Vec::from_slice(self.alloc, target.as_slice())?);
-        self.invent(place, says)?;
-        self.lead(at, target);
-        Ok(())
+        self.lead_invented(at, target)
     }
 
     /// Gives a link a target that is made up.
-    fn lead(&mut self, at: usize, target: Vec<u8>) {
-        match self.entry_mut(at) {
-            Some(link) => {
-                link.target = Some(target);
-                link.is_invented = true;
+    fn lead_invented(&mut self, at: usize, target: Vec<u8>) -> Result<(), Stop> {
+        let noted = self.note_invented(at, target.as_slice());
+        self.lead(at, target);
+        if let Some(link) = self.entry_mut(at) {
+            link.is_invented = true;
+        }
+        noted
+    }
+
+    /// Keeps that a target of a link is made up.
+    fn note_invented(&mut self, at: usize, target: &[u8]) -> Result<(), Stop> {
+        let place = self.place_now(at)?;
+        match Vec::from_slice(self.alloc, target) {
+            Ok(target) => self.invent(place, Says::Link(target)),
+            Err(_) => {
+                drop(place);
+                Err(Stop::NoMemory)
             }
+        }
+    }
+
+    /// Gives a link a target.
+    pub(crate) fn lead(&mut self, at: usize, target: Vec<u8>) {
+        match self.entry_mut(at) {
+            Some(link) => drop(std::mem::replace(&mut link.target, Some(target))),
             None => drop(target),
         }
     }
@@ -174,11 +200,7 @@ impl<'a> World<'a> {
         };
         let mut target = self.invented(at, Some(length.saturating_sub(2)))?;
         target.extend_from_slice(b"/x")?;
-        let place = self.place_now(at)?;
-        let says = Says::Link(Vec::from_slice(self.alloc, target.as_slice())?);
-        self.invent(place, says)?;
-        self.lead(at, target);
-        Ok(())
+        self.lead_invented(at, target)
     }
 
     /// Takes the length that a reply shows of a link.
@@ -189,10 +211,8 @@ impl<'a> World<'a> {
         };
         match known {
             Some(known) if known != length => {
-                let told = self.told(at);
-                let target = self.invented(at, Some(length))?;
-                self.propose_of(at, Says::Link(target))?;
-                Err(self.clash_at(at, told, crate::errors::What::Size(known, length)))
+                self.propose_link_astray(at, Some(length))?;
+                Err(self.clash_of(at, What::Size(known, length)))
             }
             _ => {
                 if let Some(link) = self.entry_mut(at) {
@@ -206,12 +226,17 @@ impl<'a> World<'a> {
     /// Puts an entry of a fresh name into a directory at the start, so that it is not empty.
     pub(crate) fn invent_entry(&mut self, parent: usize) -> Result<(), Stop> {
         let name = self.fresh_name(parent, 12)?;
-        let spot = self.spot(parent, name.as_slice());
-        let told = self.tell(spot, Sort::File);
-        let place = self.place(parent, name.as_slice(), false);
+        let invented = self.invent_file(parent, name.as_slice());
         drop(name);
-        told?;
-        Ok(self.invent(place?, Says::File)?)
+        invented
+    }
+
+    /// Puts a file of this name into a directory at the start.
+    fn invent_file(&mut self, parent: usize, name: &[u8]) -> Result<(), Stop> {
+        let spot = self.spot(parent, name);
+        self.tell(spot, Sort::File)?;
+        let place = self.place(parent, name, false)?;
+        self.invent(place, Says::File)
     }
 
     /// Whether a directory has an entry now, and whether that is known: `None` if it is not.
@@ -233,7 +258,7 @@ impl<'a> World<'a> {
 }
 
 /// Appends a name of this length that has a number in it.
-fn spell(name: &mut Vec<u8>, number: u32, length: u64) -> Result<(), NoMemory> {
+fn spell(name: &mut Vec<u8>, number: u32, length: u64) -> Result<(), Stop> {
     let mut left = number;
     for place in 0..length {
         let digit = left % 36;

@@ -7,7 +7,7 @@ use sftp_streams::{Failed, Source};
 use std::alloc::Global;
 
 /// Some bytes of a tree file.
-#[derive(Debug, Drop)]
+#[derive(Drop)]
 enum Part {
     /// Bytes that were made.
     Made(Vec<u8>),
@@ -82,7 +82,7 @@ fn give(bytes: &[u8], buffer: &mut [u8]) -> usize
 }
 
 /// The bytes of a tree file. Those of files are where the session has them.
-#[derive(Debug, Drop)]
+#[derive(Drop)]
 pub struct TreeText<'a> {
     alloc: Global,
     session: &'a [u8],
@@ -192,7 +192,7 @@ impl<'a> TreeText<'a> {
 }
 
 /// A stream of the bytes of a tree file. It never fails.
-#[derive(Debug, Drop)]
+#[derive(Drop)]
 pub struct TextStream<'t> {
     session: &'t [u8],
     zeros: &'t [u8],

@@ -1,9 +1,12 @@
 //! What links may lead to that hide behind what a session saw.
 
+use crate::errors::Stop;
 use crate::facts::{Fact, Says};
+use crate::look::cut_last;
+use crate::names::Seat;
 use crate::nodes::Sort;
 use crate::world::World;
-use sftp_path::{DEPTH_LIMIT, NoMemory};
+use sftp_path::DEPTH_LIMIT;
 
 /// For how many links another target is proposed at once.
 const LINKS: usize = 3;
@@ -13,14 +16,6 @@ const ENDS: u32 = 4;
 
 /// How many names of a directory are proposed as targets of a link beside them.
 const BESIDE: usize = 3;
-
-/// The text before the last slash, and the name behind it.
-fn cut_last(place: &[u8]) -> Option<(&[u8], &[u8])> {
-    let slash = place.iter().rposition(|byte| *byte == b'/')?;
-    let above = place.get(..slash)?;
-    let name = place.get(slash.saturating_add(1)..)?;
-    Some((above, name))
-}
 
 /// Two places without the names that both end in; `None` if they end in different ones, or one is above the other.
 fn without_tail<'t>(one: &'t [u8], other: &'t [u8]) -> Option<(&'t [u8], &'t [u8])> {
@@ -42,7 +37,7 @@ fn without_tail<'t>(one: &'t [u8], other: &'t [u8]) -> Option<(&'t [u8], &'t [u8
 impl<'a> World<'a> {
     /// Proposes that a directory above one of two files is a link to the one above the other, if both paths end in the
     /// same names.
-    pub(crate) fn propose_way(&mut self, at: usize, other: usize) -> Result<(), NoMemory> {
+    pub(crate) fn propose_way(&mut self, at: usize, other: usize) -> Result<(), Stop> {
         let Some(one) = self.old_text(at)? else {
             return Ok(());
         };
@@ -63,7 +58,7 @@ impl<'a> World<'a> {
     }
 
     /// Proposes that a link to one place is at another one.
-    fn propose_to(&mut self, place: &[u8], target: &[u8]) -> Result<(), NoMemory> {
+    fn propose_to(&mut self, place: &[u8], target: &[u8]) -> Result<(), Stop> {
         if place.is_empty() {
             return Ok(());
         }
@@ -74,14 +69,14 @@ impl<'a> World<'a> {
             Ok(place) => self.proposals.push(Fact { place, says, told })?,
             Err(_) => {
                 drop(says);
-                return Err(NoMemory);
+                return Err(Stop::NoMemory);
             }
         }
         Ok(())
     }
 
     /// Proposes that an entry is a link of this length to something of its kind, by its path or by its name alone.
-    pub(crate) fn propose_ends(&mut self, at: usize, length: Option<u64>) -> Result<(), NoMemory> {
+    pub(crate) fn propose_ends(&mut self, at: usize, length: Option<u64>) -> Result<(), Stop> {
         let Some(length) = length else {
             return Ok(());
         };
@@ -105,34 +100,47 @@ impl<'a> World<'a> {
         }
     }
 
-    fn propose_end(&mut self, at: usize, other: usize, length: u64) -> Result<bool, NoMemory> {
+    /// Proposes that an entry is a link to another one, if a target of that one has this length. Says whether one has.
+    fn propose_end(&mut self, at: usize, other: usize, length: u64) -> Result<bool, Stop> {
+        match self.end_of_length(at, other, length)? {
+            Some(target) => {
+                self.propose_of(at, Says::Link(target))?;
+                Ok(true)
+            }
+            None => Ok(false),
+        }
+    }
+
+    /// The path of an entry of the start, or its name alone for a link beside it, if it has this length.
+    fn end_of_length(&self, at: usize, other: usize, length: u64) -> Result<Option<Vec<u8>>, Stop> {
         let Some(text) = self.old_text(other)? else {
-            return Ok(false);
+            return Ok(None);
         };
         if text.len() as u64 == length {
-            self.propose_of(at, Says::Link(text))?;
-            return Ok(true);
+            return Ok(Some(text));
         }
         drop(text);
-        let (parent, above) = match (self.entry(at), self.entry(other)) {
-            (Some(link), Some(entry)) => (link.old_seat.parent, entry.old_seat.parent),
-            _ => return Ok(false),
-        };
-        let name = match self.entry(other) {
-            Some(entry) => Vec::from_slice(self.alloc, self.name_at(entry.old_seat))?,
-            None => return Ok(false),
-        };
-        if parent == above && name.len() as u64 == length {
-            self.propose_of(at, Says::Link(name))?;
-            return Ok(true);
+        match self.name_beside(at, other) {
+            Some(name) if name.len() as u64 == length => {
+                Ok(Some(Vec::from_slice(self.alloc, name)?))
+            }
+            _ => Ok(None),
         }
-        drop(name);
-        Ok(false)
+    }
+
+    /// The name of an entry that was in the directory of another one at the start.
+    fn name_beside(&self, at: usize, other: usize) -> Option<&[u8]> {
+        let (beside, seat) = (self.entry(at)?.old_seat, self.entry(other)?.old_seat);
+        if beside.parent == seat.parent {
+            Some(self.name_at(seat))
+        } else {
+            None
+        }
     }
 
     /// Proposes other targets for the links whose targets are made up: what this text is the place of, or a name beside
     /// the link.
-    pub(crate) fn propose_targets(&mut self, text: &[u8]) -> Result<(), NoMemory> {
+    pub(crate) fn propose_targets(&mut self, text: &[u8]) -> Result<(), Stop> {
         let mut left = LINKS;
         self.work = self.work.saturating_add(self.nodes.len() as u64);
         for at in 0..self.nodes.len() {
@@ -152,61 +160,73 @@ impl<'a> World<'a> {
         }
     }
 
-    fn propose_target(&mut self, at: usize, text: &[u8]) -> Result<(), NoMemory> {
+    fn propose_target(&mut self, at: usize, text: &[u8]) -> Result<(), Stop> {
         let (length, parent) = match self.entry(at) {
             Some(link) => (link.length, link.old_seat.parent),
             None => return Ok(()),
         };
-        if length.unwrap_or(text.len() as u64) == text.len() as u64 {
-            let target = Vec::from_slice(self.alloc, text)?;
-            self.propose_of(at, Says::Link(target))?;
-        }
+        self.propose_fitting(at, length, text)?;
         let above = self.place(parent, &[], true)?;
         let beside = beside(text, above.as_slice());
         drop(above);
         if let Some(name) = beside {
-            if length.unwrap_or(name.len() as u64) == name.len() as u64 {
-                let target = Vec::from_slice(self.alloc, name)?;
-                self.propose_of(at, Says::Link(target))?;
-            }
+            self.propose_fitting(at, length, name)?;
         }
         self.propose_names(at, parent, length)
     }
 
-    /// Proposes names of a directory as the target of a link in it, if they have its length.
-    fn propose_names(
+    /// Proposes a target for a link, if that has the link's length.
+    fn propose_fitting(
         &mut self,
         at: usize,
-        parent: usize,
         length: Option<u64>,
-    ) -> Result<(), NoMemory> {
+        target: &[u8],
+    ) -> Result<(), Stop> {
+        let count = target.len() as u64;
+        if length.unwrap_or(count) == count {
+            self.propose_link_to(at, target)
+        } else {
+            Ok(())
+        }
+    }
+
+    /// Proposes names of a directory as the target of a link in it, if they have its length.
+    fn propose_names(&mut self, at: usize, parent: usize, length: Option<u64>) -> Result<(), Stop> {
         let Some(length) = length else {
             return Ok(());
         };
-        let mut last = Vec::new(self.alloc);
+        let mut last: Option<usize> = None;
         for _ in 0..BESIDE {
-            let Some(name) = self.next_of_length(parent, length, last.as_slice()) else {
+            let Some(place) = self.next_of_length(parent, length, last) else {
                 return Ok(());
             };
-            last = Vec::from_slice(self.alloc, name)?;
-            let target = Vec::from_slice(self.alloc, name)?;
-            self.propose_of(at, Says::Link(target))?;
+            self.propose_seat(at, Seat { parent, place })?;
+            last = Some(place);
         }
         Ok(())
     }
 
-    /// The first name of this length in a directory that comes after another one.
-    fn next_of_length(&self, parent: usize, length: u64, last: &[u8]) -> Option<&[u8]> {
-        let directory = self.entry(parent)?;
-        let mut next: Option<&[u8]> = None;
-        for named in directory.names.each() {
+    /// Proposes the name at a seat as the target of a link.
+    fn propose_seat(&mut self, at: usize, seat: Seat) -> Result<(), Stop> {
+        let target = Vec::from_slice(self.alloc, self.name_at(seat))?;
+        self.propose_of(at, Says::Link(target))
+    }
+
+    /// The place of the first name of this length in a directory that comes after the name at another place.
+    fn next_of_length(&self, parent: usize, length: u64, last: Option<usize>) -> Option<usize> {
+        let names = &self.entry(parent)?.names;
+        let before = match last {
+            Some(place) => names.name(place),
+            None => &[],
+        };
+        let mut next: Option<usize> = None;
+        let mut first: &[u8] = &[];
+        for (place, named) in names.each().iter().enumerate() {
             let name = named.name.as_slice();
-            let is_before = match next {
-                Some(found) => name < found,
-                None => true,
-            };
-            if name.len() as u64 == length && name > last && is_before {
-                next = Some(name);
+            let is_first = next.is_none() || name < first;
+            if name.len() as u64 == length && name > before && is_first {
+                next = Some(place);
+                first = name;
             }
         }
         next

@@ -1,6 +1,6 @@
 //! The lazy tree: what replies told so far, and what the session made of it.
 
-use crate::errors::Clash;
+use crate::errors::{Clash, Stop};
 use crate::facts::{Fact, Says};
 use crate::handles::Handles;
 use crate::names::{Place, Seat, Spot};
@@ -136,7 +136,7 @@ impl<'a> World<'a> {
 
     /// The kind of an entry.
     pub(crate) fn sort(&self, at: usize) -> Sort {
-        match self.nodes.get(at) {
+        match self.entry(at) {
             Some(entry) => entry.sort,
             None => Sort::Unknown,
         }
@@ -144,7 +144,7 @@ impl<'a> World<'a> {
 
     /// The record that told of an entry.
     pub(crate) fn told(&self, at: usize) -> u64 {
-        match self.nodes.get(at) {
+        match self.entry(at) {
             Some(entry) => entry.told,
             None => 0,
         }
@@ -153,7 +153,7 @@ impl<'a> World<'a> {
     /// Sets the kind of an entry that was of no known kind.
     pub(crate) fn set_sort(&mut self, at: usize, sort: Sort) {
         let told = self.teller;
-        if let Some(entry) = self.nodes.get_mut(at) {
+        if let Some(entry) = self.entry_mut(at) {
             if entry.sort == Sort::Unknown {
                 entry.sort = sort;
                 entry.told = told;
@@ -163,7 +163,7 @@ impl<'a> World<'a> {
 
     /// Looks for a name in a directory.
     pub(crate) fn spot<'n>(&self, parent: usize, name: &'n [u8]) -> Spot<'n> {
-        let found = match self.nodes.get(parent) {
+        let found = match self.entry(parent) {
             Some(entry) => entry.names.find(name),
             None => Place::NotSought,
         };
@@ -176,7 +176,7 @@ impl<'a> World<'a> {
 
     /// What is known of a name in a directory.
     pub(crate) fn slot(&self, spot: Spot<'_>) -> Slot {
-        match self.nodes.get(spot.parent) {
+        match self.entry(spot.parent) {
             Some(entry) => match entry.names.get(spot) {
                 Some(slot) => *slot,
                 None => Slot::unknown(),
@@ -186,18 +186,18 @@ impl<'a> World<'a> {
     }
 
     /// The same, to be changed; `None` if there is no such directory.
-    pub(crate) fn slot_mut(&mut self, spot: Spot<'_>) -> Result<Option<&mut Slot>, NoMemory> {
+    pub(crate) fn slot_mut(&mut self, spot: Spot<'_>) -> Result<Option<&mut Slot>, Stop> {
         let alloc = self.alloc;
-        match self.nodes.get_mut(spot.parent) {
+        match self.entry_mut(spot.parent) {
             Some(entry) => entry.names.slot_mut(alloc, spot),
             None => Ok(None),
         }
     }
 
     /// Where the name of a spot is, which is added if it is not there.
-    fn seat(&mut self, spot: Spot<'_>) -> Result<Seat, NoMemory> {
+    fn seat(&mut self, spot: Spot<'_>) -> Result<Seat, Stop> {
         let alloc = self.alloc;
-        let place = match self.nodes.get_mut(spot.parent) {
+        let place = match self.entry_mut(spot.parent) {
             Some(entry) => entry.names.seat(alloc, spot)?,
             None => 0,
         };
@@ -209,18 +209,18 @@ impl<'a> World<'a> {
 
     /// What is known of the name at a seat, to be changed.
     fn slot_at(&mut self, seat: Seat) -> Option<&mut Slot> {
-        match self.nodes.get_mut(seat.parent) {
+        match self.entry_mut(seat.parent) {
             Some(entry) => entry.names.slot_at(seat.place),
             None => None,
         }
     }
 
     /// Stores an entry of the start of which nothing else is known, and returns its number.
-    fn store(&mut self, sort: Sort, seat: Seat) -> Result<usize, NoMemory> {
+    fn store(&mut self, sort: Sort, seat: Seat) -> Result<usize, Stop> {
         let entry = Node::old(self.alloc, sort, self.teller, seat);
         if let Some(at) = self.spare.pop() {
-            match self.nodes.get_mut(at) {
-                Some(place) => *place = entry,
+            match self.entry_mut(at) {
+                Some(place) => drop(std::mem::replace(place, entry)),
                 None => drop(entry),
             }
             return Ok(at);
@@ -231,7 +231,7 @@ impl<'a> World<'a> {
     }
 
     /// Tells that the start has something at a name of which nothing is known.
-    pub(crate) fn tell(&mut self, spot: Spot<'_>, sort: Sort) -> Result<usize, NoMemory> {
+    pub(crate) fn tell(&mut self, spot: Spot<'_>, sort: Sort) -> Result<usize, Stop> {
         let seat = self.seat(spot)?;
         let at = self.store(sort, seat)?;
         let told = self.teller;
@@ -243,11 +243,11 @@ impl<'a> World<'a> {
     }
 
     /// A new entry, with the place where it is made as its first one.
-    pub(crate) fn make(&mut self, sort: Sort, spot: Spot<'_>) -> Result<usize, NoMemory> {
+    pub(crate) fn make(&mut self, sort: Sort, spot: Spot<'_>) -> Result<usize, Stop> {
         let seat = self.seat(spot)?;
         let at = self.store(sort, seat)?;
         let told = self.teller;
-        if let Some(entry) = self.nodes.get_mut(at) {
+        if let Some(entry) = self.entry_mut(at) {
             entry.be_new(told);
         }
         self.change_at(seat, Held::Entry(at));
@@ -255,10 +255,10 @@ impl<'a> World<'a> {
     }
 
     /// Moves an entry to a name, which leads to it from now on.
-    pub(crate) fn seat_entry(&mut self, at: usize, spot: Spot<'_>) -> Result<(), NoMemory> {
+    pub(crate) fn seat_entry(&mut self, at: usize, spot: Spot<'_>) -> Result<(), Stop> {
         let seat = self.seat(spot)?;
         self.change_at(seat, Held::Entry(at));
-        if let Some(entry) = self.nodes.get_mut(at) {
+        if let Some(entry) = self.entry_mut(at) {
             entry.seat = seat;
         }
         Ok(())
@@ -274,11 +274,7 @@ impl<'a> World<'a> {
     }
 
     /// Tells that the start has nothing at a name of which nothing is known.
-    pub(crate) fn tell_nothing(
-        &mut self,
-        spot: Spot<'_>,
-        is_assumed: bool,
-    ) -> Result<(), NoMemory> {
+    pub(crate) fn tell_nothing(&mut self, spot: Spot<'_>, is_assumed: bool) -> Result<(), Stop> {
         let told = self.teller;
         if let Some(slot) = self.slot_mut(spot)? {
             if slot.start.is_none() {
@@ -291,7 +287,7 @@ impl<'a> World<'a> {
     }
 
     /// Has a name lead to something from now on.
-    pub(crate) fn change(&mut self, spot: Spot<'_>, held: Held) -> Result<(), NoMemory> {
+    pub(crate) fn change(&mut self, spot: Spot<'_>, held: Held) -> Result<(), Stop> {
         let seat = self.seat(spot)?;
         self.change_at(seat, held);
         Ok(())
@@ -300,7 +296,7 @@ impl<'a> World<'a> {
     /// Takes back that nothing was at a name at the start, if it was only assumed and still matters. The pass goes on,
     /// and a further one begins with what is learned.
     /// Returns the entry that is there.
-    pub(crate) fn retract(&mut self, spot: Spot<'_>) -> Result<Option<usize>, NoMemory> {
+    pub(crate) fn retract(&mut self, spot: Spot<'_>) -> Result<Option<usize>, Stop> {
         let slot = self.slot(spot);
         if !slot.is_assumed || slot.now.is_some() {
             return Ok(None);

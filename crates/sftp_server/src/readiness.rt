@@ -1,6 +1,6 @@
 //! Which requests of a queue are ready, without a search through the requests before each.
 ghost use Rattle.std.specs.Prelude.{◌≡◌, ◌≢◌, ◌+◌, ◌-◌, ◌<◌, ◌≤◌, ◌&&◌, ◌++◌, ℕ, suc, [], ◌∷◌, true, false, Some};
-ghost use Rattle.std.specs.Prelude.{OnOk, IfSome, not, length, take, drop, set};
+ghost use Rattle.std.specs.Prelude.{◌||◌, OnOk, IfSome, not, length, take, drop, set};
 ghost use Rattle.std.specs.VecDeque.{deque_len, deque_capacity};
 ghost use Rattle.sftp_packets.specs.declared.requests.Ask.{Ask as Asked};
 ghost use Rattle.sftp_treefile.specs.TreeFile.{are_far};

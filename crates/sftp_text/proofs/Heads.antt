@@ -4,8 +4,7 @@ use Rattle.std.proofs.Common.{◌∙◌, append_assoc, arith, cond}
 use Rattle.std.specs.Prelude.{IsTrue, is_some, option_and_then, codes, decimal, nat_lt}
 use Rattle.std.specs.Int.{w32, w64, to_be_bytes}
 use Rattle.std.specs.List.{list_all}
-use Rattle.std.proofs.lemmas.Bool.{cond-true, cond-false, lt-ltb}
-use Rattle.std.proofs.lemmas.List.{append-nil}
+use Rattle.std.proofs.lemmas.Bool.{cond-true, lt-ltb}
 use Rattle.std.proofs.lemmas.Option.{option_and_then_some}
 use Rattle.sftp_packets.specs.Spelling.{AreBytes}
 use Rattle.sftp_text.specs.Formats.{Step, Format, after, nothing, ◌then◌, word, mark, strip}

@@ -220,11 +220,12 @@ unfolding string_text
 string_text-exact B = ahead-exact counted_text StartsQuoted B (counted_text-exact B)
 
 long_read : (done : List ℕ) (n : ℕ) (eight taken rest : List ℕ) → n < 2 ^ 64 → to_be_bytes w64 n ≡ eight
-    → cond (nat_lt n (2 ^ 64)) (Some (done ++ to_be_bytes w64 n ++ taken, rest)) None
+    → cond {A = Option (List ℕ × List ℕ)} (nat_lt n (2 ^ 64)) (Some (done ++ to_be_bytes w64 n ++ taken, rest)) None
     ≡ Some (done ++ (eight ++ taken), rest)
 long_read done n eight taken rest lt again =
-    cond-true (nat_lt n (2 ^ 64)) (Some (done ++ (to_be_bytes w64 n ++ taken), rest)) None (lt-ltb n (2 ^ 64) lt)
-    ∙ ap (λ (l : List ℕ). Some (done ++ (l ++ taken), rest)) again
+    let found : List ℕ → Option (List ℕ × List ℕ) = λ bytes. Some (bytes, rest) in
+    cond-true (nat_lt n (2 ^ 64)) (found (done ++ to_be_bytes w64 n ++ taken)) None (lt-ltb n (2 ^ 64) lt)
+    ∙ ap found (append_assoc done (to_be_bytes w64 n) taken) ∙ ap (λ (l : List ℕ). found (done ++ (l ++ taken))) again
 
 pub long_string_text-exact : (B : List ℕ → Type 0) → IsExact long_string_text StartsQuoted B
 unfolding long_string_text

@@ -1,7 +1,7 @@
 -- The lines of a tree file are read as the bytes that they show.
 use Rattle.std.proofs.Common.{◌≡◌, ℕ, Bool, true, false, ◌&&◌, List, [], ◌∷◌, ◌++◌, Option, Some, refl, sym, ap}
 use Rattle.std.proofs.Common.{subst, ◌∙◌, inl, inr, zero, suc, ◌≤◌, length, take, drop, None, append_assoc, arith}
-use Rattle.std.specs.Prelude.{IsTrue, is_some, option_and_then, ◌==◌, codes, flat_map}
+use Rattle.std.specs.Prelude.{IsTrue, option_and_then, ◌==◌, codes, flat_map}
 use Rattle.std.specs.List.{list_all, AllByRecursion}
 use Rattle.std.proofs.lemmas.Bool.{cond-true, cond-false, cases_Bool, eqb-true, and_parts}
 use Rattle.std.proofs.lemmas.List.{append-nil, length-drop, take-append-drop}
@@ -28,7 +28,7 @@ use Rattle.sftp_text.proofs.Parts.{behind_word}
 use Rattle.sftp_text.proofs.Bodies.{SpaceFront, space-behind, space-ends}
 use Rattle.sftp_packets.specs.declared.packets.Side.{Side}
 use Rattle.sftp_packets.specs.declared.packets.Side.TheVariants.{Client, Server}
-use Rattle.sftp_text.proofs.Heads.{IsSaid, end-space, spaced_number, spaced_then, HeadShown, head-shown}
+use Rattle.sftp_text.proofs.Heads.{IsSaid, end-space, spaced_number, spaced_then, head-shown}
 use Rattle.sftp_text.proofs.Written.{text_read-text_of}
 
 -- what is known of the line that a format shows of what is in front of bytes

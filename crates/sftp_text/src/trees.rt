@@ -188,7 +188,8 @@ fn read_five_limits(line: &mut &[u8], bytes: &mut Vec<u8>) -> Result<(), Stop>
 
 /// Shows the limits that a tree file with this opening has.
 fn put_limits(opening: Opening, bytes: &mut &[u8], text: &mut Vec<u8>) -> Result<(), Stop>
-    ensures { Moves result text.new.items bytes.new.now ((trees.limits_text opening).show text.old.items bytes.old.now) }
+    ensures { Moves result text.new.items bytes.new.now
+        ((trees.limits_text opening).show text.old.items bytes.old.now) }
 {
     match opening {
         Opening::Usual => Ok(()),
@@ -198,7 +199,8 @@ fn put_limits(opening: Opening, bytes: &mut &[u8], text: &mut Vec<u8>) -> Result
 }
 
 fn read_limits(opening: Opening, line: &mut &[u8], bytes: &mut Vec<u8>) -> Result<(), Stop>
-    ensures { Moves result bytes.new.items line.new.now ((trees.limits_text opening).read bytes.old.items line.old.now) }
+    ensures { Moves result bytes.new.items line.new.now
+        ((trees.limits_text opening).read bytes.old.items line.old.now) }
 {
     match opening {
         Opening::Usual => Ok(()),
@@ -371,7 +373,8 @@ fn word_of_root(has_times: bool) -> &'static [u8]
 
 /// Shows the root with times or without, whose letter is in its bytes.
 fn put_root_with(has_times: bool, bytes: &mut &[u8], text: &mut Vec<u8>) -> Result<(), Stop>
-    ensures { Moves result text.new.items bytes.new.now ((trees.root_with has_times).show text.old.items bytes.old.now) }
+    ensures { Moves result text.new.items bytes.new.now
+        ((trees.root_with has_times).show text.old.items bytes.old.now) }
 {
     read_word(&[letter_of_root(has_times)], Expected::Root, bytes)?;
     text.extend_from_slice(word_of_root(has_times))?;
@@ -379,7 +382,8 @@ fn put_root_with(has_times: bool, bytes: &mut &[u8], text: &mut Vec<u8>) -> Resu
 }
 
 fn read_root_with(has_times: bool, line: &mut &[u8], bytes: &mut Vec<u8>) -> Result<(), Stop>
-    ensures { Moves result bytes.new.items line.new.now ((trees.root_with has_times).read bytes.old.items line.old.now) }
+    ensures { Moves result bytes.new.items line.new.now
+        ((trees.root_with has_times).read bytes.old.items line.old.now) }
 {
     bytes.push(letter_of_root(has_times))?;
     read_word(word_of_root(has_times), Expected::AnyRoot, line)?;
@@ -492,7 +496,8 @@ fn letter_of(is_wide: bool, kind: u8) -> Option<Letter>
 
 /// Shows the bytes of a file.
 fn put_content(is_long: bool, bytes: &mut &[u8], text: &mut Vec<u8>) -> Result<(), Stop>
-    ensures { Moves result text.new.items bytes.new.now ((trees.content_text is_long).show text.old.items bytes.old.now) }
+    ensures { Moves result text.new.items bytes.new.now
+        ((trees.content_text is_long).show text.old.items bytes.old.now) }
 {
     if is_long {
         put_long_string(bytes, text)
@@ -502,7 +507,8 @@ fn put_content(is_long: bool, bytes: &mut &[u8], text: &mut Vec<u8>) -> Result<(
 }
 
 fn read_content(is_long: bool, line: &mut &[u8], bytes: &mut Vec<u8>) -> Result<(), Stop>
-    ensures { Moves result bytes.new.items line.new.now ((trees.content_text is_long).read bytes.old.items line.old.now) }
+    ensures { Moves result bytes.new.items line.new.now
+        ((trees.content_text is_long).read bytes.old.items line.old.now) }
 {
     if is_long {
         read_long_string(line, bytes)

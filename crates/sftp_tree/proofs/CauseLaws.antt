@@ -6,7 +6,7 @@ use Rattle.sftp_tree.proofs.Imports.{List, [], ◌∷◌, IsTrue, or_parts, eq-e
 use Rattle.sftp_tree.proofs.Imports.{is_none, ◌⊎◌, inl, inr, not, subst, Option, Some, None, Result, Ok, Err, IfErr}
 use Rattle.sftp_tree.proofs.Imports.{IsErrAnd, err_from_is_err_and, Ask, Place, NoRoom, reached, IsFree, ◌-◌, length}
 use Rattle.sftp_tree.proofs.Imports.{take, replicate, nat_le, unwrap_or, if◌then◌else◌, not-false, length-append}
-use Rattle.sftp_tree.proofs.Imports.{length-take, length-replicate, Attrs, TreeLimits, is_root, same_place, Content}
+use Rattle.sftp_tree.proofs.Imports.{length-take, length-replicate, Attrs, is_root, same_place, Content}
 use Rattle.sftp_tree.proofs.Imports.{Node, Dir, File, Link, NoEntry, Exists, IsDir, NotLink, NotFile, NotEmpty, Root}
 use Rattle.sftp_tree.proofs.Imports.{Inside, NotDir, WellFormed, IsKept, limits, node_at, content_at, is_taken}
 use Rattle.sftp_tree.proofs.Imports.{is_directory, is_link, has_entries, changed_owner, changed_content, resized}

@@ -20,7 +20,7 @@ use Rattle.sftp_tree.specs.declared.causes.Cause.{Cause}
 use Rattle.sftp_tree.specs.declared.causes.Cause.TheVariants.{NoRoom}
 use Rattle.sftp_tree.specs.declared.asks.PathAsk.{PathAsk}
 use Rattle.sftp_tree.specs.declared.asks.PathAsk.TheVariants as paths
-use Rattle.sftp_tree.specs.Tree.{Tree, node_at, trim, fits, limits, is_file}
+use Rattle.sftp_tree.specs.Tree.{Tree, node_at, trim, fits, is_file}
 use Rattle.sftp_tree.specs.Walk.{reached}
 use Rattle.sftp_tree.specs.Attributes.{directory_owner, file_owner, shown}
 use Rattle.sftp_tree.specs.PlaceCauses.{CauseSet, no_causes, when, joined, is_none}

@@ -1,7 +1,8 @@
 -- The tree: the node at each place, the files that have names there or are pinned, where relative paths start, who owns
 -- what is made with no owner given, and how much the tree may hold. The limits are this profile's own.
 use Rattle.std.specs.Prelude.{◌&&◌, ◌||◌, ◌==◌, nat_lt, nat_le, if◌then◌else◌, ℕ, ◌+◌, ◌-◌, ◌<◌, ◌^◌}
-use Rattle.std.specs.Prelude.{◌∷◌, List, min, Bool, true, false, [], length, Option, Some, None, is_some, unwrap_or, IsTrue}
+use Rattle.std.specs.Prelude.{◌∷◌, List, min, Bool, true, false, [], length, Option, Some, None, is_some, unwrap_or}
+use Rattle.std.specs.Prelude.{IsTrue}
 use Rattle.std.specs.Ordering.{nat_cmp}
 use Rattle.std.specs.List.{list_any, list_all, AllByRecursion}
 use Rattle.sftp_path.specs.Place.{Place, place_cmp, parent, is_below, are_names, depth_limit}
@@ -241,7 +242,9 @@ numbers_fit t = nat_lt t.made (2 ^ 32)
 
 -- a tree within the limits
 unfoldable pub fits : Tree → Bool
-fits t = entries_fit t && (depths_fit t && (home_fits t && (links_fit t && (files_fit t && (total_fits t && numbers_fit t)))))
+fits t =
+    entries_fit t
+    && (depths_fit t && (home_fits t && (links_fit t && (files_fit t && (total_fits t && numbers_fit t)))))
 
 -- what every tree of the program keeps
 pub record IsKept (t : Tree) : Type 0 where

@@ -1,5 +1,6 @@
 //! Times of a tree's entries that are kept beside the tree, which has none.
-ghost use Rattle.std.specs.Prelude.{ℕ, List};
+ghost use Rattle.std.specs.Prelude.{ℕ, List, OnOk};
+ghost use Rattle.sftp_treefile.specs.declared.files.TreeFile.{TreeFile as file_of};
 ghost use Rattle.sftp_treefile.specs.declared.times.Times.{Times as pair};
 ghost use Rattle.sftp_treefile.specs.TreeFile.{IsTreeFile};
 
@@ -27,11 +28,15 @@ pub trait HasTimes {
 /// Looks at what a tree file says before it becomes a tree, which does not keep all of it. The files of the tree have
 /// the numbers from 0 on, in the order of their first names.
 pub trait Looks {
+    /// What it is after a look at a tree file.
+    ghost looked: { Self → file_of → Self → Type 0 };
+
     /// Looks at a tree file.
     ///
     /// # Errors
     ///
     /// `NoMemory` if memory runs out; then no tree is made.
     fn look(&mut self, file: &TreeFile) -> Result<(), NoMemory>
-        requires { IsTreeFile file.now };
+        requires { IsTreeFile file.now }
+        ensures { OnOk result (looked self.old file.now self.new) };
 }

@@ -53,8 +53,8 @@ pub fn fitting_writes()
     ensures beyond { write_fits (record with_file { limits = highest_limits }) 0 67108864 (codes "!") ≡ false }
 {}
 
-/// All files together have a limit too: with 16,777,216 bytes, and a file of 5 bytes beside it, a file has 16,777,211 at
-/// most. A file that has no name any more and is held open counts. What a WRITE is over counts once.
+/// All files together have a limit too: with 16,777,216 bytes, and a file of 5 bytes beside it, a file has 16,777,211
+/// at most. A file that has no name any more and is held open counts. What a WRITE is over counts once.
 pub fn writes_that_fit_all()
     ensures last { write_fits (record with_two_files { limits = least_limits }) 1 16777210 (codes "!") ≡ true }
     ensures one_more { write_fits (record with_two_files { limits = least_limits }) 1 16777211 (codes "!") ≡ false }

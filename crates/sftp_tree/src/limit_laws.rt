@@ -1,7 +1,8 @@
 //! How each change of a tree bears on each of its limits, as theorems on the definitions that the contracts name. The
 //! functions do nothing; each promise is in the contract. A limit that a law does not name holds after the change
 //! exactly if it held before.
-ghost use Rattle.std.specs.Prelude.{◌≡◌, ◌==◌, ◌+◌, ◌&&◌, ◌||◌, nat_le, ℕ, true, false, List, [], Some, None, length, IsTrue};
+ghost use Rattle.std.specs.Prelude.{◌≡◌, ◌==◌, ◌+◌, ◌&&◌, ◌||◌, nat_le, ℕ, true, false, List, [], Some, None, length};
+ghost use Rattle.std.specs.Prelude.{IsTrue};
 ghost use Rattle.std.specs.List.{list_all};
 ghost use Rattle.sftp_path.specs.Place.{Place, place_cmp};
 ghost use Rattle.sftp_path.specs.Table.{InOrder};

@@ -1,6 +1,7 @@
 //! Files by their numbers: what the requests on open files read of them and change in them (draft, sections 6.4, 6.8
 //! and 6.9). Each call is for a file that exists.
-ghost use Rattle.std.specs.Prelude.{◌≡◌, ◌+◌, Some, is_some, option_map, length, take, drop, IfErr, IsTrue, OnOk, OnErr};
+ghost use Rattle.std.specs.Prelude.{◌≡◌, ◌+◌, Some, is_some, option_map, length, take, drop, IfErr, IsTrue, OnOk};
+ghost use Rattle.std.specs.Prelude.{OnErr};
 ghost use Rattle.sftp_tree.specs.Tree as tree;
 ghost use Rattle.sftp_tree.specs.Attributes as attributes;
 ghost use Rattle.sftp_tree.specs.Changes as changes;

@@ -2,6 +2,8 @@
 ghost use Rattle.std.specs.Prelude.{◌≡◌, ◌+◌, ℕ, List, Some, length, IfOk, IfErr, OnOk, OnErr};
 ghost use Rattle.std.specs.Io.KnownBytes.{Appends};
 ghost use Rattle.sftp_streams.specs.Streams.{AppendsPart};
+ghost use Rattle.sftp_treefile.specs.declared.files.TreeFile.{TreeFile as file_of};
+ghost use Rattle.sftp_treefile.specs.TreeFile.{IsSpelled};
 ghost use Rattle.sftp_treefile.specs.Streamed.{CountsSink};
 ghost use Rattle.sftp_treefile.specs.Streamed.{MayFail};
 ghost use Rattle.sftp_tree.specs.Tree.{Tree as tree};
@@ -97,12 +99,14 @@ impl Tree {
         ensures found { IfOk result (λ t. (bytes : List ℕ) → R.left source ≡ Some bytes → IsStart t bytes) }
         ensures only { (bytes : List ℕ) → R.left source ≡ Some bytes → (t : tree) → IsStart t bytes
             → GivesTreeUnless result t }
+        ensures looked { OnOk result ((bytes : List ℕ) → R.left source ≡ Some bytes → (f : file_of)
+            → IsSpelled f bytes → K.looked looker.old f looker.new) }
         ensures may_fail { IfErr result (MayFail R.may_fail) }
     {
         let file = read_rows_from(alloc, source)?;
         looker.look(&file)?;
-        let grown = tree_of(alloc, file)?;
-        Ok(grown)
+        let told = tree_of(alloc, file)?;
+        Ok(told)
     }
 
     /// How many entries the tree has below its root.

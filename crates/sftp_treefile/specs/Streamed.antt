@@ -16,7 +16,8 @@ use Rattle.sftp_treefile.specs.declared.files.Kind.TheVariants.{First}
 use Rattle.sftp_treefile.specs.declared.times.Times.{Times}
 use Rattle.sftp_treefile.specs.TreeFile.{IsOwner, are_bytes, has_times, letter_for, file_letter, is_long, owned_text}
 use Rattle.sftp_treefile.specs.TreeFile.{length_text, timed_text, entry_text, is_wide}
-use Rattle.sftp_treefile.specs.TreeFileParts.{ReadsNone, IsAt, AreNone, AreEntries, AreTimesIn, IsLengthIn, kept, is_lowest}
+use Rattle.sftp_treefile.specs.TreeFileParts.{ReadsNone, IsAt, AreNone, AreEntries, AreTimesIn, IsLengthIn, kept}
+use Rattle.sftp_treefile.specs.TreeFileParts.{is_lowest}
 use Rattle.sftp_treefile.specs.TreeFileParts.{IsFileBytes}
 use Rattle.sftp_streams.specs.Streams.{one_more}
 use Rattle.sftp_treefile.specs.declared.errors.WriteError.{WriteError}

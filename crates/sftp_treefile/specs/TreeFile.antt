@@ -28,11 +28,23 @@ all_bytes = 288230376151711744
 
 -- those of a tree that sets none
 abbrev pub usual_limits : TreeLimits
-usual_limits = record { entries = 65536; file_bytes = 16777216; read_bytes = 32768; open_handles = 256; total_bytes = all_bytes }
+usual_limits = record {
+  entries = 65536;
+  file_bytes = 16777216;
+  read_bytes = 32768;
+  open_handles = 256;
+  total_bytes = all_bytes;
+}
 
 -- the highest after the second opening, where all contents have no limit of their own; the lowest are the usual ones
 abbrev pub highest_limits : TreeLimits
-highest_limits = record { entries = 1048576; file_bytes = 67108864; read_bytes = 65536; open_handles = 1024; total_bytes = all_bytes }
+highest_limits = record {
+  entries = 1048576;
+  file_bytes = 67108864;
+  read_bytes = 65536;
+  open_handles = 1024;
+  total_bytes = all_bytes;
+}
 
 -- the lowest that a tree may set
 abbrev pub least_limits : TreeLimits
@@ -41,7 +53,13 @@ least_limits = record usual_limits { total_bytes = 16777216 }
 -- the highest that a tree may set: with three entries more, an entry's number, or that of the names of a file, would
 -- not be a uint32; one READ of as many bytes still is a packet
 abbrev pub most_limits : TreeLimits
-most_limits = record { entries = 4294967293; file_bytes = 1099511627776; read_bytes = 261120; open_handles = 65536; total_bytes = all_bytes }
+most_limits = record {
+  entries = 4294967293;
+  file_bytes = 1099511627776;
+  read_bytes = 261120;
+  open_handles = 65536;
+  total_bytes = all_bytes;
+}
 
 abbrev pub IsBetween : ℕ → ℕ → ℕ → Type 0
 IsBetween lowest highest n = (lowest ≤ n) × (n ≤ highest)
@@ -130,7 +148,8 @@ length_text true count = uint64 count
 abbrev pub kind_text : Kind → List ℕ
 kind_text (Dir owner) = 68 ∷ owner_text owner
 kind_text (First owner bytes) =
-    file_letter (is_long (length bytes)) ∷ (owner_text owner ++ (length_text (is_long (length bytes)) (length bytes) ++ bytes))
+    file_letter (is_long (length bytes))
+    ∷ (owner_text owner ++ (length_text (is_long (length bytes)) (length bytes) ++ bytes))
 kind_text (Further number) = 72 ∷ uint32 number
 kind_text (Link target) = 76 ∷ string target
 
@@ -215,7 +234,8 @@ unfoldable pub spelled_after : Opening → TreeFile → List ℕ
 spelled_after opening file =
     tree_opening opening ++ (string file.home ++ (uint32 file.uid ++ (uint32 file.gid
     ++ (limits_text opening file.limits ++ (uint32 (length file.rows)
-    ++ (root_owner_text opening (file.root, times_of_root file.times) ++ entries_text file.rows (times_of_rows file.times)))))))
+    ++ (root_owner_text opening (file.root, times_of_root file.times)
+    ++ entries_text file.rows (times_of_rows file.times)))))))
 
 -- the bytes of a tree file: it has the third opening exactly if it has times, or a limit beyond those of the second,
 -- and the second exactly if its limits are else not all the usual ones

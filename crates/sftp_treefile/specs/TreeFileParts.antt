@@ -20,7 +20,8 @@ use Rattle.sftp_treefile.specs.declared.limits.Opening.{Opening}
 use Rattle.sftp_treefile.specs.declared.limits.Opening.TheVariants.{Usual, Raised, Wide}
 use Rattle.sftp_treefile.specs.declared.times.Times.{Times}
 use Rattle.sftp_treefile.specs.TreeFile.{AreLimits, AreBetween, usual_limits, highest_limits, are_own, are_far, is_wide}
-use Rattle.sftp_treefile.specs.TreeFile.{tree_opening, limits_text, owner_text, place_of, has_dir, is_target, opening_of}
+use Rattle.sftp_treefile.specs.TreeFile.{tree_opening, limits_text, owner_text, place_of, has_dir, is_target}
+use Rattle.sftp_treefile.specs.TreeFile.{opening_of}
 use Rattle.sftp_treefile.specs.TreeFile.{are_bytes, is_first_row, entry_at, IsPlaceText, IsOwner, IsKind, IsNext}
 use Rattle.sftp_treefile.specs.TreeFile.{no_times, any_times, AreTimes, times_of_root, root_owner_text, entry_text}
 use Rattle.sftp_treefile.specs.TreeFile.{content_length, contents_length, has_times, times_text}

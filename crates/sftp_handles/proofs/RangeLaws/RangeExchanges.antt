@@ -224,7 +224,7 @@ module _ {s mid end : State} {request other : Request} {reply next : Reply} {num
   at-between : OnFile (with_file s number changed) other.ask number other_flags changed other_ends
   at-between = on-changed other_at changed alike-too.sized
 
-  late : judged s.tree other.ask number other_flags changed next.answer ≡ Some one.done
+  late : judged (with_file s number changed).tree other.ask number other_flags changed next.answer ≡ Some one.done
   late = judged-alike s.tree order number other_flags before changed other_ends other_at.within alike-too next.answer other.ask other_at.spanned
       ∙ one.is
 

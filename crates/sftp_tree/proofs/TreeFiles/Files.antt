@@ -11,7 +11,7 @@ use Rattle.sftp_tree.proofs.Imports.{times_named, is_named, is_pinned, fits, dep
 use Rattle.sftp_tree.proofs.Imports.{links_fit, link_fits, files_fit, content_fits, rows_after, root_owner}
 use Rattle.sftp_tree.proofs.Imports.{is_numbered, file_of, picture, IsStart, blank, content_of, contents_of, node_of}
 use Rattle.sftp_tree.proofs.Imports.{only_root, names_of, numbered_from, tree_of, suc, ◌==◌, Bool, true, false}
-use Rattle.sftp_tree.proofs.Imports.{if◌then◌else◌, Option, None, IfSome, flat_map, nat_cmp, is_eq, nat_cmp_total}
+use Rattle.sftp_tree.proofs.Imports.{if◌then◌else◌, Option, None, flat_map, nat_cmp, is_eq, nat_cmp_total}
 use Rattle.sftp_tree.proofs.Imports.{eqb-true, eq-eqb, absolute, get, get-put, head_bytes, path_length}
 use Rattle.sftp_tree.proofs.Imports.{target_length, entry_naming, naming, kind_of}
 use Rattle.sftp_tree.proofs.Imports.{Firsts, firsts_with, known_kind}
@@ -26,7 +26,7 @@ use Rattle.sftp_tree.proofs.TreeFiles.Numbers.{IsBelow, AreBelow, all_below, fir
 use Rattle.sftp_tree.proofs.TreeFiles.Numbers.{numbered_contents, numbered_there, each_number, each_content}
 use Rattle.sftp_tree.proofs.TreeFiles.Numbers.{numbered_order, numbered_again, number_is}
 use Rattle.sftp_tree.proofs.TreeFiles.Numbers.{IsBelowRoot, IsFitContent, length-rows, place_text, entry_texts}
-use Rattle.sftp_tree.proofs.TreeFiles.Numbers.{rows_bare, kinds_fit, all_at}
+use Rattle.sftp_tree.proofs.TreeFiles.Numbers.{rows_bare, kinds_fit}
 use Rattle.sftp_tree.proofs.TreeFiles.Stores.{rows_again, rows_numbered, entries_again, numbered_total}
 use Rattle.sftp_tree.proofs.PlaceTables.{each-all, all-each, each-weaker}
 use Rattle.sftp_tree.proofs.Limits.{Stands, fits-parts, fits-from, stands-of}
@@ -41,6 +41,7 @@ use Rattle.sftp_tree.specs.Tree.{total_of}
 use Rattle.sftp_tree.specs.Changes.{length_of}
 use Rattle.sftp_tree.specs.Picture.{timed_file_of}
 use Rattle.sftp_tree.proofs.Totals.{total-retain}
+use Rattle.std.proofs.Math.Dec.{eqb-suc-zero}
 
 -- ---- the limits, entry by entry
 
@@ -541,4 +542,4 @@ picture_written t kept times =
 -- a file that has times says so at once
 pub some_times : (rows : List Row) (times : List Times) → AreFileTimes rows times → any_times times ≡ not (length times == 0)
 some_times rows [] are = refl
-some_times rows (t ∷ times) are = are.2
+some_times rows (t ∷ times) are = are.2 ∙ sym (ap not (eqb-suc-zero (length times)))

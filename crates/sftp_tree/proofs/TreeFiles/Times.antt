@@ -3,7 +3,7 @@ use Rattle.sftp_tree.proofs.Imports.{◌≡◌, ℕ, suc, ◌+◌, ◌<◌, ◌^
 use Rattle.sftp_tree.proofs.Imports.{Option, Bool, true, false, refl, sym, ap, subst, ◌∙◌, append_assoc, append-nil, arith}
 use Rattle.sftp_tree.proofs.Imports.{length-append, take-append_seam, AllByRecursion, nat_cmp, Name, get, get-empty}
 use Rattle.sftp_tree.proofs.Imports.{Place, absolute, Owner, Row, Node, Dir, File, Link, Names, Files}
-use Rattle.sftp_tree.proofs.Imports.{Tree, IsKept, Content, content_at, branch, placed, IsBranch, rows_after, only_root}
+use Rattle.sftp_tree.proofs.Imports.{Tree, IsKept, Content, content_at, placed, IsBranch, rows_after, only_root}
 use Rattle.sftp_tree.proofs.Imports.{Firsts, firsts_with, text_of, firsts_from, naming, kind_of, entry_naming}
 use Rattle.sftp_treefile.specs.declared.times.Times.{Times}
 use Rattle.sftp_treefile.specs.TreeFile.{any_times, AreTimes, AreTimesOf, AreFileTimes, MayHaveTimes}

@@ -1,4 +1,4 @@
-use Rattle.sftp_tree.proofs.Imports.{subst, sym, refl, picture, file_of, IsSpelled}
+use Rattle.sftp_tree.proofs.Imports.{refl, picture}
 use Rattle.sftp_tree.proofs.TreeFiles.Files.{start_of_spelled, spelled_of_start, plain_of_start, file_of_tree}
 use Rattle.sftp_tree.proofs.TreeFiles.Files.{timed_file_of_tree}
 use Rattle.sftp_tree.proofs.picture_laws.starts_have_tree_files.Goals as goal

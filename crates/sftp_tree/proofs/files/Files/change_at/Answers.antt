@@ -1,4 +1,4 @@
-use Rattle.sftp_tree.proofs.Imports.{◌≡◌, ◌<◌, ◌^◌, subst, sym, arith, Some, IfSome, length, nat_cmp, get, Stored, Stores, contents}
+use Rattle.sftp_tree.proofs.Imports.{◌<◌, ◌^◌, subst, sym, arith, Some, IfSome, length, nat_cmp, get, Stored, Stores, contents}
 use Rattle.sftp_tree.proofs.Imports.{with_content_made, changed_content}
 use Rattle.sftp_tree.specs.Tree.{total_of}
 use Rattle.sftp_tree.proofs.Totals.{part-summed, summed-where, changed-small}

@@ -1,4 +1,4 @@
-use Rattle.sftp_tree.proofs.Imports.{refl, Some, with_a_name}
+use Rattle.sftp_tree.proofs.Imports.{refl, with_a_name}
 use Rattle.sftp_tree.proofs.Totals.{summed-still}
 use Rattle.sftp_tree.proofs.files.Files.count_name.Goals as goal
 

@@ -1,4 +1,4 @@
-use Rattle.sftp_tree.proofs.Imports.{◌≡◌, ◌<◌, ◌^◌, subst, sym, ap, ◌∙◌, arith, Some, nat_cmp, put, length, Stored, Stores, contents}
+use Rattle.sftp_tree.proofs.Imports.{◌<◌, ◌^◌, subst, sym, ap, arith, Some, put, length, Stored, Stores, contents}
 use Rattle.sftp_tree.specs.Tree.{total_of}
 use Rattle.sftp_tree.specs.StoredFiles.{IsSummed}
 use Rattle.sftp_tree.proofs.Totals.{part-summed, summed-put}

@@ -1,4 +1,4 @@
-use Rattle.sftp_tree.proofs.Imports.{◌-◌, arith, Some, Stored, without_a_pin}
+use Rattle.sftp_tree.proofs.Imports.{◌-◌, arith, Some, without_a_pin}
 use Rattle.sftp_tree.proofs.Totals.{part-summed, summed-where, shrunk, held-less}
 use Rattle.sftp_tree.proofs.files.Files.unpin.Goals as goal
 

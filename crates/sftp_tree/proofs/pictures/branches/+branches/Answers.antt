@@ -20,11 +20,11 @@ abbrev own_text : Owner → List Times → At → List ℕ
 own_text owner times at =
     entry_text (record { path = at.text; kind = kinds.Dir owner }, times_at times at.next)
 
-own_entry_text : (owner : Owner) (times : List Times) {given path : List ℕ} {time : Times} {next : ℕ} → given ≡ path
+own_entry_text : (owner : Owner) (times : List Times) (next : ℕ) {given path : List ℕ} {time : Times} → given ≡ path
     → time ≡ times_at times next
     → entry_text (record { path = given; kind = kinds.Dir owner }, time)
     ≡ entry_text (record { path = path; kind = kinds.Dir owner }, times_at times next)
-own_entry_text owner times path-is time-is =
+own_entry_text owner times next path-is time-is =
     λ i. entry_text (record { path = path-is i; kind = kinds.Dir owner }, time-is i)
 
 -- ---- a child
@@ -83,7 +83,7 @@ written g t c =
     let own-out = g.L.Sink.written c.send_timed_directory.new.sink in
     let owner = c.owner.ensures in
     let own : Appends before.out own-out (own_text c.owner.result times before) =
-    subst (Appends before.out own-out) (own_entry_text c.owner.result times c.deref.ensures.value c.get-time.ensures)
+    subst (Appends before.out own-out) (own_entry_text c.owner.result times c.args.at.now.next c.deref.ensures.value c.get-time.ensures)
     c.in_ok-send_timed_directory-in-Dir.ensures.ok in
     let done = c.in_ok-send_below-in-Dir.ensures in
     subst (λ names. IsWritten files times names before after) (sym (ap branch c.in-Dir.is))
@@ -107,7 +107,7 @@ send_child-returns-in_err-send_timed_directory-in-Dir-clause-err g t c =
     let new = g.L.Sink.written c.send_timed_directory.new.sink in
     let owner = c.owner.ensures in
     let part : AppendsPart before.out new (own_text c.owner.result times before) =
-    subst (AppendsPart before.out new) (own_entry_text c.owner.result times c.deref.ensures.value c.get-time.ensures)
+    subst (AppendsPart before.out new) (own_entry_text c.owner.result times c.args.at.now.next c.deref.ensures.value c.get-time.ensures)
     c.in_err-send_timed_directory-in-Dir.ensures.err in
     on_err _ (subst (λ (names : Names). AppendsPart before.out new (entries_text files times before names))
     (sym (ap branch c.in-Dir.is))
@@ -122,7 +122,7 @@ send_child-returns-in_err-send_below-in-Dir-clause-err g t c =
     let new = g.L.Sink.written c.send_below.new.sink in
     let owner = c.owner.ensures in
     let own : Appends before.out own-out (own_text c.owner.result times before) =
-    subst (Appends before.out own-out) (own_entry_text c.owner.result times c.deref.ensures.value c.get-time.ensures)
+    subst (Appends before.out own-out) (own_entry_text c.owner.result times c.args.at.now.next c.deref.ensures.value c.get-time.ensures)
     c.in_ok-send_timed_directory-in-Dir.ensures.ok in
     on_err _ (subst (λ (names : Names). AppendsPart before.out new (entries_text files times before names))
     (sym (ap branch c.in-Dir.is))

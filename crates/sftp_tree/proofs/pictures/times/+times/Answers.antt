@@ -1,12 +1,11 @@
 -- A directory is asked for and then what is below it, child by child.
 use Rattle.sftp_tree.proofs.Imports.{◌≡◌, ℕ, List, ◌∷◌, ◌++◌, ◌∙◌, ap, sym, subst, length, drop, length-append, arith}
 use Rattle.sftp_tree.proofs.Imports.{branch, placed, flat, AreBranches, IsBranch, Names, File, Link, firsts_from, refl}
-use Rattle.sftp_treefile.specs.declared.times.Times.{Times}
 use Rattle.sftp_tree.specs.PictureParts.{AddsTimes}
 use Rattle.sftp_treefile.specs.TreeFile.{no_times}
 use Rattle.sftp_tree.proofs.TreeFiles.Branches.{next_smaller}
 use Rattle.sftp_tree.proofs.TreeFiles.Times.{here_of, IsLeftToAsk, none_asked, alone_asked, dir_asked, child_asked}
-use Rattle.sftp_tree.proofs.TreeFiles.Times.{IsAsked, child_numbers, all_asked, own_length, dir_firsts}
+use Rattle.sftp_tree.proofs.TreeFiles.Times.{child_numbers, own_length, dir_firsts}
 use Rattle.sftp_tree.proofs.pictures.times.+times.Goals as goal
 
 -- ---- a child
@@ -161,19 +160,3 @@ ask_below-loop-name-preserved g t c =
       branches = (subst AreBranches steps at.invariant.branches).1;
       few = omega (arith, at.invariant.few, ap length (ap flat steps), length-append (placed name (branch child)) rest);
     }
-
--- all of them were asked for
-
-asked : (g : _) (t : ℕ) (c : goal.ask_below-In_default g t)
-    → IsAsked (g.K.HasTimes.of_file c.args.keeper.now) (g.K.HasTimes.of_directory c.args.keeper.now)
-    (drop 1 c.args.dir.now) (here_of c.args.at.now c.args.times.now.items)
-    (here_of c.loop-name.at c.loop-name.times.items)
-asked g t c =
-    let at = c.loop-name in
-    let F = g.K.HasTimes.of_file c.args.keeper.now in
-    let D = g.K.HasTimes.of_directory c.args.keeper.now in
-    let start = here_of c.args.at.now c.args.times.now.items in
-    let here = here_of at.at at.times.items in
-    let whole = drop 1 c.args.dir.now in
-    all_asked F D whole start here
-    (subst (λ cs. IsLeftToAsk F D whole start here (flat cs)) c.in_default.ensures.ends at.invariant.left)

@@ -5,8 +5,8 @@ use Rattle.sftp_tree.proofs.TreeFiles.Branches.{tree_few}
 use Rattle.sftp_tree.proofs.TreeFiles.Times.{tree_told}
 use Rattle.sftp_tree.proofs.pictures.times.entry_times.Goals as goal
 
-pub ask_below-requires-clause-few : goal.ask_below-requires-clause-few
-ask_below-requires-clause-few g c = omega (
+pub ask_below-requires : goal.ask_below-requires
+ask_below-requires g c = omega (
   arith,
   c.new-at.ensures.next,
   ap length (ap (drop 1) (c.root_directory-root.ensures ∙ c.names-2.ensures.names)),

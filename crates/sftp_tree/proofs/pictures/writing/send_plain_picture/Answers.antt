@@ -10,7 +10,7 @@ use Rattle.sftp_tree.proofs.pictures.writing.send_plain_picture.Goals as goal
 
 pub send_picture-requires : goal.send_picture-requires
 send_picture-requires g c =
-    subst (AreFileTimes (file_of c.args.tree.now).rows) (sym c.none.ensures) tt
+    subst (AreFileTimes (file_of c.args.tree.now).rows) (sym c.none-none.ensures) tt
 
 pub returns-in_err-send_picture-clause-err : goal.returns-in_err-send_picture-clause-err
 unfolding picture
@@ -18,7 +18,7 @@ returns-in_err-send_picture-clause-err g c =
     let t = c.args.tree.now in
     on_err c.from_residual.result
     (subst (λ (times : List Times). AppendsPart (g.L.Sink.written c.args.sink.now)
-    (g.L.Sink.written c.send_picture.new.sink) (spelled (timed_file_of t times))) c.none.ensures
+    (g.L.Sink.written c.send_picture.new.sink) (spelled (timed_file_of t times))) c.none-none.ensures
     c.in_err-send_picture.ensures.err)
 
 pub returns-clause-ok : goal.returns-clause-ok
@@ -26,5 +26,5 @@ unfolding picture
 returns-clause-ok g c =
     let t = c.args.tree.now in
     subst (λ (times : List Times). Appends (g.L.Sink.written c.args.sink.now)
-    (g.L.Sink.written c.send_picture.new.sink) (spelled (timed_file_of t times))) c.none.ensures
+    (g.L.Sink.written c.send_picture.new.sink) (spelled (timed_file_of t times))) c.none-none.ensures
     c.in_ok-send_picture.ensures.ok

@@ -3,7 +3,7 @@ use Rattle.sftp_tree.proofs.Imports.{[], refl, spelled}
 use Rattle.sftp_streams.proofs.Buffers.{on_err}
 use Rattle.sftp_treefile.proofs.Texts.Front.{AppendsPart-none}
 use Rattle.sftp_tree.specs.Picture.{timed_file_of}
-use Rattle.sftp_tree.proofs.pictures.Tree.write_timed_to.Goals as goal
+use Rattle.sftp_tree.proofs.trees.Tree.write_timed_to.Goals as goal
 
 pub send_picture-requires : goal.send_picture-requires
 send_picture-requires g c = c.in_ok-times.ensures.of_file
