@@ -6,6 +6,7 @@ ghost use Rattle.sftp_handles.specs.Allowed.{Allowed};
 ghost use Rattle.sftp_vary.specs.Bare.{bare};
 
 use crate::listings::{OpenListings, times_in};
+use crate::places::Spot;
 use crate::replies::{show_times, with_times_of_names};
 use crate::tables::TimeTable;
 use crate::times::{Moments, Times};
@@ -94,7 +95,7 @@ impl<C: Moments + Drop> Clocked<C> {
             Ask::Stat { .. } => self.show(session, ask, &mut reply),
             Ask::Lstat { .. } => self.show(session, ask, &mut reply),
             Ask::Fstat { .. } => self.show(session, ask, &mut reply),
-            _ => self.note(session, ask, touch, &reply.answer),
+            _ => self.note(session, ask, &touch, &reply.answer),
         }
         reply
     }
@@ -170,7 +171,7 @@ impl<C: Moments + Drop> Clocked<C> {
         &mut self,
         session: &Session<T>,
         ask: &Ask,
-        touch: Touch,
+        touch: &Touch,
         answer: &Answer,
     ) {
         match answer {
@@ -185,7 +186,7 @@ impl<C: Moments + Drop> Clocked<C> {
         &mut self,
         session: &Session<T>,
         ask: &Ask,
-        touch: Touch,
+        touch: &Touch,
         handle: &[u8],
     ) {
         match (ask, touch) {
@@ -198,7 +199,7 @@ impl<C: Moments + Drop> Clocked<C> {
                 },
                 Touch::Open(before),
             ) => {
-                if session.tree().entry_count() > before {
+                if session.tree().entry_count() > *before {
                     let follow = !has(*pflags, OpenFlags::EXCL);
                     self.note_made(session, path.as_slice(), follow, attrs.times, handle);
                 } else if has(*pflags, OpenFlags::TRUNC) {
@@ -246,7 +247,7 @@ impl<C: Moments + Drop> Clocked<C> {
     }
 
     /// Notes what a request did to times that was done.
-    fn note_done<T: HandleTable>(&mut self, session: &Session<T>, ask: &Ask, touch: Touch) {
+    fn note_done<T: HandleTable>(&mut self, session: &Session<T>, ask: &Ask, touch: &Touch) {
         match (ask, touch) {
             (Ask::Write { bytes, .. }, _) => self.note_written(session, ask, bytes),
             (Ask::Close { handle }, _) => self.listings.close(handle.as_slice()),
@@ -283,22 +284,27 @@ impl<C: Moments + Drop> Clocked<C> {
         }
     }
 
-    fn note_change(&mut self, tree: &Tree, ask: &Ask, touch: Touch) {
+    fn note_change(&mut self, tree: &Tree, ask: &Ask, touch: &Touch) {
         let now = self.clock.now();
         let table = &mut self.table;
-        match (ask, touch) {
-            (_, Touch::File(number, Change::Set(times))) => table.set_file(tree, number, times),
-            (_, Touch::File(number, Change::Modify)) => table.modify_file(tree, number, now),
-            (_, Touch::Move(old, new)) => table.rename(old, new, now),
-            (Ask::Mkdir { attrs, .. }, Touch::At(spot)) => {
-                table.make(spot, Times::given_or(attrs.times, now), now)
-            }
-            (Ask::Symlink { .. }, Touch::At(spot)) => table.make_link(spot, now),
-            (Ask::Hardlink { .. }, Touch::At(spot)) => table.name(spot, now),
-            (_, Touch::At(spot)) => table.remove(spot, now),
-            (_, Touch::Nothing) => {}
-            (_, Touch::Open(_)) => {}
+        match touch {
+            Touch::File(number, Change::Set(times)) => table.set_file(tree, *number, *times),
+            Touch::File(number, Change::Modify) => table.modify_file(tree, *number, now),
+            Touch::Move(old, new) => table.rename(*old, *new, now),
+            Touch::At(spot) => note_name(table, ask, *spot, now),
+            Touch::Nothing => {}
+            Touch::Open(_) => {}
         }
+    }
+}
+
+/// A request was done that makes or removes what stands at a name, or gives a file this name.
+fn note_name(table: &mut TimeTable, ask: &Ask, spot: Spot, now: u32) {
+    match ask {
+        Ask::Mkdir { attrs, .. } => table.make(spot, Times::given_or(attrs.times, now), now),
+        Ask::Symlink { .. } => table.make_link(spot, now),
+        Ask::Hardlink { .. } => table.name(spot, now),
+        _ => table.remove(spot, now),
     }
 }
 

@@ -41,45 +41,36 @@ pub(crate) fn end_of(tree: &Tree, path: &[u8], follow: bool) -> Result<Option<En
 
 /// The text of the directory above and the last component of a path, unless that is `.` or `..`.
 pub(crate) fn split(path: &[u8]) -> Option<(&[u8], &[u8])> {
-    let text = without_slashes(path);
-    let above = up_to_slash(text);
-    match text.get(above.len()..)? {
+    let (start, end) = last_component(path);
+    let above = path.get(..start)?;
+    match path.get(start..end)? {
         [] => None,
         [b'.'] => None,
         [b'.', b'.'] => None,
-        name => Some((directory_text(above), name)),
+        name => Some((without_slash(above), name)),
     }
 }
 
-/// The text of a directory without slashes behind it, unless it is the root's.
-fn directory_text(above: &[u8]) -> &[u8] {
-    let text = without_slashes(above);
-    if text.is_empty() && !above.is_empty() {
-        return b"/";
-    }
-    text
-}
-
-/// A text without the slashes at its end.
-fn without_slashes(text: &[u8]) -> &[u8] {
-    let mut left = text;
-    while let Some((last, rest)) = left.split_last() {
-        if *last != b'/' {
-            return left;
+/// Where the last component of a path starts and ends; nowhere if it has none.
+fn last_component(path: &[u8]) -> (usize, usize) {
+    let mut count: usize = 0;
+    let mut slash: usize = 0;
+    let mut bounds = (0, 0);
+    for byte in path {
+        count = count.wrapping_add(1);
+        if *byte == b'/' {
+            slash = count;
+        } else {
+            bounds = (slash, count);
         }
-        left = rest;
     }
-    left
+    bounds
 }
 
-/// A text up to its last slash, with it; nothing if it has none.
-fn up_to_slash(text: &[u8]) -> &[u8] {
-    let mut left = text;
-    while let Some((last, rest)) = left.split_last() {
-        if *last == b'/' {
-            return left;
-        }
-        left = rest;
+/// The text of a directory without the slash behind it, unless it is no more than that.
+fn without_slash(text: &[u8]) -> &[u8] {
+    match text.split_last() {
+        Some((_, rest)) if !rest.is_empty() => rest,
+        _ => text,
     }
-    left
 }

@@ -51,7 +51,12 @@ impl FileTimes {
     /// # Errors
     ///
     /// `NoMemory` if memory runs out.
-    pub(crate) fn set(&mut self, tree: &Tree, number: FileNo, times: Times) -> Result<(), NoMemory> {
+    pub(crate) fn set(
+        &mut self,
+        tree: &Tree,
+        number: FileNo,
+        times: Times,
+    ) -> Result<(), NoMemory> {
         self.forget_gone(tree);
         self.put(number, times)
     }

@@ -85,10 +85,10 @@ pub(crate) fn times_in(
     if !table.is_touched() {
         return all_alike(alloc, listing.len(), table.start());
     }
-    match table.led_to(tree, path)? {
+    match &table.led_to(tree, path)? {
         Some(Led::Place(directory)) => {
-            look_up(tree, table, path, directory, listing)?;
-            times_of(alloc, table, directory)
+            look_up(tree, table, path, *directory, listing)?;
+            times_of(alloc, table, *directory)
         }
         _ => Ok(Vec::new(alloc)),
     }
@@ -106,7 +106,7 @@ fn times_of(alloc: Global, table: &TimeTable, directory: PlaceNo) -> Result<Vec<
     let children = table.children(directory);
     let mut all = Vec::with_capacity(alloc, children.len())?;
     for child in children {
-        all.push(table.of_child(*child))?;
+        all.push(table.of_child(child))?;
     }
     Ok(all)
 }

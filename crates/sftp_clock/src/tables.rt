@@ -85,18 +85,18 @@ impl TimeTable {
         self.places.get(place).unwrap_or(self.start)
     }
 
-    fn of_led(&self, led: Led) -> Times {
+    fn of_led(&self, led: &Led) -> Times {
         match led {
-            Led::File(number) => self.of_file(number),
-            Led::Place(place) => self.of_place(place),
+            Led::File(number) => self.of_file(*number),
+            Led::Place(place) => self.of_place(*place),
         }
     }
 
     /// The times of what stands at a name of a directory.
-    pub(crate) fn of_child(&self, child: Child) -> Times {
+    pub(crate) fn of_child(&self, child: &Child) -> Times {
         match child {
-            Child::File(number) => self.of_file(number),
-            Child::Place(at) => self.places.get_there(at).unwrap_or(self.start),
+            Child::File(number) => self.of_file(*number),
+            Child::Place(at) => self.places.get_there(*at).unwrap_or(self.start),
             Child::Other => self.start,
         }
     }
@@ -107,7 +107,7 @@ impl TimeTable {
             return Some(self.start);
         }
         match self.led_to(tree, path) {
-            Ok(Some(led)) => Some(self.of_led(led)),
+            Ok(Some(led)) => Some(self.of_led(&led)),
             _ => None,
         }
     }
@@ -140,29 +140,46 @@ impl TimeTable {
     ///
     /// `NoMemory` if memory runs out.
     pub(crate) fn led_to(&mut self, tree: &Tree, path: &[u8]) -> Result<Option<Led>, NoMemory> {
-        match self.ways.find(path) {
-            Some(Led::File(number)) => Ok(Some(Led::File(number))),
-            Some(Led::Place(place)) if self.places.has(place) => Ok(Some(Led::Place(place))),
-            _ => self.walk_to(tree, path),
+        match self.kept(path) {
+            Some(led) => Ok(Some(led)),
+            None => self.walk_to(tree, path),
+        }
+    }
+
+    /// What a path leads to, if that is kept.
+    fn kept(&self, path: &[u8]) -> Option<Led> {
+        let led = self.ways.find(path)?;
+        if self.is_there(&led) { Some(led) } else { None }
+    }
+
+    fn is_there(&self, led: &Led) -> bool {
+        match led {
+            Led::File(_) => true,
+            Led::Place(place) => self.places.has(*place),
         }
     }
 
     fn walk_to(&mut self, tree: &Tree, path: &[u8]) -> Result<Option<Led>, NoMemory> {
         match end_of(tree, path, true)? {
-            Some(end) => {
-                let led = self.led_by(&end)?;
-                self.ways.keep(path, led);
-                Ok(Some(led))
-            }
+            Some(end) => Ok(Some(self.keep(path, &end)?)),
             None => Ok(None),
         }
     }
 
-    fn led_by(&mut self, end: &End) -> Result<Led, NoMemory> {
+    fn keep(&mut self, path: &[u8], end: &End) -> Result<Led, NoMemory> {
         match end.file {
-            Some(number) => Ok(Led::File(number)),
-            None => Ok(Led::Place(self.places.reach(end.names.as_slice())?)),
+            Some(number) => {
+                self.ways.keep_file(path, number);
+                Ok(Led::File(number))
+            }
+            None => Ok(Led::Place(self.keep_directory(path, end)?)),
         }
+    }
+
+    fn keep_directory(&mut self, path: &[u8], end: &End) -> Result<PlaceNo, NoMemory> {
+        let place = self.places.reach(end.names.as_slice())?;
+        self.ways.keep_directory(path, place);
+        Ok(place)
     }
 
     /// The file that a path leads to, if it leads to one.
@@ -171,8 +188,8 @@ impl TimeTable {
     ///
     /// `NoMemory` if memory runs out.
     pub(crate) fn file_of(&mut self, tree: &Tree, path: &[u8]) -> Result<Option<FileNo>, NoMemory> {
-        match self.ways.find(path) {
-            Some(Led::File(number)) => Ok(Some(number)),
+        match &self.kept(path) {
+            Some(Led::File(number)) => Ok(Some(*number)),
             _ => self.walk_to_file(tree, path),
         }
     }
@@ -183,7 +200,7 @@ impl TimeTable {
             None => None,
         };
         if let Some(number) = file {
-            self.ways.keep(path, Led::File(number));
+            self.ways.keep_file(path, number);
         }
         Ok(file)
     }
@@ -194,8 +211,8 @@ impl TimeTable {
     ///
     /// `NoMemory` if memory runs out.
     fn directory(&mut self, tree: &Tree, path: &[u8]) -> Result<Option<PlaceNo>, NoMemory> {
-        match self.ways.find(path) {
-            Some(Led::Place(place)) if self.places.has(place) => Ok(Some(place)),
+        match &self.kept(path) {
+            Some(Led::Place(place)) => Ok(Some(*place)),
             _ => self.walk_to_directory(tree, path),
         }
     }
@@ -206,11 +223,7 @@ impl TimeTable {
         let behind: &[u8] = if path.is_empty() { b"." } else { b"/." };
         text.extend_from_slice(behind)?;
         match end_of(tree, text.as_slice(), true)? {
-            Some(end) => {
-                let place = self.places.reach(end.names.as_slice())?;
-                self.ways.keep(path, Led::Place(place));
-                Ok(Some(place))
-            }
+            Some(end) => Ok(Some(self.keep_directory(path, &end)?)),
             None => Ok(None),
         }
     }
@@ -297,9 +310,9 @@ impl TimeTable {
 
     /// Gives what a path leads to times.
     pub(crate) fn set_path(&mut self, tree: &Tree, path: &[u8], times: Times) {
-        match self.led_to(tree, path) {
-            Ok(Some(Led::File(number))) => self.set_file(tree, number, times),
-            Ok(Some(Led::Place(place))) => self.set_place(place, times),
+        match &self.led_to(tree, path) {
+            Ok(Some(Led::File(number))) => self.set_file(tree, *number, times),
+            Ok(Some(Led::Place(place))) => self.set_place(*place, times),
             _ => {}
         }
     }

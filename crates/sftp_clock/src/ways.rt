@@ -72,13 +72,24 @@ impl Ways {
         None
     }
 
-    /// Keeps what a path leads to, if there is memory for it.
-    pub(crate) fn keep(&mut self, path: &[u8], led: Led) {
+    /// Keeps that a path leads to a file, if there is memory for it.
+    pub(crate) fn keep_file(&mut self, path: &[u8], number: FileNo) {
+        let age = self.files;
+        self.keep(path, Led::File(number), age);
+    }
+
+    /// Keeps that a path leads to a directory, if there is memory for it.
+    pub(crate) fn keep_directory(&mut self, path: &[u8], directory: PlaceNo) {
+        let age = self.directories;
+        self.keep(path, Led::Place(directory), age);
+    }
+
+    fn keep(&mut self, path: &[u8], led: Led, age: u64) {
         if path.len() > LONGEST {
             return;
         }
         self.make_room();
-        let (hash, age) = (hash_of(path), self.age_of(led));
+        let hash = hash_of(path);
         if let Ok(path) = Vec::from_slice(self.alloc, path) {
             self.put(Way {
                 hash,
@@ -113,16 +124,12 @@ impl Ways {
         }
     }
 
-    fn age_of(&self, led: Led) -> u64 {
-        match led {
-            Led::File(_) => self.files,
-            Led::Place(_) => self.directories,
-        }
-    }
-
     /// Whether a way was not forgotten.
     fn counts(&self, way: &Way) -> bool {
-        way.age == self.age_of(way.led)
+        match &way.led {
+            Led::File(_) => way.age == self.files,
+            Led::Place(_) => way.age == self.directories,
+        }
     }
 
     fn way(&self, hash: u32, step: usize) -> Option<&Way> {
