@@ -217,7 +217,7 @@ names-spelled id before now plain all same spelled =
       canonical = refl;
     }
 
-attrs-spelled : (id : ℕ) (old new : Attrs) → untimed_attrs new ≡ untimed_attrs old → IfSome new.times FitsTwo
+pub attrs-spelled : (id : ℕ) (old new : Attrs) → untimed_attrs new ≡ untimed_attrs old → IfSome new.times FitsTwo
     → not (is_some new.extended) ≡ true → HasSpelling (shown id old) → HasSpelling (shown id new)
 unfolding spelling
 attrs-spelled id old new same times none spelled =
@@ -231,27 +231,3 @@ attrs-spelled id old new same times none spelled =
       handle = tt;
       canonical = refl;
     }
-
-none-of : (o : Option (List (List ℕ × List ℕ))) → is_some o ≡ false → None ≡ o
-none-of None is = refl
-none-of (Some pairs) is = absurd cc
-
--- attributes that get times, and have no extended pairs
-pub timed-spelled : (id : ℕ) (attrs : Attrs) (times : ℕ × ℕ) → is_some attrs.extended ≡ false → FitsTwo times
-    → HasSpelling (shown id attrs)
-    → HasSpelling (shown id (record {
-      size = attrs.size;
-      owner = attrs.owner;
-      permissions = attrs.permissions;
-      times = Some times;
-      extended = None;
-    }))
-timed-spelled id attrs times none fits spelled =
-    let with_pairs : Option (List (List ℕ × List ℕ)) → Attrs = λ pairs. record {
-      size = attrs.size;
-      owner = attrs.owner;
-      permissions = attrs.permissions;
-      times = None;
-      extended = pairs;
-    } in
-    attrs-spelled id attrs _ (ap with_pairs (none-of attrs.extended none)) fits refl spelled

@@ -5,18 +5,23 @@ ghost use Rattle.sftp_packets.specs.Packets.{HasSpelling};
 ghost use Rattle.sftp_handles.specs.Allowed.{Allowed};
 ghost use Rattle.sftp_vary.specs.Bare.{bare};
 
-use crate::listings::OpenListings;
-use crate::replies::{with_times, with_times_of_names};
+use crate::listings::{OpenListings, times_in};
+use crate::places::Spot;
+use crate::replies::{show_times, with_times_of_names};
 use crate::tables::TimeTable;
 use crate::times::{Moments, Times};
-use crate::touches::{Touch, touch_of};
+use crate::touches::{Change, Given, Touch, has, touch_of};
 use sftp_handles::{HandleTable, Session};
-use sftp_path::Name;
 use sftp_server::Answerer;
 use sftp_tree::{FileNo, NoMemory, Tree};
 use sftp_wire::status::OK;
-use sftp_wire::{Answer, Ask, Reply, Request};
+use sftp_wire::{Answer, Ask, Attrs, ByteString, OpenFlags, Reply, Request};
 use std::alloc::Global;
+
+/// The bits of permissions that say the type, and what they say of a link (POSIX, `sys/stat.h`).
+const TYPE_BITS: u32 = 0o170000;
+
+const LINK_TYPE: u32 = 0o120000;
 
 /// Answers requests as the session itself does, with times of access and modification in each reply that shows
 /// attributes.
@@ -26,9 +31,10 @@ use std::alloc::Global;
 /// directory by a change of its names. Reading changes no time of access. What found no memory for its times has those
 /// of the start.
 ///
-/// A request costs, beside what the session does, a walk of each of its paths. No walk is needed for an OPEN that
-/// neither makes nor truncates, nor for STAT and LSTAT as long as nothing was given times. OPENDIR costs a look-up for
-/// each name in the directory, once something was, and READDIR one for each reply.
+/// A request costs, beside what the session does, a walk of each of its paths that is not kept (`TimeTable`): of the
+/// path of STAT, LSTAT, OPENDIR and SETSTAT, and of the directory of a name that is made, removed or moved. No walk is
+/// needed for an OPEN that makes nothing, nor for STAT, LSTAT and OPENDIR as long as nothing was given times. OPENDIR
+/// costs a look-up for each name in the directory, if its names changed since it was listed.
 #[derive(Drop)]
 pub struct Clocked<C: Drop> {
     clock: C,
@@ -62,34 +68,15 @@ impl<C: Moments + Drop> Clocked<C> {
 
 impl<C: Moments + Drop, T: HandleTable> Answerer<T> for Clocked<C> {
     fn answer(&mut self, session: &mut Session<T>, request: &Request) -> Result<Reply, NoMemory> {
-        match touch_of(session, &request.ask) {
-            Ok(touch) => self.answer_touching(session, request, touch),
+        let touch = touch_of(&mut self.table, session, &request.ask)?;
+        match session.answer(request) {
+            Ok(reply) => Ok(self.timed(session, &request.ask, touch, reply)),
             Err(error) => Err(error),
         }
     }
 }
 
 impl<C: Moments + Drop> Clocked<C> {
-    /// Answers a request that does this to times if it is done.
-    fn answer_touching<T: HandleTable>(
-        &mut self,
-        session: &mut Session<T>,
-        request: &Request,
-        touch: Touch,
-    ) -> Result<Reply, NoMemory>
-        ensures allowed { IfOk result (λ reply. Allowed session.old request.now reply session.new) }
-        ensures spelled { IfOk result (λ reply. HasSpelling (reply_packet reply)) }
-        ensures err { OnErr result (session.new ≡ session.old) }
-    {
-        match session.answer(request) {
-            Ok(reply) => Ok(self.timed(session, &request.ask, touch, reply)),
-            Err(error) => {
-                drop(touch);
-                Err(error)
-            }
-        }
-    }
-
     /// The reply to a request that was done or refused, with times. What it did to times is noted.
     fn timed<T: HandleTable>(
         &mut self,
@@ -102,41 +89,66 @@ impl<C: Moments + Drop> Clocked<C> {
         ensures same { bare result.answer ≡ bare reply.answer }
         ensures spelled { HasSpelling (reply_packet reply) → HasSpelling (reply_packet result) }
     {
-        self.note(session, ask, touch, &reply.answer);
+        let mut reply = reply;
         match ask {
-            Ask::Stat { path } => self.shown(session.tree(), path.as_slice(), true, reply),
-            Ask::Lstat { path } => self.shown(session.tree(), path.as_slice(), false, reply),
-            Ask::Fstat { .. } => self.shown_open(session, ask, reply),
-            Ask::Readdir { handle } => self.named(handle.as_slice(), reply),
-            _ => reply,
+            Ask::Readdir { handle } => return self.named(handle.as_slice(), reply),
+            Ask::Stat { .. } => self.show(session, ask, &mut reply),
+            Ask::Lstat { .. } => self.show(session, ask, &mut reply),
+            Ask::Fstat { .. } => self.show(session, ask, &mut reply),
+            _ => self.note(session, ask, &touch, &reply.answer),
+        }
+        reply
+    }
+}
+
+// What is shown.
+impl<C: Moments + Drop> Clocked<C> {
+    /// Gives a reply that shows attributes the times of that whose attributes they are.
+    fn show<T: HandleTable>(&mut self, session: &Session<T>, ask: &Ask, reply: &mut Reply)
+        ensures same_id { reply.new.id ≡ reply.old.id }
+        ensures same { bare reply.new.answer ≡ bare reply.old.answer }
+        ensures spelled { HasSpelling (reply_packet reply.old) → HasSpelling (reply_packet reply.new) }
+    {
+        if let Some(times) = self.times_of(session, ask, &reply.answer) {
+            show_times(reply, times);
         }
     }
 
-    /// The reply to STAT or LSTAT, with the times of what the path leads to.
-    fn shown(&self, tree: &Tree, path: &[u8], follow: bool, reply: Reply) -> Reply
-        ensures same_id { result.id ≡ reply.id }
-        ensures same { bare result.answer ≡ bare reply.answer }
-        ensures spelled { HasSpelling (reply_packet reply) → HasSpelling (reply_packet result) }
-    {
-        if !shows_attributes(&reply.answer) {
-            return reply;
-        }
-        match self.table.of_path(tree, path, follow) {
-            Some(times) => with_times(reply, times),
-            None => reply,
+    /// The times of that whose attributes an answer shows, if it shows some.
+    fn times_of<T: HandleTable>(
+        &mut self,
+        session: &Session<T>,
+        ask: &Ask,
+        answer: &Answer,
+    ) -> Option<Times> {
+        match (ask, answer) {
+            (Ask::Stat { path }, Answer::Attrs(_)) => {
+                self.table.of_path(session.tree(), path.as_slice())
+            }
+            (Ask::Lstat { path }, Answer::Attrs(attrs)) => {
+                self.of_end(session.tree(), path.as_slice(), attrs)
+            }
+            (Ask::Fstat { .. }, Answer::Attrs(_)) => self.of_open(session, ask),
+            _ => None,
         }
     }
 
-    /// The reply to FSTAT, with the times of the file.
-    fn shown_open<T: HandleTable>(&self, session: &Session<T>, ask: &Ask, reply: Reply) -> Reply
-        ensures same_id { result.id ≡ reply.id }
-        ensures same { bare result.answer ≡ bare reply.answer }
-        ensures spelled { HasSpelling (reply_packet reply) → HasSpelling (reply_packet result) }
-    {
-        match session.touch(ask).file() {
-            Some(number) => with_times(reply, self.table.of_file(number)),
-            None => reply,
+    /// The times of that to which a path leads, which has these attributes.
+    fn of_end(&mut self, tree: &Tree, path: &[u8], attrs: &Attrs) -> Option<Times> {
+        if shows_link(attrs) {
+            self.table.of_link(tree, path)
+        } else {
+            self.table.of_path(tree, path)
         }
+    }
+
+    /// The times of the file that is open under the handle of a request.
+    fn of_open<T: HandleTable>(&self, session: &Session<T>, ask: &Ask) -> Option<Times> {
+        if !self.table.is_touched() {
+            return Some(self.table.start());
+        }
+        let number = session.touch(ask).file()?;
+        Some(self.table.of_file(number))
     }
 
     /// The reply to READDIR, with the times of the names.
@@ -150,69 +162,169 @@ impl<C: Moments + Drop> Clocked<C> {
         self.listings.give(handle, count);
         timed
     }
+}
 
+// What is noted of requests that were done.
+impl<C: Moments + Drop> Clocked<C> {
     /// Notes what a request did to times, if it was done.
     fn note<T: HandleTable>(
         &mut self,
         session: &Session<T>,
         ask: &Ask,
-        touch: Touch,
+        touch: &Touch,
         answer: &Answer,
     ) {
         match answer {
-            Answer::Handle(handle) => self.note_opened(session, touch, handle.as_slice()),
-            Answer::Status { code, .. } if *code == OK => self.note_done(
-                session.tree(),
-                ask,
-                touch,
-            ),
-            _ => drop(touch),
+            Answer::Handle(handle) => self.note_opened(session, ask, touch, handle.as_slice()),
+            Answer::Status { code, .. } if *code == OK => self.note_done(session, ask, touch),
+            _ => {}
         }
     }
 
     /// Notes what a request did to times that opened something under a handle.
-    fn note_opened<T: HandleTable>(&mut self, session: &Session<T>, touch: Touch, handle: &[u8]) {
-        match touch {
-            Touch::List(names) => self.list(session, names, handle),
-            touch => self.note_change(session.tree(), touch),
+    fn note_opened<T: HandleTable>(
+        &mut self,
+        session: &Session<T>,
+        ask: &Ask,
+        touch: &Touch,
+        handle: &[u8],
+    ) {
+        match (ask, touch) {
+            (Ask::Opendir { path }, _) => self.list(session, path.as_slice(), handle),
+            (
+                Ask::Open {
+                    path,
+                    pflags,
+                    attrs,
+                },
+                Touch::Open(before),
+            ) => {
+                if session.tree().entry_count() > *before {
+                    let follow = !has(*pflags, OpenFlags::EXCL);
+                    self.note_made(session, path.as_slice(), follow, attrs.times, handle);
+                } else if has(*pflags, OpenFlags::TRUNC) {
+                    self.note_truncated(session, handle);
+                }
+            }
+            _ => {}
         }
     }
 
     /// A directory was opened: the times of its names are kept, if there is memory for them.
-    fn list<T: HandleTable>(&mut self, session: &Session<T>, names: Vec<Name>, handle: &[u8]) {
-        let _ = self.listings.open(session, &self.table, names, handle);
+    fn list<T: HandleTable>(&mut self, session: &Session<T>, path: &[u8], handle: &[u8]) {
+        let Some(listing) = session.listing(handle) else {
+            return;
+        };
+        if let Ok(times) = times_in(session.tree(), &mut self.table, path, listing) {
+            let _ = self.listings.open(handle, times);
+        }
+    }
+
+    /// An OPEN made a file.
+    fn note_made<T: HandleTable>(
+        &mut self,
+        session: &Session<T>,
+        path: &[u8],
+        follow: bool,
+        given: Given,
+        handle: &[u8],
+    ) {
+        let tree = session.tree();
+        let now = self.clock.now();
+        if let Some(number) = file_under(session, handle) {
+            self.table
+                .set_file(tree, number, Times::given_or(given, now));
+        }
+        self.table.make_file(tree, path, follow, now);
+    }
+
+    /// An OPEN truncated a file.
+    fn note_truncated<T: HandleTable>(&mut self, session: &Session<T>, handle: &[u8]) {
+        let now = self.clock.now();
+        if let Some(number) = file_under(session, handle) {
+            self.table.modify_file(session.tree(), number, now);
+        }
     }
 
     /// Notes what a request did to times that was done.
-    fn note_done(&mut self, tree: &Tree, ask: &Ask, touch: Touch) {
-        match touch {
-            Touch::Close(file) => self.close(tree, ask, file),
-            touch => self.note_change(tree, touch),
-        }
-    }
-
-    /// A handle was closed, with its file, if it was one's.
-    fn close(&mut self, tree: &Tree, ask: &Ask, file: Option<FileNo>) {
-        match (file, ask) {
-            (Some(number), _) => self.table.forget_gone(tree, number),
-            (None, Ask::Close { handle }) => self.listings.close(handle.as_slice()),
-            (None, _) => {}
-        }
-    }
-
-    fn note_change(&mut self, tree: &Tree, touch: Touch) {
-        match touch {
-            Touch::Nothing => {}
-            touch => {
-                let now = self.clock.now();
-                self.table.note(tree, touch, now);
+    fn note_done<T: HandleTable>(&mut self, session: &Session<T>, ask: &Ask, touch: &Touch) {
+        match (ask, touch) {
+            (Ask::Write { bytes, .. }, _) => self.note_written(session, ask, bytes),
+            (Ask::Close { handle }, _) => self.listings.close(handle.as_slice()),
+            (Ask::Setstat { path, attrs }, Touch::Nothing) => {
+                self.note_set(session.tree(), path.as_slice(), attrs.times)
             }
+            (_, Touch::Nothing) => {}
+            (_, Touch::Open(_)) => {}
+            (_, touch) => self.note_change(session.tree(), ask, touch),
+        }
+    }
+
+    /// A WRITE of some bytes modifies its file.
+    fn note_written<T: HandleTable>(
+        &mut self,
+        session: &Session<T>,
+        ask: &Ask,
+        bytes: &ByteString,
+    ) {
+        if bytes.as_slice().is_empty() {
+            return;
+        }
+        if let Some(number) = session.touch(ask).file() {
+            let now = self.clock.now();
+            self.table.modify_file(session.tree(), number, now);
+        }
+    }
+
+    /// A SETSTAT gave what a path leads to these times, if it gave some.
+    fn note_set(&mut self, tree: &Tree, path: &[u8], given: Given) {
+        if let Some(pair) = given {
+            let _ = self.clock.now();
+            self.table.set_path(tree, path, Times::given(pair));
+        }
+    }
+
+    fn note_change(&mut self, tree: &Tree, ask: &Ask, touch: &Touch) {
+        let now = self.clock.now();
+        let table = &mut self.table;
+        match touch {
+            Touch::File(number, Change::Set(times)) => table.set_file(tree, *number, *times),
+            Touch::File(number, Change::Modify) => table.modify_file(tree, *number, now),
+            Touch::Move(old, new) => table.rename(*old, *new, now),
+            Touch::At(spot) => note_name(table, ask, *spot, now),
+            Touch::Nothing => {}
+            Touch::Open(_) => {}
         }
     }
 }
 
-fn shows_attributes(answer: &Answer) -> bool {
-    matches!(answer, Answer::Attrs(_))
+/// A request was done that makes or removes what stands at a name, or gives a file this name.
+fn note_name(table: &mut TimeTable, ask: &Ask, spot: Spot, now: u32) {
+    match ask {
+        Ask::Mkdir { attrs, .. } => table.make(spot, Times::given_or(attrs.times, now), now),
+        Ask::Symlink { .. } => table.make_link(spot, now),
+        Ask::Hardlink { .. } => table.name(spot, now),
+        _ => table.remove(spot, now),
+    }
+}
+
+/// The number of the file that is open under a handle.
+fn file_under<T: HandleTable>(session: &Session<T>, handle: &[u8]) -> Option<FileNo> {
+    let Ok(handle) = ByteString::from_slice(session.tree().allocator(), handle) else {
+        return None;
+    };
+    let ask = Ask::Fstat { handle };
+    let file = session.touch(&ask).file();
+    drop(ask);
+    file
+}
+
+/// Whether attributes are those of a link.
+fn shows_link(attrs: &Attrs) -> bool {
+    match attrs.permissions {
+        Some(permissions) => permissions & TYPE_BITS == LINK_TYPE,
+        None => false,
+    }
 }
 
 /// How many names an answer gives.

@@ -3,6 +3,8 @@
 #![tactic(auto)]
 
 mod clocked;
+mod ends;
+mod files;
 mod listings;
 mod places;
 mod replies;
@@ -10,6 +12,7 @@ mod tables;
 mod times;
 mod touches;
 mod tree_files;
+mod ways;
 
 pub use clocked::Clocked;
 pub use tables::TimeTable;

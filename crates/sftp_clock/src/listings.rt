@@ -1,8 +1,11 @@
 //! The times of the names that open directories have still to give.
 
+use crate::ends::end_of;
+use crate::places::{Child, PlaceNo};
 use crate::tables::TimeTable;
 use crate::times::Times;
-use sftp_handles::{HandleTable, Session};
+use crate::ways::Led;
+use sftp_handles::Listing;
 use sftp_path::Name;
 use sftp_tree::{NoMemory, Tree};
 use sftp_wire::ByteString;
@@ -20,6 +23,7 @@ struct Listed {
 /// The directories that are open, by their handles: 8 bytes for each name.
 #[derive(Drop)]
 pub(crate) struct OpenListings {
+    alloc: Global,
     by_handle: HashMap<Vec<u8>, Listed>,
 }
 
@@ -27,24 +31,18 @@ impl OpenListings {
     /// No directory is open. Does not allocate.
     pub(crate) fn new(alloc: Global) -> OpenListings {
         OpenListings {
+            alloc,
             by_handle: HashMap::new(alloc),
         }
     }
 
-    /// The directory to which these names lead was opened under a handle.
+    /// A directory was opened under a handle, whose names have these times.
     ///
     /// # Errors
     ///
     /// `NoMemory` if memory runs out; then its names have no times.
-    pub(crate) fn open<T: HandleTable>(
-        &mut self,
-        session: &Session<T>,
-        table: &TimeTable,
-        names: Vec<Name>,
-        handle: &[u8],
-    ) -> Result<(), NoMemory> {
-        let times = times_in(session, table, names, handle)?;
-        let handle = Vec::from_slice(session.tree().allocator(), handle)?;
+    pub(crate) fn open(&mut self, handle: &[u8], times: Vec<Times>) -> Result<(), NoMemory> {
+        let handle = Vec::from_slice(self.alloc, handle)?;
         self.by_handle.insert(handle, Listed { times, given: 0 })?;
         Ok(())
     }
@@ -72,24 +70,28 @@ impl OpenListings {
     }
 }
 
-/// The times of the names that a directory has still to give under a handle, in rising order of the names.
-fn times_in<T: HandleTable>(
-    session: &Session<T>,
-    table: &TimeTable,
-    directory: Vec<Name>,
-    handle: &[u8],
+/// The times of the names of a directory that a path leads to, in rising order of the names.
+///
+/// # Errors
+///
+/// `NoMemory` if memory runs out.
+pub(crate) fn times_in(
+    tree: &Tree,
+    table: &mut TimeTable,
+    path: &[u8],
+    listing: &Listing,
 ) -> Result<Vec<Times>, NoMemory> {
-    let alloc = session.tree().allocator();
-    let Some(listing) = session.listing(handle) else {
-        drop(directory);
-        return Ok(Vec::new(alloc));
-    };
-    if table.is_untouched() {
-        drop(directory);
+    let alloc = tree.allocator();
+    if !table.is_touched() {
         return all_alike(alloc, listing.len(), table.start());
     }
-    let names = listing.first_names(alloc, listing.len())?;
-    times_of(session.tree(), table, directory, names.as_slice())
+    match &table.led_to(tree, path)? {
+        Some(Led::Place(directory)) => {
+            look_up(tree, table, path, *directory, listing)?;
+            times_of(alloc, table, *directory)
+        }
+        _ => Ok(Vec::new(alloc)),
+    }
 }
 
 /// So many times that are alike.
@@ -99,39 +101,68 @@ fn all_alike(alloc: Global, count: usize, times: Times) -> Result<Vec<Times>, No
     Ok(all)
 }
 
-/// The times of what these names of a directory lead to.
-fn times_of(
-    tree: &Tree,
-    table: &TimeTable,
-    directory: Vec<Name>,
-    names: &[ByteString],
-) -> Result<Vec<Times>, NoMemory> {
-    let mut place = directory;
-    let number = table.directory(place.as_slice());
-    let mut all = Vec::with_capacity(tree.allocator(), names.len())?;
-    for name in names {
-        all.push(times_at(tree, table, &mut place, number, name.as_slice())?)?;
+/// The times of what stands at the names of a directory.
+fn times_of(alloc: Global, table: &TimeTable, directory: PlaceNo) -> Result<Vec<Times>, NoMemory> {
+    let children = table.children(directory);
+    let mut all = Vec::with_capacity(alloc, children.len())?;
+    for child in children {
+        all.push(table.of_child(child))?;
     }
     Ok(all)
 }
 
-/// The times of what a name of a directory leads to. The table has the directory under this number.
-fn times_at(
+/// Looks up what stands at the names of a directory, unless that is known.
+fn look_up(
+    tree: &Tree,
+    table: &mut TimeTable,
+    path: &[u8],
+    directory: PlaceNo,
+    listing: &Listing,
+) -> Result<(), NoMemory> {
+    if table.children(directory).len() == listing.len() {
+        return Ok(());
+    }
+    let names = listing.first_names(tree.allocator(), listing.len())?;
+    let children = match end_of(tree, path, true)? {
+        Some(end) => children_of(tree, table, end.names, directory, names.as_slice())?,
+        None => return Ok(()),
+    };
+    table.keep_children(directory, children);
+    Ok(())
+}
+
+/// What stands at these names of a directory.
+fn children_of(
     tree: &Tree,
     table: &TimeTable,
-    directory: &mut Vec<Name>,
-    number: Option<u64>,
+    place: Vec<Name>,
+    directory: PlaceNo,
+    names: &[ByteString],
+) -> Result<Vec<Child>, NoMemory> {
+    let mut place = place;
+    let mut all = Vec::with_capacity(tree.allocator(), names.len())?;
+    for name in names {
+        all.push(child_at(tree, table, &mut place, directory, name.as_slice())?)?;
+    }
+    Ok(all)
+}
+
+fn child_at(
+    tree: &Tree,
+    table: &TimeTable,
+    place: &mut Vec<Name>,
+    directory: PlaceNo,
     name: &[u8],
-) -> Result<Times, NoMemory> {
+) -> Result<Child, NoMemory> {
+    let spot = directory.spot(name);
     let Some(name) = Name::from_slice(tree.allocator(), name)? else {
-        return Ok(table.start());
+        return Ok(Child::Other);
     };
-    let other = table.of_name(number, &name);
-    directory.push(name)?;
-    let file = tree.file_at(directory.as_slice());
-    directory.pop();
+    place.push(name)?;
+    let file = tree.file_at(place.as_slice());
+    place.pop();
     Ok(match file {
-        Some(number) => table.of_file(number),
-        None => other,
+        Some(number) => Child::File(number),
+        None => table.child(spot),
     })
 }

@@ -1,55 +1,112 @@
 //! The times of directories and links, by their places.
 //!
-//! Each has a number, and is found by that of the directory that it is in and its name there. So what is below a
-//! directory moves with it, however much that is.
+//! Each has a number, and is found by a key, which is made of the number of the directory that it is in and of its name
+//! there. So what is below a directory moves with it, however much that is.
 
 use crate::times::Times;
 use sftp_path::{Name, Parts};
-use sftp_tree::NoMemory;
+use sftp_tree::{FileNo, NoMemory};
+use slab::Slab;
 use std::alloc::Global;
 use std::collections::HashMap;
+use std::hash::{DefaultHasher, Hasher};
 
 /// The number of the root.
 const ROOT: u64 = 0;
 
-/// How many bytes a number has in a key.
-const NUMBER: usize = 8;
-
-/// How many bytes a name has at most.
-const NAME: usize = 255;
-
-/// How many bytes a key has at most.
-const KEY: usize = NUMBER + NAME;
-
-/// A directory or a link that has a number.
+/// A directory or link that has an entry. No number is given twice, so one whose entry is gone leads nowhere.
 #[derive(Clone, Copy)]
+pub(crate) struct PlaceNo {
+    /// Where its entry is.
+    at: usize,
+    number: u64,
+}
+
+/// A name in a directory, by its key.
+#[derive(Clone, Copy)]
+pub(crate) struct Spot {
+    pub(crate) directory: PlaceNo,
+    key: u64,
+}
+
+/// What stands at a name of a directory.
+#[derive(Clone, Copy)]
+pub(crate) enum Child {
+    File(FileNo),
+    /// A directory or link whose entry is there.
+    Place(usize),
+    /// A directory or link that has no entry.
+    Other,
+}
+
+/// What is known of a directory or link.
+#[derive(Drop)]
 struct Entry {
     number: u64,
     /// Its times, if it has some of its own.
     times: Option<Times>,
+    is_link: bool,
+    /// Whether a path that is kept led to it, or past it.
+    is_passed: bool,
+    /// What stands at each name of the directory, in the order of the names, if that was looked up.
+    children: Vec<Child>,
+    /// When that was.
+    epoch: u64,
 }
 
-/// The number of a directory, and a name in it, as bytes.
-#[derive(Clone, Copy)]
-struct Key {
-    bytes: [u8; KEY],
-    length: usize,
-}
-
-impl Key {
-    fn new(parent: u64, name: &[u8]) -> Key {
-        let mut bytes = [0; KEY];
-        let count = name.len().min(NAME);
-        bytes[..NUMBER].copy_from_slice(&parent.to_be_bytes());
-        bytes[NUMBER..NUMBER + count].copy_from_slice(&name[..count]);
-        Key {
-            bytes,
-            length: NUMBER + count,
+impl PlaceNo {
+    fn root() -> PlaceNo {
+        PlaceNo {
+            at: 0,
+            number: ROOT,
         }
     }
 
-    fn as_slice(&self) -> &[u8] {
-        self.bytes.get(..self.length).unwrap_or(&[])
+    /// A name in this directory.
+    pub(crate) fn spot(self, name: &[u8]) -> Spot {
+        Spot {
+            directory: self,
+            key: key_of(self.number, name),
+        }
+    }
+}
+
+impl Spot {
+    /// Whether both are one name in one directory.
+    pub(crate) fn is(self, other: Spot) -> bool {
+        self.key == other.key
+    }
+}
+
+/// The key of a name in the directory of a number, by SipHash. Two names of one key are not to be found in practice.
+fn key_of(directory: u64, name: &[u8]) -> u64 {
+    let mut hasher = DefaultHasher::new();
+    hasher.write_u64(directory);
+    hasher.write(name);
+    hasher.finish()
+}
+
+impl Entry {
+    fn new(alloc: Global, number: u64) -> Entry {
+        Entry {
+            number,
+            times: None,
+            is_link: false,
+            is_passed: false,
+            children: Vec::new(alloc),
+            epoch: 0,
+        }
+    }
+
+    /// Whether a path that is kept may lead over it.
+    fn leads_on(&self) -> bool {
+        self.is_link || self.is_passed
+    }
+
+    fn forget_children(&mut self, alloc: Global) {
+        if !self.children.is_empty() {
+            self.children = Vec::new(alloc);
+        }
     }
 }
 
@@ -57,12 +114,14 @@ impl Key {
 #[derive(Drop)]
 pub(crate) struct PlaceTimes {
     alloc: Global,
-    /// The root's, if it has some of its own.
-    root: Option<Times>,
-    /// What is below it, by `Key`s.
-    below: HashMap<Vec<u8>, Entry>,
-    /// The number that the next entry gets. No number is given twice.
+    root: Entry,
+    /// Those below it.
+    entries: Slab<Entry>,
+    by_key: HashMap<u64, usize>,
+    /// The number that the next entry gets.
     next: u64,
+    /// What was looked up before this one counts no more.
+    epoch: u64,
 }
 
 impl PlaceTimes {
@@ -70,183 +129,230 @@ impl PlaceTimes {
     pub(crate) fn new(alloc: Global) -> PlaceTimes {
         PlaceTimes {
             alloc,
-            root: None,
-            below: HashMap::new(alloc),
+            root: Entry::new(alloc, ROOT),
+            entries: Slab::new(alloc),
+            by_key: HashMap::new(alloc),
             next: ROOT + 1,
+            epoch: 0,
         }
     }
 
-    /// Whether nothing has times of its own.
-    pub(crate) fn is_empty(&self) -> bool {
-        self.root.is_none() && self.below.is_empty()
-    }
-
-    /// The times of that to which these names lead, if it has some of its own. Looks up each of them.
-    pub(crate) fn get(&self, names: &[Name]) -> Option<Times> {
-        match names.split_last() {
-            Some((name, above)) => self.get_in(self.number_of(above)?, name),
-            None => self.root,
+    fn entry(&self, place: PlaceNo) -> Option<&Entry> {
+        if place.number == ROOT {
+            return Some(&self.root);
+        }
+        match self.entries.get(place.at) {
+            Some(entry) if entry.number == place.number => Some(entry),
+            _ => None,
         }
     }
 
-    /// The number of the directory to which these names lead from the root, if it has one.
-    pub(crate) fn number_of(&self, names: &[Name]) -> Option<u64> {
-        if self.below.is_empty() && !names.is_empty() {
-            return None;
+    fn entry_mut(&mut self, place: PlaceNo) -> Option<&mut Entry> {
+        if place.number == ROOT {
+            return Some(&mut self.root);
         }
-        let mut number = ROOT;
-        for name in names {
-            number = self.entry(number, name.as_slice())?.number;
-        }
-        Some(number)
-    }
-
-    /// The times of what is in the directory of a number, if it has some of its own.
-    pub(crate) fn get_in(&self, directory: u64, name: &Name) -> Option<Times> {
-        self.entry(directory, name.as_slice())?.times
-    }
-
-    /// The times of that to which an absolute text leads, if it has some of its own. Looks up each name of it.
-    pub(crate) fn get_at(&self, path: &[u8]) -> Option<Times> {
-        let mut number = ROOT;
-        let mut times = self.root;
-        for name in Parts::new(path) {
-            let entry = self.entry(number, name)?;
-            number = entry.number;
-            times = entry.times;
-        }
-        times
-    }
-
-    /// Gives that to which these names lead times of its own. Looks up each of them, and may make an entry for each.
-    ///
-    /// # Errors
-    ///
-    /// `NoMemory` if memory runs out; all have the times that they had.
-    pub(crate) fn set(&mut self, names: &[Name], times: Times) -> Result<(), NoMemory> {
-        match names.split_last() {
-            Some((name, above)) => self.set_below(above, name, times),
-            None => {
-                self.root = Some(times);
-                Ok(())
-            }
+        match self.entries.get_mut(place.at) {
+            Some(entry) if entry.number == place.number => Some(entry),
+            _ => None,
         }
     }
 
-    fn set_below(&mut self, above: &[Name], name: &Name, times: Times) -> Result<(), NoMemory> {
-        let directory = self.make_number(above)?;
-        self.set_in(directory, name.as_slice(), times)
+    /// Whether it has an entry still.
+    pub(crate) fn has(&self, place: PlaceNo) -> bool {
+        self.entry(place).is_some()
     }
 
-    /// Gives what is in the directory of a number times of its own.
-    fn set_in(&mut self, directory: u64, name: &[u8], times: Times) -> Result<(), NoMemory> {
-        let number = self.make_entry(directory, name)?;
-        let times = Some(times);
-        self.put(directory, name, Entry { number, times })
+    /// The times of a directory or link, if it has some of its own.
+    pub(crate) fn get(&self, place: PlaceNo) -> Option<Times> {
+        self.entry(place)?.times
     }
 
-    /// Gives that to which an absolute text leads times of its own. Looks up each name of it, and may make an entry for
-    /// each.
+    /// The times of that whose entry is there, if it has some of its own.
+    pub(crate) fn get_there(&self, at: usize) -> Option<Times> {
+        self.entries.get(at)?.times
+    }
+
+    /// Gives a directory or link times of its own.
+    pub(crate) fn set(&mut self, place: PlaceNo, times: Times) {
+        if let Some(entry) = self.entry_mut(place) {
+            entry.times = Some(times);
+        }
+    }
+
+    /// It is a link.
+    pub(crate) fn mark_link(&mut self, place: PlaceNo) {
+        if let Some(entry) = self.entry_mut(place) {
+            entry.is_link = true;
+        }
+    }
+
+    fn mark_passed(&mut self, place: PlaceNo) {
+        if let Some(entry) = self.entry_mut(place) {
+            entry.is_passed = true;
+        }
+    }
+
+    /// What stands at a name, if it has an entry.
+    pub(crate) fn find(&self, spot: Spot) -> Option<PlaceNo> {
+        let at = *self.by_key.get(&spot.key)?;
+        let number = self.entries.get(at)?.number;
+        Some(PlaceNo { at, number })
+    }
+
+    /// What stands at a name of a directory.
+    pub(crate) fn child(&self, spot: Spot) -> Child {
+        match self.by_key.get(&spot.key) {
+            Some(at) => Child::Place(*at),
+            None => Child::Other,
+        }
+    }
+
+    /// What stands at a name, which gets an entry if it has none.
     ///
     /// # Errors
     ///
     /// `NoMemory` if memory runs out.
-    pub(crate) fn set_at(&mut self, path: &[u8], times: Times) -> Result<(), NoMemory> {
-        let mut last: Option<(u64, &[u8])> = None;
-        for name in Parts::new(path) {
-            let directory = self.directory_at(last)?;
-            last = Some((directory, name));
-        }
-        match last {
-            Some((directory, name)) => self.set_in(directory, name, times),
-            None => {
-                self.root = Some(times);
-                Ok(())
-            }
+    pub(crate) fn make(&mut self, spot: Spot) -> Result<PlaceNo, NoMemory> {
+        match self.find(spot) {
+            Some(place) => Ok(place),
+            None => self.add(spot),
         }
     }
 
-    /// The number of what is in the directory of a number, which is made if it has none; that of the root if there is
-    /// no such.
-    fn directory_at(&mut self, last: Option<(u64, &[u8])>) -> Result<u64, NoMemory> {
-        match last {
-            Some((directory, name)) => self.make_entry(directory, name),
-            None => Ok(ROOT),
+    fn add(&mut self, spot: Spot) -> Result<PlaceNo, NoMemory> {
+        let number = self.next;
+        let at = self.entries.insert(Entry::new(self.alloc, number))?;
+        if self.by_key.insert(spot.key, at).is_err() {
+            self.entries.try_remove(at);
+            return Err(NoMemory);
         }
+        self.next = number.wrapping_add(1);
+        self.forget_children(spot.directory);
+        Ok(PlaceNo { at, number })
     }
 
-    /// Forgets that to which these names lead.
-    pub(crate) fn forget(&mut self, names: &[Name]) {
-        if let Some((name, above)) = names.split_last() {
-            self.forget_below(above, name);
-        }
-    }
-
-    fn forget_below(&mut self, above: &[Name], name: &Name) {
-        if let Some(directory) = self.number_of(above) {
-            let key = Key::new(directory, name.as_slice());
-            self.below.remove(key.as_slice());
-        }
-    }
-
-    /// What was at the old place, with all below it, is at the new one; what was there is forgotten.
+    /// The directory to which these names lead. It and those above it get entries if they have none, and paths to them
+    /// may be kept.
     ///
     /// # Errors
     ///
-    /// `NoMemory` if memory runs out; then both are forgotten.
-    pub(crate) fn rename(&mut self, old: &[Name], new: &[Name]) -> Result<(), NoMemory> {
-        let moved = self.entry_at(old);
-        self.forget(old);
-        self.forget(new);
-        match (moved, new.split_last()) {
-            (Some(entry), Some((name, above))) => self.put_below(above, name, entry),
-            _ => Ok(()),
-        }
-    }
-
-    fn entry_at(&self, names: &[Name]) -> Option<Entry> {
-        let (name, above) = names.split_last()?;
-        self.entry(self.number_of(above)?, name.as_slice())
-    }
-
-    fn put_below(&mut self, above: &[Name], name: &Name, entry: Entry) -> Result<(), NoMemory> {
-        let directory = self.make_number(above)?;
-        self.put(directory, name.as_slice(), entry)
-    }
-
-    fn entry(&self, directory: u64, name: &[u8]) -> Option<Entry> {
-        let key = Key::new(directory, name);
-        match self.below.get(key.as_slice()) {
-            Some(entry) => Some(*entry),
-            None => None,
-        }
-    }
-
-    /// The number of the directory to which these names lead, which is made if it has none.
-    fn make_number(&mut self, names: &[Name]) -> Result<u64, NoMemory> {
-        let mut number = ROOT;
+    /// `NoMemory` if memory runs out.
+    pub(crate) fn reach(&mut self, names: &[Name]) -> Result<PlaceNo, NoMemory> {
+        let mut place = PlaceNo::root();
         for name in names {
-            number = self.make_entry(number, name.as_slice())?;
+            place = self.make(place.spot(name.as_slice()))?;
+            self.mark_passed(place);
         }
-        Ok(number)
+        Ok(place)
     }
 
-    /// The number of what is in the directory of a number, which is made if it has none.
-    fn make_entry(&mut self, directory: u64, name: &[u8]) -> Result<u64, NoMemory> {
-        if let Some(entry) = self.entry(directory, name) {
-            return Ok(entry.number);
+    /// The times of the directory or link to which these names lead, if it has some of its own.
+    pub(crate) fn get_by(&self, names: &[Name]) -> Option<Times> {
+        let mut place = PlaceNo::root();
+        for name in names {
+            place = self.find(place.spot(name.as_slice()))?;
         }
-        let number = self.next;
-        let times = None;
-        self.put(directory, name, Entry { number, times })?;
-        self.next = number.wrapping_add(1);
-        Ok(number)
+        self.get(place)
     }
 
-    fn put(&mut self, directory: u64, name: &[u8], entry: Entry) -> Result<(), NoMemory> {
-        let key = Key::new(directory, name);
-        let key = Vec::from_slice(self.alloc, key.as_slice())?;
-        self.below.insert(key, entry)?;
-        Ok(())
+    /// The times of that to which an absolute text leads, if it has some of its own.
+    pub(crate) fn get_at(&self, path: &[u8]) -> Option<Times> {
+        let mut place = PlaceNo::root();
+        for name in Parts::new(path) {
+            place = self.find(place.spot(name))?;
+        }
+        self.get(place)
+    }
+
+    /// That to which an absolute text leads. It and the directories above it get entries if they have none.
+    ///
+    /// # Errors
+    ///
+    /// `NoMemory` if memory runs out.
+    pub(crate) fn make_at(&mut self, path: &[u8]) -> Result<PlaceNo, NoMemory> {
+        let mut place = PlaceNo::root();
+        for name in Parts::new(path) {
+            place = self.make(place.spot(name))?;
+        }
+        Ok(place)
+    }
+
+    /// Forgets what stood at a name. Returns whether a path that is kept may lead over it.
+    pub(crate) fn forget(&mut self, spot: Spot) -> bool {
+        match self.by_key.remove(&spot.key) {
+            Some(at) => self.drop_entry(at),
+            None => false,
+        }
+    }
+
+    fn drop_entry(&mut self, at: usize) -> bool {
+        match self.entries.try_remove(at) {
+            Some(entry) => entry.is_link,
+            None => false,
+        }
+    }
+
+    /// What was at the old name, with all below it, is at the new one; what was there is forgotten. So is both if memory
+    /// runs out. Returns whether a path that is kept may lead over one of them.
+    pub(crate) fn rename(&mut self, old: Spot, new: Spot) -> bool {
+        let is_over = self.forget(new);
+        match self.by_key.remove(&old.key) {
+            Some(at) => self.put(new, at) || is_over,
+            None => is_over,
+        }
+    }
+
+    /// Puts the entry there at a name that has none.
+    fn put(&mut self, spot: Spot, at: usize) -> bool {
+        if self.by_key.insert(spot.key, at).is_err() {
+            self.entries.try_remove(at);
+            return true;
+        }
+        match self.entries.get(at) {
+            Some(entry) => entry.leads_on(),
+            None => false,
+        }
+    }
+
+    /// What stands at the names of a directory, if that is known.
+    pub(crate) fn children(&self, directory: PlaceNo) -> &[Child] {
+        match self.entry(directory) {
+            Some(entry) if entry.epoch == self.epoch => entry.children.as_slice(),
+            _ => &[],
+        }
+    }
+
+    /// This stands at the names of a directory.
+    pub(crate) fn keep_children(&mut self, directory: PlaceNo, children: Vec<Child>) {
+        let epoch = self.epoch;
+        match self.entry_mut(directory) {
+            Some(entry) => {
+                entry.children = children;
+                entry.epoch = epoch;
+            }
+            None => drop(children),
+        }
+    }
+
+    /// The names of a directory change at this moment. If it has no times of its own, it had those of the start.
+    pub(crate) fn modify_names(&mut self, directory: PlaceNo, start: Times, now: u32) {
+        let alloc = self.alloc;
+        if let Some(entry) = self.entry_mut(directory) {
+            let times = entry.times.unwrap_or(start);
+            entry.times = Some(times.modified_at(now));
+            entry.forget_children(alloc);
+        }
+    }
+
+    fn forget_children(&mut self, directory: PlaceNo) {
+        let alloc = self.alloc;
+        if let Some(entry) = self.entry_mut(directory) {
+            entry.forget_children(alloc);
+        }
+    }
+
+    /// The names of a directory change that has no entry for want of memory.
+    pub(crate) fn forget_all_children(&mut self) {
+        self.epoch = self.epoch.wrapping_add(1);
     }
 }

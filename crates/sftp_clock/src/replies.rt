@@ -19,19 +19,14 @@ const MOST_BYTES: usize = 255;
 
 const MOST_LONG: usize = 400;
 
-/// A reply that shows attributes, with times.
-pub(crate) fn with_times(reply: Reply, times: Times) -> Reply
-    ensures same_id { result.id ≡ reply.id }
-    ensures same { bare result.answer ≡ bare reply.answer }
-    ensures spelled { HasSpelling (reply_packet reply) → HasSpelling (reply_packet result) }
+/// Gives a reply that shows attributes times.
+pub(crate) fn show_times(reply: &mut Reply, times: Times)
+    ensures same_id { reply.new.id ≡ reply.old.id }
+    ensures same { bare reply.new.answer ≡ bare reply.old.answer }
+    ensures spelled { HasSpelling (reply_packet reply.old) → HasSpelling (reply_packet reply.new) }
 {
-    let id = reply.id;
-    match reply.answer {
-        Answer::Attrs(attrs) => Reply {
-            id,
-            answer: Answer::Attrs(timed(attrs, times)),
-        },
-        answer => Reply { id, answer },
+    if let Answer::Attrs(attrs) = &mut reply.answer {
+        put_in(attrs, times);
     }
 }
 
@@ -51,20 +46,13 @@ pub(crate) fn with_times_of_names(reply: Reply, times: &[Times]) -> Reply
     }
 }
 
-/// Attributes with times, if they have no extended pairs.
-fn timed(attrs: Attrs, times: Times) -> Attrs
-    ensures same { bare_attrs result ≡ bare_attrs attrs }
-    ensures spelled { (id : ℕ) → HasSpelling (shown id attrs) → HasSpelling (shown id result) }
+/// Gives attributes times, if they have no extended pairs.
+fn put_in(attrs: &mut Attrs, times: Times)
+    ensures same { bare_attrs attrs.new ≡ bare_attrs attrs.old }
+    ensures spelled { (id : ℕ) → HasSpelling (shown id attrs.old) → HasSpelling (shown id attrs.new) }
 {
-    if attrs.extended.is_some() {
-        return attrs;
-    }
-    Attrs {
-        size: attrs.size,
-        owner: attrs.owner,
-        permissions: attrs.permissions,
-        times: Some(times.pair()),
-        extended: None,
+    if attrs.extended.is_none() {
+        attrs.times = Some(times.pair());
     }
 }
 

@@ -1,23 +1,33 @@
 //! The times of a tree's entries, and what requests that were done did to them.
 
-use crate::places::PlaceTimes;
+use crate::ends::{End, end_of, split};
+use crate::files::FileTimes;
+use crate::places::{Child, PlaceNo, PlaceTimes, Spot};
 use crate::times::Times;
-use crate::touches::{Change, End, Given, Touch, end_of};
+use crate::ways::{Led, Ways};
 use sftp_path::Name;
 use sftp_tree::{FileNo, NoMemory, Tree};
 use std::alloc::Global;
-use std::collections::BTreeMap;
 
 /// The times of the entries of a tree: of files by their numbers, of directories and links by their places. What was
 /// given no times, and has none in the tree file of the start, has those of the start.
 ///
-/// It takes some 30 bytes for each file that was given times, and some 60 and the length of the name for each directory
-/// and link that was, and for each directory above one. A call looks up each name of a place at most three times.
+/// It takes some 30 bytes for each file that was given times, and some 120 for each directory and link that was, for
+/// each directory above one or on a path that is kept, and for each link of the start; 16 for each name in a directory
+/// that was listed since its names changed. Some 8,000 paths of at most 512 bytes are kept with what they lead to.
 #[derive(Drop)]
 pub struct TimeTable {
     files: FileTimes,
     places: PlaceTimes,
+    ways: Ways,
     start: Times,
+    /// Whether something was given times.
+    is_touched: bool,
+    /// Whether there may be links, and whether each of them has an entry.
+    may_have_links: bool,
+    knows_links: bool,
+    /// Whether a file may have several names.
+    may_have_two_names: bool,
 }
 
 impl TimeTable {
@@ -26,7 +36,12 @@ impl TimeTable {
         TimeTable {
             files: FileTimes::new(alloc),
             places: PlaceTimes::new(alloc),
+            ways: Ways::new(alloc),
             start: Times::at(0),
+            is_touched: false,
+            may_have_links: true,
+            knows_links: false,
+            may_have_two_names: true,
         }
     }
 
@@ -45,43 +60,19 @@ impl TimeTable {
         self.places.get_at(path)
     }
 
-    /// Gives the directory of an absolute text times.
-    ///
-    /// # Errors
-    ///
-    /// `NoMemory` if memory runs out.
-    pub(crate) fn set_directory(&mut self, path: &[u8], times: Times) -> Result<(), NoMemory> {
-        self.places.set_at(path, times)
-    }
-
     /// The times of what was given none.
     pub(crate) fn start(&self) -> Times {
         self.start
     }
 
-    /// Whether nothing was given times.
-    pub(crate) fn is_untouched(&self) -> bool {
-        self.files.is_empty() && self.places.is_empty()
+    /// Whether something was given times.
+    pub(crate) fn is_touched(&self) -> bool {
+        self.is_touched
     }
 
-    /// The times of what a path leads to; `None` if it leads nowhere, or if memory runs out.
-    pub(crate) fn of_path(&self, tree: &Tree, path: &[u8], follow: bool) -> Option<Times> {
-        if self.is_untouched() {
-            return Some(self.start);
-        }
-        match end_of(tree, path, follow) {
-            Ok(Some(end)) => Some(self.of_end(&end)),
-            Ok(None) => None,
-            Err(_) => None,
-        }
-    }
-
-    /// The times of what a path leads to.
-    fn of_end(&self, end: &End) -> Times {
-        match end.file {
-            Some(number) => self.of_file(number),
-            None => self.of_place(end.names.as_slice()),
-        }
+    /// Whether a file may have several names.
+    pub(crate) fn may_have_two_names(&self) -> bool {
+        self.may_have_two_names
     }
 
     /// The times of a file.
@@ -89,172 +80,372 @@ impl TimeTable {
         self.files.get(number).unwrap_or(self.start)
     }
 
-    /// The times of the directory or link to which these names lead.
-    pub(crate) fn of_place(&self, names: &[Name]) -> Times {
-        self.places.get(names).unwrap_or(self.start)
+    /// The times of a directory or link.
+    fn of_place(&self, place: PlaceNo) -> Times {
+        self.places.get(place).unwrap_or(self.start)
     }
 
-    /// The number of the directory to which these names lead, if something in it was given times.
-    pub(crate) fn directory(&self, names: &[Name]) -> Option<u64> {
-        self.places.number_of(names)
-    }
-
-    /// The times of the directory or link of a name in the directory of this number, if it has one.
-    pub(crate) fn of_name(&self, directory: Option<u64>, name: &Name) -> Times {
-        match directory {
-            Some(directory) => self.places.get_in(directory, name).unwrap_or(self.start),
-            None => self.start,
+    fn of_led(&self, led: &Led) -> Times {
+        match led {
+            Led::File(number) => self.of_file(*number),
+            Led::Place(place) => self.of_place(*place),
         }
+    }
+
+    /// The times of what stands at a name of a directory.
+    pub(crate) fn of_child(&self, child: &Child) -> Times {
+        match child {
+            Child::File(number) => self.of_file(*number),
+            Child::Place(at) => self.places.get_there(*at).unwrap_or(self.start),
+            Child::Other => self.start,
+        }
+    }
+
+    /// The times of the file or directory that a path leads to; `None` if memory runs out.
+    pub(crate) fn of_path(&mut self, tree: &Tree, path: &[u8]) -> Option<Times> {
+        if !self.is_touched {
+            return Some(self.start);
+        }
+        match self.led_to(tree, path) {
+            Ok(Some(led)) => Some(self.of_led(&led)),
+            _ => None,
+        }
+    }
+
+    /// The times of the link that a path leads to; `None` if memory runs out.
+    pub(crate) fn of_link(&self, tree: &Tree, path: &[u8]) -> Option<Times> {
+        if !self.is_touched {
+            return Some(self.start);
+        }
+        match end_of(tree, path, false) {
+            Ok(Some(end)) => Some(self.of_names(&end)),
+            _ => None,
+        }
+    }
+
+    fn of_names(&self, end: &End) -> Times {
+        self.places
+            .get_by(end.names.as_slice())
+            .unwrap_or(self.start)
+    }
+}
+
+// Where paths lead. A path that led there is kept, with entries for each directory to the one that it led to. A kept
+// path leads elsewhere only behind a RENAME of one of these, and behind a change of a link. Then all are forgotten; the
+// paths of files are forgotten whenever a name goes.
+impl TimeTable {
+    /// The file or directory that a path leads to, which is there.
+    ///
+    /// # Errors
+    ///
+    /// `NoMemory` if memory runs out.
+    pub(crate) fn led_to(&mut self, tree: &Tree, path: &[u8]) -> Result<Option<Led>, NoMemory> {
+        match self.kept(path) {
+            Some(led) => Ok(Some(led)),
+            None => self.walk_to(tree, path),
+        }
+    }
+
+    /// What a path leads to, if that is kept.
+    fn kept(&self, path: &[u8]) -> Option<Led> {
+        let led = self.ways.find(path)?;
+        if self.is_there(&led) { Some(led) } else { None }
+    }
+
+    fn is_there(&self, led: &Led) -> bool {
+        match led {
+            Led::File(_) => true,
+            Led::Place(place) => self.places.has(*place),
+        }
+    }
+
+    fn walk_to(&mut self, tree: &Tree, path: &[u8]) -> Result<Option<Led>, NoMemory> {
+        match end_of(tree, path, true)? {
+            Some(end) => Ok(Some(self.keep(path, &end)?)),
+            None => Ok(None),
+        }
+    }
+
+    fn keep(&mut self, path: &[u8], end: &End) -> Result<Led, NoMemory> {
+        match end.file {
+            Some(number) => {
+                self.ways.keep_file(path, number);
+                Ok(Led::File(number))
+            }
+            None => Ok(Led::Place(self.keep_directory(path, end)?)),
+        }
+    }
+
+    fn keep_directory(&mut self, path: &[u8], end: &End) -> Result<PlaceNo, NoMemory> {
+        let place = self.places.reach(end.names.as_slice())?;
+        self.ways.keep_directory(path, place);
+        Ok(place)
+    }
+
+    /// The file that a path leads to, if it leads to one.
+    ///
+    /// # Errors
+    ///
+    /// `NoMemory` if memory runs out.
+    pub(crate) fn file_of(&mut self, tree: &Tree, path: &[u8]) -> Result<Option<FileNo>, NoMemory> {
+        match &self.kept(path) {
+            Some(Led::File(number)) => Ok(Some(*number)),
+            _ => self.walk_to_file(tree, path),
+        }
+    }
+
+    fn walk_to_file(&mut self, tree: &Tree, path: &[u8]) -> Result<Option<FileNo>, NoMemory> {
+        let file = match end_of(tree, path, true)? {
+            Some(end) => end.file,
+            None => None,
+        };
+        if let Some(number) = file {
+            self.ways.keep_file(path, number);
+        }
+        Ok(file)
+    }
+
+    /// The directory that a path leads to, if it leads to one.
+    ///
+    /// # Errors
+    ///
+    /// `NoMemory` if memory runs out.
+    fn directory(&mut self, tree: &Tree, path: &[u8]) -> Result<Option<PlaceNo>, NoMemory> {
+        match &self.kept(path) {
+            Some(Led::Place(place)) => Ok(Some(*place)),
+            _ => self.walk_to_directory(tree, path),
+        }
+    }
+
+    /// With `.` behind it, a path leads to a directory or nowhere.
+    fn walk_to_directory(&mut self, tree: &Tree, path: &[u8]) -> Result<Option<PlaceNo>, NoMemory> {
+        let mut text = Vec::from_slice(tree.allocator(), path)?;
+        let behind: &[u8] = if path.is_empty() { b"." } else { b"/." };
+        text.extend_from_slice(behind)?;
+        match end_of(tree, text.as_slice(), true)? {
+            Some(end) => Ok(Some(self.keep_directory(path, &end)?)),
+            None => Ok(None),
+        }
+    }
+
+    /// The name at which a path ends, in its directory. A last link is not followed.
+    ///
+    /// # Errors
+    ///
+    /// `NoMemory` if memory runs out.
+    pub(crate) fn spot(&mut self, tree: &Tree, path: &[u8]) -> Result<Option<Spot>, NoMemory> {
+        match split(path) {
+            Some((above, name)) => match self.directory(tree, above)? {
+                Some(directory) => Ok(Some(directory.spot(name))),
+                None => Ok(None),
+            },
+            None => self.walk_to_spot(tree, path),
+        }
+    }
+
+    fn walk_to_spot(&mut self, tree: &Tree, path: &[u8]) -> Result<Option<Spot>, NoMemory> {
+        match end_of(tree, path, false)? {
+            Some(end) => self.spot_by(end.names.as_slice()),
+            None => Ok(None),
+        }
+    }
+
+    fn spot_by(&mut self, names: &[Name]) -> Result<Option<Spot>, NoMemory> {
+        match names.split_last() {
+            Some((name, above)) => {
+                let directory = self.places.reach(above)?;
+                Ok(Some(directory.spot(name.as_slice())))
+            }
+            None => Ok(None),
+        }
+    }
+
+    /// The directory of a file that was made by an OPEN, which may have followed a last link.
+    fn directory_of_new(
+        &mut self,
+        tree: &Tree,
+        path: &[u8],
+        follow: bool,
+    ) -> Result<Option<PlaceNo>, NoMemory> {
+        match split(path) {
+            Some((above, _)) if !follow || !self.may_have_links => self.directory(tree, above),
+            _ => self.walk_to_directory_of(tree, path, follow),
+        }
+    }
+
+    fn walk_to_directory_of(
+        &mut self,
+        tree: &Tree,
+        path: &[u8],
+        follow: bool,
+    ) -> Result<Option<PlaceNo>, NoMemory> {
+        match end_of(tree, path, follow)? {
+            Some(end) => match end.names.as_slice().split_last() {
+                Some((_, above)) => Ok(Some(self.places.reach(above)?)),
+                None => Ok(None),
+            },
+            None => Ok(None),
+        }
+    }
+}
+
+// What finds no memory for its times keeps those that it had, or has those of the start.
+impl TimeTable {
+    /// Gives a file times.
+    pub(crate) fn set_file(&mut self, tree: &Tree, number: FileNo, times: Times) {
+        self.is_touched = true;
+        let _ = self.files.set(tree, number, times);
+    }
+
+    /// A file is modified at this moment.
+    pub(crate) fn modify_file(&mut self, tree: &Tree, number: FileNo, now: u32) {
+        self.is_touched = true;
+        let _ = self.files.modify(tree, number, self.start, now);
+    }
+
+    fn set_place(&mut self, place: PlaceNo, times: Times) {
+        self.is_touched = true;
+        self.places.set(place, times);
+    }
+
+    /// Gives what a path leads to times.
+    pub(crate) fn set_path(&mut self, tree: &Tree, path: &[u8], times: Times) {
+        match &self.led_to(tree, path) {
+            Ok(Some(Led::File(number))) => self.set_file(tree, *number, times),
+            Ok(Some(Led::Place(place))) => self.set_place(*place, times),
+            _ => {}
+        }
+    }
+
+    /// The names of a directory changed.
+    pub(crate) fn modify_names(&mut self, directory: PlaceNo, now: u32) {
+        self.is_touched = true;
+        self.places.modify_names(directory, self.start, now);
+    }
+
+    /// A directory was made.
+    pub(crate) fn make(&mut self, spot: Spot, times: Times, now: u32) {
+        if let Ok(place) = self.places.make(spot) {
+            self.set_place(place, times);
+        }
+        self.modify_names(spot.directory, now);
+    }
+
+    /// A link was made.
+    pub(crate) fn make_link(&mut self, spot: Spot, now: u32) {
+        self.may_have_links = true;
+        self.ways.forget_all();
+        match self.places.make(spot) {
+            Ok(place) => {
+                self.set_place(place, Times::at(now));
+                self.places.mark_link(place);
+            }
+            Err(_) => self.knows_links = false,
+        }
+        self.modify_names(spot.directory, now);
+    }
+
+    /// A file was made by an OPEN of this path.
+    pub(crate) fn make_file(&mut self, tree: &Tree, path: &[u8], follow: bool, now: u32) {
+        match self.directory_of_new(tree, path, follow) {
+            Ok(Some(directory)) => self.modify_names(directory, now),
+            _ => self.places.forget_all_children(),
+        }
+    }
+
+    /// A file got a further name.
+    pub(crate) fn name(&mut self, spot: Spot, now: u32) {
+        self.may_have_two_names = true;
+        self.modify_names(spot.directory, now);
+    }
+
+    /// What stood at a name was removed.
+    pub(crate) fn remove(&mut self, spot: Spot, now: u32) {
+        let is_over = self.places.forget(spot);
+        self.forget_ways(is_over);
+        self.modify_names(spot.directory, now);
+    }
+
+    /// What stood at a name is at another one now, and what stood there is gone.
+    pub(crate) fn rename(&mut self, old: Spot, new: Spot, now: u32) {
+        let is_over = self.places.rename(old, new);
+        self.forget_ways(is_over);
+        self.modify_names(old.directory, now);
+        self.modify_names(new.directory, now);
+    }
+
+    /// A name is gone: paths to files may lead elsewhere, and all paths if some may lead over it.
+    fn forget_ways(&mut self, is_over: bool) {
+        if is_over || !self.knows_links {
+            self.ways.forget_all();
+        } else {
+            self.ways.forget_files();
+        }
+    }
+}
+
+// Directories by their numbers, as listings look them up.
+impl TimeTable {
+    /// What stands at the names of a directory, if that is known.
+    pub(crate) fn children(&self, directory: PlaceNo) -> &[Child] {
+        self.places.children(directory)
+    }
+
+    /// This stands at the names of a directory.
+    pub(crate) fn keep_children(&mut self, directory: PlaceNo, children: Vec<Child>) {
+        self.places.keep_children(directory, children);
+    }
+
+    /// What stands at a name of a directory, if it is no file.
+    pub(crate) fn child(&self, spot: Spot) -> Child {
+        self.places.child(spot)
+    }
+}
+
+// What a tree file says.
+impl TimeTable {
+    /// Gives the directory of an absolute text times.
+    ///
+    /// # Errors
+    ///
+    /// `NoMemory` if memory runs out.
+    pub(crate) fn take_directory(&mut self, path: &[u8], times: Times) -> Result<(), NoMemory> {
+        let place = self.places.make_at(path)?;
+        self.set_place(place, times);
+        Ok(())
     }
 
     /// Gives a file times.
     ///
     /// # Errors
     ///
-    /// `NoMemory` if memory runs out; all have the times that they had.
-    pub(crate) fn set_file(&mut self, number: FileNo, times: Times) -> Result<(), NoMemory> {
-        self.files.set(number, times)
+    /// `NoMemory` if memory runs out.
+    pub(crate) fn take_file(&mut self, number: FileNo, times: Times) -> Result<(), NoMemory> {
+        self.is_touched = true;
+        self.files.put(number, times)
     }
 
-    /// Gives the directory or link to which these names lead times.
-    ///
-    /// # Errors
-    ///
-    /// `NoMemory` if memory runs out; all have the times that they had.
-    pub(crate) fn set_place(&mut self, names: &[Name], times: Times) -> Result<(), NoMemory> {
-        self.places.set(names, times)
-    }
-
-    /// Forgets what a path led to: the directory or link, or the file, if the tree has it no more.
-    pub(crate) fn forget(&mut self, tree: &Tree, end: &End) {
-        match end.file {
-            Some(number) => self.forget_gone(tree, number),
-            None => self.places.forget(end.names.as_slice()),
-        }
-    }
-
-    /// Forgets a file that the tree has no more.
-    pub(crate) fn forget_gone(&mut self, tree: &Tree, number: FileNo) {
-        if !tree.has_file(number) {
-            self.files.forget(number);
-        }
-    }
-
-    /// What was at the old place, with all below it, is at the new one.
-    ///
-    /// # Errors
-    ///
-    /// `NoMemory` if memory runs out; then what was there has the times of the start.
-    pub(crate) fn rename(&mut self, old: &[Name], new: &[Name]) -> Result<(), NoMemory> {
-        self.places.rename(old, new)
-    }
-}
-
-// What finds no memory for its times keeps those that it had, or has those of the start.
-impl TimeTable {
-    /// Notes what a request did to times at this moment. `tree` is the tree behind it.
-    pub(crate) fn note(&mut self, tree: &Tree, touch: Touch, now: u32) {
-        match touch {
-            Touch::File(number, change) => self.change_file(number, change, now),
-            Touch::Set(names, times) => self.change_place(names, times),
-            Touch::Make(names, given) => self.make(tree, names, given, now),
-            Touch::Name(names) => self.modify_above(names, now),
-            Touch::Remove(end) => self.remove(tree, end, now),
-            Touch::Move(old, new) => self.move_end(tree, old, new, now),
-            other => drop(other),
-        }
-    }
-
-    fn change_file(&mut self, number: FileNo, change: Change, now: u32) {
-        let times = match change {
-            Change::Set(times) => times,
-            Change::Modify => self.of_file(number).modified_at(now),
-        };
-        let _ = self.set_file(number, times);
-    }
-
-    fn change_place(&mut self, names: Vec<Name>, times: Times) {
-        let _ = self.set_place(names.as_slice(), times);
-        drop(names);
-    }
-
-    fn make(&mut self, tree: &Tree, names: Vec<Name>, given: Given, now: u32) {
-        let times = Times::given_or(given, now);
-        match tree.file_at(names.as_slice()) {
-            Some(number) => {
-                let _ = self.set_file(number, times);
-            }
-            None => {
-                let _ = self.set_place(names.as_slice(), times);
-            }
-        }
-        self.modify_above(names, now);
-    }
-
-    fn remove(&mut self, tree: &Tree, end: End, now: u32) {
-        self.forget(tree, &end);
-        let End { names, .. } = end;
-        self.modify_above(names, now);
-    }
-
-    fn move_end(&mut self, tree: &Tree, old: End, new: End, now: u32) {
-        self.forget(tree, &new);
-        let End { names: old, .. } = old;
-        let End { names: new, .. } = new;
-        let _ = self.rename(old.as_slice(), new.as_slice());
-        self.modify_above(old, now);
-        self.modify_above(new, now);
-    }
-
-    /// The names of the directory above a place changed.
-    fn modify_above(&mut self, names: Vec<Name>, now: u32) {
-        let mut above = names;
-        above.pop();
-        let times = self.of_place(above.as_slice()).modified_at(now);
-        let _ = self.set_place(above.as_slice(), times);
-        drop(above);
-    }
-}
-
-/// The times of the files that have some of their own.
-#[derive(Drop)]
-pub(crate) struct FileTimes {
-    by_number: BTreeMap<FileNo, Times>,
-}
-
-impl FileTimes {
-    /// No file has times of its own. Does not allocate.
-    pub(crate) fn new(alloc: Global) -> FileTimes {
-        FileTimes {
-            by_number: BTreeMap::new(alloc),
-        }
-    }
-
-    /// Whether no file has times of its own.
-    pub(crate) fn is_empty(&self) -> bool {
-        self.by_number.is_empty()
-    }
-
-    /// The times of a file, if it has some of its own.
-    pub(crate) fn get(&self, number: FileNo) -> Option<Times> {
-        match self.by_number.get(&number) {
-            Some(times) => Some(*times),
-            None => None,
-        }
-    }
-
-    /// Gives a file times of its own.
+    /// At an absolute text stands a link.
     ///
     /// # Errors
     ///
     /// `NoMemory` if memory runs out.
-    pub(crate) fn set(&mut self, number: FileNo, times: Times) -> Result<(), NoMemory> {
-        self.by_number.insert(number, times)?;
+    pub(crate) fn take_link(&mut self, path: &[u8]) -> Result<(), NoMemory> {
+        let place = self.places.make_at(path)?;
+        self.places.mark_link(place);
+        self.may_have_links = true;
         Ok(())
     }
 
-    /// Forgets the times of a file.
-    pub(crate) fn forget(&mut self, number: FileNo) {
-        self.by_number.remove(&number);
+    /// A file has a further name.
+    pub(crate) fn take_name(&mut self) {
+        self.may_have_two_names = true;
+    }
+
+    /// From now on, each link and each further name of the tree is said.
+    pub(crate) fn take_all(&mut self) {
+        self.may_have_links = false;
+        self.knows_links = true;
+        self.may_have_two_names = false;
     }
 }

@@ -10,44 +10,43 @@ impl Looks for TimeTable {
     ghost looked = { λ _ _ _. ⊤ };
 
     fn look(&mut self, file: &TreeFile) -> Result<(), NoMemory> {
-        if file.times.as_slice().is_empty() {
-            return Ok(());
-        }
-        self.take_directory(b"/", file.times.get(0))?;
-        self.take_entries(file)
+        self.take_all();
+        self.look_at_directory(b"/", file.times.get(0))?;
+        self.look_at_entries(file)
     }
 }
 
 impl TimeTable {
-    /// Takes the times of the entries of a tree file.
-    fn take_entries(&mut self, file: &TreeFile) -> Result<(), NoMemory> {
+    /// Takes the times of the entries of a tree file, and the places of links.
+    fn look_at_entries(&mut self, file: &TreeFile) -> Result<(), NoMemory> {
         let mut entry: usize = 1;
         let mut made: u32 = 0;
         for row in file.rows.as_slice() {
             let times = file.times.get(entry);
             entry = entry.wrapping_add(1);
             match &row.kind {
-                Kind::Dir(_) => self.take_directory(row.path.as_slice(), times)?,
+                Kind::Dir(_) => self.look_at_directory(row.path.as_slice(), times)?,
                 Kind::First(..) => {
-                    self.take_file(FileNo::new(made), times)?;
+                    self.look_at_file(FileNo::new(made), times)?;
                     made = made.wrapping_add(1);
                 }
-                _ => {}
+                Kind::Further(_) => self.take_name(),
+                Kind::Link(_) => self.take_link(row.path.as_slice())?,
             }
         }
         Ok(())
     }
 
-    fn take_directory(&mut self, path: &[u8], times: FileTimes) -> Result<(), NoMemory> {
+    fn look_at_directory(&mut self, path: &[u8], times: FileTimes) -> Result<(), NoMemory> {
         match Times::read(times) {
-            Some(times) => self.set_directory(path, times),
+            Some(times) => self.take_directory(path, times),
             None => Ok(()),
         }
     }
 
-    fn take_file(&mut self, number: FileNo, times: FileTimes) -> Result<(), NoMemory> {
+    fn look_at_file(&mut self, number: FileNo, times: FileTimes) -> Result<(), NoMemory> {
         match Times::read(times) {
-            Some(times) => self.set_file(number, times),
+            Some(times) => self.take_file(number, times),
             None => Ok(()),
         }
     }
