@@ -2,20 +2,43 @@
 
 use crate::times::Times;
 use sftp_tree::{FileNo, NoMemory, Tree};
+use slab::Slab;
 use std::alloc::Global;
 use std::collections::BTreeMap;
 
 /// Up to so many files, nobody looks which of them are gone.
 const FEW: usize = 1024;
 
+/// A file that has times of its own.
+#[derive(Clone, Copy)]
+struct Entry {
+    number: FileNo,
+    times: Times,
+}
+
+/// A file, and where its entry is, if that is known.
+#[derive(Clone, Copy)]
+pub(crate) struct FileAt {
+    number: FileNo,
+    at: Option<usize>,
+}
+
 /// The times of the files that have some of their own, and of some that are gone: of no more than there are others, but
 /// for a few.
 #[derive(Drop)]
 pub(crate) struct FileTimes {
     alloc: Global,
-    by_number: BTreeMap<FileNo, Times>,
+    entries: Slab<Entry>,
+    by_number: BTreeMap<FileNo, usize>,
     /// With so many, those that are gone are forgotten.
     most: usize,
+}
+
+impl FileAt {
+    /// The number of the file.
+    pub(crate) fn number(&self) -> FileNo {
+        self.number
+    }
 }
 
 impl FileTimes {
@@ -23,17 +46,33 @@ impl FileTimes {
     pub(crate) fn new(alloc: Global) -> FileTimes {
         FileTimes {
             alloc,
+            entries: Slab::new(alloc),
             by_number: BTreeMap::new(alloc),
             most: FEW,
         }
     }
 
+    /// Where the entry of a file is, if it has one.
+    pub(crate) fn find(&self, number: FileNo) -> FileAt {
+        let at = match self.by_number.get(&number) {
+            Some(at) => Some(*at),
+            None => None,
+        };
+        FileAt { number, at }
+    }
+
+    /// The times of a file, if its entry is where it was.
+    pub(crate) fn get_at(&self, file: &FileAt) -> Option<Times> {
+        match self.entries.get(file.at?) {
+            Some(entry) if entry.number == file.number => Some(entry.times),
+            _ => None,
+        }
+    }
+
     /// The times of a file, if it has some of its own.
     pub(crate) fn get(&self, number: FileNo) -> Option<Times> {
-        match self.by_number.get(&number) {
-            Some(times) => Some(*times),
-            None => None,
-        }
+        let at = *self.by_number.get(&number)?;
+        Some(self.entries.get(at)?.times)
     }
 
     /// Gives a file times of its own.
@@ -42,7 +81,25 @@ impl FileTimes {
     ///
     /// `NoMemory` if memory runs out.
     pub(crate) fn put(&mut self, number: FileNo, times: Times) -> Result<(), NoMemory> {
-        self.by_number.insert(number, times)?;
+        match self.find(number).at {
+            Some(at) => self.change(at, times),
+            None => self.add(number, times),
+        }
+    }
+
+    fn change(&mut self, at: usize, times: Times) -> Result<(), NoMemory> {
+        if let Some(entry) = self.entries.get_mut(at) {
+            entry.times = times;
+        }
+        Ok(())
+    }
+
+    fn add(&mut self, number: FileNo, times: Times) -> Result<(), NoMemory> {
+        let at = self.entries.insert(Entry { number, times })?;
+        if self.by_number.insert(number, at).is_err() {
+            self.entries.try_remove(at);
+            return Err(NoMemory);
+        }
         Ok(())
     }
 
@@ -73,13 +130,17 @@ impl FileTimes {
         start: Times,
         now: u32,
     ) -> Result<(), NoMemory> {
-        match self.by_number.get_mut(&number) {
-            Some(times) => {
-                *times = times.modified_at(now);
-                Ok(())
-            }
+        match self.find(number).at {
+            Some(at) => self.modify_at(at, now),
             None => self.set(tree, number, start.modified_at(now)),
         }
+    }
+
+    fn modify_at(&mut self, at: usize, now: u32) -> Result<(), NoMemory> {
+        if let Some(entry) = self.entries.get_mut(at) {
+            entry.times = entry.times.modified_at(now);
+        }
+        Ok(())
     }
 
     /// Forgets the files that the tree has no more, once there are many.
@@ -105,7 +166,9 @@ impl FileTimes {
 
     fn forget(&mut self, gone: &[FileNo]) {
         for number in gone {
-            self.by_number.remove(number);
+            if let Some(at) = self.by_number.remove(number) {
+                self.entries.try_remove(at);
+            }
         }
     }
 }

@@ -161,8 +161,5 @@ fn child_at(
     place.push(name)?;
     let file = tree.file_at(place.as_slice());
     place.pop();
-    Ok(match file {
-        Some(number) => Child::File(number),
-        None => table.child(spot),
-    })
+    Ok(table.child(spot, file))
 }

@@ -3,9 +3,10 @@
 //! Each has a number, and is found by a key, which is made of the number of the directory that it is in and of its name
 //! there. So what is below a directory moves with it, however much that is.
 
+use crate::files::FileAt;
 use crate::times::Times;
 use sftp_path::{Name, Parts};
-use sftp_tree::{FileNo, NoMemory};
+use sftp_tree::NoMemory;
 use slab::Slab;
 use std::alloc::Global;
 use std::collections::HashMap;
@@ -32,7 +33,7 @@ pub(crate) struct Spot {
 /// What stands at a name of a directory.
 #[derive(Clone, Copy)]
 pub(crate) enum Child {
-    File(FileNo),
+    File(FileAt),
     /// A directory or link whose entry is there.
     Place(usize),
     /// A directory or link that has no entry.

@@ -1,7 +1,7 @@
 //! The times of a tree's entries, and what requests that were done did to them.
 
 use crate::ends::{End, end_of, split};
-use crate::files::FileTimes;
+use crate::files::{FileAt, FileTimes};
 use crate::places::{Child, PlaceNo, PlaceTimes, Spot};
 use crate::times::Times;
 use crate::ways::{Led, Ways};
@@ -12,9 +12,9 @@ use std::alloc::Global;
 /// The times of the entries of a tree: of files by their numbers, of directories and links by their places. What was
 /// given no times, and has none in the tree file of the start, has those of the start.
 ///
-/// It takes some 30 bytes for each file that was given times, and some 120 for each directory and link that was, for
-/// each directory above one or on a path that is kept, and for each link of the start; 16 for each name in a directory
-/// that was listed since its names changed. Some 8,000 paths of at most 512 bytes are kept with what they lead to.
+/// It takes some 60 bytes for each file that was given times, and some 120 for each directory and link that was, for
+/// each directory above one or on a path that is kept, and for each link of the start; 32 for each name in a directory
+/// that was listed since its names changed. Some 16,000 paths of at most 512 bytes are kept with what they lead to.
 #[derive(Drop)]
 pub struct TimeTable {
     files: FileTimes,
@@ -85,17 +85,36 @@ impl TimeTable {
         self.places.get(place).unwrap_or(self.start)
     }
 
-    fn of_led(&self, led: &Led) -> Times {
+    /// The times of what a path leads to.
+    fn of_led(&mut self, path: &[u8], led: &Led) -> Times {
         match led {
-            Led::File(number) => self.of_file(*number),
+            Led::File(file) => self.of_file_at(path, file),
             Led::Place(place) => self.of_place(*place),
+        }
+    }
+
+    /// The times of a file. If it has got some since it was looked up, it is kept where they are.
+    fn of_file_at(&mut self, path: &[u8], file: &FileAt) -> Times {
+        if let Some(times) = self.files.get_at(file) {
+            return times;
+        }
+        let found = self.files.find(file.number());
+        match self.files.get_at(&found) {
+            Some(times) => {
+                self.ways.keep_file(path, &found);
+                times
+            }
+            None => self.start,
         }
     }
 
     /// The times of what stands at a name of a directory.
     pub(crate) fn of_child(&self, child: &Child) -> Times {
         match child {
-            Child::File(number) => self.of_file(*number),
+            Child::File(file) => match self.files.get_at(file) {
+                Some(times) => times,
+                None => self.of_file(file.number()),
+            },
             Child::Place(at) => self.places.get_there(*at).unwrap_or(self.start),
             Child::Other => self.start,
         }
@@ -107,7 +126,7 @@ impl TimeTable {
             return Some(self.start);
         }
         match self.led_to(tree, path) {
-            Ok(Some(led)) => Some(self.of_led(&led)),
+            Ok(Some(led)) => Some(self.of_led(path, &led)),
             _ => None,
         }
     }
@@ -168,12 +187,16 @@ impl TimeTable {
 
     fn keep(&mut self, path: &[u8], end: &End) -> Result<Led, NoMemory> {
         match end.file {
-            Some(number) => {
-                self.ways.keep_file(path, number);
-                Ok(Led::File(number))
-            }
+            Some(number) => Ok(Led::File(self.keep_file(path, number))),
             None => Ok(Led::Place(self.keep_directory(path, end)?)),
         }
+    }
+
+    fn keep_file(&mut self, path: &[u8], number: FileNo) -> FileAt {
+        let file = self.files.find(number);
+        let kept = file;
+        self.ways.keep_file(path, &kept);
+        file
     }
 
     fn keep_directory(&mut self, path: &[u8], end: &End) -> Result<PlaceNo, NoMemory> {
@@ -189,7 +212,7 @@ impl TimeTable {
     /// `NoMemory` if memory runs out.
     pub(crate) fn file_of(&mut self, tree: &Tree, path: &[u8]) -> Result<Option<FileNo>, NoMemory> {
         match &self.kept(path) {
-            Some(Led::File(number)) => Ok(Some(*number)),
+            Some(Led::File(file)) => Ok(Some(file.number())),
             _ => self.walk_to_file(tree, path),
         }
     }
@@ -200,7 +223,7 @@ impl TimeTable {
             None => None,
         };
         if let Some(number) = file {
-            self.ways.keep_file(path, number);
+            self.keep_file(path, number);
         }
         Ok(file)
     }
@@ -311,7 +334,7 @@ impl TimeTable {
     /// Gives what a path leads to times.
     pub(crate) fn set_path(&mut self, tree: &Tree, path: &[u8], times: Times) {
         match &self.led_to(tree, path) {
-            Ok(Some(Led::File(number))) => self.set_file(tree, *number, times),
+            Ok(Some(Led::File(file))) => self.set_file(tree, file.number(), times),
             Ok(Some(Led::Place(place))) => self.set_place(*place, times),
             _ => {}
         }
@@ -396,9 +419,12 @@ impl TimeTable {
         self.places.keep_children(directory, children);
     }
 
-    /// What stands at a name of a directory, if it is no file.
-    pub(crate) fn child(&self, spot: Spot) -> Child {
-        self.places.child(spot)
+    /// What stands at a name of a directory, which may be a name of this file.
+    pub(crate) fn child(&self, spot: Spot, file: Option<FileNo>) -> Child {
+        match file {
+            Some(number) => Child::File(self.files.find(number)),
+            None => self.places.child(spot),
+        }
     }
 }
 

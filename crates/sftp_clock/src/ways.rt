@@ -1,17 +1,17 @@
 //! Where paths lead, as far as it was looked up, so that further requests on them need no walk.
 
+use crate::files::FileAt;
 use crate::places::PlaceNo;
-use sftp_tree::FileNo;
 use std::alloc::Global;
 use std::mem;
 
 /// How many slots a path has, one after the other.
-const TRIES: usize = 4;
+const TRIES: usize = 8;
 
 /// How many slots there are at least, and at most.
 const FEWEST: usize = 64;
 
-const MOST: usize = 8192;
+const MOST: usize = 16_384;
 
 /// How many bytes a path has at most that is kept.
 const LONGEST: usize = 512;
@@ -19,7 +19,7 @@ const LONGEST: usize = 512;
 /// What a path leads to: a file or a directory.
 #[derive(Clone, Copy)]
 pub(crate) enum Led {
-    File(FileNo),
+    File(FileAt),
     Place(PlaceNo),
 }
 
@@ -73,9 +73,9 @@ impl Ways {
     }
 
     /// Keeps that a path leads to a file, if there is memory for it.
-    pub(crate) fn keep_file(&mut self, path: &[u8], number: FileNo) {
+    pub(crate) fn keep_file(&mut self, path: &[u8], file: &FileAt) {
         let age = self.files;
-        self.keep(path, Led::File(number), age);
+        self.keep(path, Led::File(*file), age);
     }
 
     /// Keeps that a path leads to a directory, if there is memory for it.
@@ -157,10 +157,10 @@ impl Ways {
         }
     }
 
-    /// Takes twice as many slots if half of them are taken.
+    /// Takes twice as many slots if a third of them are taken.
     fn make_room(&mut self) {
         let count = self.slots.len();
-        if self.taken >= count / 2 && count < MOST {
+        if self.taken >= count / 3 && count < MOST {
             let more = free_slots(self.alloc, count.saturating_mul(2).max(FEWEST));
             let before = mem::replace(&mut self.slots, more);
             self.taken = 0;
@@ -211,5 +211,5 @@ fn hash_of(path: &[u8]) -> u32 {
     for byte in path {
         hash = (hash ^ u32::from(*byte)).wrapping_mul(0x0100_0193);
     }
-    hash ^ (hash >> 15)
+    (hash ^ (hash >> 15)).wrapping_mul(0x9e37_79b1) >> 8
 }

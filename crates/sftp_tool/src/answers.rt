@@ -15,8 +15,9 @@ use std::time::Clock;
 /// given if it is allowed; the session's own replies, and the varied ones, get words for people.
 type Proposing = Proposed<Recorded, Worded<Proposed<Vary, Plain>>>;
 
-/// The answerer of sessions whose replies have times. They get words for people, if some are asked for.
-type Dated<'r, C> = Worded<Clocked<SystemClock<'r, C>>>;
+/// The answerer of sessions whose replies have times. They get words for people only if some are asked for, since each
+/// reply passes through one answerer more then.
+type Dated<'r, C> = Clocked<SystemClock<'r, C>>;
 
 /// What the replies of a session are like.
 #[derive(Drop)]
@@ -91,17 +92,23 @@ fn serve_dated<C: Clock, R: Source, W: Sink, L: Sink, S: Schedule>(
 ) -> (SessionEnd, TimeTable)
     requires { IsUnused log.old }
 {
-    let inner = Clocked::new(tree.allocator(), SystemClock::new(clock), times);
-    let mut answerer = Worded::new(inner, words);
+    let mut dated = Clocked::new(tree.allocator(), SystemClock::new(clock), times);
+    if words.has_any() {
+        let mut answerer = Worded::new(dated, words);
+        let end = serve_as::<R, W, L, S, SlabTable, Worded<Dated<C>>>(
+            tree,
+            reader,
+            writer,
+            log,
+            schedule,
+            &mut answerer,
+        );
+        return (end, answerer.into_inner().into_table());
+    }
     let end = serve_as::<R, W, L, S, SlabTable, Dated<C>>(
-        tree,
-        reader,
-        writer,
-        log,
-        schedule,
-        &mut answerer,
+        tree, reader, writer, log, schedule, &mut dated,
     );
-    (end, answerer.into_inner().into_table())
+    (end, dated.into_table())
 }
 
 /// Serves a session that keeps no times.
