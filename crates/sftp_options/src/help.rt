@@ -123,6 +123,13 @@ That of a tree file begins with the lines of its head and of its root, and has a
   H \"/g\" 1
   L \"/l\" \"f\"
 
+The head may have limits, four or five. Below five of them, kinds in small letters have the times of access and of
+modification behind the permissions, and a file of 2^32 bytes or more has the kind G, or g with times:
+
+  home \"/\" uid 0 gid 0 limits 65536 16777216 32768 256 288230376151711744 entries 1
+  D \"/\" 0 0 0755
+  f \"/f\" 0 0 0644 2 3 \"abc\"
+
 Blank lines, and lines that begin with #, say nothing. What the bytes of the file mean is not judged: 'show' and 'audit'
 do that. Where the text is malformed, the line, the column and the word are named, and no file is written.";
 
@@ -135,7 +142,11 @@ The first line of a tree file has the home, the owner of new entries, the limits
 bytes of a file, bytes that one READ gives, open handles), and the number of entries. The line of an entry has its
 number, its kind (D directory, F file, H further name of a file, L link) and its path; then the uid, gid and permissions
 of a directory or a file, the length of a file in bytes, the number of the entry that a further name belongs to, or the
-target of a link.
+target of a link. If anything has times, or a limit is above the highest of 'raise', there is a fifth limit, the bytes
+of all files together. Then kinds in small letters have the times of access and of modification behind the permissions,
+in seconds since 1970, and G and g are files of 2^32 bytes or more:
+
+  1 f \"/f\" 0 0 0644 2 3 3
 
 Bytes other than printable ASCII, and \" and \\, are shown as \\x and two hexadecimal digits.
 
@@ -206,20 +217,20 @@ than 64 names, and what the limits have no room for; and a compressed archive, b
 With --memory, an archive is not taken whose entries, with the directories that it does not name, take more than BYTES.
 The memory is looked at before each entry, and before more of a long one is read; one entry may go beyond.
 
---limits usual    65,536 entries, and files of 16,777,216 bytes, as without the option
---limits raised   1,048,576 entries, and files of 67,108,864 bytes: the limits that 'sftpv3 raise' sets
---limits most     4,294,967,293 entries, and files of 1,099,511,627,776 bytes: the highest limits that there are
---limits fit      the lowest limits that hold the archive: the usual ones, or as many entries, and as many bytes of a
-                  file, as it has above them. What 'export' wrote of any tree is taken.
+  --limits usual    65,536 entries, and files of 16,777,216 bytes, as without the option
+  --limits raised   1,048,576 entries, and files of 67,108,864 bytes: the limits that 'sftpv3 raise' sets
+  --limits most     4,294,967,293 entries, and files of 1,099,511,627,776 bytes: the highest limits that there are
+  --limits fit      the lowest limits that hold the archive: the usual ones, or as many entries, and as many bytes of a
+                    file, as it has above them. What 'export' wrote of any tree is taken.
 
 The tree file has the times of modification of directories and files, and those of access that extended headers give;
 times before 1970 are 0, and those after 2106 the last second that a tree file holds. Links have no times. With
 --no-times, and if all are 0, the tree file has none, and programs of before read it.
 
---special refuse  an archive with a device or a FIFO is refused, as without the option
---special skip    they are left out
---special file    each is an empty file with its owner and permissions; 'sftpv3 audit --allow special', which is part
-                  of its profiles, accepts a listing that shows it as a device or a FIFO
+  --special refuse  an archive with a device or a FIFO is refused, as without the option
+  --special skip    they are left out
+  --special file    each is an empty file with its owner and permissions; 'sftpv3 audit --allow special', which is part
+                    of its profiles, accepts a listing that shows it as a device or a FIFO
 
 With skip and file, standard error names each of them:
 
@@ -249,6 +260,7 @@ pub(crate) const AFTER_RAISE: &str = "All else of the tree is the same. The limi
   65,536        261,120            bytes that one READ gives
   1,024         65,536             open handles
 
+A limit on the bytes of all files together stays with --to highest, and goes with --to most and --to fit.
 A limit of TREE that is above the highest stays. With --to fit, the limits are the usual ones, or as many entries, and
 as many bytes of a file, as TREE has above them. Programs of before do not read a FILE with a limit above the highest.
 

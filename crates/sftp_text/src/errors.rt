@@ -46,8 +46,9 @@ impl Expected {
             Expected::End => "the end of the line",
             Expected::Head =>
                 "`home`, a text in quotes, `uid` and `gid`, perhaps `limits`, and `entries`, each with its numbers",
-            Expected::Root => "`D \"/\"`",
-            Expected::Kind => "`D`, `F`, `H` or `L`",
+            Expected::Root => "`D \"/\"`; or `d \"/\"`, if the head has five limits",
+            Expected::Kind =>
+                "`D`, `F`, `H` or `L`; or `G`, `d`, `f` or `g`, if the head has five limits",
             Expected::AnyRoot => "`D \"/\"` or `d \"/\"`",
             Expected::AnyKind => "`D`, `F`, `G`, `d`, `f`, `g`, `H` or `L`",
             Expected::Fewer => "fewer than 2^32 bytes or items",

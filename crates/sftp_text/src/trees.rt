@@ -18,7 +18,7 @@ use crate::lines::{is_blank, take_line};
 use crate::numbers::{put_long, put_number, put_octal, read_long, read_number, read_octal};
 use crate::openings::Opening;
 use crate::quoted::{put_long_string, put_string, read_long_string, read_string};
-use crate::words::{after_word, read_end, read_word};
+use crate::words::{after_word, read_end, read_key, read_word};
 use bytes::Buf;
 use std::alloc::Global;
 
@@ -31,11 +31,16 @@ fn put_labelled(label: &[u8], bytes: &mut &[u8], text: &mut Vec<u8>) -> Result<(
     put_number(bytes, text)
 }
 
-fn read_labelled(label: &[u8], line: &mut &[u8], bytes: &mut Vec<u8>) -> Result<(), Stop>
+fn read_labelled(
+    label: &[u8],
+    expected: Expected,
+    line: &mut &[u8],
+    bytes: &mut Vec<u8>,
+) -> Result<(), Stop>
     ensures { Moves result bytes.new.items line.new.now
         ((word label.now then number).read bytes.old.items line.old.now) }
 {
-    read_word(label, Expected::Head, line)?;
+    read_key(label, expected, line)?;
     read_number(line, bytes)
 }
 
@@ -56,14 +61,15 @@ fn put_two_labelled(
 fn read_two_labelled(
     first: &[u8],
     second: &[u8],
+    expected: Expected,
     line: &mut &[u8],
     bytes: &mut Vec<u8>,
 ) -> Result<(), Stop>
     ensures { Moves result bytes.new.items line.new.now
         ((word first.now then number then word second.now then number).read bytes.old.items line.old.now) }
 {
-    read_labelled(first, line, bytes)?;
-    read_labelled(second, line, bytes)
+    read_labelled(first, expected, line, bytes)?;
+    read_labelled(second, expected, line, bytes)
 }
 
 /// Shows a text after a label.
@@ -132,7 +138,7 @@ fn read_long_labelled(label: &[u8], line: &mut &[u8], bytes: &mut Vec<u8>) -> Re
     ensures { Moves result bytes.new.items line.new.now
         ((word label.now then long).read bytes.old.items line.old.now) }
 {
-    read_word(label, Expected::Head, line)?;
+    read_word(label, Expected::Space, line)?;
     read_long(line, bytes)
 }
 
@@ -149,7 +155,7 @@ fn read_front(line: &mut &[u8], bytes: &mut Vec<u8>) -> Result<(), Stop>
     ensures { Moves result bytes.new.items line.new.now (trees.front_text.read bytes.old.items line.old.now) }
 {
     read_text(b"home ", Expected::Head, line, bytes)?;
-    read_two_labelled(b" uid ", b" gid ", line, bytes)
+    read_two_labelled(b" uid ", b" gid ", Expected::Head, line, bytes)
 }
 
 /// Shows the four limits of the second opening.
@@ -163,8 +169,9 @@ fn put_four_limits(bytes: &mut &[u8], text: &mut Vec<u8>) -> Result<(), Stop>
 fn read_four_limits(line: &mut &[u8], bytes: &mut Vec<u8>) -> Result<(), Stop>
     ensures { Moves result bytes.new.items line.new.now (trees.four_limits.read bytes.old.items line.old.now) }
 {
-    read_two_labelled(b" limits ", b" ", line, bytes)?;
-    read_two_labelled(b" ", b" ", line, bytes)
+    read_labelled(b" limits ", Expected::Head, line, bytes)?;
+    read_labelled(b" ", Expected::Space, line, bytes)?;
+    read_two_labelled(b" ", b" ", Expected::Space, line, bytes)
 }
 
 /// Shows the five limits of the third opening.
@@ -180,9 +187,9 @@ fn put_five_limits(bytes: &mut &[u8], text: &mut Vec<u8>) -> Result<(), Stop>
 fn read_five_limits(line: &mut &[u8], bytes: &mut Vec<u8>) -> Result<(), Stop>
     ensures { Moves result bytes.new.items line.new.now (trees.five_limits.read bytes.old.items line.old.now) }
 {
-    read_labelled(b" limits ", line, bytes)?;
+    read_labelled(b" limits ", Expected::Head, line, bytes)?;
     read_long_labelled(b" ", line, bytes)?;
-    read_two_labelled(b" ", b" ", line, bytes)?;
+    read_two_labelled(b" ", b" ", Expected::Space, line, bytes)?;
     read_long_labelled(b" ", line, bytes)
 }
 
@@ -218,13 +225,25 @@ fn put_behind_front(opening: Opening, bytes: &mut &[u8], text: &mut Vec<u8>) -> 
     put_labelled(b" entries ", bytes, text)
 }
 
+/// What should follow the limits where the number of entries does not: behind four of them, another.
+fn behind_limits(opening: Opening, line: &[u8]) -> Expected {
+    if after_word(b" entries", line).is_some() {
+        return Expected::Head;
+    }
+    match opening {
+        Opening::Raised => Expected::Long,
+        Opening::Usual | Opening::Wide => Expected::Head,
+    }
+}
+
 /// Reads the limits, if there are to be some, and the number of entries.
 fn read_behind_front(opening: Opening, line: &mut &[u8], bytes: &mut Vec<u8>) -> Result<(), Stop>
     ensures { Moves result bytes.new.items line.new.now
         ((trees.behind_front opening).read bytes.old.items line.old.now) }
 {
     read_limits(opening, line, bytes)?;
-    read_labelled(b" entries ", line, bytes)
+    let expected = behind_limits(opening, line);
+    read_labelled(b" entries ", expected, line, bytes)
 }
 
 /// Shows the head of a tree file, from its opening up to its count of entries, as `home "/" uid 0 gid 0 entries 2`.
@@ -282,12 +301,40 @@ fn opening_by_limits(alloc: Global, line: &[u8]) -> Result<Opening, Stop>
     }
 }
 
+/// What the head that begins at `start` should have had where it stops being one, which is where `line` begins, or
+/// further on if it is taken for one with five limits.
+fn further<'a>(
+    alloc: Global,
+    start: &'a [u8],
+    expected: Expected,
+    line: &mut &'a [u8],
+) -> Expected {
+    let mut rest = start;
+    let mut bytes = Vec::new(alloc);
+    match read_head_of(Opening::Wide, &mut rest, &mut bytes) {
+        Err(Stop::Unfit(other)) => {
+            if rest.len() < line.len() {
+                *line = rest;
+                return other;
+            }
+            expected
+        }
+        Ok(()) | Err(Stop::NoMemory) => expected,
+    }
+}
+
 #[tactic(auto, unfolding(crate::specs::Trees::head_text))]
 fn read_head_parts(line: &mut &[u8], bytes: &mut Vec<u8>) -> Result<(), Stop>
     ensures { Moves result bytes.new.items line.new.now (trees.head_text.read bytes.old.items line.old.now) }
 {
-    let begins = opening_named(*bytes.allocator(), line)?;
-    read_head_of(begins, line, bytes)
+    let alloc = *bytes.allocator();
+    let start = *line;
+    let begins = opening_named(alloc, start)?;
+    match read_head_of(begins, line, bytes) {
+        Ok(()) => Ok(()),
+        Err(Stop::NoMemory) => Err(Stop::NoMemory),
+        Err(Stop::Unfit(expected)) => Err(Stop::Unfit(further(alloc, start, expected, line))),
+    }
 }
 
 /// Shows an owner: user and group in decimal, permissions in octal, each after a space.
@@ -304,7 +351,7 @@ fn put_owner(bytes: &mut &[u8], text: &mut Vec<u8>) -> Result<(), Stop>
 fn read_owner(line: &mut &[u8], bytes: &mut Vec<u8>) -> Result<(), Stop>
     ensures { Moves result bytes.new.items line.new.now (trees.owner_text.read bytes.old.items line.old.now) }
 {
-    read_two_labelled(b" ", b" ", line, bytes)?;
+    read_two_labelled(b" ", b" ", Expected::Space, line, bytes)?;
     read_word(b" ", Expected::Space, line)?;
     read_octal(line, bytes)
 }
@@ -329,7 +376,7 @@ fn read_timed_owner(has_times: bool, line: &mut &[u8], bytes: &mut Vec<u8>) -> R
         return read_owner(line, bytes);
     }
     read_owner(line, bytes)?;
-    read_two_labelled(b" ", b" ", line, bytes)
+    read_two_labelled(b" ", b" ", Expected::Space, line, bytes)
 }
 
 /// Shows the root of a tree file without times, as `D "/" 0 0 0755`.
@@ -598,7 +645,7 @@ fn read_other(kind: u8, line: &mut &[u8], bytes: &mut Vec<u8>) -> Result<(), Sto
         ((behind (trees.other_text kind None)).read bytes.old.items line.old.now) }
 {
     if kind == b'H' {
-        read_labelled(b" ", line, bytes)
+        read_labelled(b" ", Expected::Space, line, bytes)
     } else if kind == b'L' {
         read_text(b" ", Expected::Space, line, bytes)
     } else {

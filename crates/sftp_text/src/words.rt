@@ -23,6 +23,20 @@ pub(crate) fn read_word(word: &[u8], expected: Expected, line: &mut &[u8]) -> Re
     Ok(())
 }
 
+/// Takes a label from the front of a line. Where it is not there, the line is left at the word behind a space.
+pub(crate) fn read_key(label: &[u8], expected: Expected, line: &mut &[u8]) -> Result<(), Stop>
+    ensures { MovesOver result line.new.now (strip label.now line.old.now) }
+{
+    if let Some(rest) = after_word(label, line) {
+        *line = rest;
+        return Ok(());
+    }
+    if let Some(word) = after_word(b" ", line) {
+        *line = word;
+    }
+    Err(Stop::Unfit(expected))
+}
+
 /// Takes these bytes from the front of a line if they are there, and says whether they were.
 pub(crate) fn read_label(label: &[u8], line: &mut &[u8]) -> bool
     ensures { IsStripped result line.old.now line.new.now (strip label.now line.old.now) }
