@@ -17,6 +17,11 @@ const HEAD: &str = "home \"/\" uid 0 gid 0";
 /// The line of the root where the text of a tree file has none.
 const ROOT: &str = "D \"/\" 0 0 0755";
 
+/// What the line of a root with times begins with, and that of one without.
+const TIMED_ROOT: &str = "d \"/\" ";
+
+const PLAIN_ROOT: &str = "D \"/\" ";
+
 /// The transcript with the opening and these records.
 pub fn put_session(text: &str, bytes: &mut Vec<u8>, said: &mut Report) -> bool {
     let mut lines = Text::new(*bytes.allocator());
@@ -44,6 +49,15 @@ fn first_line<'a>(text: &'a str, front: &str, otherwise: &'a str) -> (&'a str, &
     }
 }
 
+/// What the line of the root begins with that this text has in front, if it has one.
+fn root_front(text: &str) -> &'static str {
+    if text.starts_with(TIMED_ROOT) {
+        TIMED_ROOT
+    } else {
+        PLAIN_ROOT
+    }
+}
+
 /// The tree file of these lines. The head has no number of entries. Head and root may be absent.
 pub fn put_tree(text: &str, bytes: &mut Vec<u8>, said: &mut Report) -> bool {
     let mut lines = Text::new(*bytes.allocator());
@@ -59,7 +73,7 @@ pub fn put_tree(text: &str, bytes: &mut Vec<u8>, said: &mut Report) -> bool {
 /// The lines of a tree file, with its head and its root.
 fn put_tree_lines(text: &str, out: &mut Text) {
     let (head, rest) = first_line(text, "home ", HEAD);
-    let (root, entries) = first_line(rest, "D \"/\" ", ROOT);
+    let (root, entries) = first_line(rest, root_front(rest), ROOT);
     out.push(head);
     out.push(" entries ");
     out.push_number(entries.lines().count() as u64);
