@@ -308,7 +308,7 @@ impl<'a> World<'a> {
             usual_limits()
         };
         let bytes = self.most_bytes.max(self.largest());
-        let entries = (count as u64).max(self.nodes.len() as u64);
+        let entries = self.most_entries().max(count as u64);
         TreeLimits {
             entries: within(entries, low.entries, high.entries),
             file_bytes: within_long(bytes, low.file_bytes, high.file_bytes),
@@ -316,6 +316,12 @@ impl<'a> World<'a> {
             open_handles: within(self.most_handles, low.open_handles, high.open_handles),
             total_bytes: low.total_bytes,
         }
+    }
+
+    /// The most entries below the root that the session may have at one time.
+    fn most_entries(&self) -> u64 {
+        let below = self.nodes.len().saturating_sub(1);
+        (below as u64).saturating_add(self.further)
     }
 
     /// Whether the tree needs limits beyond the usual ones.
