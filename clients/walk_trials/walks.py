@@ -46,7 +46,7 @@ ENDED = [
     ("slash_in_name", r'the listing of "/" has the name "../../etc/\x1b[1mpasswd"'),
     ("empty_name", 'the listing of "/" has the name ""'),
     ("long_name", 'the listing of "/" has the name "nnn'),
-    ("endless_listing", "there are more than 1,048,576 entries, as many as a tree file has"),
+    ("endless_listing", "there are more than 1,048,576 entries, as many as a walk takes"),
     ("repeating_listing", 'the listing of "/" goes on without names that are new'),
     ("long_handle", "a handle of the server has 200,000 bytes"),
     ("long_lines", "the requests and replies of the session have more than 538,870,912 bytes"),
@@ -65,7 +65,7 @@ ENDED = [
 # Servers at which it goes on, and what it says; `infer` may find a tree or none.
 TOLD = [
     ("deep", "has entries deeper than the 64 names of any tree file"),
-    ("huge_size", '"/f" has 4,611,686,018,427,387,904 bytes, more than the 67,108,864 of any tree file'),
+    ("huge_size", '"/f" has 4,611,686,018,427,387,904 bytes, more than the 1,099,511,627,776 of any tree file'),
     ("wide_size", '"/f" is not read: its 60,000,000 bytes are more than are left of --max-bytes'),
     ("grows", '"/f" was 5 bytes long, and has bytes behind that'),
     ("shrinks", '"/f" was 70,000 bytes long, and ended before byte'),

@@ -1,9 +1,12 @@
 """What ends a walk, and what no tree file has: docs/TREE.md has the limits."""
 from paging import packets
 
-# The most entries below the root, bytes of a file, bytes of a name, and names from the root to an entry, of any tree;
-# and the most bytes of a path in a request.
-ENTRIES, LARGEST, NAME, DEPTH, PATH = 1_048_576, 67_108_864, 255, 64, 4096
+# The most bytes of a file, bytes of a name, and names from the root to an entry, of any tree; and the most bytes of a
+# path in a request.
+LARGEST, NAME, DEPTH, PATH = 1 << 40, 255, 64, 4096
+
+# The most entries that a walk takes, since it holds them.
+ENTRIES = 1 << 20
 
 # The most bytes that all names together may have, since they are held until they are looked at.
 NAMES = 1 << 28

@@ -145,7 +145,7 @@ class Walk:
         self.entries += len(names)
         self.names += sum(map(len, names)) + len(path)
         if self.entries > bounds.ENTRIES:
-            raise Misbehaves(f"there are more than {bounds.ENTRIES:,} entries, as many as a tree file has")
+            raise Misbehaves(f"there are more than {bounds.ENTRIES:,} entries, as many as a walk takes")
         if self.names > bounds.NAMES:
             raise Misbehaves(f"the names of all entries have more than {bounds.NAMES:,} bytes")
 

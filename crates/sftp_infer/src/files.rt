@@ -1,6 +1,7 @@
 //! What replies told of a file's size and bytes.
 
 use crate::pieces::Pieces;
+use sftp_treefile::most_limits;
 use std::alloc::Global;
 
 /// The size and the bytes of a file, at the start and now.
@@ -26,7 +27,7 @@ pub(crate) struct File {
     /// The end of what the session wrote furthest, and the request that wrote it.
     pub(crate) furthest: u64,
     pub(crate) written_by: u64,
-    /// The most bytes that the session gave it.
+    /// The most bytes that the session gave it, of those that a tree may hold.
     pub(crate) peak: u64,
     /// From here on bytes that the session did not write are zeros.
     pub(crate) zeros: u64,
@@ -81,6 +82,13 @@ impl File {
             self.first = asked;
         }
         self.last = asked;
+    }
+
+    /// Notes that the session gives it so many bytes. More than any tree holds are in no audit.
+    pub(crate) fn grow(&mut self, size: u64) {
+        if size <= most_limits().file_bytes {
+            self.peak = self.peak.max(size);
+        }
     }
 
     /// The fewest bytes that it may have now.

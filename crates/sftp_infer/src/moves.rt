@@ -239,6 +239,7 @@ impl<'a> World<'a> {
         let to = self.reach_free(new)?;
         let done = self.change(to.spot(), Held::Entry(at));
         drop(to);
+        self.further = self.further.saturating_add(1);
         done
     }
 }

@@ -1,6 +1,7 @@
 //! The tree file of what is known of the start.
-ghost use Rattle.std.specs.Prelude.{◌≤◌};
-ghost use Rattle.sftp_treefile.specs.TreeFile.{highest_limits as highest};
+ghost use Rattle.std.specs.Prelude.{◌≡◌, ◌≤◌, ◌<◌, ◌^◌};
+ghost use Rattle.sftp_treefile.specs.TreeFile.{most_limits as most};
+ghost use Rattle.sftp_treefile.specs.declared.limits.Opening.TheVariants.{Raised};
 
 use crate::candidates::Excess;
 use crate::files::File;
@@ -9,25 +10,21 @@ use crate::texts::TreeText;
 use crate::world::World;
 use sftp_path::NoMemory;
 use sftp_treefile::{
-    Head, NO_TIMES, Owner, TreeLimits, highest_limits, put_directory, put_file, put_further_name,
-    put_head, put_link, usual_limits,
+    Head, NO_TIMES, Opening, Owner, TreeLimits, highest_limits, most_limits, put_directory,
+    put_file, put_further_name, put_head, put_link, usual_limits,
 };
 use sftp_wire::ByteString;
 use std::collections::BTreeMap;
-
-/// The most entries of a tree.
-const ENTRIES: usize = 1_048_576;
-
-/// The most bytes of a file of a tree, with the highest limits.
-const FILE_BYTES: u32 = 67_108_864;
 
 /// How many bytes the paths and targets of each place may have, and those of all places besides.
 const PATH_BYTES: u64 = 384;
 
 const FREE_BYTES: u64 = 1 << 20;
 
-/// The bytes of the field that says how long a file is.
+/// The bytes of the field that says how long a file is, and of the one before it, which says who owns it.
 const LENGTH_BYTES: usize = 4;
+
+const OWNER_BYTES: usize = 12;
 
 /// The longest text of a field.
 const LONGEST: usize = 4_294_967_295;
@@ -62,6 +59,16 @@ fn within_long(number: u64, least: u64, most: u64) -> u64
     number.max(least).min(most)
 }
 
+/// The opening of a tree with these limits, which has no times.
+fn opening_of(limits: TreeLimits) -> Opening
+    ensures { result ≡ Raised → limits.file_bytes < 2 ^ 32 }
+{
+    if limits.file_bytes > highest_limits().file_bytes {
+        return Opening::Wide;
+    }
+    limits.opening(false)
+}
+
 /// What a pass makes of the start.
 #[derive(Drop)]
 pub(crate) enum Drawn<'a> {
@@ -84,7 +91,7 @@ impl<'a> World<'a> {
 
     fn draw_rows(&self, rows: &[Listed<'_>]) -> Result<Drawn<'a>, NoMemory> {
         let largest = self.largest();
-        if largest > u64::from(FILE_BYTES) {
+        if largest > most_limits().file_bytes {
             return Ok(Drawn::TooLarge(Excess::File(largest)));
         }
         let bytes = self.all_bytes();
@@ -147,8 +154,7 @@ impl<'a> World<'a> {
         let mut sum: u64 = 0;
         for entry in self.nodes.iter() {
             if entry.sort == Sort::File {
-                let bytes = entry.file.least.max(entry.file.peak);
-                sum = sum.saturating_add(bytes.min(u64::from(FILE_BYTES)));
+                sum = sum.saturating_add(entry.file.least.max(entry.file.peak));
             }
         }
         sum
@@ -180,7 +186,7 @@ impl<'a> World<'a> {
         rows: &mut Vec<Listed<'w>>,
     ) -> Result<bool, NoMemory> {
         self.push_names(0, 0, waiting)?;
-        for _ in 0..=ENTRIES {
+        for _ in 0..=most_limits().entries {
             match waiting.pop() {
                 Some(listed) => {
                     if self.sort(listed.at) == Sort::Directory {
@@ -273,13 +279,13 @@ impl<'a> World<'a> {
         let home = ByteString::from_slice(self.alloc, self.home.as_slice())?;
         let limits = self.limits(count);
         let head = Head {
-            opening: limits.opening(false),
+            opening: opening_of(limits),
             limits,
             home,
             uid,
             gid,
             root,
-            count: within(count as u64, 0, 1_048_576),
+            count: within(count as u64, 0, most_limits().entries),
             root_times: NO_TIMES,
         };
         if head.home.as_slice().len() > LONGEST {
@@ -291,22 +297,31 @@ impl<'a> World<'a> {
         done
     }
 
-    /// The lowest limits that the session needs, or the highest.
+    /// The lowest limits that the session needs, or those that `raise` sets where they are enough.
     fn limits(&self, count: usize) -> TreeLimits
-        ensures { result.file_bytes ≤ highest.file_bytes }
+        ensures { result.file_bytes ≤ most.file_bytes }
     {
-        let (low, high) = (usual_limits(), highest_limits());
-        if self.settings.is_raised {
-            return high;
-        }
-        let entries = (count as u64).max(self.nodes.len() as u64);
+        let high = most_limits();
+        let low = if self.settings.is_raised {
+            highest_limits()
+        } else {
+            usual_limits()
+        };
+        let bytes = self.most_bytes.max(self.largest());
+        let entries = self.most_entries().max(count as u64);
         TreeLimits {
             entries: within(entries, low.entries, high.entries),
-            file_bytes: within_long(self.most_bytes, low.file_bytes, high.file_bytes),
+            file_bytes: within_long(bytes, low.file_bytes, high.file_bytes),
             read_bytes: within(self.most_read, low.read_bytes, high.read_bytes),
             open_handles: within(self.most_handles, low.open_handles, high.open_handles),
             total_bytes: low.total_bytes,
         }
+    }
+
+    /// The most entries below the root that the session may have at one time.
+    fn most_entries(&self) -> u64 {
+        let below = self.nodes.len().saturating_sub(1);
+        (below as u64).saturating_add(self.further)
     }
 
     /// Whether the tree needs limits beyond the usual ones.
@@ -366,16 +381,11 @@ impl<'a> World<'a> {
 
     /// Appends the entry of a file: that of an empty one, and then its length in the place of the last field.
     fn put_file_row(&self, path: &[u8], at: usize, out: &mut Vec<u8>) -> Result<(), NoMemory> {
-        let Ok(length) = u32::try_from(self.size_at_start(at)) else {
-            return Err(NoMemory);
-        };
         if path.len() > LONGEST {
             return Err(NoMemory);
         }
         put_file(out, path, &self.owner_of(at, 0o644), &[])?;
-        out.truncate(out.len().saturating_sub(LENGTH_BYTES));
-        out.extend_from_slice(&length.to_be_bytes())?;
-        Ok(())
+        put_length(out, self.size_at_start(at))
     }
 
     fn size_at_start(&self, at: usize) -> u64 {
@@ -399,6 +409,22 @@ impl<'a> World<'a> {
             _ => Ok(()),
         }
     }
+}
+
+/// Has the entry of an empty file, which is the last one, say that the file has so many bytes. From 2^32 bytes on it
+/// has another letter, and a longer number.
+fn put_length(out: &mut Vec<u8>, length: u64) -> Result<(), NoMemory> {
+    out.truncate(out.len().saturating_sub(LENGTH_BYTES));
+    if let Ok(short) = u32::try_from(length) {
+        out.extend_from_slice(&short.to_be_bytes())?;
+        return Ok(());
+    }
+    let place = out.len().saturating_sub(OWNER_BYTES).saturating_sub(1);
+    if let Some(letter) = out.get_mut(place) {
+        *letter = b'G';
+    }
+    out.extend_from_slice(&length.to_be_bytes())?;
+    Ok(())
 }
 
 /// Whether the names that a directory had at the start are in order in its list.

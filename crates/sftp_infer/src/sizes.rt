@@ -126,7 +126,7 @@ impl<'a> World<'a> {
             file.change(asked);
             file.size = Some(size);
             file.sized = told;
-            file.peak = file.peak.max(size);
+            file.grow(size);
             file.zeros = file.zeros.min(size);
             file.written.clear(size, u64::MAX)?;
         }
@@ -152,7 +152,7 @@ impl<'a> World<'a> {
             let file = &mut entry.file;
             file.change(asked);
             file.is_appended = file.is_appended || appends;
-            file.peak = file.peak.max(end);
+            file.grow(end);
             let before = file.written.len();
             file.written.put(offset, piece)?;
             let more = file.written.len().saturating_sub(before);

@@ -33,6 +33,8 @@ pub(crate) struct World<'a> {
     pub(crate) most_read: u64,
     pub(crate) most_bytes: u64,
     pub(crate) most_handles: u64,
+    /// How many further names the session gave to files.
+    pub(crate) further: u64,
     /// Facts that this pass found, which it could follow at once.
     pub(crate) learned: Vec<Fact>,
     /// What is made up, since a reply asks for something that nothing tells.
@@ -93,6 +95,7 @@ impl<'a> World<'a> {
             most_read: 0,
             most_bytes: 0,
             most_handles: 0,
+            further: 0,
             learned: Vec::new(alloc),
             invented: Vec::new(alloc),
             follows: false,

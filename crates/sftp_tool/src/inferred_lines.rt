@@ -83,7 +83,7 @@ pub(crate) fn put_excess<E: Write>(excess: Excess, errors: &mut E) {
         Excess::File(bytes) => write_flushed(
             errors,
             format_args!(
-                "no tree: a file has {bytes} bytes, and that of a tree has 67108864 at most\n"
+                "no tree: a file has {bytes} bytes, and that of a tree has 1099511627776 at most\n"
             ),
         ),
         Excess::Paths(bytes) => write_flushed(
