@@ -293,8 +293,8 @@ impl PlaceTimes {
         }
     }
 
-    /// What was at the old name, with all below it, is at the new one; what was there is forgotten. So is both if memory
-    /// runs out. Returns whether a path that is kept may lead over one of them.
+    /// What was at the old name, with all below it, is at the new one; what was there is forgotten, and both are if
+    /// memory runs out. Returns whether a path that is kept may lead over one of them.
     pub(crate) fn rename(&mut self, old: Spot, new: Spot) -> bool {
         let is_over = self.forget(new);
         match self.by_key.remove(&old.key) {

@@ -184,7 +184,8 @@ effect_of FirstDigit c = or_refuse (λ high. Go (SecondDigit high)) (hex_value c
 effect_of (SecondDigit high) c = or_refuse (λ low. Give (16 * high + low)) (hex_value c)
 
 -- what comes after a character: the bytes so far, the characters behind it, and how to go on
-abbrev pub with_effect : Effect → List ℕ → List ℕ → (Place → List ℕ → Option (List ℕ × List ℕ)) → Option (List ℕ × List ℕ)
+abbrev pub with_effect : Effect → List ℕ → List ℕ → (Place → List ℕ → Option (List ℕ × List ℕ))
+    → Option (List ℕ × List ℕ)
 with_effect Close bytes rest more = Some (bytes, rest)
 with_effect Refuse bytes rest more = None
 with_effect (Go place) bytes rest more = more place bytes

@@ -134,7 +134,8 @@ onto bytes more = option_and_then (λ m. Some (bytes ++ m)) more
 
 -- the bytes of a line: those of its record, or none where it says nothing
 abbrev pub line_bytes : List ℕ → Option (List ℕ)
-line_bytes line = if is_blank line then Some [] else option_and_then (λ r. Some (side_letter r.0 ∷ r.1)) (line_read line)
+line_bytes line =
+    if is_blank line then Some [] else option_and_then (λ r. Some (side_letter r.0 ∷ r.1)) (line_read line)
 
 -- bytes, and those of records behind them
 abbrev pub records_onto : List ℕ → Option (List (Side × List ℕ)) → Option (List ℕ)

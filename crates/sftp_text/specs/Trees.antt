@@ -208,7 +208,8 @@ entry_line wide = entry_text wide then word (10 ∷ [])
 abbrev pub first_lines : Bool → Format
 first_lines wide = head_text then word (10 ∷ []) then root_text wide then word (10 ∷ [])
 
--- the lines of a tree file are shown: that of the head, that of the root, and those of entries as long as bytes are left
+-- the lines of a tree file are shown: that of the head, that of the root, and those of entries as long as bytes are
+-- left
 unfoldable pub show_tree : Step
 show_tree text bytes =
     after (first_lines (begins_wide bytes)).show (repeat_to_end (entry_line (begins_wide bytes)).show) text bytes
