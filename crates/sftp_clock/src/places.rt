@@ -352,7 +352,8 @@ impl PlaceTimes {
         }
     }
 
-    /// The names of a directory change that has no entry for want of memory.
+    /// Forgets what stands at the names of every directory. It is for a change of the names of a directory that has no
+    /// entry, since memory ran out.
     pub(crate) fn forget_all_children(&mut self) {
         self.epoch = self.epoch.wrapping_add(1);
     }

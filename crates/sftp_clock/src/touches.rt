@@ -31,7 +31,7 @@ pub(crate) enum Touch {
     File(FileNo, Change),
     /// It makes or removes what stands at a name, or gives a file this name.
     At(Spot),
-    /// What stands at the first name moves to the second, and what stands there goes.
+    /// It moves what stands at the first name to the second, and removes what stands there.
     Move(Spot, Spot),
     /// It may make a file: if the tree has more entries than these.
     Open(u32),
