@@ -4,9 +4,8 @@ use crate::newcomers::{Newcomer, find_newcomer};
 use crate::readings::{
     content_of, content_of_removed, status_of_set, taken_for, undue, wrong_piece,
 };
-use crate::trees::Kept;
 use sftp_audit::{AuditError, Auditor, Refusal};
-use sftp_commands::LeftOut;
+use sftp_commands::{Kept, LeftOut};
 use sftp_files::{Failure, open, write_flushed};
 use sftp_options::AuditOptions;
 use sftp_path::good_path;

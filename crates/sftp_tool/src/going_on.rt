@@ -7,10 +7,10 @@ use crate::cut_sessions::Counts;
 use crate::explaining::{numbered, record_of};
 use crate::subcommands::{Finding, report_finding};
 use crate::totals::{End, Reason, Total, print_total};
-use crate::trees::Kept;
 use sftp_audit::{AuditError, Auditor, Refusal};
 use sftp_commands::{
-    Asked, Bearing, LeftOut, Outcome, Replied, find_reply, is_harmless, is_request, last_asked,
+    Asked, Bearing, Kept, LeftOut, Outcome, Replied, find_reply, is_harmless, is_request,
+    last_asked,
 };
 use sftp_files::{Bounded, Ending, Failure, Meter, System, open};
 use sftp_options::AuditOptions;

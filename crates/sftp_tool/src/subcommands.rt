@@ -13,10 +13,9 @@ ghost use Rattle.sftp_tool.specs.Verdicts.{IsStrictVerdict, IsVerdictUnder, IsVe
 use crate::cut_sessions::judge_cut_and_report;
 use crate::explaining::explain;
 use crate::going_on::report_findings;
-use crate::trees::{Kept, read_tree_in_view};
 use crate::verdict_objects::{print_accepted, print_refused};
 use sftp_audit::{AuditError, Ended, Refusal, audit_tree_by};
-use sftp_commands::{LeftOut, is_read_again, write_tree};
+use sftp_commands::{Kept, LeftOut, is_read_again, read_tree_in_view, write_tree};
 use sftp_files::{
     Bounded, Ending, Failure, Keeping, Meter, System, open, print, read_at_most, write_last,
 };
