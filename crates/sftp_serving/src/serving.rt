@@ -319,23 +319,24 @@ fn conclude<'a, R: System, E: Write>(
     let (tree, close) = parts(end, traffic.is_over);
     say_parting(traffic, options.is_verbose, errors);
     let saved = save_any(rt, &tree, &times, options);
-    let has_tree = tree.is_some();
+    let has_place = tree.is_some() && options.save.is_some();
     drop(tree);
     drop(times);
-    if options.is_verbose {
-        let summary = Summary {
-            close,
-            traffic,
-            entries: entries_of(&saved),
-            is_saved: has_tree && options.save.is_some() && saved.is_ok(),
-        };
-        say_summary(summary, errors);
-    }
+    let summary = Summary {
+        close,
+        traffic,
+        entries: entries_of(&saved),
+        is_saved: has_place && saved.is_ok(),
+    };
+    say_summary(summary, options.is_verbose, errors);
     outcome(close, saved, traffic, options, errors)
 }
 
-fn say_summary<E: Write>(summary: Summary, errors: &mut E) {
-    let _ = write_flushed(errors, format_args!("sftpv3: {summary}\n"));
+/// Says how a session ended, if lines are wanted.
+fn say_summary<E: Write>(summary: Summary, is_verbose: bool, errors: &mut E) {
+    if is_verbose {
+        let _ = write_flushed(errors, format_args!("sftpv3: {summary}\n"));
+    }
 }
 
 /// Says where the session left its script; that it followed it to the end if lines are wanted.

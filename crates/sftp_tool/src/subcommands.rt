@@ -302,15 +302,14 @@ pub(crate) fn report_finding<'a, R: Files + AllocGlobal, O: Write, E: Write>(
     ensures ok { IfOk result (λ ending. ending ≡ endings.Refused) }
     ensures err { IfErr result IsUnwritten }
 {
-    if !files.explains {
-        return refuse(files, finding, output);
-    }
-    if files.is_json {
+    if files.explains && files.is_json {
         return refuse_as_object(rt, files, tree, left_out, finding, output);
     }
-    let ending = refuse(files, finding, output)?;
-    explain(rt, files, tree, left_out, finding.refusal, errors);
-    Ok(ending)
+    let ending = refuse(files, finding, output);
+    if files.explains && ending.is_ok() {
+        explain(rt, files, tree, left_out, finding.refusal, errors);
+    }
+    ending
 }
 
 /// Says why a session of these files is refused as a JSON object, with the explanation in it.
