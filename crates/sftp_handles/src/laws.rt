@@ -74,9 +74,9 @@ pub fn good_states_are_settled()
         HasFile s.tree.files number }
 {}
 
-/// A tree within the limits is within them after a file got another content exactly if there is room for that: so what a
-/// request through a handle sees, the limits and how many bytes all files have say whether there is. With limits of the
-/// first two openings the content alone decides.
+/// A tree within the limits is within them after a file got another content exactly if there is room for that: so what
+/// a request through a handle sees, the limits and how many bytes all files have say whether there is. With limits of
+/// the first two openings the content alone decides.
 pub fn room_is_of_the_content()
     ensures all { (t : Tree) (number : ℕ) (next : Content) → IsKept t →
         IsTrue (fits (record t { files = with_content t.files number next }))

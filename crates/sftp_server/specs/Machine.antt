@@ -172,8 +172,8 @@ Delivers P (Send k) = Unit {0}
 
 -- ==== The core of this server: the general machine over the states of sessions.
 
--- which requests the server does in the order asked: those that share what they touch, unless both only read it, or keep
--- to ranges of one file that do not meet; and those that share the room of files
+-- which requests the server does in the order asked: those that share what they touch, unless both only read it, or
+-- keep to ranges of one file that do not meet; and those that share the room of files
 abbrev pub server_clash : ClashOf State
 server_clash s earlier later = range_clash s earlier later
 

@@ -1,14 +1,13 @@
 //! The files of a tree, by their numbers. No other module knows how they are kept.
 ghost use Rattle.std.specs.Prelude.{◌≡◌, ◌+◌, ◌<◌, ◌^◌, [], nat_lt, length, OnOk, OnErr, IfSome, option_copied};
-ghost use Rattle.std.specs.Prelude.{◌-◌, ◌≤◌};
+ghost use Rattle.std.specs.Prelude.{◌-◌, ◌≤◌, ℕ, Some};
 ghost use Rattle.std.specs.Ordering.{nat_cmp};
 ghost use Rattle.sftp_path.specs.Table.{get, put, InOrder};
 ghost use Rattle.sftp_treefile.specs.TreeFile.{IsOwner};
 ghost use Rattle.sftp_tree.specs.Tree.{content_at, total_of as bytes_of};
 ghost use Rattle.sftp_tree.specs.Attributes.{changed_owner, changed_content};
 ghost use Rattle.sftp_tree.specs.Changes.{written};
-ghost use Rattle.sftp_tree.specs.StoredFiles.{IsChanged, IsChangedWhereNamed, contents};
-ghost use Rattle.sftp_tree.specs.StoredFiles as spec;
+ghost use Rattle.sftp_tree.specs.StoredFiles.{IsChanged, IsChangedWhereNamed, IsSummed, contents, length_named};
 ghost use Rattle.sftp_tree.specs.StoredFiles.{with_a_name, without_a_name, with_attributes_set};
 ghost use Rattle.sftp_tree.specs.StoredFiles.{with_a_pin, without_a_pin, with_bytes_written, pin_count_at, IsWritable};
 ghost use Rattle.sftp_tree.specs.StoredFiles.{unpinned, without_pins};
@@ -86,7 +85,7 @@ impl Files {
             (self.new ≡ put nat_cmp self.old number (record { content = content; names = 1; pins = 0 })) }
         ensures err { OnErr result (self.new ≡ self.old) }
     {
-        let before = length_named(&self.by_number, Some(number));
+        let before = length_at(&self.by_number, number);
         let count = content.bytes.as_slice().len() as u64;
         self.by_number.insert(
             number,
@@ -124,9 +123,9 @@ impl Files {
         requires { IfSome (get nat_cmp self.old number) (λ s. 0 < s.names) }
         ensures { IsChanged without_a_name number self.old self.new }
     {
-        let before = length_named(&self.by_number, Some(number));
+        let before = length_at(&self.by_number, number);
         lower(&mut self.by_number, number);
-        let left = length_named(&self.by_number, Some(number));
+        let left = length_at(&self.by_number, number);
         self.total = lessened(self.total, before, left);
     }
 
@@ -145,9 +144,9 @@ impl Files {
             (IfSome (get nat_cmp self.old number) (λ s. IsOwner (changed_owner attrs.now s.content.owner))) }
         ensures err { OnErr result (self.new ≡ self.old) }
     {
-        let before = length_named(&self.by_number, Some(number));
+        let before = length_at(&self.by_number, number);
         change_at(&mut self.by_number, number, attrs)?;
-        let after = length_named(&self.by_number, Some(number));
+        let after = length_at(&self.by_number, number);
         self.total = exchanged(self.total, before, after);
         Ok(())
     }
@@ -170,9 +169,9 @@ impl Files {
         ensures ok { OnOk result (IsChanged (with_bytes_written offset new.now) number self.old self.new) }
         ensures err { OnErr result (self.new ≡ self.old) }
     {
-        let before = length_named(&self.by_number, Some(number));
+        let before = length_at(&self.by_number, number);
         write_at(&mut self.by_number, number, offset, new)?;
-        let after = length_named(&self.by_number, Some(number));
+        let after = length_at(&self.by_number, number);
         self.total = exchanged(self.total, before, after);
         Ok(())
     }
@@ -202,9 +201,9 @@ impl Files {
         requires { IfSome (get nat_cmp self.old number) (λ s. 0 < s.pins) }
         ensures { IsChanged without_a_pin number self.old self.new }
     {
-        let before = length_named(&self.by_number, Some(number));
+        let before = length_at(&self.by_number, number);
         unpin(&mut self.by_number, number);
-        let after = length_named(&self.by_number, Some(number));
+        let after = length_at(&self.by_number, number);
         self.total = lessened(self.total, before, after);
     }
 
@@ -217,12 +216,12 @@ impl Files {
     }
 }
 
-/// How many bytes the file has that is named, if one is.
+/// How many bytes the file of a number has, if there is one. All files together have no fewer.
 #[tactic(auto, unfolding(sftp_path::specs::Table::get))]
-fn length_named(files: &BTreeMap<FileNo, Stored>, named: Option<FileNo>) -> u64
-    ensures { result ≡ spec.length_named files.now.entries named }
+fn length_at(files: &BTreeMap<FileNo, Stored>, number: FileNo) -> u64
+    ensures is { result ≡ length_named files.now.entries (Some number) }
+    ensures within { (total : ℕ) → IsSummed files.now.entries total → result ≤ total }
 {
-    let Some(number) = named else { return 0 };
     match files.get(&number) {
         Some(stored) => stored.content.bytes.as_slice().len() as u64,
         None => 0,

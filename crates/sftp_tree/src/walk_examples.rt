@@ -54,8 +54,8 @@ pub fn absent_directories()
     ensures back { (follow : Bool) → reached (tree_of []) follow (codes "/a/..") ≡ Err NoEntry }
 {}
 
-/// A walk looks at the components of a path and at those of the targets of links: on `/l/x` at `l`, then at `d` and `e`,
-/// and at `x`. It looks at nothing of a bad path.
+/// A walk looks at the components of a path and at those of the targets of links: on `/l/x` at `l`, then at `d` and
+/// `e`, and at `x`. It looks at nothing of a bad path.
 #[tactic(auto, unfolding(crate::specs::WalkRules::looked_of, crate::specs::Walk::looked, crate::specs::Walk::looked_parts, crate::specs::Walk::meets, sftp_path::specs::Place::is_good_path, sftp_path::specs::Place::components, sftp_path::specs::Place::parts, sftp_path::specs::Table::get))]
 pub fn looks()
     ensures link { (follow : Bool) → looked_of with_link follow (codes "/l/x") ≡ 4 }

@@ -1,17 +1,8 @@
-use Rattle.sftp_tree.proofs.Imports.{◌<◌, ◌^◌, subst, sym, ap, arith, Some, put, length, Stored, Stores, contents}
+use Rattle.sftp_tree.proofs.Imports.{◌<◌, ◌^◌, subst, sym, ap, arith, put, length, Stored, Stores, contents}
 use Rattle.sftp_tree.specs.Tree.{total_of}
 use Rattle.sftp_tree.specs.StoredFiles.{IsSummed}
-use Rattle.sftp_tree.proofs.Totals.{part-summed, summed-put}
+use Rattle.sftp_tree.proofs.Totals.{summed-put}
 use Rattle.sftp_tree.proofs.files.Files.put.Goals as goal
-
-pub exchanged-self-inside-requires-clause-before : goal.exchanged-self-inside-requires-clause-before
-exchanged-self-inside-requires-clause-before c =
-    let files = c.self.inside.by_number.entries in
-    omega (
-      arith,
-      c.length_named-before.ensures,
-      part-summed files files c.self.invariant.0 c.self.inside.total (Some c.args.number) c.self.invariant.1,
-    )
 
 pub exchanged-self-inside-requires-clause-total : goal.exchanged-self-inside-requires-clause-total
 exchanged-self-inside-requires-clause-total c =
@@ -27,4 +18,4 @@ invariant_of-self-2 c =
     let new : Stored = record { content = c.args.content; names = 1; pins = 0 } in
     subst (λ (s : Stores). IsSummed s c.exchanged-self-inside.result) (sym c.in_ok-insert.ensures.entries)
     (summed-put files c.args.number new c.self.inside.total c.exchanged-self-inside.result c.self.invariant.0 c.self.invariant.1
-    (omega (arith, c.exchanged-self-inside.ensures, c.length_named-before.ensures, ap length c.as_slice.ensures)))
+    (omega (arith, c.exchanged-self-inside.ensures, c.length_at-before.ensures.is, ap length c.as_slice.ensures)))

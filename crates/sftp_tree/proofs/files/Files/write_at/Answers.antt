@@ -1,17 +1,8 @@
 use Rattle.sftp_tree.proofs.Imports.{◌<◌, ◌^◌, subst, sym, arith, Some, IfSome, length, nat_cmp, get, Stored, Stores, contents}
 use Rattle.sftp_tree.proofs.Imports.{with_content_made, written_content}
 use Rattle.sftp_tree.specs.Tree.{total_of}
-use Rattle.sftp_tree.proofs.Totals.{part-summed, summed-where, changed-small}
+use Rattle.sftp_tree.proofs.Totals.{summed-where, changed-small}
 use Rattle.sftp_tree.proofs.files.Files.write_at.Goals as goal
-
-pub exchanged-self-inside-requires-clause-before : goal.exchanged-self-inside-requires-clause-before
-exchanged-self-inside-requires-clause-before c =
-    let files = c.self.inside.by_number.entries in
-    omega (
-      arith,
-      c.length_named-before.ensures,
-      part-summed files files c.self.invariant.0 c.self.inside.total (Some c.args.number) c.self.invariant.1,
-    )
 
 pub exchanged-self-inside-requires-clause-total : goal.exchanged-self-inside-requires-clause-total
 exchanged-self-inside-requires-clause-total c =
@@ -23,7 +14,7 @@ exchanged-self-inside-requires-clause-after c =
     (sym c.self.view_is) c.requires.count in
     omega (
       arith,
-      c.length_named-after.ensures,
+      c.length_at-after.ensures.is,
       changed-small c.self.inside.by_number.entries c.write_at.new.files.entries c.self.invariant.0 (written_content c.args.offset c.args.new.now) c.args.number small
           c.in_ok-write_at.ensures.ok,
     )
@@ -32,4 +23,4 @@ pub invariant_of-self-2 : goal.invariant_of-self-2
 invariant_of-self-2 c =
     summed-where c.self.inside.by_number.entries c.write_at.new.files.entries c.self.invariant.0 (with_content_made (written_content c.args.offset c.args.new.now))
     (Some c.args.number) c.self.inside.total c.exchanged-self-inside.result c.self.invariant.1 c.in_ok-write_at.ensures.ok
-    (omega (arith, c.exchanged-self-inside.ensures, c.length_named-before.ensures, c.length_named-after.ensures))
+    (omega (arith, c.exchanged-self-inside.ensures, c.length_at-before.ensures.is, c.length_at-after.ensures.is))
