@@ -46,7 +46,7 @@ ENDED = [
     ("slash_in_name", r'the listing of "/" has the name "../../etc/\x1b[1mpasswd"'),
     ("empty_name", 'the listing of "/" has the name ""'),
     ("long_name", 'the listing of "/" has the name "nnn'),
-    ("endless_listing", "there are more than 1,048,576 entries, as many as a walk takes"),
+    ("endless_listing", "there are more than 1,048,576 entries, as many as --max-entries says"),
     ("repeating_listing", 'the listing of "/" goes on without names that are new'),
     ("long_handle", "a handle of the server has 200,000 bytes"),
     ("long_lines", "the requests and replies of the session have more than 538,870,912 bytes"),
@@ -327,9 +327,24 @@ def try_names(steps, folder):
                 "taken.2" in said.splitlines()[-1], f"{status}: {said}")
 
 
+def try_entries(steps, folder):
+    """A walk takes as many entries as --max-entries says, and ends at one more."""
+    start = os.path.join(folder, "entries.tree")
+    trees.write(starting.usual(), start)
+    server = [program(), "serve", "--tree", start]
+    count = len(starting.usual().entries)
+    for most, wanted in ((count, 0), (count - 1, 3)):
+        to = os.path.join(folder, f"entries-{most}.tree")
+        status, said = walk(folder, ["--below", "/", "--max-entries", str(most), "--to", to], server)
+        ends = f"there are more than {most:,} entries, as many as --max-entries says; no tree is written" in said
+        steps.check(f"--max-entries {most} of {count}: status {wanted}", status == wanted and is_clean(said) and
+                    os.path.exists(to) == (wanted == 0) and ends == (wanted == 3), f"{status}: {said}")
+
+
 def try_usage(steps, folder):
     for options, command, wanted in (
             (["--max-bytes", "x"], ["true"], 2), (["--timeout", "0"], ["true"], 2),
+            (["--max-entries", "0"], ["true"], 2), (["--max-entries", "4294967294"], ["true"], 2),
             (["--in-flight", "5000"], ["true"], 2), (["--to", "/nowhere/x"], [*HOSTILE, "Right"], 3),
             (["--session", "/nowhere/x"], ["true"], 3),
             (["--session", "/dev/null"], ["true"], 3), (["--to", "x"], ["/nowhere/server"], 3),

@@ -5,14 +5,16 @@ from paging import packets
 # path in a request.
 LARGEST, NAME, DEPTH, PATH = 1 << 40, 255, 64, 4096
 
-# The most entries that a walk takes, since it holds them.
+# The most entries that a walk takes, since it holds them, unless --max-entries says otherwise.
 ENTRIES = 1 << 20
 
-# The most bytes that all names together may have, since they are held until they are looked at.
-NAMES = 1 << 28
+# For each of these entries: how many bytes all names together may have, since they are held until they are looked at,
+# and all requests and replies together, without those of files.
+NAME_BYTES, PASSED_BYTES = 256, 512
+PASSED = ENTRIES * PASSED_BYTES
 
-# The most bytes of all requests and replies together, without those of files; and of a handle, by the draft.
-PASSED, HANDLE = 1 << 29, 256
+# The most bytes of a handle, by the draft.
+HANDLE = 256
 
 # How many replies to READDIR without a new name, and how many READs of fewer than LITTLE bytes that are not the end of
 # a file, there may be in a directory or a file.

@@ -54,10 +54,11 @@ def within(path, name):
 
 class Walk:
     """Looks at what is below some places. Without `contents` no file is read; `most` is how many bytes are read of all
-    files together. `notes` gets what was not looked at, or cannot be in a tree file."""
+    files together, and `most_entries` how many entries there may be. `notes` gets what was not looked at, or cannot be
+    in a tree file."""
 
-    def __init__(self, places, notes, contents=True, most=bounds.READ):
-        self.notes, self.contents, self.left = notes, contents, most
+    def __init__(self, places, notes, contents=True, most=bounds.READ, most_entries=bounds.ENTRIES):
+        self.notes, self.contents, self.left, self.most_entries = notes, contents, most, most_entries
         self.entries = self.names = 0
         self.looked = set()
         # what is to be done, the last first: iterators over the steps of tasks
@@ -144,10 +145,11 @@ class Walk:
                 raise Misbehaves(f"the listing of {shown(path)} has the name {shown(name)}")
         self.entries += len(names)
         self.names += sum(map(len, names)) + len(path)
-        if self.entries > bounds.ENTRIES:
-            raise Misbehaves(f"there are more than {bounds.ENTRIES:,} entries, as many as a walk takes")
-        if self.names > bounds.NAMES:
-            raise Misbehaves(f"the names of all entries have more than {bounds.NAMES:,} bytes")
+        if self.entries > self.most_entries:
+            raise Misbehaves(f"there are more than {self.most_entries:,} entries, as many as --max-entries says")
+        most = self.most_entries * bounds.NAME_BYTES
+        if self.names > most:
+            raise Misbehaves(f"the names of all entries have more than {most:,} bytes")
 
     def file(self, path, size):
         """Reads a file, if it is to be read."""

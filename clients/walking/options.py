@@ -7,6 +7,7 @@ from probing import program, sessions, verdicts
 from probing.options import flying, seconds
 from recording.parsers import Parser
 from recording.ways import is_one_file
+from sftp3.trees import MOST
 from walking import bounds, looking
 
 # The exit statuses: the tree was written; no tree explains what the server told; wrong usage; it was not written.
@@ -23,6 +24,13 @@ def count(text):
     if not (text.isascii() and text.isdigit()):
         raise argparse.ArgumentTypeError(f"{text!r} is no number")
     return int(text)
+
+
+def entries(text):
+    found = count(text)
+    if not 1 <= found <= MOST[0]:
+        raise argparse.ArgumentTypeError(f"{text} is not from 1 to {MOST[0]}, as many as a tree may have")
+    return found
 
 
 def place(text):
@@ -43,6 +51,8 @@ def parser(about):
     add("--no-contents", action="store_true", help="read no files: they have bytes of 0 in the tree")
     add("--max-bytes", metavar="N", type=count, default=bounds.READ,
         help=f"the most bytes of files to read, all together; a line names each file that is left ({bounds.READ})")
+    add("--max-entries", metavar="N", type=entries, default=bounds.ENTRIES,
+        help=f"the most entries to look at; with more, the walk ends ({bounds.ENTRIES})")
     add("--session", metavar="FILE", help="keep the transcript of the session, which is made anew")
     add("--memory", metavar="BYTES", type=count, default=looking.MEMORY,
         help=f"the most memory of `sftpv3 infer`, which takes three times that of the record ({looking.MEMORY})")

@@ -37,13 +37,22 @@ pub fn import<'a, R: System + Clock, I: Read, E: Write + IsTerminal>(
     ensures { IfOk result (λ ending. ending ≡ endings.Done) }
 {
     let mut meter = Meter::new(rt, options.memory)?;
-    let Imported { file, specials } = taken_in_view(
-        rt,
-        options.taking,
-        &mut meter,
-        input,
-        console,
-    )?;
+    let imported = taken_in_view(rt, options.taking, &mut meter, input, console);
+    drop(meter);
+    write_imported(rt, options, imported?, console)
+}
+
+/// Writes the tree file that an archive gave. Standard error names what became of its devices and FIFOs.
+fn write_imported<'a, R: System, E: Write + IsTerminal>(
+    rt: &R,
+    options: &ImportOptions<'a>,
+    imported: Imported,
+    console: &mut Console<'_, E>,
+) -> Result<Ending, Failure<'a>>
+    requires { IsTreeFile imported.file }
+    ensures { IfOk result (λ ending. ending ≡ endings.Done) }
+{
+    let Imported { file, specials } = imported;
     name_specials(options.taking.special, specials.as_slice(), console.errors);
     drop(specials);
     write_rows_last(rt, options.file, options.keeping, Made::new(file))
@@ -262,14 +271,10 @@ fn write_archive<'a, R: System + Clock, O: Write, E: Write + IsTerminal>(
     let mut progress = Progress::new(rt, console.errors, is_asked, Task::WriteArchive, None);
     let mut archive = Output::new(Tracked::new(output, &mut progress));
     let written = archived(rt.alloc(), file, &mut Tally::new(&mut archive));
-    let failure = archive.failure();
+    let ended = archive.ended(written);
     drop(archive);
     progress.end();
-    match written {
-        Ok(()) => Ok(Ending::Done),
-        Err(ExportError::NoMemory) => Err(Failure::OutOfMemory),
-        Err(ExportError::Failed) => Err(failure),
-    }
+    ended
 }
 
 /// Standard output, and whether memory ran out when it last failed.
@@ -284,6 +289,17 @@ impl<W: Write> Output<W> {
         Output {
             inner: Watched::new(inner),
             lacks_memory: false,
+        }
+    }
+
+    /// The outcome of a run that wrote an archive to it.
+    fn ended<'a>(&self, written: Result<(), ExportError>) -> Result<Ending, Failure<'a>>
+        ensures { IfOk result (λ ending. ending ≡ endings.Done) }
+    {
+        match written {
+            Ok(()) => Ok(Ending::Done),
+            Err(ExportError::NoMemory) => Err(Failure::OutOfMemory),
+            Err(ExportError::Failed) => Err(self.failure()),
         }
     }
 

@@ -29,8 +29,13 @@ pub fn diff<'a, R: System + Clock, O: Write, E: Write + IsTerminal>(
     let (old, new) = names;
     let most = memory.map(|bytes| bytes / SHARE).unwrap_or(u64::MAX);
     let before = rows_in_view(rt, old, most, Task::ReadOld, console)?;
-    let after = rows_in_view(rt, new, most, Task::ReadNew, console)?;
-    diff_read((old, before), (new, after), form, output)
+    match rows_in_view(rt, new, most, Task::ReadNew, console) {
+        Ok(after) => diff_read((old, before), (new, after), form, output),
+        Err(failure) => {
+            drop(before);
+            Err(failure)
+        }
+    }
 }
 
 /// What a tree file says, or its fault, and its name before that.
@@ -43,11 +48,29 @@ fn diff_read<'a, O: Write>(
     form: DiffForm,
     output: &mut O,
 ) -> Result<Ending, Failure<'a>> {
-    let old = sound(old)?;
+    match sound(old) {
+        Ok(old) => {
+            let ended = diff_from(&old, new, form, output);
+            drop(old);
+            ended
+        }
+        Err(failure) => {
+            drop(new);
+            Err(failure)
+        }
+    }
+}
+
+/// Shows how a tree file that was read differs from another one.
+fn diff_from<'a, O: Write>(
+    old: &TreeFile,
+    new: FileRead<'a>,
+    form: DiffForm,
+    output: &mut O,
+) -> Result<Ending, Failure<'a>> {
     let new = sound(new)?;
-    let shown = show(&old, &new, form, output);
-    let ending = compared(&old, &new, form.with_times);
-    drop(old);
+    let shown = show(old, &new, form, output);
+    let ending = compared(old, &new, form.with_times);
     drop(new);
     match shown {
         Ok(()) => Ok(ending),

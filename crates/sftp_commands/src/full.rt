@@ -80,10 +80,18 @@ fn show_file<'a, R: Files + AllocGlobal, O: Write>(
     match show_stream(rt.alloc(), name, file, most, lines) {
         Ok(()) => Ok(()),
         Err(Stop::Failed(failure)) => Err(failure),
-        Err(Stop::Unfit) => {
-            let file = open(rt, name)?;
-            Err(fault_of(rows_of(rt.alloc(), name, u64::MAX, file)?))
-        }
+        Err(Stop::Unfit) => Err(fault_in(rt, name)),
+    }
+}
+
+/// Why a file is no tree file, as another look at it shows.
+fn fault_in<'a, R: Files + AllocGlobal>(rt: &R, name: &'a str) -> Failure<'a> {
+    match open(rt, name) {
+        Ok(file) => match rows_of(rt.alloc(), name, u64::MAX, file) {
+            Ok(read) => fault_of(read),
+            Err(failure) => failure,
+        },
+        Err(failure) => failure,
     }
 }
 
@@ -240,7 +248,7 @@ impl<'a, F: Read> Window<'a, F> {
     }
 
     /// Reads until there are so many bytes in front, or the file ends.
-    fn hold(&mut self, count: usize) -> Result<(), Failure<'a>> {
+    fn hold(&mut self, count: usize) -> Result<(), Stop<'a>> {
         let held = self.front().len();
         if self.is_at_end || count <= held {
             return Ok(());
@@ -258,22 +266,22 @@ impl<'a, F: Read> Window<'a, F> {
     }
 
     /// Refuses a record or an entry of so many bytes if these are too many.
-    fn admit(&self, count: usize) -> Result<(), Failure<'a>> {
+    fn admit(&self, count: usize) -> Result<(), Stop<'a>> {
         match self.most {
-            Some(most) if count as u64 > most => Err(Failure::OverLimit(self.name)),
+            Some(most) if count as u64 > most => Err(Stop::Failed(Failure::OverLimit(self.name))),
             _ => Ok(()),
         }
     }
 
     /// Reads so many bytes, or all that follow if these are fewer.
-    fn read_on(&mut self, count: usize) -> Result<(), Failure<'a>> {
+    fn read_on(&mut self, count: usize) -> Result<(), Stop<'a>> {
         let mut part = self.file.by_ref().take(count as u64);
         match part.read_to_end(&mut self.bytes) {
             Ok(read) => {
                 self.is_at_end = read < count;
                 Ok(())
             }
-            Err(error) => Err(Failure::reading(self.name, &error)),
+            Err(error) => Err(Stop::Failed(Failure::reading(self.name, &error))),
         }
     }
 
@@ -327,13 +335,24 @@ impl<'a, F: Read> Window<'a, F> {
         };
         let wanted = self.limited(record_length(self.front()));
         self.hold(wanted)?;
+        self.show_packet(side, line, lines)?;
+        Ok(true)
+    }
+
+    /// Appends the line of the record in front, which is of this side and held as far as it is shown. `line` is room
+    /// for it.
+    fn show_packet<O: Write>(
+        &mut self,
+        side: Side,
+        line: &mut Vec<u8>,
+        lines: &mut Lines<'_, O>,
+    ) -> Result<(), Stop<'a>> {
         let length = record_length(self.front()).min(self.front().len());
         self.admit(length)?;
         put_record(side, self.front().get(1..length).unwrap_or(&[]), line)?;
         lines.text.extend_from_slice(line.as_slice())?;
         self.pass(length);
-        lines.end_line()?;
-        Ok(true)
+        lines.end_line()
     }
 
     /// Appends the lines of a tree file: of its head, its root, and its entries.
@@ -388,9 +407,9 @@ impl<'a, F: Read> Window<'a, F> {
         before: usize,
         lines: &mut Lines<'_, O>,
     ) -> Result<(), Stop<'a>> {
-        if let Err(failure) = self.admit(taken) {
+        if let Err(stop) = self.admit(taken) {
             lines.text.truncate(before);
-            return Err(Stop::Failed(failure));
+            return Err(stop);
         }
         self.pass(taken);
         lines.end_line()

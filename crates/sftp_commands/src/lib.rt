@@ -1,5 +1,6 @@
 //! The subcommands that need neither a server nor an auditor: `show`, `make`, `diff`, `import`, `export` and `raise`.
-//! And what is said of a malformed file, and what of a recorded session is left out behind a wrong reply.
+//! And what the others share: the tree that a session starts from, what is said of a malformed file, and what of a
+//! recorded session is left out behind a wrong reply.
 #![tactic(auto)]
 
 mod archives;
@@ -15,8 +16,10 @@ mod sameness;
 mod selecting;
 mod showing;
 mod spotting;
+mod starts;
 mod texts;
 mod trees;
+mod twice;
 mod viewing;
 mod words;
 
@@ -29,10 +32,12 @@ pub use objects::{ended, is_of_output, print_failed, record_of_fault};
 pub use raising::raise;
 use sftp_files::{Ending, Failure, ShowOptions};
 pub use spotting::spot_of;
+pub use starts::{Kept, read_tree, read_tree_in_view, read_tree_looking};
 use std::fs::Files;
 use std::io::Write;
 pub use texts::make;
 pub use trees::{is_read_again, write_timed_tree, write_tree};
+pub use twice::is_lost;
 
 /// Shows every field of a file, a line for each record or entry that sums it up, or what was selected.
 pub fn show<'a, R: Files + AllocGlobal, O: Write>(

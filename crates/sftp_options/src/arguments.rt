@@ -1,10 +1,13 @@
 //! The arguments of the subcommands: a table for each, from which the parser and the help follow.
 
-use crate::{importing, profiles};
+use crate::{help, importing, profiles};
 use sftp_vary::NAMES;
 
 /// An argument of a subcommand: its name, its form, and what the help says of it.
 pub(crate) type Argument<'a> = (&'a str, Form<'a>, &'a str);
+
+/// A subcommand: its name, what it does, what the help says behind its arguments, and these.
+pub(crate) type Subcommand<'a> = (&'a str, &'a str, Option<&'a str>, &'a [Argument<'a>]);
 
 /// How an argument is given. The first text of a form is what help calls the value.
 #[derive(Clone, Copy)]
@@ -24,6 +27,20 @@ pub(crate) enum Form<'a> {
     /// `--NAME VALUE,...`, which are some of these.
     SomeOf(&'a str, &'a [&'a str]),
 }
+
+/// The subcommands, in the order of the help.
+pub(crate) const SUBCOMMANDS: &[Subcommand] = &[
+    ("serve", help::ABOUT_SERVE, Some(help::AFTER_SERVE), SERVE),
+    ("audit", help::ABOUT_AUDIT, Some(help::AFTER_AUDIT), AUDIT),
+    ("show", help::ABOUT_SHOW, Some(help::AFTER_SHOW), SHOW),
+    ("make", help::ABOUT_MAKE, Some(help::AFTER_MAKE), MAKE),
+    ("diff", help::ABOUT_DIFF, Some(help::AFTER_DIFF), DIFF),
+    ("infer", help::ABOUT_INFER, Some(help::AFTER_INFER), INFER),
+    ("import", help::ABOUT_IMPORT, Some(help::AFTER_IMPORT), IMPORT),
+    ("export", help::ABOUT_EXPORT, Some(help::AFTER_EXPORT), EXPORT),
+    ("raise", help::ABOUT_RAISE, Some(help::AFTER_RAISE), RAISE),
+    ("blank", help::ABOUT_BLANK, None, BLANK),
+];
 
 const FILE: Form = Form::Place("FILE");
 
@@ -58,7 +75,7 @@ const MEMORY: Argument = (
     "End as if memory ran out once more than these bytes are taken",
 );
 
-pub(crate) const SERVE: &[Argument] = &[
+const SERVE: &[Argument] = &[
     TREE,
     (
         "save",
@@ -120,7 +137,7 @@ pub(crate) const SERVE: &[Argument] = &[
     NO_SYNC,
 ];
 
-pub(crate) const AUDIT: &[Argument] = &[
+const AUDIT: &[Argument] = &[
     TREE,
     (
         "transcript",
@@ -169,7 +186,7 @@ pub(crate) const AUDIT: &[Argument] = &[
     NO_SYNC,
 ];
 
-pub(crate) const INFER: &[Argument] = &[
+const INFER: &[Argument] = &[
     (
         "transcript",
         Form::Required("FILE"),
@@ -230,7 +247,7 @@ pub(crate) const INFER: &[Argument] = &[
     ),
 ];
 
-pub(crate) const SHOW: &[Argument] = &[
+const SHOW: &[Argument] = &[
     (
         "full",
         Form::Flag,
@@ -290,7 +307,7 @@ pub(crate) const SHOW: &[Argument] = &[
     ("file", FILE, "The transcript or the tree file"),
 ];
 
-pub(crate) const DIFF: &[Argument] = &[
+const DIFF: &[Argument] = &[
     (
         "json",
         Form::Flag,
@@ -307,9 +324,9 @@ pub(crate) const DIFF: &[Argument] = &[
     ("new", Form::Place("B"), "The tree file of after"),
 ];
 
-pub(crate) const MAKE: &[Argument] = &[MODE, NO_SYNC, ("file", FILE, "The file to write")];
+const MAKE: &[Argument] = &[MODE, NO_SYNC, ("file", FILE, "The file to write")];
 
-pub(crate) const IMPORT: &[Argument] = &[
+const IMPORT: &[Argument] = &[
     importing::LIMITS,
     importing::SPECIAL,
     importing::NO_TIMES,
@@ -320,11 +337,11 @@ pub(crate) const IMPORT: &[Argument] = &[
     ("file", FILE, "The tree file to write"),
 ];
 
-pub(crate) const EXPORT: &[Argument] = &[PROGRESS, ("file", FILE, "The tree file")];
+const EXPORT: &[Argument] = &[PROGRESS, ("file", FILE, "The tree file")];
 
-pub(crate) const BLANK: &[Argument] = &[MODE, NO_SYNC, ("file", FILE, "The file to write")];
+const BLANK: &[Argument] = &[MODE, NO_SYNC, ("file", FILE, "The file to write")];
 
-pub(crate) const RAISE: &[Argument] = &[
+const RAISE: &[Argument] = &[
     (
         "to",
         Form::OneOf("WHICH", &["highest", "fit", "most"]),

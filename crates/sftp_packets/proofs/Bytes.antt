@@ -1,12 +1,12 @@
 -- Bytes, numbers of several bytes, and bytes that are appended.
-use Rattle.std.proofs.Common.{◌≡◌, ℕ, zero, suc, ◌+◌, ◌^◌, ◌<◌, List, [], ◌∷◌, ◌++◌, length, get_or, take, drop, refl}
+use Rattle.std.proofs.Common.{◌≡◌, ℕ, zero, suc, ◌+◌, ◌*◌, ◌^◌, ◌<◌, List, [], ◌∷◌, ◌++◌, length, get_or, take, drop, refl}
 use Rattle.std.proofs.Common.{sym, ap, ◌∙◌, arith, inl, inr, append_assoc}
 use Rattle.std.specs.Int.{Width, w32, w64, byte_len, from_be_bytes, to_be_bytes}
 use Rattle.std.proofs.lemmas.Bool.{cases_lt}
 use Rattle.std.proofs.lemmas.List.{length-take, get_or-drop, get_or-take, get_or_past}
 use Rattle.std.proofs.lemmas.Nat.{be_bytes_4, be_bytes_8, from_be_bytes-to_be_bytes_4, from_be_bytes-to_be_bytes_8}
 use Rattle.byteorder.specs.Endian.{big_number}
-use Rattle.sftp_packets.specs.Spelling.{uint32, AreBytes}
+use Rattle.sftp_packets.specs.Spelling.{uint32, uint64, AreBytes}
 use Rattle.sftp_packets.specs.Layouts.{Extends}
 
 -- ==== Numbers of four and of eight bytes, written and read.
@@ -75,11 +75,22 @@ wide64 = record {
   below = λ bytes fits. omega (arith, fits 0, fits 1, fits 2, fits 3, fits 4, fits 5, fits 6, fits 7);
 }
 
+-- a number is written in bytes
+IsBytes-uint32 : (n : ℕ) → IsBytes (uint32 n)
+IsBytes-uint32 n = IsBytes-from_all (uint32 n) (omega arith, (omega arith, (omega arith, (omega arith, tt))))
+
 -- the number in four bytes is written as those bytes
 pub uint32-front : (bytes front rest : List ℕ) (n : ℕ) → IsBytes front → length front ≡ 4 → front ++ rest ≡ bytes → n ≡ from_be_bytes w32 front → bytes ≡ uint32 n ++ rest
 uint32-front bytes front rest n fits len parts is =
     let back : uint32 n ≡ front = rw is (wide32.back front len fits) in
     sym parts ∙ ap (λ (x : List ℕ). x ++ rest) (sym back)
+
+-- two numbers are written as the one whose halves they are
+pub two_as_one : (high low : ℕ) → Is32 high → Is32 low → uint64 (high * 2 ^ 32 + low) ≡ uint32 high ++ uint32 low
+two_as_one high low fits_high fits_low =
+    be_bytes_8 (uint32 high ++ uint32 low) (high * 2 ^ 32 + low) refl
+    (IsBytes-append (uint32 high) (uint32 low) (IsBytes-uint32 high) (IsBytes-uint32 low))
+    (omega (arith, wide32.again high fits_high, wide32.again low fits_low))
 
 -- `byteorder` and std read a number alike
 pub big_number-four : (bytes : List ℕ) → big_number 4 bytes ≡ from_be_bytes w32 bytes

@@ -26,14 +26,22 @@ fn accepts(
     accepted
 }
 
+/// Whether such a session accepts what this one answers to an OPEN of a new file.
+fn accepts_open(alloc: Global, ours: &mut Session<SlabTable>) -> Result<bool, NoMemory>
+    requires { ours.old ≡ started blank }
+{
+    let request = open_new(alloc)?;
+    let accepted = accepts(alloc, ours, &request);
+    drop(request);
+    accepted
+}
+
 /// A handle that one session gives is accepted by the other.
 #[test]
 fn answers_are_accepted(rt: HostRuntime) -> Result<(), Fail> {
-    let request = open_new(rt.alloc())?;
     let mut ours: Session<SlabTable> = Session::new(Tree::blank(rt.alloc())?)?;
-    let accepted = accepts(rt.alloc(), &mut ours, &request);
+    let accepted = accepts_open(rt.alloc(), &mut ours);
     drop(ours);
-    drop(request);
     assert!(rt; accepted?);
     Ok(())
 }

@@ -31,7 +31,7 @@ pub(crate) const VERSION: &[u8] = b"\0\0\0\x78\x02\0\0\0\x03\
 const DONE: &[u8] = b"\0\0\0\x11\x65\0\0\0\x01\0\0\0\0\0\0\0\0\0\0\0\0";
 
 /// How a session ended, without its tree.
-#[derive(Clone, Copy, Debug, PartialEq, Eq)]
+#[derive(Clone, Copy, PartialEq, Eq)]
 enum End {
     Finished,
     Fault,
@@ -40,7 +40,7 @@ enum End {
 }
 
 /// What came of a session: what it wrote and logged, how it ended, and the tree file that it left, if it left one.
-#[derive(Debug, Drop)]
+#[derive(Drop)]
 struct Outcome {
     written: Vec<u8>,
     logged: Vec<u8>,

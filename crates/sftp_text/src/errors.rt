@@ -7,7 +7,7 @@ use std::fmt;
 use thiserror::Error;
 
 /// What a line should have had at a column.
-#[derive(Clone, Copy, Debug)]
+#[derive(Clone, Copy)]
 pub enum Expected {
     Side,
     Name,
@@ -58,6 +58,13 @@ impl Expected {
 
 // `thiserror` would write each text by itself, which is slow to prove.
 impl fmt::Display for Expected {
+    fn fmt<W: fmt::Write>(&self, f: &mut fmt::Formatter<W>) -> fmt::Result {
+        f.write_str(self.text())
+    }
+}
+
+// As slow would be what `Debug` derives.
+impl fmt::Debug for Expected {
     fn fmt<W: fmt::Write>(&self, f: &mut fmt::Formatter<W>) -> fmt::Result {
         f.write_str(self.text())
     }

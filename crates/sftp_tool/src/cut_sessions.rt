@@ -11,9 +11,9 @@ ghost use Rattle.sftp_tool.specs.Verdicts.{IsAudit, IsStrictCutAudit, IsCutAudit
 ghost use Rattle.sftp_tool.specs.Verdicts.{IsStrictCutVerdict, IsCutVerdictUnder};
 
 use crate::subcommands::{keep_end, report_error};
-use crate::trees::Kept;
 use crate::verdict_objects::print_accepted;
 use sftp_audit::{AuditError, EndedCut, audit_cut_tree_by};
+use sftp_commands::Kept;
 use sftp_files::{Ending, Failure, System, print};
 use sftp_handles::{GivenTable, Session};
 use sftp_judges::Judges;

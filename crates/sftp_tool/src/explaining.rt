@@ -4,9 +4,8 @@ use crate::newcomers::{Newcomer, find_newcomer};
 use crate::readings::{
     content_of, content_of_removed, status_of_set, taken_for, undue, wrong_piece,
 };
-use crate::trees::Kept;
 use sftp_audit::{AuditError, Auditor, Refusal};
-use sftp_commands::LeftOut;
+use sftp_commands::{Kept, LeftOut};
 use sftp_files::{Failure, open, write_flushed};
 use sftp_options::AuditOptions;
 use sftp_path::good_path;
@@ -226,7 +225,7 @@ impl<R: Files + AllocGlobal, E: Write> Explanation<'_, '_, R, E> {
         if !self.put_line("request", request) {
             return false;
         }
-        match self.requests_before(request.number) {
+        match self.number_of(Sought::Before(request.number)) {
             Some(requests) => self.put_accepted(requests),
             None => false,
         }
@@ -483,25 +482,10 @@ impl<R: Files + AllocGlobal, E: Write> Explanation<'_, '_, R, E> {
     /// The names of the departures each of which, accepted besides, makes the session go on beyond its refusal. For
     /// each of them the session is read and judged again, so that they are not tried of one that is long.
     fn put_departures(&mut self) -> bool {
-        match self.is_short() {
-            Some(true) => self.put_each_departure(),
-            Some(false) => self.put_untried(),
+        match self.number_of(Sought::Bytes(record_of(self.refusal))) {
+            Some(bytes) if bytes <= TRIED => self.put_each_departure(),
+            Some(_) => self.put_untried(),
             None => false,
-        }
-    }
-
-    /// Whether the packets up to the refusal have few enough bytes for departures to be tried. `None` if the
-    /// explanation stops.
-    fn is_short(&mut self) -> Option<bool> {
-        let mut records = self.records()?;
-        let short = are_few_bytes(&mut records, record_of(self.refusal));
-        drop(records);
-        match short {
-            Ok(short) => Some(short),
-            Err(error) => {
-                self.stop(Unexplained::from(error));
-                None
-            }
         }
     }
 
@@ -574,11 +558,14 @@ impl<R: Files + AllocGlobal, E: Write> Explanation<'_, '_, R, E> {
     /// Feeds the session to an auditor that has seen nothing of it, and returns the refusal, if it is refused before it
     /// ends or is malformed.
     fn fed(&mut self, auditor: &mut Auditor<Judge>) -> Option<Refusal> {
-        let mut records = self.records()?;
-        let fed = feed_rest(auditor, self.left_out, &mut records);
-        drop(records);
-        let refusal = self.refusal_of(fed)?;
-        self.placed(refusal)
+        match self.records() {
+            Some(mut records) => {
+                let fed = feed_rest(auditor, self.left_out, &mut records);
+                drop(records);
+                self.refusal_of(fed)
+            }
+            None => None,
+        }
     }
 
     /// A refusal with the number that its record has in the transcript.
@@ -586,18 +573,17 @@ impl<R: Files + AllocGlobal, E: Write> Explanation<'_, '_, R, E> {
         if self.left_out.is_empty() {
             return Some(refusal);
         }
-        let mut records = self.records()?;
-        let number = self.left_out.find(&mut records, record_of(refusal));
-        drop(records);
-        let number = self.number_found(number)?;
-        Some(numbered(refusal, number))
+        match self.number_of(Sought::Counted(record_of(refusal))) {
+            Some(number) => Some(numbered(refusal, number)),
+            None => None,
+        }
     }
 
-    /// The refusal in which feeding a session ended, if it is one. If the transcript cannot be read any more or memory
-    /// ran out, the explanation stops.
+    /// The refusal in which feeding a session ended, if it is one, with the number that its record has in the
+    /// transcript. If the transcript cannot be read any more or memory ran out, the explanation stops.
     fn refusal_of(&mut self, fed: Result<u64, AuditError>) -> Option<Refusal> {
         match fed {
-            Err(AuditError::Refused(refusal)) => return Some(refusal),
+            Err(AuditError::Refused(refusal)) => return self.placed(refusal),
             Err(AuditError::NoMemory) => self.stop(Unexplained::OutOfMemory),
             Err(AuditError::Transcript(TranscriptError::Io { .. })) => {
                 self.stop(Unexplained::OtherTranscript)
@@ -633,10 +619,14 @@ impl<R: Files + AllocGlobal, E: Write> Explanation<'_, '_, R, E> {
 
     /// The record with this number. If there are fewer, the explanation stops.
     fn found(&mut self, number: u64) -> Option<Record> {
-        let mut records = self.records()?;
-        let found = find_record(&mut records, number);
-        drop(records);
-        self.found_by(found)
+        match self.records() {
+            Some(mut records) => {
+                let found = find_record(&mut records, number);
+                drop(records);
+                self.found_by(found)
+            }
+            None => None,
+        }
     }
 
     /// The record that a search found. If it found none, the explanation stops.
@@ -658,7 +648,7 @@ impl<R: Files + AllocGlobal, E: Write> Explanation<'_, '_, R, E> {
     /// id, the explanation stops.
     fn earlier(&mut self, side: Side, record: &Record) -> Option<u64> {
         match record.id() {
-            Some(id) => self.last_of_id(side, id, record.number),
+            Some(id) => self.number_of(Sought::Last(side, id, record.number)),
             None => {
                 self.stop(Unexplained::OtherTranscript);
                 None
@@ -666,36 +656,23 @@ impl<R: Files + AllocGlobal, E: Write> Explanation<'_, '_, R, E> {
         }
     }
 
-    /// The number of the last record of a side with this id, before the record with this number, if there is one.
-    fn last_of_id(&mut self, side: Side, id: u32, number: u64) -> Option<u64> {
-        let mut records = self.records()?;
-        let last = last_of_id(&mut records, side, id, number);
-        drop(records);
-        self.number_found(last)
-    }
-
     /// The number of the record of the 1,024th request before this one, if there is one.
     fn oldest(&mut self, request: &Record) -> Option<u64> {
-        let before = self.requests_before(request.number)?;
-        let mut records = self.records()?;
-        let oldest = self
-            .left_out
-            .number_of_request(&mut records, before.saturating_sub(WINDOW as u64));
-        drop(records);
-        self.number_found(oldest)
+        match self.number_of(Sought::Before(request.number)) {
+            Some(before) => self.number_of(Sought::Request(before.saturating_sub(WINDOW as u64))),
+            None => None,
+        }
     }
 
-    /// How many requests come before the record with this number. If they cannot be counted, the explanation stops.
-    fn requests_before(&mut self, number: u64) -> Option<u64> {
-        let mut records = self.records()?;
-        let requests = self.left_out.requests_before(&mut records, number);
-        drop(records);
-        match requests {
-            Ok(requests) => Some(requests),
-            Err(error) => {
-                self.stop(Unexplained::from(error));
-                None
+    /// The number that is sought, if there is one. If the transcript cannot be searched, the explanation stops.
+    fn number_of(&mut self, sought: Sought) -> Option<u64> {
+        match self.records() {
+            Some(mut records) => {
+                let number = sought.number(self.left_out, &mut records);
+                drop(records);
+                self.number_found(number)
             }
+            None => None,
         }
     }
 
@@ -737,20 +714,61 @@ impl<R: Files + AllocGlobal, E: Write> Explanation<'_, '_, R, E> {
 /// The most bytes that the packets up to a refusal may have for departures to be tried.
 const TRIED: u64 = 67_108_864;
 
-/// Whether the packets up to the record of this number have no more bytes than `TRIED`.
-fn are_few_bytes<S: Source>(records: &mut Reader<S>, number: u64) -> Result<bool, TranscriptError> {
+/// How many bytes the packets up to the record of this number have. No more are counted once these are more than
+/// `TRIED`.
+fn bytes_up_to<S: Source>(records: &mut Reader<S>, number: u64) -> Result<u64, TranscriptError> {
     let mut bytes: u64 = 0;
     for _ in 0..number {
         let Some((_, packet, size)) = records.next_record()? else {
-            return Ok(true);
+            return Ok(bytes);
         };
         drop(packet);
         bytes = bytes.saturating_add(size as u64);
         if bytes > TRIED {
-            return Ok(false);
+            return Ok(bytes);
         }
     }
-    Ok(true)
+    Ok(bytes)
+}
+
+/// A number that is sought in a transcript.
+#[derive(Clone, Copy)]
+enum Sought {
+    /// That of the last record of a side with this id, before the record with this number.
+    Last(Side, u32, u64),
+    /// That of the record of the request before which there are so many.
+    Request(u64),
+    /// How many requests come before the record with this number.
+    Before(u64),
+    /// How many bytes the packets up to the record with this number have, or more than `TRIED`.
+    Bytes(u64),
+    /// That of the record with this number where what is left out is not counted.
+    Counted(u64),
+}
+
+impl Sought {
+    /// The number, if there is one. The reader has read nothing yet.
+    fn number<S: Source>(
+        self,
+        left_out: &mut LeftOut,
+        records: &mut Reader<S>,
+    ) -> Result<Option<u64>, TranscriptError> {
+        match self {
+            Sought::Last(side, id, number) => last_of_id(records, side, id, number),
+            Sought::Request(before) => left_out.number_of_request(records, before),
+            Sought::Before(number) => counted(left_out.requests_before(records, number)),
+            Sought::Bytes(number) => counted(bytes_up_to(records, number)),
+            Sought::Counted(number) => left_out.find(records, number),
+        }
+    }
+}
+
+/// A number that was counted, as one that was found.
+fn counted(number: Result<u64, TranscriptError>) -> Result<Option<u64>, TranscriptError> {
+    match number {
+        Ok(number) => Ok(Some(number)),
+        Err(error) => Err(error),
+    }
 }
 
 /// Whether the departure of this name judges other requests than those that were sent.

@@ -7,16 +7,16 @@ use crate::cut_sessions::Counts;
 use crate::explaining::{numbered, record_of};
 use crate::subcommands::{Finding, report_finding};
 use crate::totals::{End, Reason, Total, print_total};
-use crate::trees::Kept;
 use sftp_audit::{AuditError, Auditor, Refusal};
 use sftp_commands::{
-    Asked, Bearing, LeftOut, Outcome, Replied, find_reply, is_harmless, is_request, last_asked,
+    Asked, Bearing, Kept, LeftOut, Outcome, Replied, find_reply, is_harmless, is_request,
+    last_asked,
 };
 use sftp_files::{Bounded, Ending, Failure, Meter, System, open};
 use sftp_options::AuditOptions;
 use sftp_profile::{Judge, Profile};
 use sftp_show::{Record, find_record};
-use sftp_transcript::{Reader, Source, Tally};
+use sftp_transcript::{Reader, Source, Tally, TranscriptError};
 use sftp_wire::{Answer, asked_handle};
 use std::fs::Files;
 use std::io::{Read, Write};
@@ -55,24 +55,23 @@ fn report_each<'a, R: System, O: Write, E: Write>(
 ) -> Result<Total, Failure<'a>>
     ensures { IfErr result IsUnwritten }
 {
-    report_finding(rt, files, tree, left_out, first, output, errors)?;
     let most = files.most.unwrap_or(MOST);
     let mut finding = first;
     let mut findings: u64 = 1;
-    'findings: while findings < most {
+    'findings: loop {
+        report_finding(rt, files, tree, left_out, finding, output, errors)?;
+        if findings >= most {
+            return Ok(Total {
+                findings,
+                end: End::Most,
+            });
+        }
         match next_finding(rt, files, tree, left_out, finding) {
-            Ok(next) => {
-                report_finding(rt, files, tree, left_out, next, output, errors)?;
-                finding = next;
-                findings += 1;
-            }
+            Ok(next) => finding = next,
             Err(end) => return Ok(Total { findings, end }),
         }
+        findings += 1;
     }
-    Ok(Total {
-        findings,
-        end: End::Most,
-    })
 }
 
 /// What an audit finds behind this finding, or why it finds no more.
@@ -193,10 +192,14 @@ fn reply_at<R: Files + AllocGlobal>(
     files: &AuditOptions<'_>,
     number: u64,
 ) -> Result<Replied, End> {
-    let mut records = records_of(rt, files)?;
-    let found = find_reply(&mut records, number);
-    drop(records);
-    found?.ok_or(End::OtherTranscript)
+    match records_of(rt, files) {
+        Ok(mut records) => {
+            let found = find_reply(&mut records, number);
+            drop(records);
+            required(found)
+        }
+        Err(end) => Err(end),
+    }
 }
 
 /// The request of a reply.
@@ -205,10 +208,14 @@ fn request_of<R: Files + AllocGlobal>(
     files: &AuditOptions<'_>,
     replied: Replied,
 ) -> Result<Asked, End> {
-    let mut records = records_of(rt, files)?;
-    let found = last_asked(&mut records, replied.id, replied.number);
-    drop(records);
-    found?.ok_or(End::OtherTranscript)
+    match records_of(rt, files) {
+        Ok(mut records) => {
+            let found = last_asked(&mut records, replied.id, replied.number);
+            drop(records);
+            required(found)
+        }
+        Err(end) => Err(end),
+    }
 }
 
 /// The record with this number.
@@ -217,10 +224,23 @@ fn record_at<R: Files + AllocGlobal>(
     files: &AuditOptions<'_>,
     number: u64,
 ) -> Result<Record, End> {
-    let mut records = records_of(rt, files)?;
-    let found = find_record(&mut records, number);
-    drop(records);
-    found?.ok_or(End::OtherTranscript)
+    match records_of(rt, files) {
+        Ok(mut records) => {
+            let found = find_record(&mut records, number);
+            drop(records);
+            required(found)
+        }
+        Err(end) => Err(end),
+    }
+}
+
+/// What was found, which is missing only where the transcript is not what it was.
+fn required<T: Drop>(found: Result<Option<T>, TranscriptError>) -> Result<T, End> {
+    match found {
+        Ok(Some(found)) => Ok(found),
+        Ok(None) => Err(End::OtherTranscript),
+        Err(error) => Err(End::from(error)),
+    }
 }
 
 /// A reader of the transcript from its start.
@@ -228,8 +248,13 @@ fn records_of<R: Files + AllocGlobal>(
     rt: &R,
     files: &AuditOptions<'_>,
 ) -> Result<Reader<Tally<R::File>>, End> {
-    let file = opened(open(rt, files.transcript))?;
-    Ok(Reader::new(rt.alloc(), Tally::new(file))?)
+    match opened(open(rt, files.transcript)) {
+        Ok(file) => match Reader::new(rt.alloc(), Tally::new(file)) {
+            Ok(records) => Ok(records),
+            Err(error) => Err(End::from(error)),
+        },
+        Err(end) => Err(end),
+    }
 }
 
 /// What it means that a file cannot be opened.
@@ -296,10 +321,14 @@ fn number_of<R: Files + AllocGlobal>(
     left_out: &mut LeftOut,
     counted: u64,
 ) -> Result<u64, End> {
-    let mut records = records_of(rt, files)?;
-    let number = left_out.find(&mut records, counted);
-    drop(records);
-    number?.ok_or(End::OtherTranscript)
+    match records_of(rt, files) {
+        Ok(mut records) => {
+            let number = left_out.find(&mut records, counted);
+            drop(records);
+            required(number)
+        }
+        Err(end) => Err(end),
+    }
 }
 
 /// Audits what is not left out of the session of these files, within the limit on memory if there is one. `follows` is

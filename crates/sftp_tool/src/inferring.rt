@@ -8,8 +8,8 @@ use crate::inferred_lines::{
     put_assumed, put_clash, put_excess, put_exchange, put_refusal, put_spent,
 };
 use crate::subcommands;
-use crate::twice::is_lost;
 use crate::verdict_objects::{print_inferred, print_untold};
+use sftp_commands::is_lost;
 use sftp_files::{Ending, Failure, Keeping, System, print, read_at_most, write};
 use sftp_infer::{Excess, Search, Settings, TreeText};
 use sftp_options::{AuditOptions, InferOptions, umask_of, with_umask};

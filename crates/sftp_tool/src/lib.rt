@@ -4,7 +4,6 @@
 
 ghost use Rattle.std.specs.Prelude.{◌≤◌};
 
-mod answers;
 mod cut_sessions;
 mod explaining;
 mod going_on;
@@ -12,24 +11,18 @@ mod inferences;
 mod inferred_lines;
 mod inferring;
 mod newcomers;
-mod pieces;
 mod readings;
-mod replaying;
-mod serving;
 mod subcommands;
-mod summaries;
 mod totals;
-mod trees;
-mod twice;
 mod verdict_objects;
 
-use serving::Unserved;
 use sftp_commands::{Faulty, ReadFiles};
 use sftp_faults::Spot;
 pub use sftp_files::System;
 use sftp_files::{DiffForm, Ending, Failure, ImportOptions, ServeOptions, report, write_flushed};
 use sftp_options::{Request, parse};
 use sftp_progress::Console;
+use sftp_serving::Unserved;
 use sftp_vary::Style;
 use std::fs::Files;
 use std::io::{IsTerminal, Read, Write};
@@ -276,7 +269,7 @@ fn serve<'a, R: System + Clock, I: Read, O: Write, E: Write>(
     output: &mut O,
     errors: &mut E,
 ) -> Result<Ending, Failure<'a>> {
-    match serving::serve(rt, options, style, input, output, errors) {
+    match sftp_serving::serve(rt, options, style, input, output, errors) {
         Ok(ending) => Ok(ending),
         Err(Unserved::Failed(failure)) => Err(failure),
         Err(Unserved::Fault(fault)) => {

@@ -13,10 +13,9 @@ ghost use Rattle.sftp_tool.specs.Verdicts.{IsStrictVerdict, IsVerdictUnder, IsVe
 use crate::cut_sessions::judge_cut_and_report;
 use crate::explaining::explain;
 use crate::going_on::report_findings;
-use crate::trees::{Kept, read_tree_in_view};
 use crate::verdict_objects::{print_accepted, print_refused};
 use sftp_audit::{AuditError, Ended, Refusal, audit_tree_by};
-use sftp_commands::{LeftOut, is_read_again, write_tree};
+use sftp_commands::{Kept, LeftOut, is_read_again, read_tree_in_view, write_tree};
 use sftp_files::{
     Bounded, Ending, Failure, Keeping, Meter, System, open, print, read_at_most, write_last,
 };
@@ -303,15 +302,14 @@ pub(crate) fn report_finding<'a, R: Files + AllocGlobal, O: Write, E: Write>(
     ensures ok { IfOk result (λ ending. ending ≡ endings.Refused) }
     ensures err { IfErr result IsUnwritten }
 {
-    if !files.explains {
-        return refuse(files, finding, output);
-    }
-    if files.is_json {
+    if files.explains && files.is_json {
         return refuse_as_object(rt, files, tree, left_out, finding, output);
     }
-    let ending = refuse(files, finding, output)?;
-    explain(rt, files, tree, left_out, finding.refusal, errors);
-    Ok(ending)
+    let ending = refuse(files, finding, output);
+    if files.explains && ending.is_ok() {
+        explain(rt, files, tree, left_out, finding.refusal, errors);
+    }
+    ending
 }
 
 /// Says why a session of these files is refused as a JSON object, with the explanation in it.

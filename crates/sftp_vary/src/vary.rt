@@ -156,7 +156,11 @@ impl Vary {
                 Ok(attrs) => Ok(Some(Answer::Attrs(attrs))),
                 Err(error) => Err(error),
             },
-            Answer::Name(names) => self.only_name(names, alloc),
+            Answer::Name(names) => {
+                let named = self.only_name(&names, alloc);
+                drop(names);
+                named
+            }
             Answer::Status { code, .. } => self.status(code, alloc),
             Answer::Data(bytes) => Ok(Some(Answer::Data(bytes))),
             Answer::Extended(bytes) => Ok(Some(Answer::Extended(bytes))),
@@ -165,7 +169,7 @@ impl Vary {
     }
 
     /// The only name of REALPATH or READLINK.
-    fn only_name(&mut self, names: Names, alloc: Global) -> Result<Option<Answer>, NoMemory> {
+    fn only_name(&mut self, names: &Names, alloc: Global) -> Result<Option<Answer>, NoMemory> {
         match names.as_slice() {
             [item] => {
                 let shown = if self.freedoms.has(Freedom::Attributes) {
@@ -173,10 +177,9 @@ impl Vary {
                 } else {
                     empty()
                 };
-                let item = self.item(item.filename.as_slice(), &shown, alloc)?;
-                let mut items = Vec::new(alloc);
-                items.push(item)?;
-                Ok(Some(Answer::Name(Names::new(items))))
+                let item = self.item(item.filename.as_slice(), &shown, alloc);
+                drop(shown);
+                name_alone(item, alloc)
             }
             _ => Ok(None),
         }
@@ -280,6 +283,21 @@ impl Vary {
             times,
             extended,
         })
+    }
+}
+
+/// The answer with this name alone.
+fn name_alone(
+    item: Result<NameItem, NoMemory>,
+    alloc: Global,
+) -> Result<Option<Answer>, NoMemory> {
+    let mut items = Vec::new(alloc);
+    match item {
+        Ok(item) => {
+            items.push(item)?;
+            Ok(Some(Answer::Name(Names::new(items))))
+        }
+        Err(error) => Err(error),
     }
 }
 

@@ -58,26 +58,40 @@ fn announced(alloc: Global, pairs: Vec<(ByteString, ByteString)>) -> Option<Pack
 /// Pairs of one of eight kinds.
 fn any_pairs(dice: &mut Dice, alloc: Global) -> Result<Vec<(ByteString, ByteString)>, NoMemory> {
     let mut pairs = Vec::new(alloc);
-    match dice.below(8) {
-        0 => {}
-        1 => put_known(&mut pairs, dice, b"1", alloc)?,
-        2 => put_known(&mut pairs, dice, b"", alloc)?,
-        3 => put_known(&mut pairs, dice, b"1,2\xff", alloc)?,
-        4 => {
-            put_others(&mut pairs, dice, 3, alloc)?;
-            put_known(&mut pairs, dice, b"1", alloc)?;
-        }
-        5 => put_others(&mut pairs, dice, 200, alloc)?,
-        6 => {
-            put_known(&mut pairs, dice, b"1", alloc)?;
-            put_long(&mut pairs, dice, alloc)?;
-        }
-        _ => {
-            put_known(&mut pairs, dice, b"1", alloc)?;
-            put_known(&mut pairs, dice, b"2", alloc)?;
+    match put_any(&mut pairs, dice, alloc) {
+        Ok(()) => Ok(pairs),
+        Err(error) => {
+            drop(pairs);
+            Err(error)
         }
     }
-    Ok(pairs)
+}
+
+/// Adds pairs of one of eight kinds.
+fn put_any(
+    pairs: &mut Vec<(ByteString, ByteString)>,
+    dice: &mut Dice,
+    alloc: Global,
+) -> Result<(), NoMemory> {
+    match dice.below(8) {
+        0 => Ok(()),
+        1 => put_known(pairs, dice, b"1", alloc),
+        2 => put_known(pairs, dice, b"", alloc),
+        3 => put_known(pairs, dice, b"1,2\xff", alloc),
+        4 => {
+            put_others(pairs, dice, 3, alloc)?;
+            put_known(pairs, dice, b"1", alloc)
+        }
+        5 => put_others(pairs, dice, 200, alloc),
+        6 => {
+            put_known(pairs, dice, b"1", alloc)?;
+            put_long(pairs, dice, alloc)
+        }
+        _ => {
+            put_known(pairs, dice, b"1", alloc)?;
+            put_known(pairs, dice, b"2", alloc)
+        }
+    }
 }
 
 /// Adds the names that this program announces, from any one on, with these data.

@@ -145,28 +145,42 @@ fn limit_of_new_place(tree: &Tree) -> Limit {
 
 impl fmt::Display for Limit {
     fn fmt<W: fmt::Write>(&self, f: &mut fmt::Formatter<W>) -> fmt::Result {
-        let (highest, far) = (highest_limits(), most_limits());
-        match self {
-            Limit::Entries(most) => {
-                write!(f, "the tree may have {most} entries")?;
-                let (highest, far) = (u64::from(highest.entries), u64::from(far.entries));
-                put_way(f, u64::from(*most), highest, far)
+        let (high, far) = (highest_limits(), most_limits());
+        let (before, most, behind, higher, farthest) = match self {
+            Limit::Entries(most) => (
+                "the tree may have ",
+                u64::from(*most),
+                " entries",
+                u64::from(high.entries),
+                u64::from(far.entries),
+            ),
+            Limit::FileBytes(most) => (
+                "a file may have ",
+                *most,
+                " bytes",
+                high.file_bytes,
+                far.file_bytes,
+            ),
+            Limit::AllBytes(most) => (
+                "all files together may have ",
+                *most,
+                " bytes",
+                0,
+                far.total_bytes,
+            ),
+            Limit::Handles(most) => (
+                "",
+                u64::from(*most),
+                " handles may be open at once",
+                u64::from(high.open_handles),
+                u64::from(far.open_handles),
+            ),
+            Limit::Names => {
+                return write!(f, "a path may have {DEPTH_LIMIT} names, in every tree");
             }
-            Limit::FileBytes(most) => {
-                write!(f, "a file may have {most} bytes")?;
-                put_way(f, *most, highest.file_bytes, far.file_bytes)
-            }
-            Limit::AllBytes(most) => {
-                write!(f, "all files together may have {most} bytes")?;
-                put_way(f, *most, 0, far.total_bytes)
-            }
-            Limit::Handles(most) => {
-                write!(f, "{most} handles may be open at once")?;
-                let (highest, far) = (u64::from(highest.open_handles), u64::from(far.open_handles));
-                put_way(f, u64::from(*most), highest, far)
-            }
-            Limit::Names => write!(f, "a path may have {DEPTH_LIMIT} names, in every tree"),
-        }
+        };
+        write!(f, "{before}{most}{behind}")?;
+        put_way(f, most, higher, farthest)
     }
 }
 

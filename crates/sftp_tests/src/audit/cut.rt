@@ -1,7 +1,7 @@
-//! Audits of cut sessions: how much of them is judged, and the tree that they leave.
-use super::fed::{DONE_2, DONE_3, MAKE_B, REMOVE_A, TWO_DIRECTORIES};
+//! An audit of a cut session: how much of it is judged, and the tree that it leaves. Cases show others.
+use super::fed::{DONE_3, MAKE_B, REMOVE_A};
 use super::{BLANK, DONE, MAKE_A, WITH_A, recorded};
-use sftp_audit::{AcceptedCut, AuditError, Refusal, audit_cut_stream};
+use sftp_audit::{AcceptedCut, AuditError, audit_cut_stream};
 use sftp_transcript::{Memory, Reader};
 use std::alloc::Global;
 
@@ -32,58 +32,10 @@ fn leaves(alloc: Global, records: &[&[u8]], counts: (u64, usize, usize), tree: &
     is_wanted
 }
 
-/// Whether these records are refused so.
-fn is_refused(alloc: Global, records: &[&[u8]], wanted: Refusal) -> bool {
-    let judged = audited(alloc, records);
-    let refused = match &judged {
-        Err(AuditError::Refused(refusal)) => *refusal == wanted,
-        _ => false,
-    };
-    drop(judged);
-    refused
-}
-
 /// The requests before the oldest unanswered one are judged and done, and no others: that `/a` is removed with `/a/b`
 /// in it is not judged as long as nobody knows whether `/a/b` was made.
 #[test]
 fn cut_sessions(rt: HostRuntime) {
-    let alloc = rt.alloc();
-    assert!(rt; leaves(alloc, &[], (0, 0, 0), BLANK));
-    assert!(rt; leaves(alloc, &[MAKE_A], (1, 1, 1), BLANK));
-    assert!(rt; leaves(alloc, &[MAKE_A, MAKE_B, DONE], (2, 1, 1), WITH_A));
-    assert!(rt;
-        leaves(
-            alloc,
-            &[MAKE_A, MAKE_B, REMOVE_A, DONE, DONE_3],
-            (3, 2, 1),
-            WITH_A
-        )
-    );
-    assert!(rt; leaves(alloc, &[MAKE_A, MAKE_B, REMOVE_A, DONE], (3, 2, 2), WITH_A));
-    assert!(rt;
-        leaves(
-            alloc,
-            &[MAKE_A, MAKE_B, DONE, DONE_2],
-            (2, 0, 0),
-            TWO_DIRECTORIES
-        )
-    );
-}
-
-/// What is judged is refused as in a complete session.
-#[test]
-fn wrong_cut_sessions(rt: HostRuntime) {
-    let alloc = rt.alloc();
-    let unknown = Refusal::UnknownReply { record: 5 };
-    let in_use = Refusal::IdInUse { record: 4 };
-    let not_allowed = Refusal::NotAllowed { record: 6 };
-    assert!(rt; is_refused(alloc, &[MAKE_A, DONE, DONE], unknown));
-    assert!(rt; is_refused(alloc, &[MAKE_A, MAKE_A], in_use));
-    assert!(rt;
-        is_refused(
-            alloc,
-            &[REMOVE_A, MAKE_A, DONE, DONE_3, MAKE_B],
-            not_allowed
-        )
-    );
+    let records = [MAKE_A, MAKE_B, REMOVE_A, DONE, DONE_3];
+    assert!(rt; leaves(rt.alloc(), &records, (3, 2, 1), WITH_A));
 }

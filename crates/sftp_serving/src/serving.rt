@@ -2,17 +2,15 @@
 ghost use Rattle.std.specs.Prelude.{◌≡◌, IfOk};
 ghost use Rattle.sftp_server.specs.Served.{IsUnused};
 ghost use Rattle.sftp_files.specs.declared.messages.Ending.TheVariants as endings;
-ghost use Rattle.sftp_tool.specs.declared.serving.Unserved.TheVariants as unserveds;
+ghost use Rattle.sftp_serving.specs.declared.serving.Unserved.TheVariants as unserveds;
 
 use crate::answers::{Answers, served};
 use crate::pieces::Pieces;
 use crate::replaying::{Parting, Replay};
 use crate::summaries::{Close, Summary, Traffic};
-use crate::trees::{read_tree, read_tree_looking};
-use crate::twice::is_lost;
 use sftp_audit::keep_freed_memory;
 use sftp_clock::TimeTable;
-use sftp_commands::{write_timed_tree, write_tree};
+use sftp_commands::{is_lost, read_tree, read_tree_looking, write_timed_tree, write_tree};
 use sftp_files::{
     Announcing, Bounded, Ending, Failure, Keeping, Meter, Record, Recording, STANDARD_INPUT,
     STANDARD_OUTPUT, ServeOptions, System, Watched, report, require_fit, write_flushed,
@@ -44,7 +42,7 @@ const SCRIPT_LOST: &str = "'--save' names the file of '--replay'";
 
 /// Why a session was not served to the end of its input.
 #[derive(Drop)]
-pub(crate) enum Unserved<'a> {
+pub enum Unserved<'a> {
     /// The client broke the protocol.
     Fault(SessionFault),
     /// The run failed.
@@ -60,7 +58,7 @@ impl<'a> From<Failure<'a>> for Unserved<'a> {
 }
 
 /// Serves a session. The tree file is read and judged before the file of the record is made.
-pub(crate) fn serve<'a, R: System + Clock, I: Read, O: Write, E: Write>(
+pub fn serve<'a, R: System + Clock, I: Read, O: Write, E: Write>(
     rt: &R,
     options: &ServeOptions<'a>,
     style: Style,
@@ -321,23 +319,24 @@ fn conclude<'a, R: System, E: Write>(
     let (tree, close) = parts(end, traffic.is_over);
     say_parting(traffic, options.is_verbose, errors);
     let saved = save_any(rt, &tree, &times, options);
-    let has_tree = tree.is_some();
+    let has_place = tree.is_some() && options.save.is_some();
     drop(tree);
     drop(times);
-    if options.is_verbose {
-        let summary = Summary {
-            close,
-            traffic,
-            entries: entries_of(&saved),
-            is_saved: has_tree && options.save.is_some() && saved.is_ok(),
-        };
-        say_summary(summary, errors);
-    }
+    let summary = Summary {
+        close,
+        traffic,
+        entries: entries_of(&saved),
+        is_saved: has_place && saved.is_ok(),
+    };
+    say_summary(summary, options.is_verbose, errors);
     outcome(close, saved, traffic, options, errors)
 }
 
-fn say_summary<E: Write>(summary: Summary, errors: &mut E) {
-    let _ = write_flushed(errors, format_args!("sftpv3: {summary}\n"));
+/// Says how a session ended, if lines are wanted.
+fn say_summary<E: Write>(summary: Summary, is_verbose: bool, errors: &mut E) {
+    if is_verbose {
+        let _ = write_flushed(errors, format_args!("sftpv3: {summary}\n"));
+    }
 }
 
 /// Says where the session left its script; that it followed it to the end if lines are wanted.

@@ -5,7 +5,7 @@ use std::os::unix::fs::MetadataExt;
 
 /// Whether a file that is to be written is the one that is read, so that what is read would be lost. A device or a pipe
 /// is not.
-pub(crate) fn is_lost<R: Files>(rt: &R, written: Option<&str>, read: Option<&str>) -> bool {
+pub fn is_lost<R: Files>(rt: &R, written: Option<&str>, read: Option<&str>) -> bool {
     match (written, read) {
         (Some(written), Some(read)) => is_one_file(rt, written, read),
         _ => false,

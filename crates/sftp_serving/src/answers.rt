@@ -65,18 +65,23 @@ pub(crate) fn served<C: Clock, R: Source, W: Sink, L: Sink, S: Schedule>(
 {
     match times {
         Some(times) => {
-            let words = answers.style.words;
-            drop(answers);
-            let (end, times) = serve_dated(
+            let words = words_of(answers);
+            serve_dated(
                 clock, tree, times, reader, writer, log, schedule, words,
-            );
-            (end, Some(times))
+            )
         }
-        None => {
-            let end = serve_undated(tree, reader, writer, log, schedule, answers);
-            (end, None)
-        }
+        None => (
+            serve_undated(tree, reader, writer, log, schedule, answers),
+            None,
+        ),
     }
+}
+
+/// The words of replies that are like this.
+fn words_of(answers: Answers) -> Words {
+    let words = answers.style.words;
+    drop(answers);
+    words
 }
 
 /// Serves a session that keeps times, from those of this table on.
@@ -89,7 +94,7 @@ fn serve_dated<C: Clock, R: Source, W: Sink, L: Sink, S: Schedule>(
     log: &mut Writer<L>,
     schedule: &mut S,
     words: Words,
-) -> (SessionEnd, TimeTable)
+) -> (SessionEnd, Option<TimeTable>)
     requires { IsUnused log.old }
 {
     let mut dated = Clocked::new(tree.allocator(), SystemClock::new(clock), times);
@@ -103,12 +108,12 @@ fn serve_dated<C: Clock, R: Source, W: Sink, L: Sink, S: Schedule>(
             schedule,
             &mut answerer,
         );
-        return (end, answerer.into_inner().into_table());
+        return (end, Some(answerer.into_inner().into_table()));
     }
     let end = serve_as::<R, W, L, S, SlabTable, Dated<C>>(
         tree, reader, writer, log, schedule, &mut dated,
     );
-    (end, dated.into_table())
+    (end, Some(dated.into_table()))
 }
 
 /// Serves a session that keeps no times.
@@ -125,8 +130,7 @@ fn serve_undated<R: Source, W: Sink, L: Sink, S: Schedule>(
     if answers.propose() {
         return serve_proposing(tree, reader, writer, log, schedule, answers);
     }
-    let words = answers.style.words;
-    drop(answers);
+    let words = words_of(answers);
     if words.has_any() {
         return serve_as::<R, W, L, S, SlabTable, Worded<Plain>>(
             tree,
@@ -152,19 +156,29 @@ fn serve_proposing<R: Source, W: Sink, L: Sink, S: Schedule>(
     requires { IsUnused log.old }
 {
     let version = any_version(tree.allocator(), answers.style.variation);
-    let answerer = &mut proposing(answers);
-    match version {
-        Some(version) => {
-            let end = serve_announcing::<R, W, L, S, GivenTable, Proposing>(
-                tree, reader, writer, log, schedule, answerer, &version,
-            );
-            drop(version);
-            end
-        }
-        None => serve_as::<R, W, L, S, GivenTable, Proposing>(
-            tree, reader, writer, log, schedule, answerer,
+    let mut answerer = proposing(answers);
+    let end = match &version {
+        Some(version) => serve_announcing::<R, W, L, S, GivenTable, Proposing>(
+            tree,
+            reader,
+            writer,
+            log,
+            schedule,
+            &mut answerer,
+            version,
         ),
-    }
+        None => serve_as::<R, W, L, S, GivenTable, Proposing>(
+            tree,
+            reader,
+            writer,
+            log,
+            schedule,
+            &mut answerer,
+        ),
+    };
+    drop(answerer);
+    drop(version);
+    end
 }
 
 /// The answerer of a session some of whose replies are proposed.

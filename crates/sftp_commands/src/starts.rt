@@ -14,7 +14,7 @@ use std::time::Clock;
 
 /// From where the tree of a session's start can be read once more.
 #[derive(Clone, Copy)]
-pub(crate) enum Kept<'s> {
+pub enum Kept<'s> {
     /// From the regular file of this name.
     File(&'s str),
     /// From the bytes of a file that cannot be read twice, such as a pipe.
@@ -27,7 +27,7 @@ impl Kept<'_> {
     /// # Errors
     ///
     /// The first fault of the file; `Io` at no entry if it cannot be opened.
-    pub(crate) fn read<R: Files + AllocGlobal>(self, rt: &R) -> Result<Tree, TreeError> {
+    pub fn read<R: Files + AllocGlobal>(self, rt: &R) -> Result<Tree, TreeError> {
         match self {
             Kept::File(name) => match open(rt, name) {
                 Ok(file) => Tree::read_from(rt.alloc(), Tally::new(file)),
@@ -43,7 +43,7 @@ impl Kept<'_> {
 /// # Errors
 ///
 /// If the file cannot be read, or has more bytes than the limit.
-pub(crate) fn read_tree<'a, R: System>(
+pub fn read_tree<'a, R: System>(
     rt: &R,
     name: &'a str,
     limit: Option<u64>,
@@ -59,7 +59,7 @@ pub(crate) fn read_tree<'a, R: System>(
 /// # Errors
 ///
 /// As `read_tree`.
-pub(crate) fn read_tree_looking<'a, R: System, K: Looks>(
+pub fn read_tree_looking<'a, R: System, K: Looks>(
     rt: &R,
     name: &'a str,
     limit: Option<u64>,
@@ -81,7 +81,7 @@ pub(crate) fn read_tree_looking<'a, R: System, K: Looks>(
 /// # Errors
 ///
 /// As `read_tree`.
-pub(crate) fn read_tree_in_view<'a, R: System + Clock, E: Write + IsTerminal>(
+pub fn read_tree_in_view<'a, R: System + Clock, E: Write + IsTerminal>(
     rt: &R,
     name: &'a str,
     limit: Option<u64>,
