@@ -1,5 +1,5 @@
-//! The subcommand `serve`: the session of one client over a pair of streams, its tree, its record, and the order and the
-//! replies that it is asked for.
+//! The subcommand `serve`: the session of one client over a pair of streams, its tree, its record, and the order and
+//! the replies that it is asked for.
 #![tactic(auto)]
 
 mod answers;
