@@ -84,3 +84,6 @@ pub records_fail :
 records_fail text zero rest any left is = absurd (omega arith)
 records_fail text (suc most) [] any left is = absurd (left refl)
 records_fail text (suc most) (c ∷ bytes) any left is = none text most c bytes (side_of_letter c) refl is
+
+-- how records are shown
+pub ruleset record_steps = (records_go_on, records_fail, records_end, records_zero)

@@ -332,3 +332,12 @@ up_to_space_end [] i inside is = absurd (omega arith)
 up_to_space_end (c ∷ text) zero inside is =
     elim (eqb_tells c 32) [ inl same ↦ rw same.0 | inr differ ↦ absurd (differ.1 is) ]
 up_to_space_end (c ∷ text) (suc i) inside is = ap (λ (x : List ℕ). c ∷ x) (up_to_space_end text i (omega arith) is)
+
+-- how steps are repeated
+pub ruleset repeat_steps = (repeat_goes_on, repeat_fails, repeat_ends)
+
+-- how each of so many is read
+pub ruleset each_steps = (read_each_goes_on, read_each_fails, read_each_ends)
+
+-- how the entry of a letter is read
+pub ruleset kind_steps = (kind_is_read, no_kind_is_read)

@@ -279,3 +279,12 @@ pub tree_lacks : (due : Due) (bytes text : List ℕ) → text ≡ [] → lines_f
     → onto bytes (lines_from due (said_lines [] text)) ≡ None
 tree_lacks due bytes text is lacks =
     ap (λ (l : List ℕ). onto bytes (lines_from due (said_lines [] l))) is ∙ ap (onto bytes) lacks
+
+-- how the end of a line is searched for
+pub ruleset line_steps = (searched_start, searched_next, searched_within, line_at_feed, behind_at_feed, line_at_end, behind_at_end)
+
+-- how the lines of a session are read
+pub ruleset text_steps = (lines_start, lines_go_on, lines_fail, lines_end)
+
+-- how the lines of a tree file are read
+pub ruleset tree_steps = (tree_goes_on, tree_fails, tree_passes, tree_ends, tree_lacks)

@@ -10,7 +10,7 @@ use Rattle.sftp_packets.specs.Spelling.{AreBytes}
 use Rattle.sftp_text.specs.Formats.{Format, after, ◌then◌, word, mark, ReadsBack, strip, repeat, repeat_to_end}
 use Rattle.sftp_text.specs.Digits.{number, octal}
 use Rattle.sftp_text.specs.Digits.{string_text, long_string_text}
-use Rattle.sftp_text.specs.declared.trees.Letter.{Letter}
+use Rattle.sftp_text.specs.declared.trees.entries.Letter.{Letter}
 use Rattle.sftp_text.specs.Trees.{owner_text, timed_owner, plain_root, letter_of_root, word_of_root, is_timed_root}
 use Rattle.sftp_text.specs.Trees.{root_with, lettered_root, root_text, letter_of, content_text, with_content, owned_text, other_text}
 use Rattle.sftp_text.specs.Trees.{head_text, kind_text, entry_of, first_of, kind_behind, show_kind, begins_wide}

@@ -8,7 +8,7 @@ use Rattle.sftp_text.specs.Digits.{number, octal, long}
 use Rattle.sftp_text.specs.Digits.{string_text, long_string_text, byte_of, is_plain}
 use Rattle.sftp_text.specs.declared.openings.Opening.{Opening}
 use Rattle.sftp_text.specs.declared.openings.Opening.TheVariants.{Usual, Raised, Wide}
-use Rattle.sftp_text.specs.declared.trees.Letter.{Letter}
+use Rattle.sftp_text.specs.declared.trees.entries.Letter.{Letter}
 use Rattle.sftp_text.specs.Lines.{whole, said_lines}
 use Rattle.std.specs.Int.RustNames.{bit_and, bit_or}
 use Rattle.sftp_text.specs.declared.errors.Stop.{Stop}

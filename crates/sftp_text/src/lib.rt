@@ -7,6 +7,7 @@ mod due;
 mod errors;
 mod fields;
 mod flags;
+mod labels;
 mod laws;
 mod lines;
 mod lists;

@@ -21,7 +21,7 @@ pub fn take_line<'a>(text: &mut &'a [u8]) -> Option<&'a [u8]>
 }
 
 /// How many bytes are in front of the first line feed, or of the end.
-#[tactic(auto, using(crate::proofs::TextLaws::searched_start, crate::proofs::TextLaws::searched_next, crate::proofs::TextLaws::searched_within, crate::proofs::TextLaws::line_at_feed, crate::proofs::TextLaws::behind_at_feed, crate::proofs::TextLaws::line_at_end, crate::proofs::TextLaws::behind_at_end))]
+#[tactic(auto, using(crate::proofs::TextLaws::line_steps))]
 fn line_length(text: &[u8]) -> usize
     ensures within { result ≤ length text.now }
     ensures line { take result text.now ≡ first_line text.now }

@@ -83,7 +83,7 @@ fn read_spaced_pair(line: &mut &[u8], bytes: &mut Vec<u8>) -> Result<(), Stop>
 }
 
 /// Shows pairs up to the end of the bytes, each after a space.
-#[tactic(auto, using(crate::proofs::ListLaws::repeat_goes_on, crate::proofs::ListLaws::repeat_fails, crate::proofs::ListLaws::repeat_ends), unfolding(crate::specs::Fields::pairs))]
+#[tactic(auto, using(crate::proofs::ListLaws::repeat_steps), unfolding(crate::specs::Fields::pairs))]
 pub(crate) fn put_pairs(bytes: &mut &[u8], text: &mut Vec<u8>) -> Result<(), Stop>
     ensures { Moves result text.new.items bytes.new.now (pairs.show text.old.items bytes.old.now) }
 {
@@ -99,7 +99,7 @@ pub(crate) fn put_pairs(bytes: &mut &[u8], text: &mut Vec<u8>) -> Result<(), Sto
 }
 
 /// Reads pairs up to the end of a line, each after a space.
-#[tactic(auto, using(crate::proofs::ListLaws::repeat_goes_on, crate::proofs::ListLaws::repeat_fails, crate::proofs::ListLaws::repeat_ends), unfolding(crate::specs::Fields::pairs))]
+#[tactic(auto, using(crate::proofs::ListLaws::repeat_steps), unfolding(crate::specs::Fields::pairs))]
 pub(crate) fn read_pairs(line: &mut &[u8], bytes: &mut Vec<u8>) -> Result<(), Stop>
     ensures { Moves result bytes.new.items line.new.now (pairs.read bytes.old.items line.old.now) }
 {
@@ -176,7 +176,7 @@ fn begins(first: u8, line: &[u8]) -> bool
 }
 
 /// Reads items, each after a separator, up to where none follows. Returns how many there are and one more.
-#[tactic(auto, using(crate::proofs::ListLaws::read_each_goes_on, crate::proofs::ListLaws::read_each_fails, crate::proofs::ListLaws::read_each_ends))]
+#[tactic(auto, using(crate::proofs::ListLaws::each_steps))]
 fn read_more<I: Item>(separator: u8, line: &mut &[u8], bytes: &mut Vec<u8>) -> Result<usize, Stop>
     ensures { Counts result bytes.new.items line.new.now
         (read_each I.form (separator ∷ []) (length line.old.now) 1 bytes.old.items line.old.now) }

@@ -55,7 +55,7 @@ fn put_line(
 }
 
 /// Appends the lines of records up to the end of the bytes. There are at most as many as bytes.
-#[tactic(auto, using(crate::proofs::FileLaws::records_go_on, crate::proofs::FileLaws::records_fail, crate::proofs::FileLaws::records_end, crate::proofs::FileLaws::records_zero))]
+#[tactic(auto, using(crate::proofs::FileLaws::record_steps))]
 fn put_records(bytes: &[u8], text: &mut Vec<u8>) -> Result<(), ShowFault>
     ensures { Shows result text.new.items (lines_onto text.old.items (records_up_to (length bytes.now) bytes.now)) }
 {
@@ -124,7 +124,7 @@ fn read_next(line: &[u8], record: &mut Vec<u8>, bytes: &mut Vec<u8>) -> Result<(
 /// # Errors
 ///
 /// `Unread` with the line and the column where a line differs from the grammar; `NoMemory` if memory runs out.
-#[tactic(auto, unfolding(crate::specs::Lines::text_read), using(crate::proofs::TextLaws::lines_start, crate::proofs::TextLaws::lines_go_on, crate::proofs::TextLaws::lines_fail, crate::proofs::TextLaws::lines_end))]
+#[tactic(auto, unfolding(crate::specs::Lines::text_read), using(crate::proofs::TextLaws::text_steps))]
 pub fn read_transcript(text: &[u8], bytes: &mut Vec<u8>) -> Result<(), TextFault>
     ensures { GivesText result bytes.new.items (transcript_onto bytes.old.items (text_read text.now)) }
 {
