@@ -4,7 +4,7 @@ ghost use Rattle.sftp_files.specs.declared.messages.Ending.TheVariants as ending
 ghost use Rattle.sftp_files.specs.Failures.{IsUnwritten};
 
 use crate::cut_sessions::Counts;
-use crate::explaining::{numbered, record_of};
+use crate::refusals::{numbered, record_of};
 use crate::subcommands::{Finding, report_finding};
 use crate::totals::{End, Reason, Total, print_total};
 use sftp_audit::{AuditError, Auditor, Refusal};
