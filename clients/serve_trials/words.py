@@ -80,15 +80,15 @@ def at_limits(steps, room):
                     is_limit(found, "65536 entries", "sftpv3 raise", "1048576"), found)
     make(room, ['D "/" 0 0 0755', 'F "/f" 0 0 0644 ""'])
     subprocess.run([PROGRAM, "raise", room.folder / "t", room.folder / "high"], check=True)
-    for tree, most, way in (("t", 256, "makes a tree of 1024"), ("high", 1024, "--to most' makes a tree of 65536")):
+    for tree, most, way in (("t", 256, "allows 1024"), ("high", 1024, "--to most TREE FILE' allows 65536")):
         server = opened(room, tree=tree)
         given = [server.ask("OPEN", b"/f", sftp3.READ, {})[0] for _ in range(most)]
         for name, fields in (("OPEN", [b"/f", sftp3.READ, {}]), ("OPENDIR", [b"/"])):
             found = said(server, name, *fields)
             steps.check(f"{name} with {most} open handles: the text says so", set(given) == {sftp3.HANDLE} and
-                        is_limit(found, f"{most} handles", way), found)
-    for tree, most, way in (("t", 2**24, "makes a tree of 67108864"),
-                            ("high", 2**26, "--to most' makes a tree of 1099511627776")):
+                        is_limit(found, f"{most} open handles", way), found)
+    for tree, most, way in (("t", 2**24, "allows 67108864"),
+                            ("high", 2**26, "--to most TREE FILE' allows 1099511627776")):
         server = opened(room, tree=tree)
         handle = server.create("/g")
         for name, fields in (("WRITE", [handle, most, b"x"]), ("SETSTAT", [b"/g", {"size": most + 1}]),

@@ -146,45 +146,34 @@ fn limit_of_new_place(tree: &Tree) -> Limit {
 impl fmt::Display for Limit {
     fn fmt<W: fmt::Write>(&self, f: &mut fmt::Formatter<W>) -> fmt::Result {
         let (high, far) = (highest_limits(), most_limits());
-        let (before, most, behind, higher, farthest) = match self {
+        let (most, what, higher, farthest) = match self {
             Limit::Entries(most) => (
-                "the tree may have ",
                 u64::from(*most),
-                " entries",
+                "entries",
                 u64::from(high.entries),
                 u64::from(far.entries),
             ),
-            Limit::FileBytes(most) => (
-                "a file may have ",
-                *most,
-                " bytes",
-                high.file_bytes,
-                far.file_bytes,
-            ),
-            Limit::AllBytes(most) => (
-                "all files together may have ",
-                *most,
-                " bytes",
-                0,
-                far.total_bytes,
-            ),
+            Limit::FileBytes(most) => (*most, "bytes in a file", high.file_bytes, far.file_bytes),
+            Limit::AllBytes(most) => {
+                return write!(
+                    f,
+                    "this tree allows {most} bytes in all files together; 'sftpv3 raise --to most TREE FILE' lifts that"
+                );
+            }
             Limit::Handles(most) => (
-                "",
                 u64::from(*most),
-                " handles may be open at once",
+                "open handles",
                 u64::from(high.open_handles),
                 u64::from(far.open_handles),
             ),
-            Limit::Names => {
-                return write!(f, "a path may have {DEPTH_LIMIT} names, in every tree");
-            }
+            Limit::Names => return write!(f, "every tree allows {DEPTH_LIMIT} names in a path"),
         };
-        write!(f, "{before}{most}{behind}")?;
+        write!(f, "this tree allows {most} {what}")?;
         put_way(f, most, higher, farthest)
     }
 }
 
-/// How the limit is raised.
+/// How a tree gets a higher limit.
 fn put_way<W: fmt::Write>(
     f: &mut fmt::Formatter<W>,
     most: u64,
@@ -192,10 +181,10 @@ fn put_way<W: fmt::Write>(
     far: u64,
 ) -> fmt::Result {
     if most < highest {
-        write!(f, "; 'sftpv3 raise' makes a tree of {highest}")
+        write!(f, "; 'sftpv3 raise TREE FILE' allows {highest}")
     } else if most < far {
-        write!(f, "; 'sftpv3 raise --to most' makes a tree of {far}")
+        write!(f, "; 'sftpv3 raise --to most TREE FILE' allows {far}")
     } else {
-        f.write_str(", which no tree raises")
+        f.write_str(", and no tree allows more")
     }
 }
