@@ -33,6 +33,7 @@ use Rattle.sftp_tree.specs.declared.nodes.Node.TheVariants as nodes
 use Rattle.sftp_tree.proofs.CauseLaws.{MayLeave, MayReplace, name-place, may-leave, may-replace, given-below}
 use Rattle.sftp_tree.proofs.WellFormedTrees.{absent-of}
 pub mod Rows
+pub mod Shown
 
 -- ==== Listings: that what is right below a place is shown.
 

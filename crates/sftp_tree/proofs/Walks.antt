@@ -20,6 +20,7 @@ use Rattle.sftp_tree.proofs.PlaceTables.{each-all, lookup_holds}
 use Rattle.sftp_tree.proofs.Limits.{fits-parts}
 use Rattle.sftp_tree.proofs.WellFormedTrees.{directory-taken}
 pub mod Counts
+pub mod Plain
 pub mod Trails
 
 -- ==== What is left of a route.

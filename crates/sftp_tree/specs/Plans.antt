@@ -1,6 +1,8 @@
 -- The plans of requests, as the code has them, and when each can be carried out.
-use Rattle.std.specs.Prelude.{Option, Some, None, Result, Ok, Err, IfOk, IfSome, ◌≡◌, false, IsTrue}
-use Rattle.sftp_path.specs.Place.{Place, parent, are_names}
+use Rattle.std.specs.Prelude.{Option, Some, None, Result, Ok, Err, IfOk, IfSome, ◌≡◌, false, IsTrue, ℕ, Bool, List, []}
+use Rattle.sftp_path.specs.Place.{Name, Place, parent, are_names, components}
+use Rattle.sftp_tree.specs.Walk.{walk, reached}
+use Rattle.sftp_tree.specs.declared.entries.seen.Seen.{Seen}
 use Rattle.sftp_tree.specs.declared.nodes.Node.{Node}
 use Rattle.sftp_tree.specs.Tree.{Tree, Names, IsKept, IsNode, IsContent, fits, node_at}
 use Rattle.sftp_tree.specs.Tree.{is_taken, is_directory, has_entries, trim}
@@ -56,6 +58,17 @@ EndIsThere names end = IfOk end (IsThere names)
 -- and at the end of a second one
 abbrev pub NewEndIsThere : Names → Option (Result Found Cause) → Type 0
 NewEndIsThere names new = IfSome new (EndIsThere names)
+
+-- components lead down from a directory, over directories alone, to what stands there
+pub record GoesDown (names : Names) (steps : List Name) (end : Option Seen) : Type 0 where
+  pub walked : (follow : Bool) (left : ℕ) → walk names follow left [] steps ≡ Ok steps
+  pub lent : IsLentAt names steps end
+
+-- and so does an absolute path from the root
+pub record LeadsDown (t : Tree) (path : List ℕ) (end : Option Seen) : Type 0 where
+  pub kept : IsKept t
+  pub leads : (follow : Bool) → reached t follow path ≡ Ok (components path)
+  pub lent : IsLentAt t.names (components path) end
 
 -- ==== Where the paths of a request lead, as the code has it.
 

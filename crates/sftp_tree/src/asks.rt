@@ -629,6 +629,25 @@ impl Tree {
         ensures refused { IfErr result (λ refused. IsRefusal self.now (stat_ask follow path.now) refused) }
         ensures kept { OnOk result (tree.IsKept self.now) }
     {
+        match self.plain_end(path) {
+            Ok(Some(Some(node))) => Ok(self.shown(&node)),
+            Ok(Some(None)) => Err(Refused::Cause(Cause::NoEntry)),
+            Ok(None) => self.stat_anywhere(path, follow),
+            Err(NoMemory) => Err(Refused::NoMemory),
+        }
+    }
+
+    /// The same, by a walk of any path.
+    ///
+    /// # Errors
+    ///
+    /// Those of `stat`.
+    fn stat_anywhere(&self, path: &[u8], follow: bool) -> Result<Attrs, Refused>
+        ensures free { OnOk result (IsFree self.now (stat_ask follow path.now)) }
+        ensures shown { IfOk result (λ attrs. told.shown_to self.now (stat_ask follow path.now) ≡ Some attrs) }
+        ensures refused { IfErr result (λ refused. IsRefusal self.now (stat_ask follow path.now) refused) }
+        ensures kept { OnOk result (tree.IsKept self.now) }
+    {
         let ask = if follow {
             PathAsk::Stat(path)
         } else {

@@ -24,6 +24,7 @@ mod owners;
 pub mod picture_laws;
 mod pictures;
 mod place_causes;
+mod plain_walks;
 mod plans;
 pub mod request_examples;
 mod room;

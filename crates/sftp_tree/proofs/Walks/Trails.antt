@@ -157,7 +157,7 @@ pub lent-directory : (names : Names) (place : Place) (owner : Owner) (dir : Bor 
 lent-directory names place owner dir is root = record { node = sym root ∙ at-top names place dir.now is; below = is }
 
 -- the table of a child that was found
-found-branch : (found : Option (Bor Child)) (child : Bor Child) (is_child : Child) → found ≡ Some child
+pub found-branch : (found : Option (Bor Child)) (child : Bor Child) (is_child : Child) → found ≡ Some child
     → child.now ≡ is_child → branch_of (option_copied found) ≡ branch is_child
 found-branch found child is_child some is = ap (λ o. branch_of (option_copied o)) some ∙ ap branch is
 
