@@ -36,8 +36,18 @@ pub(crate) const SUBCOMMANDS: &[Subcommand] = &[
     ("make", help::ABOUT_MAKE, Some(help::AFTER_MAKE), MAKE),
     ("diff", help::ABOUT_DIFF, Some(help::AFTER_DIFF), DIFF),
     ("infer", help::ABOUT_INFER, Some(help::AFTER_INFER), INFER),
-    ("import", help::ABOUT_IMPORT, Some(help::AFTER_IMPORT), IMPORT),
-    ("export", help::ABOUT_EXPORT, Some(help::AFTER_EXPORT), EXPORT),
+    (
+        "import",
+        help::ABOUT_IMPORT,
+        Some(help::AFTER_IMPORT),
+        IMPORT,
+    ),
+    (
+        "export",
+        help::ABOUT_EXPORT,
+        Some(help::AFTER_EXPORT),
+        EXPORT,
+    ),
     ("raise", help::ABOUT_RAISE, Some(help::AFTER_RAISE), RAISE),
     ("blank", help::ABOUT_BLANK, None, BLANK),
 ];

@@ -66,9 +66,7 @@ pub(crate) fn served<C: Clock, R: Source, W: Sink, L: Sink, S: Schedule>(
     match times {
         Some(times) => {
             let words = words_of(answers);
-            serve_dated(
-                clock, tree, times, reader, writer, log, schedule, words,
-            )
+            serve_dated(clock, tree, times, reader, writer, log, schedule, words)
         }
         None => (
             serve_undated(tree, reader, writer, log, schedule, answers),

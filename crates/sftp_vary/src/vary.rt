@@ -287,10 +287,7 @@ impl Vary {
 }
 
 /// The answer with this name alone.
-fn name_alone(
-    item: Result<NameItem, NoMemory>,
-    alloc: Global,
-) -> Result<Option<Answer>, NoMemory> {
+fn name_alone(item: Result<NameItem, NoMemory>, alloc: Global) -> Result<Option<Answer>, NoMemory> {
     let mut items = Vec::new(alloc);
     match item {
         Ok(item) => {
