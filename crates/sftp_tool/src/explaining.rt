@@ -4,6 +4,7 @@ use crate::newcomers::{Newcomer, find_newcomer};
 use crate::readings::{
     content_of, content_of_removed, status_of_set, taken_for, undue, wrong_piece,
 };
+use crate::sought::{Sought, TRIED};
 use sftp_audit::{AuditError, Auditor, Refusal};
 use sftp_commands::{Kept, LeftOut};
 use sftp_files::{Failure, open, write_flushed};
@@ -11,10 +12,8 @@ use sftp_options::AuditOptions;
 use sftp_path::good_path;
 use sftp_profile::{Judge, NAMES, Profile};
 use sftp_show::{
-    ExplainError, Quoted, Record, explain_causes, explain_reply, find_record, last_of_id,
-    put_record,
+    ExplainError, Quoted, Record, explain_causes, explain_reply, find_record, put_record,
 };
-use sftp_streams::Source;
 use sftp_transcript::{Reader, Tally, TranscriptError, WINDOW};
 use sftp_tree::{Cause, Causes, NoMemory};
 use sftp_treefile::TreeError;
@@ -708,66 +707,6 @@ impl<R: Files + AllocGlobal, E: Write> Explanation<'_, '_, R, E> {
                 None
             }
         }
-    }
-}
-
-/// The most bytes that the packets up to a refusal may have for departures to be tried.
-const TRIED: u64 = 67_108_864;
-
-/// How many bytes the packets up to the record of this number have. No more are counted once these are more than
-/// `TRIED`.
-fn bytes_up_to<S: Source>(records: &mut Reader<S>, number: u64) -> Result<u64, TranscriptError> {
-    let mut bytes: u64 = 0;
-    for _ in 0..number {
-        let Some((_, packet, size)) = records.next_record()? else {
-            return Ok(bytes);
-        };
-        drop(packet);
-        bytes = bytes.saturating_add(size as u64);
-        if bytes > TRIED {
-            return Ok(bytes);
-        }
-    }
-    Ok(bytes)
-}
-
-/// A number that is sought in a transcript.
-#[derive(Clone, Copy)]
-enum Sought {
-    /// That of the last record of a side with this id, before the record with this number.
-    Last(Side, u32, u64),
-    /// That of the record of the request before which there are so many.
-    Request(u64),
-    /// How many requests come before the record with this number.
-    Before(u64),
-    /// How many bytes the packets up to the record with this number have, or more than `TRIED`.
-    Bytes(u64),
-    /// That of the record with this number where what is left out is not counted.
-    Counted(u64),
-}
-
-impl Sought {
-    /// The number, if there is one. The reader has read nothing yet.
-    fn number<S: Source>(
-        self,
-        left_out: &mut LeftOut,
-        records: &mut Reader<S>,
-    ) -> Result<Option<u64>, TranscriptError> {
-        match self {
-            Sought::Last(side, id, number) => last_of_id(records, side, id, number),
-            Sought::Request(before) => left_out.number_of_request(records, before),
-            Sought::Before(number) => counted(left_out.requests_before(records, number)),
-            Sought::Bytes(number) => counted(bytes_up_to(records, number)),
-            Sought::Counted(number) => left_out.find(records, number),
-        }
-    }
-}
-
-/// A number that was counted, as one that was found.
-fn counted(number: Result<u64, TranscriptError>) -> Result<Option<u64>, TranscriptError> {
-    match number {
-        Ok(number) => Ok(Some(number)),
-        Err(error) => Err(error),
     }
 }
 

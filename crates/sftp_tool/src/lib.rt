@@ -12,6 +12,7 @@ mod inferred_lines;
 mod inferring;
 mod newcomers;
 mod readings;
+mod sought;
 mod subcommands;
 mod totals;
 mod verdict_objects;
