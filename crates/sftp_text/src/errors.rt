@@ -63,7 +63,7 @@ impl fmt::Display for Expected {
     }
 }
 
-// As slow would be what `Debug` derives.
+// What `Debug` derives is slow to prove, too.
 impl fmt::Debug for Expected {
     fn fmt<W: fmt::Write>(&self, f: &mut fmt::Formatter<W>) -> fmt::Result {
         f.write_str(self.text())

@@ -235,7 +235,7 @@ fn record_at<R: Files + AllocGlobal>(
 }
 
 /// What was found, which is missing only where the transcript is not what it was.
-fn required<T: Drop>(found: Result<Option<T>, TranscriptError>) -> Result<T, End> {
+fn required<T>(found: Result<Option<T>, TranscriptError>) -> Result<T, End> {
     match found {
         Ok(Some(found)) => Ok(found),
         Ok(None) => Err(End::OtherTranscript),

@@ -288,9 +288,9 @@ impl Vary {
 
 /// The answer with this name alone.
 fn name_alone(item: Result<NameItem, NoMemory>, alloc: Global) -> Result<Option<Answer>, NoMemory> {
-    let mut items = Vec::new(alloc);
     match item {
         Ok(item) => {
+            let mut items = Vec::new(alloc);
             items.push(item)?;
             Ok(Some(Answer::Name(Names::new(items))))
         }
