@@ -180,6 +180,67 @@ class many_names_cannot_be_made(Statuses):
         return [asked]
 
 
+class Links(Fault):
+    """Treats a request of one kind in another way if its path is that of a link which the session made."""
+
+    REQUEST = ""
+
+    def __init__(self):
+        super().__init__()
+        self.links = set()
+
+    def ask(self, asked):
+        if asked.name == "SYMLINK":
+            self.links.add(asked.fields[1])
+        return self.of_link(asked) if self.meant(asked) else [asked]
+
+    def meant(self, asked):
+        return asked.name == self.REQUEST and asked.fields[0] in self.links
+
+    def of_link(self, asked):
+        """The requests that the server gets in place of one that is meant."""
+        return [asked]
+
+
+class link_cannot_be_listed(Links):
+    """OPENDIR of a link fails."""
+
+    REQUEST = "OPENDIR"
+
+    def answer(self, asked, reply):
+        return [status(reply, FAILED) if self.meant(asked) and reply[4] == sftp3.HANDLE else reply]
+
+
+class link_cannot_be_opened(Links):
+    """OPEN of a link fails."""
+
+    REQUEST = "OPEN"
+
+    def of_link(self, asked):
+        if asked.fields[1] & sftp3.CREAT:
+            asked.fields[1] |= sftp3.EXCL
+            return [asked]
+        return [sftp3.Request(asked.number, "OPEN", [b"/", *asked.fields[1:]])]
+
+
+class set_of_link_lost(Links):
+    """SETSTAT of a link is told done, and is not."""
+
+    REQUEST = "SETSTAT"
+
+    def of_link(self, asked):
+        return [sftp3.Request(asked.number, "SETSTAT", [asked.fields[0], {}])]
+
+
+class removed_link_empties_file(Links):
+    """REMOVE of a link empties the file that it leads to."""
+
+    REQUEST = "REMOVE"
+
+    def of_link(self, asked):
+        return [self.another("SETSTAT", asked.fields[0], {"size": 0}), asked]
+
+
 class deep_path_fails(Fault):
     """A path of more than 20 names leads nowhere."""
 
@@ -203,4 +264,4 @@ class long_name_fails(Fault):
 
 
 FAULTS = [fault for fault in list(globals().values())
-          if isinstance(fault, type) and issubclass(fault, Fault) and fault not in (Fault, Listings, Statuses)]
+          if isinstance(fault, type) and issubclass(fault, Fault) and fault not in (Fault, Links, Listings, Statuses)]

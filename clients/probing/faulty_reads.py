@@ -60,6 +60,13 @@ class read_ends_early(Reads):
         return None if offset >= 2 ** 20 else data
 
 
+class read_ends_at_block(Reads):
+    """Of a file of which 32,768 bytes were written, a READ that begins in the second half finds the end."""
+
+    def shown(self, asked, offset, data):
+        return None if self.lengths.get(self.path(asked)) == 32 * KIB and offset >= 16 * KIB else data
+
+
 class read_behind_end(Reads):
     """A READ at an offset from 1,000 on that is behind the end gives a byte of 0."""
 

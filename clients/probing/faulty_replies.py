@@ -46,6 +46,41 @@ class fstat_stale(Attributes):
         return given if asked.name != "FSTAT" else self.first.setdefault(self.opened.get(asked.handle()), given)
 
 
+class fstat_by_old_path(Fault):
+    """FSTAT through a handle whose file got another name, by the path that it was opened by, shows what is there."""
+
+    def __init__(self):
+        super().__init__()
+        self.moved = set()
+
+    def ask(self, asked):
+        if asked.name in ("RENAME", "POSIX-RENAME"):
+            self.moved |= {opener.number for opener in list(self.opened.values())
+                           if opener.fields[0] == asked.fields[self.WHICH]}
+        opener = self.opened.get(asked.handle()) if asked.name == "FSTAT" else None
+        if opener is not None and opener.number in self.moved:
+            return [sftp3.Request(asked.number, "STAT", opener.fields[:1])]
+        return [asked]
+
+    # which path of a RENAME is meant
+    WHICH = 0
+
+
+class fstat_of_replacing(fstat_by_old_path):
+    """FSTAT through a handle whose path posix-rename gave to another file shows that one."""
+
+    WHICH = 1
+
+
+class size_not_until_close(Attributes):
+    """STAT and LSTAT of a file that is open with TRUNC, by the same path, show 0 bytes."""
+
+    def seen(self, asked, given):
+        fresh = any(opener.name == "OPEN" and opener.fields[0] == asked.fields[0] and opener.fields[1] & sftp3.TRUNC
+                    for opener in list(self.opened.values()))
+        return {**given, "size": 0} if fresh and asked.name in ("STAT", "LSTAT") else given
+
+
 class permissions_lost(Fault):
     """SETSTAT and FSETSTAT of permissions leave out the bit to execute for others."""
 
@@ -139,6 +174,15 @@ class excl_ignored(Fault):
     def ask(self, asked):
         if asked.name == "OPEN" and asked.fields[1] & sftp3.CREAT:
             asked.fields[1] &= ~sftp3.EXCL
+        return [asked]
+
+
+class creat_needs_write(Fault):
+    """OPEN to read alone passes over CREAT."""
+
+    def ask(self, asked):
+        if asked.name == "OPEN" and asked.fields[1] == sftp3.READ | sftp3.CREAT:
+            asked.fields[1] = sftp3.READ
         return [asked]
 
 

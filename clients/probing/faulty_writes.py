@@ -124,6 +124,15 @@ class gap_with_garbage(Writes):
         return [sftp3.Request(asked.number, "WRITE", [handle, offset - 1, b"g" + data])]
 
 
+class empty_write_lengthens(Writes):
+    """A WRITE of no bytes behind the end makes the file longer."""
+
+    def written(self, asked, handle, offset, data):
+        if data or not self.lengths.get(self.path(asked), offset) < offset < 2 ** 31:
+            return [asked]
+        return [sftp3.Request(asked.number, "FSETSTAT", [handle, {"size": offset}])]
+
+
 class write_lost_after_rename(Writes):
     """What is written through a handle whose file got another name, by the path that it was opened by, is lost."""
 

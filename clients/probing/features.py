@@ -29,6 +29,7 @@ FEATURES = {
     "transfers": "uploads and downloads in blocks, and what follows them on the same files",
     "crowds": "directories of up to 5,000 names that the session makes",
     "unusual-names": "directories of long, short and unusual names that the session makes",
+    "links": "links to a file and a directory, met as the last names of paths",
     "deep": "paths of 30 names",
     "many-handles": "a hundred handles that are open at a time",
     "read-back": "what the session made, read back and listed at its end",

@@ -150,8 +150,8 @@ def alike(expected, found):
 
 
 def plain(text):
-    """Without quoted texts, and without the numbers of attributes."""
-    text = re.sub(r'"(\\.|[^"\\])*"', "..", text)
+    """Without what is in quotes, and without the numbers of attributes."""
+    text = re.sub(r'"(\\.|[^"\\])*"(\.\.\.)?', '"..."', text)
     return text if "code" in text else re.sub(r"\d+", "N", text)
 
 
@@ -183,6 +183,8 @@ def of_names(found):
     if "is not one of them" in found:
         name = found[:found.index(" is not one")]
         return f"{name} is not one of them" if name in ('"."', '".."') else "a name that is not one of them"
+    if found.endswith(" comes twice"):
+        return "a name that comes twice"
     if " has " in found and ", not " in found:
         has, wanted = found.split(" has ", 1)[1].split(", not ", 1)
         return f"a name of {kind(wanted)} with another {others(wanted, has)}"

@@ -91,6 +91,7 @@ PERIODS = [
     ("crowds", transfers.few_names, 3, 1),
     ("unusual-names", transfers.unusual_names, 5, 2),
     ("crowds", transfers.crowd_of(100), 5, 3),
+    ("links", transfers.following_links, 5, 1),
     ("deep", transfers.deep, 7, 4),
     ("many-handles", transfers.many_handles, 7, 5),
     ("crowds", transfers.crowd_of(1000), 11, 6),

@@ -81,6 +81,16 @@ class missing_name(Bug):
         return sftp3.packet(sftp3.NAME, body)
 
 
+class name_twice(Bug):
+    """A reply of a listing gives its first name twice."""
+
+    def changed(self, name, packet):
+        if name != "READDIR" or packet[4] != sftp3.NAME:
+            return packet
+        items = sftp3.Fields(packet[9:]).names()
+        return sftp3.packet(sftp3.NAME, packet[5:9] + sftp3.names(items + items[:1]))
+
+
 class wrong_code(Bug):
     """RMDIR that fails is said to be denied."""
 

@@ -1,9 +1,12 @@
 """What the requests of a plan do, in words, for clients/test-probe. It is found from the requests and the planner's
 model of the tree, not from the scenes that they come from."""
 import sftp3
-from probing.model import FAR, FILE, Model, apply
+from probing.model import FAR, FILE, LINK, Model, apply
 
 SIZES = {0: "0", 1: "1", 32767: "32,767", 32768: "32,768", 32769: "32,769"}
+
+# Requests whose path may end in a link.
+OF_LINKS = ("OPEN", "OPENDIR", "SETSTAT", "STAT", "REMOVE", "RENAME")
 
 # What the sessions with one request in flight have to do together, and what those with 16.
 WANTED = {
@@ -15,7 +18,10 @@ WANTED = {
                                     "that begins with -")),
     "READ behind 2^31", "READ behind the end", "WRITE behind the end", "a part overwritten", "a WRITE with APPEND",
     "a file cut", "a file made longer", "a file replaced by posix-rename", "three files written at once",
-    "100 handles", "a path of 30 names",
+    "100 handles", "a path of 30 names", "a READ in the second half of 32,768 bytes",
+    "a WRITE of no bytes behind the end", "an OPEN to read that makes a file",
+    "a STAT of a file that is open to be written", "an FSTAT of a file that got another name",
+    *(f"{name} of a link" for name in OF_LINKS),
 }
 
 
@@ -27,6 +33,7 @@ class Survey:
         self.marks, self.unread = set(), set()
         for step in plan:
             LOOKS.get(step.name, Survey.at_other)(self, *step.fields)
+            self.mark(**{f"{step.name} of a link": step.name in OF_LINKS and self.is_link(step.fields[0])})
             apply(self, step)
             self.count()
 
@@ -39,6 +46,12 @@ class Survey:
         place = self.model.walk(path, True)
         entry = self.model.at(place) if place is not None else None
         return entry if entry and entry.kind == FILE else None
+
+    def is_link(self, path):
+        """Whether there is a link at a path, and it leads to something."""
+        place, aim = (self.model.walk(path, follows) for follows in (False, True))
+        entry = self.model.at(place) if place is not None else None
+        return bool(entry and entry.kind == LINK and aim is not None and self.model.at(aim))
 
     def mark(self, **marks):
         """Notes those of these marks that hold; a mark has `_` in place of blanks."""
@@ -57,7 +70,8 @@ class Survey:
         if opened and opened.kind == FILE:
             size = self.model.sizes[opened.number]
             self.at_bytes("READ", offset, count)
-            self.mark(READ_behind_the_end=offset > size)
+            self.mark(**{"READ behind the end": offset > size,
+                         "a READ in the second half of 32,768 bytes": size == 32768 and 16384 <= offset < size})
             if offset + count >= size:
                 self.unread.discard(opened.number)
 
@@ -68,7 +82,8 @@ class Survey:
             self.at_bytes("WRITE", offset, count)
             appends = bool(opened.flags & sftp3.APPEND)
             self.mark(a_WRITE_with_APPEND=appends, WRITE_behind_the_end=not appends and offset > size,
-                      a_part_overwritten=not appends and count and offset + count < size)
+                      a_part_overwritten=not appends and count and offset + count < size,
+                      a_WRITE_of_no_bytes_behind_the_end=not appends and not count and size < offset < FAR)
             if count and offset + count <= self.model.largest:
                 self.unread.add(opened.number)
 
@@ -100,6 +115,26 @@ class Survey:
             self.mark(**{"a file of some 300,000 bytes": 250_000 < size < 350_000,
                          "a file of some million bytes": size >= 2 ** 20})
 
+    def at_fstat(self, handle):
+        opened = self.of_handle(handle)
+        if opened and opened.kind == FILE:
+            there = self.file_at(opened.path)
+            named = any(self.model.at(place).number == opened.number for place in self.model.of_kind(FILE))
+            moved = named and (there is None or there.number != opened.number)
+            self.mark(an_FSTAT_of_a_file_that_got_another_name=moved)
+
+    def at_stat(self, path):
+        entry = self.file_at(path)
+        written = entry and any(opened.kind == FILE and opened.number == entry.number and opened.flags & sftp3.WRITE
+                                for opened in self.opened.values())
+        self.mark(a_STAT_of_a_file_that_is_open_to_be_written=written)
+
+    def at_open(self, path, flags, _attributes):
+        self.at_path(path)
+        place = self.model.walk(path, True)
+        makes = place is not None and self.model.at(place) is None and flags == sftp3.READ | sftp3.CREAT
+        self.mark(an_OPEN_to_read_that_makes_a_file=makes)
+
     def at_posix_rename(self, old, new):
         entries = self.file_at(old), self.file_at(new)
         self.mark(**{"a file replaced by posix-rename": all(entries) and entries[0] is not entries[1]})
@@ -119,7 +154,8 @@ class Survey:
 
 LOOKS = {"READ": Survey.at_read, "WRITE": Survey.at_write, "SETSTAT": Survey.at_setstat,
          "FSETSTAT": Survey.at_fsetstat, "CLOSE": Survey.at_close, "POSIX-RENAME": Survey.at_posix_rename,
-         "OPENDIR": Survey.at_opendir, "OPEN": Survey.at_path, "MKDIR": Survey.at_path}
+         "OPENDIR": Survey.at_opendir, "OPEN": Survey.at_open, "MKDIR": Survey.at_path, "FSTAT": Survey.at_fstat,
+         "STAT": Survey.at_stat}
 
 
 def left(survey):

@@ -53,6 +53,8 @@ def upload(p, path, content, flags=WRITE | CREAT | TRUNC):
     if p.random.random() < 0.6:
         yield p.ask("FSTAT", step.opened())
     if p.random.random() < 0.3:
+        yield p.ask("STAT", path)
+    if p.random.random() < 0.3:
         yield p.ask("FSYNC", step.opened())
     yield p.ask("CLOSE", step.opened())
 
@@ -89,11 +91,25 @@ def transferring(p):
 
 
 def transferring_edges(p):
-    """Files of sizes around one block."""
+    """Files of sizes around one block, and a file without bytes that is made by an OPEN to read."""
     for size in p.random.sample(EDGES, len(EDGES)):
         path = p.blank(b"edge")
         yield from upload(p, path, Content(p.random, size))
         yield from download(p, path, size)
+        yield from reading_parts(p, path, size)
+    path = p.blank(b"touched")
+    yield from reading_parts(p, path, 0, READ | CREAT)
+    yield p.ask("LSTAT", path)
+
+
+def reading_parts(p, path, size, flags=READ):
+    """READs from inside a file up to its end, over it, and behind it."""
+    step = p.ask("OPEN", path, flags, {})
+    yield step
+    middle, last = size // 2, max(size - 1, 0)
+    for offset, count in ((middle, max(size - middle, 1)), (max(size - 100, 0), 4 * KIB), (last, 1), (size, 1)):
+        yield p.ask("READ", step.opened(), offset, count)
+    yield p.ask("CLOSE", step.opened())
 
 
 def transferring_much(p):
@@ -155,9 +171,9 @@ def replacing_upload(p):
 
 def renaming_open(p):
     """A file that gets another name while it is written, by RENAME or posix-rename, and one that is replaced while it
-    is read."""
+    is read; what is looked at and set through their handles then."""
     path, new = p.blank(b"log"), p.blank(b"log.1")
-    content, kind = Content(p.random, 100_000), p.random.choice(["RENAME", "POSIX-RENAME"])
+    content, kind = Content(p.random, 100_000), p.random.choice(["RENAME", "POSIX-RENAME", "POSIX-RENAME"])
     yield from upload(p, new if kind == "POSIX-RENAME" else p.blank(b"log.2"), Content(p.random, 50_000))
     reading = p.ask("OPEN", new, READ, {}) if kind == "POSIX-RENAME" else None
     if reading:
@@ -168,8 +184,11 @@ def renaming_open(p):
     yield p.ask(kind, path, new)
     yield p.ask("WRITE", step.opened(), 32 * KIB, content.at(32 * KIB, 32 * KIB))
     yield p.ask("WRITE", step.opened(), 50, content.at(7, 3000))
+    yield p.ask("FSETSTAT", step.opened(), {"permissions": 0o640})
+    yield p.ask("FSTAT", step.opened())
     yield from read_all(p, step.opened(), 64 * KIB)
     if reading:
+        yield p.ask("FSTAT", reading.opened())
         yield from read_all(p, reading.opened(), 50_000)
         yield p.ask("CLOSE", reading.opened())
     yield p.ask("CLOSE", step.opened())
@@ -236,8 +255,8 @@ def sized(p, setting, step, size):
 
 
 def sparse(p):
-    """A file with WRITEs far behind its end, READs before, across and behind them, and READs where numbers of 31 and
-    32 bits end."""
+    """A file with WRITEs far behind its end, READs before, across and behind them, a WRITE of no bytes behind all, and
+    READs where numbers of 31 and 32 bits end."""
     path, content = p.blank(b"holes"), Content(p.random, 4 * 2 ** 20)
     step = p.ask("OPEN", path, READ | WRITE | CREAT | TRUNC, {})
     yield step
@@ -246,6 +265,7 @@ def sparse(p):
     for offset in p.random.sample(places, 3):
         yield p.ask("WRITE", step.opened(), offset, content.at(offset, p.random.choice([1, 500, 9000, 40_000])))
         yield from read_around(p, step.opened(), offset, before=20, count=32 * KIB)
+    yield p.ask("WRITE", step.opened(), 4 * 2 ** 20, b"")
     yield p.ask("FSTAT", step.opened())
     for offset in (0, 50_000, 99_990, 500_000, 2 ** 20 - 20):
         yield p.ask("READ", step.opened(), offset, 32 * KIB)
@@ -355,6 +375,54 @@ def unusual_names(p):
         yield p.ask("LSTAT", top + b"/" + old)
         yield p.ask("LSTAT", top + b"/" + new)
     yield from listing(p, top, len(names))
+
+
+def following_links(p):
+    """A file and a directory that requests meet through links, which are the last names of paths, and the links."""
+    top, to_file, to_top = p.blank(b"aim"), p.blank(b"to-file"), p.blank(b"to-top")
+    file = top + b"/file"
+    yield p.ask("MKDIR", top, {})
+    yield from upload(p, file, Content(p.random, 300))
+    yield p.ask("SYMLINK", p.random.choice([file, file[1:]]), to_file)
+    yield p.ask("SYMLINK", p.random.choice([top, b"." + top]), to_top)
+    yield from through_file_link(p, to_file, file)
+    yield from through_directory_link(p, to_top, top)
+    moved = p.blank(b"link")
+    yield p.ask("RENAME", to_file, moved)
+    yield from download(p, moved, 200)
+    yield p.ask("REMOVE", p.random.choice([moved, to_top]))
+    yield p.ask("LSTAT", to_top)
+    yield from download(p, file, 200)
+    yield from listing(p, top, 1)
+
+
+def through_file_link(p, link, file):
+    """What is read, written and set through a link to a file of 300 bytes, which has 200 at the end."""
+    yield from download(p, link, 300)
+    step = p.ask("OPEN", link, READ | WRITE | p.random.choice([0, CREAT]), {})
+    yield step
+    yield p.ask("WRITE", step.opened(), 250, b"through the link")
+    yield p.ask("FSTAT", step.opened())
+    yield p.ask("CLOSE", step.opened())
+    yield p.ask("SETSTAT", link, {"permissions": 0o600})
+    yield p.ask("LSTAT", file)
+    yield p.ask("SETSTAT", link, {"size": 200})
+    for name, path in (("LSTAT", file), ("STAT", link), ("LSTAT", link), ("REALPATH", link), ("READLINK", link)):
+        yield p.ask(name, path)
+    yield p.ask("OPEN", link, WRITE | CREAT | EXCL, {}, cause="Exists")
+
+
+def through_directory_link(p, link, top):
+    """What is listed, set and made through a link to a directory of one name."""
+    yield from listing(p, link, 1)
+    yield p.ask("SETSTAT", link, {"permissions": 0o711})
+    yield p.ask("STAT", top)
+    yield p.ask("MKDIR", link + b"/inside", {})
+    yield p.ask("LSTAT", top + b"/inside")
+    yield p.ask("RMDIR", link, cause="NotDir")
+    yield p.ask("MKDIR", link, {}, cause="Exists")
+    yield p.ask("RMDIR", link + b"/inside")
+    yield p.ask("REALPATH", link)
 
 
 def deep(p):

@@ -84,7 +84,9 @@ def accepted(steps, room):
 
 def bad_auditors(steps, room):
     """An auditor that dies, never reads, or cannot run: the session goes on, and a line says so."""
-    for name, text, seen in (("dies", "exit 9", "status 9"), ("is killed", "kill -9 $$", "was ended by signal 9"),
+    for name, text, seen in (("dies", "exit 9", "status 9; the record goes on"),
+                             ("is killed", "kill -9 $$", "was ended by signal 9; the record goes on"),
+                             ("fails at the end", "cat >/dev/null; echo no room; exit 3", "status 3: no room"),
                              ("never reads", "sleep 1000", "did not end"), ("has a bad tree", None, "ended with")):
         program = room.folder / "auditor"
         if text:

@@ -60,6 +60,8 @@ class Audit:
         os.set_blocking(self.output, False)
         self.pending, self.behind = collections.deque(), 0
         self.is_fed, self.is_heard, self.is_given_up, self.refused = True, True, False, False
+        # whether the session has ended
+        self.is_last = False
         self.said = b""
 
     def put(self, data):
@@ -128,7 +130,8 @@ class Audit:
                 self.notices.say(f"audit: {line}")
         else:
             how = f"ended with status {status}" if status >= 0 else f"was ended by signal {-status}"
-            self.notices.say(f"the audit {how}; the record goes on{': ' if lines else ''}{' '.join(lines)}")
+            how += "" if self.is_last else "; the record goes on"
+            self.notices.say(f"the audit {how}{': ' if lines else ''}{' '.join(lines)}")
 
     def kill(self):
         """Ends the audit, and what it started."""
@@ -146,6 +149,7 @@ class Audit:
 
     def finish(self):
         """Gives the audit some seconds for the end of the session."""
+        self.is_last = True
         end = time.monotonic() + SECONDS
         while self.is_heard and time.monotonic() < end:
             if not self.pending:
