@@ -8,8 +8,9 @@ import time
 import sftp3
 from record_trials.steps import (INIT, STUB, close, ended, errors, gone, open_session, receive, request, stubs)
 
-# How long, in seconds, is waited for what takes a recorder one; what does not end, does not end by then either.
-SOON = 20
+# How long, in seconds, is waited for what takes a recorder one, however busy the machine is; what does not end, does not
+# end by then either.
+SOON = 100
 
 
 def whole(room, name="t"):
@@ -114,7 +115,7 @@ def whole_sessions(steps, room):
     for name, words, requests, size in (("200 READs", (), asked, 9 + 200 * (13 + 32768)),
                                         ("a late reply", ("late",), INIT + request(1, "STAT", b"/"), 9 + 21)):
         ran = subprocess.run([room_record(), "--overwrite", "t", STUB, *words], input=requests,
-                             stdout=subprocess.PIPE, stderr=subprocess.PIPE, cwd=room.folder, timeout=30)
+                             stdout=subprocess.PIPE, stderr=subprocess.PIPE, cwd=room.folder, timeout=SOON)
         steps.check(f"{name}: all is answered after the end of the input", len(ran.stdout) == size,
                     f"{len(ran.stdout)} bytes, status {ran.returncode}: {ran.stderr}")
         steps.check(f"{name}: status 0", ran.returncode == 0, str(ran.returncode))
@@ -129,9 +130,9 @@ def whole_sessions(steps, room):
                 ended(process, SOON) == 0 and "saved" in errors(process))
 
 
-def goes_on(room, words, options, asked, is_there):
-    """How long a session goes on after the end of the client's input, or None if it goes on for over ten seconds. The
-    client takes all that comes as long as it `is_there`."""
+def ends_soon(room, words, options, asked, is_there):
+    """Whether a session ends soon after the end of the client's input. The client takes all that comes as long as it
+    `is_there`."""
     process = room.stub("t", *words, options=["--overwrite", "--grace", "1", *options])
     open_session(process)
     process.stdin.write(asked)
@@ -140,13 +141,11 @@ def goes_on(room, words, options, asked, is_there):
     if not is_there:
         reader.kill()
     close(process.stdin)
-    since = time.monotonic()
-    status = ended(process, 10)
-    lasted = time.monotonic() - since
+    status = ended(process, SOON)
     reader.kill(), reader.wait()
     for it in stubs(room.folder):
         os.kill(it, signal.SIGKILL)
-    return None if status is None else lasted
+    return status is not None
 
 
 def sending_servers(steps, room):
@@ -156,9 +155,9 @@ def sending_servers(steps, room):
     for words, options, asked in ((["floods"], [], b""), (["floods", "ignores"], [], stat), (["endless"], [], stat),
                                   (["endless", "ignores"], full, stat), (["drips"], [], stat), (["leaves"], [], stat)):
         for is_there in (True, False):
-            lasted = goes_on(room, words, options, asked, is_there)
+            is_over = ends_soon(room, words, options, asked, is_there)
             steps.check(f"a server that {' and '.join(words)}, a client that {'reads on' if is_there else 'is gone'}: "
-                        "it ends after --grace", lasted is not None, "it goes on")
+                        "it ends after --grace", is_over, "it goes on")
 
 
 def room_record():
@@ -176,7 +175,7 @@ def slow_client(steps, room):
     os.set_blocking(writer.stdin.fileno(), False)
     asked = b"".join(request(it, "READ", b"h", 0, 32768) for it in range(count))
     sent = got = most = 0
-    end = time.monotonic() + 20
+    end = time.monotonic() + SOON
     wanted = count * (13 + 32768)
     while got < wanted and time.monotonic() < end:
         if sent < len(asked):

@@ -35,7 +35,7 @@ def log(room):
 
 
 def says_soon(room, text):
-    end = time.monotonic() + 3
+    end = time.monotonic() + SOON
     while text not in log(room) and time.monotonic() < end:
         time.sleep(0.02)
     return text in log(room)
@@ -123,7 +123,7 @@ def behind(steps, room):
               os.fspath(Path(__file__).with_name("stub.py")), data=asked)
     steps.check("an auditor that is behind: the client gets all", len(ran.stdout) == 9 + 1200 * (13 + 32768))
     steps.check("an auditor that is behind: a line says so", b"fell behind" in ran.stderr, str(ran.stderr))
-    steps.check("an auditor that is behind: the session is not held up", time.monotonic() - start < 60)
+    steps.check("an auditor that is behind: the session is not held up", time.monotonic() - start < SOON)
     steps.check("an auditor that is behind: the transcript has all", whole(room) == (True, 2402), str(whole(room)))
 
 
@@ -139,7 +139,7 @@ def system_log(steps, room):
             for number, name in ((1, b"/a"), (2, b"/b"), (3, b"/c")):
                 process.stdin.write(request(number, "MKDIR", name, {}))
                 receive(process, 21)
-            listener.settimeout(3)
+            listener.settimeout(SOON)
             said = ""
             while "sftpv3-record" not in said:
                 # other programs may write there, too

@@ -106,14 +106,13 @@ def pipes(steps, room):
     os.mkfifo(room.folder / "fifo")
     reader = subprocess.Popen(["cat", "fifo"], cwd=room.folder, stdout=subprocess.PIPE)
     ran = run(room, "fifo", STUB, data=INIT)
-    got = reader.communicate(timeout=5)[0]
+    got = reader.communicate(timeout=SOON)[0]
     steps.check("a FIFO as transcript", got == b"SFTPTR01C" + INIT + b"S" + ran.stdout, str(got))
-    start = time.monotonic()
     ran = run(room, "fifo", STUB, data=INIT)
     steps.check("a FIFO that nobody reads: the session goes on, and a line says so", len(ran.stdout) == 9 and
-                b"not recorded" in ran.stderr and time.monotonic() - start < 10, str(ran))
+                b"not recorded" in ran.stderr, str(ran))
     ran = subprocess.run(["bash", "-c", '"$0" >(cat >through) "$1"', RECORD, STUB], input=INIT,
-                         stdout=subprocess.PIPE, cwd=room.folder, timeout=20)
+                         stdout=subprocess.PIPE, cwd=room.folder, timeout=SOON)
     time.sleep(0.3)
     steps.check("a pipe of the shell, >(...), as transcript", room.read("through")[:9] == b"SFTPTR01C", str(ran))
 

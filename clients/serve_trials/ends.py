@@ -6,7 +6,7 @@ import subprocess
 import time
 
 import sftp3
-from serve_trials.steps import IS_PLAIN, KINDS, SIGNALS, children_of, wait_until
+from serve_trials.steps import IS_PLAIN, KINDS, SIGNALS, SOON, children_of, wait_until
 
 BLOCK = bytes(range(256)) * 128
 # 100 MB in 7 files, each below the 16 MiB that a file may have.
@@ -55,7 +55,7 @@ def before_opening(steps, room):
     for kind in KINDS:
         server = room.serve("--save", kind, kind=kind)
         # a signal before that ends what is no session yet
-        wait_until(lambda: children_of(server.process.pid), 0.5 if IS_PLAIN else 10)
+        wait_until(lambda: children_of(server.process.pid), 0.5 if IS_PLAIN else SOON)
         server.process.send_signal(signal.SIGTERM)
         status = server.status()
         steps.check(f"SIGTERM before an INIT, over {kind}: it ends by itself", status is not None and status >= 0,
@@ -81,9 +81,9 @@ def upload(server, handles, after, act):
     os.set_blocking(server.output, False)
     is_done = is_open = True
     while True:
-        readers, writers, _ = select.select([server.output], [server.input] if is_open else [], [], 10)
+        readers, writers, _ = select.select([server.output], [server.input] if is_open else [], [], SOON)
         if not readers and not writers:
-            raise AssertionError("neither a reply nor room for 10 seconds")
+            raise AssertionError(f"neither a reply nor room for {SOON} seconds")
         if readers:
             try:
                 piece = os.read(server.output, 1 << 16)
@@ -183,7 +183,7 @@ def waiting_client(steps, room):
     server.send(b"".join(sftp3.encode(sftp3.Request(it, "READ", [reading, 0, len(BLOCK)])) for it in range(100, 300)))
     time.sleep(0.3)
     server.process.send_signal(signal.SIGTERM)
-    status = server.status(5)
+    status = server.status()
     steps.check("a client that does not read, and a SIGTERM: it ends, status 3", status == 3, f"{status}")
     steps.check("a client that does not read, and a SIGTERM: the tree is saved", room.names() == ["/a", "/f"])
 
@@ -266,11 +266,11 @@ def files_as_streams(steps, room):
     (room.folder / "asked").write_bytes(sftp3.init() + sftp3.encode(sftp3.Request(1, "MKDIR", [b"/a", {}])))
     words = [*room.serve_words("--save", "t")]
     with open(room.folder / "asked", "rb") as asked, open(room.folder / "replies", "wb") as replies:
-        ran = subprocess.run(words, stdin=asked, stdout=replies, cwd=room.folder, timeout=10)
+        ran = subprocess.run(words, stdin=asked, stdout=replies, cwd=room.folder, timeout=SOON)
     size = (room.folder / "replies").stat().st_size
     steps.check("a file as the input: all is answered and saved", ran.returncode == 0 and room.names() == ["/a"] and
                 size > 124, f"status {ran.returncode}, {size} bytes")
-    ran = subprocess.run(words, stdin=subprocess.DEVNULL, capture_output=True, cwd=room.folder, timeout=10)
+    ran = subprocess.run(words, stdin=subprocess.DEVNULL, capture_output=True, cwd=room.folder, timeout=SOON)
     steps.check("nothing as the input: it ends as serve does", ran.returncode in (0, 1) and room.names() == ["/a"])
 
 

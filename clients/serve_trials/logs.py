@@ -6,7 +6,7 @@ import subprocess
 
 from record_trials.steps import make_user, remove_user
 from serve_trials.saving import USER, finish
-from serve_trials.steps import IS_PLAIN, SERVE
+from serve_trials.steps import IS_PLAIN, SERVE, SOON
 
 LINE = re.compile(r"\d{4}-\d\d-\d\dT\d\d:\d\d:\d\dZ [\w-]+\[(\d+)\] (.*)")
 
@@ -90,7 +90,7 @@ def full_log(steps, room):
 def usage(steps, room):
     def run(*words):
         return subprocess.run([*SERVE, *words], cwd=room.folder, stdin=subprocess.DEVNULL, stdout=subprocess.PIPE,
-                              stderr=subprocess.STDOUT, text=True, timeout=10)
+                              stderr=subprocess.STDOUT, text=True, timeout=SOON)
     for name, words in (("no --tree", []), ("an unknown option", ["--tree", "t", "--unknown"]),
                         ("an option without its value", ["--tree"]), ("a word too many", ["--tree", "t", "more"]),
                         ("no time", ["--tree", "t", "--grace", "soon"]), ("two trees", ["--tree", "t", "--tree", "t"]),
@@ -107,7 +107,7 @@ def usage(steps, room):
     if not IS_PLAIN:
         for program, status in (("absent/sftpv3", 127), (str(room.folder / "t"), 126)):
             ran = subprocess.run([SERVE[0], "--program", program, "--tree", "t", "--save", "end"], cwd=room.folder,
-                                 stdin=subprocess.DEVNULL, capture_output=True, text=True, timeout=10)
+                                 stdin=subprocess.DEVNULL, capture_output=True, text=True, timeout=SOON)
             steps.check(f"a program that cannot run: status {status}, a line, nothing is left",
                         ran.returncode == status and "cannot run" in ran.stderr and "Traceback" not in ran.stderr and
                         room.left() == ["t"], f"{ran.returncode}: {ran.stderr} {room.left()}")
@@ -123,7 +123,7 @@ def files_named_twice(steps, room):
                   ("--log", "hard", "--save", "t"), ("--replay", "hard", "--save", "t"),
                   ("--log", "r", "--replay", "r"), ("--save", "new", "--record", "./new")):
         ran = subprocess.run([*SERVE, "--tree", "t", *words], cwd=room.folder, stdin=subprocess.DEVNULL,
-                             stdout=subprocess.PIPE, stderr=subprocess.STDOUT, text=True, timeout=10)
+                             stdout=subprocess.PIPE, stderr=subprocess.STDOUT, text=True, timeout=SOON)
         steps.check(f"{' '.join(words)}: status 2, and a line", ran.returncode == 2 and "name one file" in ran.stdout,
                     f"{ran.returncode}: {ran.stdout}")
         steps.check(f"{' '.join(words)}: no file is changed", (room.folder / "t").read_bytes() == before and
@@ -154,7 +154,7 @@ def environment(steps, room):
                                 ("an empty one", {"GLIBC_TUNABLES": ""}, "")):
         given = {"PATH": os.environ["PATH"], "LC_ALL": "C.UTF-8", **given}
         ran = subprocess.run([SERVE[0], "--program", str(program), "--tree", "t"], cwd=room.folder, env=given,
-                             stdin=subprocess.DEVNULL, capture_output=True, text=True, timeout=10)
+                             stdin=subprocess.DEVNULL, capture_output=True, text=True, timeout=SOON)
         found = sorted({**given, "GLIBC_TUNABLES": wanted}.items())
         steps.check(f"GLIBC_TUNABLES, {name}: what the server gets", ran.returncode == 0 and ran.stdout == repr(found),
                     f"{ran.returncode}: {ran.stdout}")

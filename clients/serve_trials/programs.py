@@ -30,7 +30,7 @@ def command(room, *words):
 
 def run(words, **options):
     return subprocess.run(list(map(str, words)), stdout=subprocess.PIPE, stderr=subprocess.STDOUT, text=True,
-                          timeout=60, **options)
+                          timeout=trials.SOON, **options)
 
 
 def begun(words, commands, room, **options):
@@ -47,7 +47,7 @@ def begun(words, commands, room, **options):
 
 def is_saved(room, *names):
     """Whether the tree has these names soon: a client need not wait for the end of its server."""
-    return wait_until(lambda: set(names) <= set(room.names()), 5)
+    return wait_until(lambda: set(names) <= set(room.names()))
 
 
 def with_sftp(steps, room):
@@ -124,7 +124,11 @@ class Sshd:
             f"AuthorizedKeysFile {room.folder}/key.pub\nStrictModes no\nPermitRootLogin yes\n"
             f"Subsystem sftp {subsystem}\n")
         self.process = subprocess.Popen([SSHD, "-D", "-f", room.folder / "config", "-E", room.folder / "sshd.log"])
-        time.sleep(0.5)
+        wait_until(self.listens)
+
+    def listens(self):
+        with socket.socket() as probe:
+            return probe.connect_ex(("127.0.0.1", self.port)) == 0
 
     def options(self):
         return ["-o", f"Port={self.port}", "-o", f"IdentityFile={self.key}", *SSH]

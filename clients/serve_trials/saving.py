@@ -2,7 +2,6 @@
 import os
 import signal
 import subprocess
-import time
 
 from record_trials.steps import make_user, remove_user
 from serve_trials.steps import PROGRAM, SIGNALS
@@ -10,9 +9,9 @@ from serve_trials.steps import PROGRAM, SIGNALS
 USER = "sftpv3-served"
 
 
-def finish(server, seconds=5):
+def finish(server):
     server.close_input()
-    return server.status(seconds)
+    return server.status()
 
 
 def one_after_the_other(steps, room):
@@ -248,10 +247,11 @@ def held_lock(steps, room):
     """Another process that holds the file's lock does not keep a session from ending."""
     server = room.saving()
     server.make("/a")
-    with subprocess.Popen(["flock", room.folder / "t", "sleep", "30"]) as holder:
-        time.sleep(0.2)
+    holds = ["flock", room.folder / "t", "sh", "-c", "echo held; exec sleep 1000"]
+    with subprocess.Popen(holds, stdout=subprocess.PIPE) as holder:
+        holder.stdout.readline()
         server.process.send_signal(signal.SIGTERM)
-        status = server.status(20)
+        status = server.status()
         subprocess.run(["pkill", "-P", str(holder.pid)])
         holder.kill()
     steps.check("a lock that another process holds: the tree goes beside", status == 0 and

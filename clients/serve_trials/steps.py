@@ -21,8 +21,9 @@ PROGRAM = program()
 # what is tried, as words: `SERVE="FILE serve"` tries the program without the script
 SERVE = os.environ["SERVE"].split() if "SERVE" in os.environ else [str(TOP / "clients/serve"), "--program", PROGRAM]
 IS_PLAIN = "SERVE" in os.environ
-# How long, in seconds, is waited for what ends at once; what does not end, does not end by then either.
-SOON = 20
+# How long, in seconds, is waited for what ends at once, however busy the machine is; what does not end, does not end by
+# then either.
+SOON = 100
 VERSION_BYTES = 124
 WRITTEN = sftp3.WRITE | sftp3.CREAT
 KINDS = ("sockets", "pipes")

@@ -19,8 +19,10 @@ class Steps:
     def __init__(self) -> None:
         self.passed = self.failed = self.skipped = 0
         self.lock = threading.Lock()
-        # a shell has what it starts in the background ignore SIGINT, and so what that starts
+        # a shell has what it starts in the background ignore SIGINT, and nohup SIGHUP, and so what that starts
         signal.signal(signal.SIGINT, signal.default_int_handler)
+        if signal.getsignal(signal.SIGHUP) == signal.SIG_IGN:
+            signal.signal(signal.SIGHUP, lambda *_: None)
 
     def check(self, name: str, holds: object, why: object = "") -> object:
         """A step, which passed if it holds; if not, its line says why. Returns whether it holds."""
@@ -43,6 +45,9 @@ class Steps:
         return 1 if self.failed else 0
 
 
+# The words that ask a script what it is for.
+HELP = {"-h", "--help"}
+
 # What ends a trial, and not the script.
 ENDS = (OSError, subprocess.SubprocessError, AssertionError, IndexError)
 
@@ -56,8 +61,24 @@ def attempt(steps, trial, room):
             steps.check(f"{trial.__name__}: it can be tried to its end", False, f"{type(error).__name__}: {error}")
 
 
+def answer_help():
+    """Prints what the script says of itself, and ends it, if it is asked by `--help`."""
+    if HELP & set(sys.argv[1:]):
+        print(sys.modules["__main__"].__doc__.strip())
+        sys.exit(0)
+
+
+def takes_no_words():
+    """Ends the script if it got words: it knows none but `--help`."""
+    answer_help()
+    if sys.argv[1:]:
+        print(sys.modules["__main__"].__doc__.strip(), file=sys.stderr)
+        sys.exit(2)
+
+
 def run_parts(package, parts, room, usage):
     """Tries the parts that the command line names, or else all. Returns the exit status."""
+    answer_help()
     words = sys.argv[1:]
     if set(words) - set(parts):
         print(usage, file=sys.stderr)

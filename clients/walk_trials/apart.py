@@ -10,7 +10,7 @@ import time
 from probing import below, planner, servers, starting
 from probing.program import TOP, program
 from sftp3 import trees
-from walk_trials.walks import HOSTILE, POSIX, SFTP_SERVER, run, signalled
+from walk_trials.walks import HOSTILE, POSIX, PROMPT, SFTP_SERVER, run, signalled, wait_until
 
 PROBE = os.path.join(TOP, "clients", "probe")
 MISBEHAVING = [sys.executable, os.path.join(TOP, "clients", "probing", "misbehaving.py")]
@@ -79,7 +79,7 @@ def try_clearing(steps):
     """What a session made is removed, or said to be left, whatever the server lists."""
     for kind, wanted in ENDLESS:
         work = Asked(b"/live")
-        said = work.run(servers.Server([*HOSTILE, kind]), 1)
+        said = work.run(servers.Server([*HOSTILE, kind]), PROMPT)
         above = [path for path in work.asked if not path.startswith(b"/live") or b".." in path]
         steps.check(f"to remove a directory of a server, {kind.replace('_', ' ')}: {wanted}",
                     said and wanted in said and not above, f"{said}: {above[:3]}")
@@ -87,12 +87,18 @@ def try_clearing(steps):
 
 def try_signals(steps, folder):
     """What is asked of a server behind a session ends soon after a signal, and says what is left."""
-    os.environ["MARK"] = os.path.join(folder, "mark")
-    stop, start = threading.Event(), time.monotonic()
-    threading.Timer(1, stop.set).start()
+    os.environ["MARK"] = mark = os.path.join(folder, "mark")
+    stop, told = threading.Event(), []
+
+    def stop_it():
+        wait_until(lambda: os.path.exists(mark))
+        told.append(time.monotonic())
+        stop.set()
+    threading.Thread(target=stop_it).start()
     said = below.Clearing(b"/live").run(servers.Server([*HOSTILE, "hangs_at_removal"]), 600, stop)
+    took = time.monotonic() - told[0] if told else None
     steps.check("what hangs while it is removed is left once the run is to end", said == '"/live" is left: the run was '
-                "ended while it was removed" and time.monotonic() - start < 30, f"{said}: {time.monotonic() - start}")
+                "ended while it was removed" and took is not None and took < PROMPT, f"{said}: {took}")
     stop, asked = threading.Event(), Asked(b"/d")
     stop.set()
     said = asked.run(servers.Server([*HOSTILE, "removes"]), 600, stop)

@@ -18,8 +18,12 @@ HOSTILE = [sys.executable, os.path.join(TOP, "clients", "walk_trials", "hostile.
 SFTP_SERVER = "/usr/lib/openssh/sftp-server"
 POSIX = ["--profile", "posix"]
 
-# Seconds after which a walk is said not to end, and the most bytes of memory that one may take.
-ENDLESS, MEMORY = 300, 1 << 30
+# Seconds of a processor after which a walk is said not to end, seconds after which it is said to hang, however busy the
+# machine is, and the most bytes of memory that one may take.
+ENDLESS, HUNG, MEMORY = 300, 1800, 1 << 30
+
+# The server that does not reply, and for how many seconds a walk waits for it, and for replies of others.
+SILENT, SHORT, LONG = "hang", "1", "100"
 
 # Seconds after which a signal is said not to end a script.
 PROMPT = 60
@@ -54,7 +58,7 @@ ENDED = [
     ("short_reads", 'READ of "/f" gives few bytes at a time'),
     ("relative_realpath", r'REALPATH of "." gave "\x1b[1mhome", which is no absolute path'),
     ("no_realpath", 'REALPATH of "." gave 8 OP_UNSUPPORTED'),
-    ("hang", "the server did not reply within 1 seconds"),
+    (SILENT, f"the server did not reply within {SHORT} seconds"),
     ("ends", r"standard error: \x1b[1mout of order"),
     ("ends", "the server ended, or closed its output"),
     ("counts_wrong", "a reply of the server is malformed: a field goes past the end"),
@@ -80,19 +84,27 @@ TOLD = [
 ]
 
 
-def limit_memory():
+def limit():
     resource.setrlimit(resource.RLIMIT_AS, (MEMORY, MEMORY))
+    resource.setrlimit(resource.RLIMIT_CPU, (ENDLESS, ENDLESS))
 
 
 def run(words, cwd, **options):
-    """The status of a command of the repository, and what it printed on both streams."""
-    done = subprocess.run(words, cwd=cwd, stdin=subprocess.DEVNULL, stdout=subprocess.PIPE, stderr=subprocess.STDOUT,
-                          timeout=ENDLESS, check=False, **options)
+    """The status of a command of the repository, and what it printed on both streams. There is no status if it hangs."""
+    try:
+        done = subprocess.run(words, cwd=cwd, stdin=subprocess.DEVNULL, stdout=subprocess.PIPE,
+                              stderr=subprocess.STDOUT, timeout=HUNG, check=False, **options)
+    except subprocess.TimeoutExpired:
+        return None, f"it did not end within {HUNG} seconds"
     return done.returncode, done.stdout.decode(errors="replace")
 
 
 def walk(folder, options, command):
-    return run([WALK, *options, "--", *command], folder, preexec_fn=limit_memory)
+    return run([WALK, *options, "--", *command], folder, preexec_fn=limit)
+
+
+def walk_hostile(folder, options, kind):
+    return walk(folder, ["--timeout", SHORT if kind == SILENT else LONG, *options], [*HOSTILE, kind])
 
 
 def is_clean(said):
@@ -103,8 +115,7 @@ def is_clean(said):
 def try_hostile(steps, folder):
     for kind, wanted in TOLD:
         to = os.path.join(tempfile.mkdtemp(dir=folder), "seen.tree")
-        status, said = walk(folder, ["--timeout", "1", "--max-bytes", "5000000", "--to", to],
-                            [*HOSTILE, kind])
+        status, said = walk_hostile(folder, ["--max-bytes", "5000000", "--to", to], kind)
         steps.check(f"{kind.replace('_', ' ')}: {wanted or 'it ends'}",
                     status in (0, 1) and wanted in said and is_clean(said) and os.path.exists(to) == (status == 0),
                     f"{status}: {said[:600]}")
@@ -131,7 +142,7 @@ def try_records(steps, folder):
     steps.check("a record that is there is kept", status == 0 and os.path.exists(session + ".2"), said)
     name = os.path.join(folder, "hostile.transcript")
     for kind, wanted in ENDED:
-        status, said = walk(folder, ["--timeout", "1", "--max-bytes", "2000000", "--session", name], [*HOSTILE, kind])
+        status, said = walk_hostile(folder, ["--max-bytes", "2000000", "--session", name], kind)
         steps.check(f"{kind.replace('_', ' ')}, recorded: {wanted}", status == 3 and wanted in said and is_clean(said),
                     f"{status}: {said[:600]}")
 
