@@ -3,6 +3,7 @@
 #![tactic(auto)]
 
 mod contents;
+mod growth;
 mod links;
 mod memory;
 mod messages;
@@ -14,7 +15,7 @@ mod saving;
 mod watching;
 
 pub use contents::{Content, FileSink};
-pub use memory::{Bounded, Meter};
+pub use memory::{Bounded, BoundedRecords, Meter};
 pub use messages::{
     Ending, Failure, MORE, STANDARD_INPUT, STANDARD_OUTPUT, print, report, write_flushed,
 };

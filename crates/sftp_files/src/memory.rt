@@ -1,12 +1,17 @@
 //! A limit on the memory of the process, and streams that end with it.
-ghost use Rattle.std.specs.Prelude.{◌≡◌, ◌<◌, IfErr};
+ghost use Rattle.std.specs.Prelude.{◌≡◌, ◌≤◌, IfOk, IfErr};
+ghost use Rattle.std.specs.Io.{ReadsAtMost};
+ghost use Rattle.std.specs.Io.Buffered.{reader_remaining};
+ghost use Rattle.std.specs.Io.KnownBytes.{ReadConsumes};
 ghost use Rattle.sftp_files.specs.Failures.{IsUnread};
 
 use crate::System;
+use crate::growth::Growth;
 use crate::messages::Failure;
 use sftp_tar::Gauge;
+use std::alloc::{AllocError, Global};
 use std::fs::File;
-use std::io::{ErrorKind, Read, Seek, SeekFrom, Write};
+use std::io::{BufRead, BufReader, ErrorKind, Read, Seek, SeekFrom, Write};
 use std::{fs, io, str};
 
 /// Where Linux has the sizes of the process, in pages.
@@ -18,11 +23,8 @@ const DATA: usize = 5;
 /// The bytes of a page on this machine.
 const PAGE: u64 = 4096;
 
-/// The most bytes that a file of a tree can have.
-const FILE_LIMIT: u64 = 64 << 20;
-
-/// The fewest bytes of a transcript that have a request and its reply, rounded down.
-const LEAST: u64 = 16;
+/// How many bytes of a transcript are looked at together, and how many of a packet go by at once at least.
+const TOGETHER: usize = 4_096;
 
 /// A limit on the memory of the process, if there is one.
 #[derive(Drop)]
@@ -91,36 +93,100 @@ fn data_bytes(sizes: &mut File) -> Option<u64> {
     Some(pages.saturating_mul(PAGE))
 }
 
-/// A stream that fails once the process has more memory than it may.
+/// The records of a transcript, which fail to be read once the process has more memory than it may. The memory is looked
+/// at each time that those since then may have taken the room that there was; the last one of them may take more.
 #[derive(Drop)]
-pub struct Bounded<'m, T> {
-    inner: T,
+pub struct BoundedRecords<'m, R> {
+    inner: BufReader<R>,
     meter: &'m mut Meter,
+    growth: Growth,
 }
 
-impl<'m, T> Bounded<'m, T> {
-    pub fn new(inner: T, meter: &'m mut Meter) -> Bounded<'m, T>
-        ensures { result.inner ≡ inner }
+impl<'m, R: Read + Drop> BoundedRecords<'m, R> {
+    /// Nothing is read yet.
+    ///
+    /// # Errors
+    ///
+    /// `AllocError` if memory runs out.
+    pub fn new(
+        alloc: Global,
+        inner: R,
+        meter: &'m mut Meter,
+    ) -> Result<BoundedRecords<'m, R>, AllocError>
+        ensures { IfOk result (λ records. reader_remaining R.remaining records.inner ≡ R.remaining inner) }
     {
-        Bounded { inner, meter }
+        match BufReader::with_capacity(alloc, TOGETHER, inner) {
+            Ok(inner) => Ok(BoundedRecords {
+                inner,
+                meter,
+                growth: Growth::none(),
+            }),
+            Err(_no_memory) => Err(AllocError),
+        }
     }
 }
 
-/// How many bytes of a transcript may be read before the next look at the memory: so few that for each request in them
-/// there is room for a file.
-fn piece(room: u64) -> usize
-    ensures { 0 < result }
-{
-    (room / FILE_LIMIT).saturating_add(1).saturating_mul(LEAST) as usize
+impl<R: Read> BoundedRecords<'_, R> {
+    /// Looks at the memory if that is due.
+    fn look(&mut self) -> io::Result<()>
+        ensures { self.new.inner ≡ self.old.inner }
+    {
+        if self.growth.is_due() {
+            let room = self.meter.room()?;
+            self.growth
+                .allow(self.meter.limit.saturating_sub(room), room);
+        }
+        Ok(())
+    }
+
+    /// Reads bytes of the packet that goes by, or what comes if nothing is held.
+    fn read_on(&mut self, buffer: &mut [u8]) -> io::Result<usize>
+        ensures bound { ReadsAtMost result buffer.new }
+        ensures bytes { ReadConsumes (reader_remaining R.remaining self.old.inner)
+            (reader_remaining R.remaining self.new.inner) result buffer.new }
+    {
+        let ahead = (self.growth.ahead() as usize).max(1);
+        let most = buffer.len().min(ahead);
+        let count = self.inner.read(&mut buffer[..most])?;
+        self.growth.pass(&buffer[..count]);
+        Ok(count)
+    }
+
+    /// Reads the records that are held and for which there is room.
+    fn read_held(&mut self, buffer: &mut [u8]) -> io::Result<usize>
+        ensures bound { ReadsAtMost result buffer.new }
+        ensures bytes { ReadConsumes (reader_remaining R.remaining self.old.inner)
+            (reader_remaining R.remaining self.new.inner) result buffer.new }
+    {
+        let held = self.inner.buffer();
+        let most = self.growth.pass(&held[..held.len().min(buffer.len())]);
+        let count = most.max(1).min(buffer.len());
+        self.inner.read(&mut buffer[..count])
+    }
 }
 
-impl<R: Read> Read for Bounded<'_, R> {
-    ghost remaining = { λ bounded. R.remaining bounded.inner };
+impl<R: Read> Read for BoundedRecords<'_, R> {
+    ghost remaining = { λ records. reader_remaining R.remaining records.inner };
 
     fn read(&mut self, buffer: &mut [u8]) -> io::Result<usize> {
-        let room = self.meter.room()?;
-        let count = piece(room).min(buffer.len());
-        self.inner.read(&mut buffer[..count])
+        self.look()?;
+        if self.growth.ahead() < TOGETHER as u64 && !self.inner.fill_buf()?.is_empty() {
+            return self.read_held(buffer);
+        }
+        self.read_on(buffer)
+    }
+}
+
+/// A stream that fails to be written once the process has more memory than it may.
+#[derive(Drop)]
+pub struct Bounded<'m, W> {
+    inner: W,
+    meter: &'m mut Meter,
+}
+
+impl<'m, W> Bounded<'m, W> {
+    pub fn new(inner: W, meter: &'m mut Meter) -> Bounded<'m, W> {
+        Bounded { inner, meter }
     }
 }
 

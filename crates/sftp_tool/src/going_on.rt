@@ -12,7 +12,7 @@ use sftp_commands::{
     Asked, Bearing, Kept, LeftOut, Outcome, Replied, find_reply, is_harmless, is_request,
     last_asked,
 };
-use sftp_files::{Bounded, Ending, Failure, Meter, System, open};
+use sftp_files::{BoundedRecords, Ending, Failure, Meter, System, open};
 use sftp_options::AuditOptions;
 use sftp_profile::{Judge, Profile};
 use sftp_show::{Record, find_record};
@@ -343,8 +343,7 @@ fn judge_file<R: System>(
     let file = opened(open(rt, files.transcript))?;
     match Meter::new(rt, files.memory) {
         Ok(mut meter) => {
-            let bounded = Bounded::new(file, &mut meter);
-            let judged = judge_source(rt, files, tree, left_out, bounded, follows);
+            let judged = judge_source(rt, files, tree, left_out, file, &mut meter, follows);
             if meter.is_over() {
                 return Err(Halt::Ended(End::OutOfMemory));
             }
@@ -372,9 +371,11 @@ fn judge_source<R: Files + AllocGlobal, F: Read + Drop>(
     tree: Kept<'_>,
     left_out: &mut LeftOut,
     transcript: F,
+    meter: &mut Meter,
     follows: &mut bool,
 ) -> Result<Counts, AuditError> {
-    let mut records = Reader::new(rt.alloc(), Tally::new(transcript))?;
+    let bounded = BoundedRecords::new(rt.alloc(), transcript, meter)?;
+    let mut records = Reader::new(rt.alloc(), Tally::new(bounded))?;
     let judged = judge_records(rt, files, tree, left_out, &mut records, follows);
     drop(records);
     judged

@@ -17,7 +17,7 @@ use crate::verdict_objects::{print_accepted, print_refused};
 use sftp_audit::{AuditError, Ended, Refusal, audit_tree_by};
 use sftp_commands::{Kept, LeftOut, is_read_again, read_tree_in_view, write_tree};
 use sftp_files::{
-    Bounded, Ending, Failure, Keeping, Meter, System, open, print, read_at_most, write_last,
+    BoundedRecords, Ending, Failure, Keeping, Meter, System, open, print, read_at_most, write_last,
 };
 use sftp_handles::{GivenTable, Session};
 use sftp_judges::Judges;
@@ -162,7 +162,7 @@ fn audit_within<'a, F: Read + Drop, R: System + Clock, O: Write, E: Write + IsTe
     ensures status { IsAuditStatus result }
 {
     let mut meter = Meter::new(rt, files.memory)?;
-    let bounded = Bounded::new(transcript, &mut meter);
+    let bounded = BoundedRecords::new(rt.alloc(), transcript, &mut meter)?;
     match judge_as_asked(rt, files, start, kept, bounded, output, errors) {
         Err(_) if meter.is_over() => Err(Failure::OverLimit(files.transcript)),
         ending => ending,
