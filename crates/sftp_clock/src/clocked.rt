@@ -68,34 +68,79 @@ impl<C: Moments + Drop> Clocked<C> {
 
 impl<C: Moments + Drop, T: HandleTable> Answerer<T> for Clocked<C> {
     fn answer(&mut self, session: &mut Session<T>, request: &Request) -> Result<Reply, NoMemory> {
-        let touch = touch_of(&mut self.table, session, &request.ask)?;
-        match session.answer(request) {
-            Ok(reply) => Ok(self.timed(session, &request.ask, touch, reply)),
-            Err(error) => Err(error),
+        if shows_attributes(&request.ask) {
+            self.answer_shown(session, request)
+        } else {
+            self.answer_noted(session, request)
         }
     }
 }
 
+/// Whether a request asks for attributes alone.
+fn shows_attributes(ask: &Ask) -> bool {
+    match ask {
+        Ask::Stat { .. } => true,
+        Ask::Lstat { .. } => true,
+        Ask::Fstat { .. } => true,
+        _ => false,
+    }
+}
+
+// Two functions, so that a request that shows attributes does not pay for the values of the others.
 impl<C: Moments + Drop> Clocked<C> {
-    /// The reply to a request that was done or refused, with times. What it did to times is noted.
+    /// Answers a request that shows attributes.
+    fn answer_shown<T: HandleTable>(
+        &mut self,
+        session: &mut Session<T>,
+        request: &Request,
+    ) -> Result<Reply, NoMemory>
+        ensures allowed { IfOk result (λ reply. Allowed session.old request.now reply session.new) }
+        ensures spelled { IfOk result (λ reply. HasSpelling (reply_packet reply)) }
+        ensures err { OnErr result (session.new ≡ session.old) }
+    {
+        match session.answer(request) {
+            Ok(reply) => {
+                let mut reply = reply;
+                self.show(session, &request.ask, &mut reply);
+                Ok(reply)
+            }
+            Err(error) => Err(error),
+        }
+    }
+
+    /// Answers any other request, and notes what it did to times.
+    #[inline(never)]
+    fn answer_noted<T: HandleTable>(
+        &mut self,
+        session: &mut Session<T>,
+        request: &Request,
+    ) -> Result<Reply, NoMemory>
+        ensures allowed { IfOk result (λ reply. Allowed session.old request.now reply session.new) }
+        ensures spelled { IfOk result (λ reply. HasSpelling (reply_packet reply)) }
+        ensures err { OnErr result (session.new ≡ session.old) }
+    {
+        let touch = touch_of(&mut self.table, session, &request.ask)?;
+        match session.answer(request) {
+            Ok(reply) => Ok(self.timed(session, &request.ask, &touch, reply)),
+            Err(error) => Err(error),
+        }
+    }
+
+    /// The reply to a request that was done or refused, whose names have times. What it did to times is noted.
     fn timed<T: HandleTable>(
         &mut self,
         session: &Session<T>,
         ask: &Ask,
-        touch: Touch,
+        touch: &Touch,
         reply: Reply,
     ) -> Reply
         ensures same_id { result.id ≡ reply.id }
         ensures same { bare result.answer ≡ bare reply.answer }
         ensures spelled { HasSpelling (reply_packet reply) → HasSpelling (reply_packet result) }
     {
-        let mut reply = reply;
         match ask {
             Ask::Readdir { handle } => return self.named(handle.as_slice(), reply),
-            Ask::Stat { .. } => self.show(session, ask, &mut reply),
-            Ask::Lstat { .. } => self.show(session, ask, &mut reply),
-            Ask::Fstat { .. } => self.show(session, ask, &mut reply),
-            _ => self.note(session, ask, &touch, &reply.answer),
+            _ => self.note(session, ask, touch, &reply.answer),
         }
         reply
     }
@@ -143,12 +188,12 @@ impl<C: Moments + Drop> Clocked<C> {
     }
 
     /// The times of the file that is open under the handle of a request.
-    fn of_open<T: HandleTable>(&self, session: &Session<T>, ask: &Ask) -> Option<Times> {
+    fn of_open<T: HandleTable>(&mut self, session: &Session<T>, ask: &Ask) -> Option<Times> {
         if !self.table.is_touched() {
             return Some(self.table.start());
         }
         let number = session.touch(ask).file()?;
-        Some(self.table.of_file(number))
+        Some(self.table.of_open(number))
     }
 
     /// The reply to READDIR, with the times of the names.
@@ -212,6 +257,11 @@ impl<C: Moments + Drop> Clocked<C> {
 
     /// A directory was opened: the times of its names are kept, if there is memory for them.
     fn list<T: HandleTable>(&mut self, session: &Session<T>, path: &[u8], handle: &[u8]) {
+        if !self.table.is_touched() {
+            let start = self.table.start();
+            let _ = self.listings.open_alike(handle, start);
+            return;
+        }
         let Some(listing) = session.listing(handle) else {
             return;
         };

@@ -30,6 +30,8 @@ pub(crate) struct FileTimes {
     alloc: Global,
     entries: Slab<Entry>,
     by_number: BTreeMap<FileNo, usize>,
+    /// Where an entry was that was looked up.
+    last: usize,
     /// With so many, those that are gone are forgotten.
     most: usize,
 }
@@ -48,6 +50,7 @@ impl FileTimes {
             alloc,
             entries: Slab::new(alloc),
             by_number: BTreeMap::new(alloc),
+            last: 0,
             most: FEW,
         }
     }
@@ -73,6 +76,27 @@ impl FileTimes {
     pub(crate) fn get(&self, number: FileNo) -> Option<Times> {
         let at = *self.by_number.get(&number)?;
         Some(self.entries.get(at)?.times)
+    }
+
+    /// The times of a file, if it has some of its own. The next look-up of the same file is short.
+    pub(crate) fn get_again(&mut self, number: FileNo) -> Option<Times> {
+        let at = self.find_again(number)?;
+        Some(self.entries.get(at)?.times)
+    }
+
+    /// Where the entry of a file is, if it has one.
+    fn find_again(&mut self, number: FileNo) -> Option<usize> {
+        if !self.is_at(self.last, number) {
+            self.last = *self.by_number.get(&number)?;
+        }
+        Some(self.last)
+    }
+
+    fn is_at(&self, at: usize, number: FileNo) -> bool {
+        match self.entries.get(at) {
+            Some(entry) => entry.number == number,
+            None => false,
+        }
     }
 
     /// Gives a file times of its own.
@@ -130,7 +154,7 @@ impl FileTimes {
         start: Times,
         now: u32,
     ) -> Result<(), NoMemory> {
-        match self.find(number).at {
+        match self.find_again(number) {
             Some(at) => self.modify_at(at, now),
             None => self.set(tree, number, start.modified_at(now)),
         }

@@ -2,6 +2,7 @@
 
 use crate::ends::end_of;
 use crate::places::{Child, PlaceNo};
+use crate::replies::MOST_NAMES;
 use crate::tables::TimeTable;
 use crate::times::Times;
 use crate::ways::Led;
@@ -14,17 +15,20 @@ use std::collections::HashMap;
 
 /// The times of the names in a directory as it was when it was opened, in the order in which they are given.
 #[derive(Drop)]
-struct Listed {
-    times: Vec<Times>,
-    /// How many were given.
-    given: usize,
+pub(crate) enum Listed {
+    /// Those of each, and how many were given.
+    Each(Vec<Times>, usize),
+    /// The same for all.
+    Alike,
 }
 
-/// The directories that are open, by their handles: 8 bytes for each name.
+/// The directories that are open, by their handles: 8 bytes for each name, if something was given times.
 #[derive(Drop)]
 pub(crate) struct OpenListings {
     alloc: Global,
     by_handle: HashMap<Vec<u8>, Listed>,
+    /// As many times of the start as a reply has names, once a directory was opened whose names are alike.
+    alike: Vec<Times>,
 }
 
 impl OpenListings {
@@ -33,6 +37,7 @@ impl OpenListings {
         OpenListings {
             alloc,
             by_handle: HashMap::new(alloc),
+            alike: Vec::new(alloc),
         }
     }
 
@@ -42,9 +47,32 @@ impl OpenListings {
     ///
     /// `NoMemory` if memory runs out; then its names have no times.
     pub(crate) fn open(&mut self, handle: &[u8], times: Vec<Times>) -> Result<(), NoMemory> {
-        let handle = Vec::from_slice(self.alloc, handle)?;
-        self.by_handle.insert(handle, Listed { times, given: 0 })?;
-        Ok(())
+        self.keep(handle, Listed::Each(times, 0))
+    }
+
+    /// A directory was opened under a handle, whose names have the times of the start.
+    ///
+    /// # Errors
+    ///
+    /// `NoMemory` if memory runs out; then its names have no times.
+    pub(crate) fn open_alike(&mut self, handle: &[u8], start: Times) -> Result<(), NoMemory> {
+        if self.alike.is_empty() {
+            self.alike.resize(MOST_NAMES, start)?;
+        }
+        self.keep(handle, Listed::Alike)
+    }
+
+    fn keep(&mut self, handle: &[u8], listed: Listed) -> Result<(), NoMemory> {
+        match Vec::from_slice(self.alloc, handle) {
+            Ok(handle) => {
+                self.by_handle.insert(handle, listed)?;
+                Ok(())
+            }
+            Err(_) => {
+                drop(listed);
+                Err(NoMemory)
+            }
+        }
     }
 
     /// A handle was closed.
@@ -57,15 +85,16 @@ impl OpenListings {
     /// The times of the names that were not given yet under a handle.
     pub(crate) fn left(&self, handle: &[u8]) -> &[Times] {
         match self.by_handle.get(handle) {
-            Some(listed) => listed.times.get(listed.given..).unwrap_or(&[]),
+            Some(Listed::Each(times, given)) => times.get(*given..).unwrap_or(&[]),
+            Some(Listed::Alike) => self.alike.as_slice(),
             None => &[],
         }
     }
 
     /// So many names were given under a handle.
     pub(crate) fn give(&mut self, handle: &[u8], count: usize) {
-        if let Some(listed) = self.by_handle.get_mut(handle) {
-            listed.given = listed.given.saturating_add(count);
+        if let Some(Listed::Each(_, given)) = self.by_handle.get_mut(handle) {
+            *given = given.saturating_add(count);
         }
     }
 }
@@ -82,23 +111,23 @@ pub(crate) fn times_in(
     listing: &Listing,
 ) -> Result<Vec<Times>, NoMemory> {
     let alloc = tree.allocator();
-    if !table.is_touched() {
-        return all_alike(alloc, listing.len(), table.start());
-    }
     match &table.led_to(tree, path)? {
         Some(Led::Place(directory)) => {
             look_up(tree, table, path, *directory, listing)?;
-            times_of(alloc, table, *directory)
+            look_at(alloc, table, *directory)?;
+            Ok(Vec::from_slice(alloc, table.shown(*directory))?)
         }
         _ => Ok(Vec::new(alloc)),
     }
 }
 
-/// So many times that are alike.
-fn all_alike(alloc: Global, count: usize, times: Times) -> Result<Vec<Times>, NoMemory> {
-    let mut all = Vec::new(alloc);
-    all.resize(count, times)?;
-    Ok(all)
+/// Keeps the times of what stands at the names of a directory, unless they are kept as they are.
+fn look_at(alloc: Global, table: &mut TimeTable, directory: PlaceNo) -> Result<(), NoMemory> {
+    if table.shown(directory).len() != table.children(directory).len() {
+        let times = times_of(alloc, table, directory)?;
+        table.keep_shown(directory, times);
+    }
+    Ok(())
 }
 
 /// The times of what stands at the names of a directory.

@@ -53,6 +53,9 @@ struct Entry {
     children: Vec<Child>,
     /// When that was.
     epoch: u64,
+    /// The times of these, as they were after so many changes of times, if they were listed.
+    shown: Vec<Times>,
+    changes: u64,
 }
 
 impl PlaceNo {
@@ -96,6 +99,8 @@ impl Entry {
             is_passed: false,
             children: Vec::new(alloc),
             epoch: 0,
+            shown: Vec::new(alloc),
+            changes: 0,
         }
     }
 
@@ -107,6 +112,7 @@ impl Entry {
     fn forget_children(&mut self, alloc: Global) {
         if !self.children.is_empty() {
             self.children = Vec::new(alloc);
+            self.shown = Vec::new(alloc);
         }
     }
 }
@@ -166,6 +172,11 @@ impl PlaceTimes {
     /// The times of a directory or link, if it has some of its own.
     pub(crate) fn get(&self, place: PlaceNo) -> Option<Times> {
         self.entry(place)?.times
+    }
+
+    /// The times of a directory or link that has an entry still: its own, or else these.
+    pub(crate) fn get_or(&self, place: PlaceNo, start: Times) -> Option<Times> {
+        Some(self.entry(place)?.times.unwrap_or(start))
     }
 
     /// The times of that whose entry is there, if it has some of its own.
@@ -326,12 +337,33 @@ impl PlaceTimes {
     /// This stands at the names of a directory.
     pub(crate) fn keep_children(&mut self, directory: PlaceNo, children: Vec<Child>) {
         let epoch = self.epoch;
+        let alloc = self.alloc;
         match self.entry_mut(directory) {
             Some(entry) => {
                 entry.children = children;
                 entry.epoch = epoch;
+                entry.shown = Vec::new(alloc);
             }
             None => drop(children),
+        }
+    }
+
+    /// The times of what stands at the names of a directory, if they were kept after so many changes of times.
+    pub(crate) fn shown(&self, directory: PlaceNo, changes: u64) -> &[Times] {
+        match self.entry(directory) {
+            Some(entry) if entry.changes == changes => entry.shown.as_slice(),
+            _ => &[],
+        }
+    }
+
+    /// What stands at the names of a directory has these times after so many changes of times.
+    pub(crate) fn keep_shown(&mut self, directory: PlaceNo, changes: u64, times: Vec<Times>) {
+        match self.entry_mut(directory) {
+            Some(entry) => {
+                entry.shown = times;
+                entry.changes = changes;
+            }
+            None => drop(times),
         }
     }
 

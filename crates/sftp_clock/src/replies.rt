@@ -13,7 +13,7 @@ use std::slice;
 
 /// The most names of a reply that get times, and the most bytes of each and of its long name. The session's own replies
 /// have fewer.
-const MOST_NAMES: usize = 256;
+pub(crate) const MOST_NAMES: usize = 256;
 
 const MOST_BYTES: usize = 255;
 

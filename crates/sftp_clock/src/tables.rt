@@ -13,7 +13,7 @@ use std::alloc::Global;
 /// given no times, and has none in the tree file of the start, has those of the start.
 ///
 /// It takes some 60 bytes for each file that was given times, and some 120 for each directory and link that was, for
-/// each directory above one or on a path that is kept, and for each link of the start; 32 for each name in a directory
+/// each directory above one or on a path that is kept, and for each link of the start; 40 for each name in a directory
 /// that was listed since its names changed. Some 16,000 paths of at most 512 bytes are kept with what they lead to.
 #[derive(Drop)]
 pub struct TimeTable {
@@ -21,8 +21,9 @@ pub struct TimeTable {
     places: PlaceTimes,
     ways: Ways,
     start: Times,
-    /// Whether something was given times.
+    /// Whether something was given times, and how often times changed.
     is_touched: bool,
+    changes: u64,
     /// Whether there may be links, and whether each of them has an entry.
     may_have_links: bool,
     knows_links: bool,
@@ -39,6 +40,7 @@ impl TimeTable {
             ways: Ways::new(alloc),
             start: Times::at(0),
             is_touched: false,
+            changes: 0,
             may_have_links: true,
             knows_links: false,
             may_have_two_names: true,
@@ -78,6 +80,11 @@ impl TimeTable {
     /// The times of a file.
     pub(crate) fn of_file(&self, number: FileNo) -> Times {
         self.files.get(number).unwrap_or(self.start)
+    }
+
+    /// The times of a file that is open, of which they may be asked again.
+    pub(crate) fn of_open(&mut self, number: FileNo) -> Times {
+        self.files.get_again(number).unwrap_or(self.start)
     }
 
     /// The times of a directory or link.
@@ -125,6 +132,23 @@ impl TimeTable {
         if !self.is_touched {
             return Some(self.start);
         }
+        match self.of_kept(path) {
+            Some(times) => Some(times),
+            None => self.of_led_to(tree, path),
+        }
+    }
+
+    /// The times of what a path leads to, if that is kept and they are where they were.
+    fn of_kept(&self, path: &[u8]) -> Option<Times> {
+        match self.ways.find(path)? {
+            Led::File(file) => self.files.get_at(file),
+            Led::Place(place) => self.places.get_or(*place, self.start),
+        }
+    }
+
+    // Its values are not those of a path that is kept.
+    #[inline(never)]
+    fn of_led_to(&mut self, tree: &Tree, path: &[u8]) -> Option<Times> {
         match self.led_to(tree, path) {
             Ok(Some(led)) => Some(self.of_led(path, &led)),
             _ => None,
@@ -167,7 +191,7 @@ impl TimeTable {
 
     /// What a path leads to, if that is kept.
     fn kept(&self, path: &[u8]) -> Option<Led> {
-        let led = self.ways.find(path)?;
+        let led = *self.ways.find(path)?;
         if self.is_there(&led) { Some(led) } else { None }
     }
 
@@ -314,20 +338,26 @@ impl TimeTable {
 
 // What finds no memory for its times keeps those that it had, or has those of the start.
 impl TimeTable {
+    /// Times change.
+    fn touch(&mut self) {
+        self.is_touched = true;
+        self.changes = self.changes.wrapping_add(1);
+    }
+
     /// Gives a file times.
     pub(crate) fn set_file(&mut self, tree: &Tree, number: FileNo, times: Times) {
-        self.is_touched = true;
+        self.touch();
         let _ = self.files.set(tree, number, times);
     }
 
     /// A file is modified at this moment.
     pub(crate) fn modify_file(&mut self, tree: &Tree, number: FileNo, now: u32) {
-        self.is_touched = true;
+        self.touch();
         let _ = self.files.modify(tree, number, self.start, now);
     }
 
     fn set_place(&mut self, place: PlaceNo, times: Times) {
-        self.is_touched = true;
+        self.touch();
         self.places.set(place, times);
     }
 
@@ -342,7 +372,7 @@ impl TimeTable {
 
     /// The names of a directory changed.
     pub(crate) fn modify_names(&mut self, directory: PlaceNo, now: u32) {
-        self.is_touched = true;
+        self.touch();
         self.places.modify_names(directory, self.start, now);
     }
 
@@ -419,6 +449,17 @@ impl TimeTable {
         self.places.keep_children(directory, children);
     }
 
+    /// The times of what stands at the names of a directory, if these are kept as they are.
+    pub(crate) fn shown(&self, directory: PlaceNo) -> &[Times] {
+        self.places.shown(directory, self.changes)
+    }
+
+    /// What stands at the names of a directory has these times now.
+    pub(crate) fn keep_shown(&mut self, directory: PlaceNo, times: Vec<Times>) {
+        let changes = self.changes;
+        self.places.keep_shown(directory, changes, times);
+    }
+
     /// What stands at a name of a directory, which may be a name of this file.
     pub(crate) fn child(&self, spot: Spot, file: Option<FileNo>) -> Child {
         match file {
@@ -447,7 +488,7 @@ impl TimeTable {
     ///
     /// `NoMemory` if memory runs out.
     pub(crate) fn take_file(&mut self, number: FileNo, times: Times) -> Result<(), NoMemory> {
-        self.is_touched = true;
+        self.touch();
         self.files.put(number, times)
     }
 

@@ -1,6 +1,6 @@
 -- The session's reply is allowed, and this one says the same but for what is free.
 use Rattle.sftp_vary.proofs.BareReplies.{still-allowed}
-use Rattle.sftp_clock.proofs.clocked.ClockedAnswerer.answer.Goals as goal
+use Rattle.sftp_clock.proofs.clocked.Clocked.answer_noted.Goals as goal
 
 pub returns-in-Ok-clause-allowed : goal.returns-in-Ok-clause-allowed
 returns-in-Ok-clause-allowed g c =
