@@ -374,7 +374,9 @@ fn judge_source<R: Files + AllocGlobal, F: Read + Drop>(
     meter: &mut Meter,
     follows: &mut bool,
 ) -> Result<Counts, AuditError> {
-    let bounded = BoundedRecords::new(rt.alloc(), transcript, meter)?;
+    let Ok(bounded) = BoundedRecords::new(rt.alloc(), transcript, meter) else {
+        return Err(AuditError::NoMemory);
+    };
     let mut records = Reader::new(rt.alloc(), Tally::new(bounded))?;
     let judged = judge_records(rt, files, tree, left_out, &mut records, follows);
     drop(records);
