@@ -1,13 +1,10 @@
 //! The arguments of the subcommands: a table for each, from which the parser and the help follow.
 
-use crate::{help, importing, profiles};
+use crate::{importing, profiles};
 use sftp_vary::NAMES;
 
 /// An argument of a subcommand: its name, its form, and what the help says of it.
 pub(crate) type Argument<'a> = (&'a str, Form<'a>, &'a str);
-
-/// A subcommand: its name, what it does, what the help says behind its arguments, and these.
-pub(crate) type Subcommand<'a> = (&'a str, &'a str, Option<&'a str>, &'a [Argument<'a>]);
 
 /// How an argument is given. The first text of a form is what help calls the value.
 #[derive(Clone, Copy)]
@@ -27,30 +24,6 @@ pub(crate) enum Form<'a> {
     /// `--NAME VALUE,...`, which are some of these.
     SomeOf(&'a str, &'a [&'a str]),
 }
-
-/// The subcommands, in the order of the help.
-pub(crate) const SUBCOMMANDS: &[Subcommand] = &[
-    ("serve", help::ABOUT_SERVE, Some(help::AFTER_SERVE), SERVE),
-    ("audit", help::ABOUT_AUDIT, Some(help::AFTER_AUDIT), AUDIT),
-    ("show", help::ABOUT_SHOW, Some(help::AFTER_SHOW), SHOW),
-    ("make", help::ABOUT_MAKE, Some(help::AFTER_MAKE), MAKE),
-    ("diff", help::ABOUT_DIFF, Some(help::AFTER_DIFF), DIFF),
-    ("infer", help::ABOUT_INFER, Some(help::AFTER_INFER), INFER),
-    (
-        "import",
-        help::ABOUT_IMPORT,
-        Some(help::AFTER_IMPORT),
-        IMPORT,
-    ),
-    (
-        "export",
-        help::ABOUT_EXPORT,
-        Some(help::AFTER_EXPORT),
-        EXPORT,
-    ),
-    ("raise", help::ABOUT_RAISE, Some(help::AFTER_RAISE), RAISE),
-    ("blank", help::ABOUT_BLANK, None, BLANK),
-];
 
 const FILE: Form = Form::Place("FILE");
 
@@ -85,7 +58,7 @@ const MEMORY: Argument = (
     "End as if memory ran out once more than these bytes are taken",
 );
 
-const SERVE: &[Argument] = &[
+pub(crate) const SERVE: &[Argument] = &[
     TREE,
     (
         "save",
@@ -147,7 +120,7 @@ const SERVE: &[Argument] = &[
     NO_SYNC,
 ];
 
-const AUDIT: &[Argument] = &[
+pub(crate) const AUDIT: &[Argument] = &[
     TREE,
     (
         "transcript",
@@ -196,7 +169,7 @@ const AUDIT: &[Argument] = &[
     NO_SYNC,
 ];
 
-const INFER: &[Argument] = &[
+pub(crate) const INFER: &[Argument] = &[
     (
         "transcript",
         Form::Required("FILE"),
@@ -257,7 +230,7 @@ const INFER: &[Argument] = &[
     ),
 ];
 
-const SHOW: &[Argument] = &[
+pub(crate) const SHOW: &[Argument] = &[
     (
         "full",
         Form::Flag,
@@ -317,7 +290,7 @@ const SHOW: &[Argument] = &[
     ("file", FILE, "The transcript or the tree file"),
 ];
 
-const DIFF: &[Argument] = &[
+pub(crate) const DIFF: &[Argument] = &[
     (
         "json",
         Form::Flag,
@@ -334,9 +307,9 @@ const DIFF: &[Argument] = &[
     ("new", Form::Place("B"), "The tree file of after"),
 ];
 
-const MAKE: &[Argument] = &[MODE, NO_SYNC, ("file", FILE, "The file to write")];
+pub(crate) const MAKE: &[Argument] = &[MODE, NO_SYNC, ("file", FILE, "The file to write")];
 
-const IMPORT: &[Argument] = &[
+pub(crate) const IMPORT: &[Argument] = &[
     importing::LIMITS,
     importing::SPECIAL,
     importing::NO_TIMES,
@@ -347,11 +320,11 @@ const IMPORT: &[Argument] = &[
     ("file", FILE, "The tree file to write"),
 ];
 
-const EXPORT: &[Argument] = &[PROGRESS, ("file", FILE, "The tree file")];
+pub(crate) const EXPORT: &[Argument] = &[PROGRESS, ("file", FILE, "The tree file")];
 
-const BLANK: &[Argument] = &[MODE, NO_SYNC, ("file", FILE, "The file to write")];
+pub(crate) const BLANK: &[Argument] = &[MODE, NO_SYNC, ("file", FILE, "The file to write")];
 
-const RAISE: &[Argument] = &[
+pub(crate) const RAISE: &[Argument] = &[
     (
         "to",
         Form::OneOf("WHICH", &["highest", "fit", "most"]),

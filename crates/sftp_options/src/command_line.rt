@@ -8,7 +8,9 @@ ghost use Rattle.clap.specs.Walk.{Row, rows_of};
 ghost use Rattle.sftp_options.specs.Options.{IsPermissions, value_in, is_given};
 ghost use Rattle.sftp_options.specs.Options.{IsAuditAsked, IsAuditRequest, LacksFile};
 
-use crate::arguments::{Argument, Form, SUBCOMMANDS};
+use crate::arguments::{
+    AUDIT, Argument, BLANK, DIFF, EXPORT, Form, IMPORT, INFER, MAKE, RAISE, SERVE, SHOW,
+};
 use crate::inferring::InferOptions;
 use crate::{help, importing, inferring, profiles};
 use clap::error::ErrorKind;
@@ -191,11 +193,11 @@ fn requested<'a>(matches: &ArgMatches<'a>) -> Option<Request<'a>>
     let (name, given) = matches.subcommand()?;
     match name {
         "serve" => serve_request(given),
-        "audit" => audit_request(given),
-        "show" => show_request(given),
+        "audit" => audit_options(given).map(Request::Audit),
+        "show" => show_options(given).map(Request::Show),
         "raise" => raise_request(given),
         "diff" => diff_request(given),
-        "infer" => inferring::request_of(given),
+        "infer" => inferring::options_of(given).map(Request::Infer),
         "import" => import_request(given),
         "export" => export_request(given),
         _ => file_request(name, given.get_str("file")?, keeping_of(given)),
@@ -210,8 +212,8 @@ fn file_request<'a>(name: &str, file: &'a str, keeping: Keeping) -> Option<Reque
     })
 }
 
-fn show_request<'a>(given: &ArgMatches<'a>) -> Option<Request<'a>> {
-    Some(Request::Show(ShowOptions {
+fn show_options<'a>(given: &ArgMatches<'a>) -> Option<ShowOptions<'a>> {
+    Some(ShowOptions {
         file: given.get_str("file")?,
         is_full: given.get_flag("full"),
         data: given.get_str("data"),
@@ -225,7 +227,7 @@ fn show_request<'a>(given: &ArgMatches<'a>) -> Option<Request<'a>> {
         in_pairs: given.get_flag("pairs"),
         marks: given.get_flag("overtaken"),
         is_json: given.get_flag("json"),
-    }))
+    })
 }
 
 fn diff_request<'a>(given: &ArgMatches<'a>) -> Option<Request<'a>> {
@@ -377,15 +379,6 @@ fn audit_options<'a>(given: &ArgMatches<'a>) -> Option<AuditOptions<'a>>
     })
 }
 
-fn audit_request<'a>(given: &ArgMatches<'a>) -> Option<Request<'a>>
-    ensures { let rows = rows_of (found_of given.now) in MatchOption result (LacksFile rows) (IsAuditRequest rows) }
-{
-    match audit_options(given) {
-        Some(options) => Some(Request::Audit(options)),
-        None => None,
-    }
-}
-
 /// The value that the command line gives for the option of this name.
 pub(crate) fn value<'a>(given: &ArgMatches<'a>, name: &str) -> Option<&'a str>
     ensures { option_map (λ text. text.now) result ≡ value_in (rows_of (found_of given.now)) name.now }
@@ -401,30 +394,26 @@ pub(crate) fn flag(given: &ArgMatches<'_>, name: &str) -> bool
 }
 
 fn command<'a>(alloc: Global, version: &'a str) -> Result<Command<'a>, AllocError> {
-    let mut command = Command::new(alloc, "sftpv3")
+    let command = Command::new(alloc, "sftpv3")
         .version(version)
         .about(help::ABOUT)
         .after_help(help::STATUSES)
         .subcommand_required(true);
-    for (name, about, after, arguments) in SUBCOMMANDS {
-        let subcommand = new_command(alloc, name, about, *after);
-        command = with_subcommand(command, with_arguments(alloc, subcommand, arguments))?;
-    }
-    Ok(command)
+    let command = with_subcommand(command, serve_command(alloc))?;
+    let command = with_subcommand(command, audit_command(alloc))?;
+    let command = with_subcommand(command, show_command(alloc))?;
+    let command = with_subcommand(command, make_command(alloc))?;
+    with_tree_commands(alloc, command)
 }
 
-/// A subcommand without arguments, with what the help says of it, and behind them.
-fn new_command<'a>(
-    alloc: Global,
-    name: &'a str,
-    about: &'a str,
-    after: Option<&'a str>,
-) -> Command<'a> {
-    let command = Command::new(alloc, name).about(about);
-    match after {
-        Some(after) => command.after_help(after),
-        None => command,
-    }
+/// The command with the subcommands that compare or make trees.
+fn with_tree_commands<'a>(alloc: Global, command: Command<'a>) -> Result<Command<'a>, AllocError> {
+    let command = with_subcommand(command, diff_command(alloc))?;
+    let command = with_subcommand(command, infer_command(alloc))?;
+    let command = with_subcommand(command, import_command(alloc))?;
+    let command = with_subcommand(command, export_command(alloc))?;
+    let command = with_subcommand(command, raise_command(alloc))?;
+    with_subcommand(command, blank_command(alloc))
 }
 
 /// The command with a further subcommand.
@@ -439,6 +428,74 @@ fn with_subcommand<'a>(
             Err(error)
         }
     }
+}
+
+fn serve_command<'a>(alloc: Global) -> Result<Command<'a>, AllocError> {
+    let command = Command::new(alloc, "serve")
+        .about(help::ABOUT_SERVE)
+        .after_help(help::AFTER_SERVE);
+    with_arguments(alloc, command, SERVE)
+}
+
+fn audit_command<'a>(alloc: Global) -> Result<Command<'a>, AllocError> {
+    let command = Command::new(alloc, "audit")
+        .about(help::ABOUT_AUDIT)
+        .after_help(help::AFTER_AUDIT);
+    with_arguments(alloc, command, AUDIT)
+}
+
+fn show_command<'a>(alloc: Global) -> Result<Command<'a>, AllocError> {
+    let command = Command::new(alloc, "show")
+        .about(help::ABOUT_SHOW)
+        .after_help(help::AFTER_SHOW);
+    with_arguments(alloc, command, SHOW)
+}
+
+fn make_command<'a>(alloc: Global) -> Result<Command<'a>, AllocError> {
+    let command = Command::new(alloc, "make")
+        .about(help::ABOUT_MAKE)
+        .after_help(help::AFTER_MAKE);
+    with_arguments(alloc, command, MAKE)
+}
+
+fn diff_command<'a>(alloc: Global) -> Result<Command<'a>, AllocError> {
+    let command = Command::new(alloc, "diff")
+        .about(help::ABOUT_DIFF)
+        .after_help(help::AFTER_DIFF);
+    with_arguments(alloc, command, DIFF)
+}
+
+fn infer_command<'a>(alloc: Global) -> Result<Command<'a>, AllocError> {
+    let command = Command::new(alloc, "infer")
+        .about(help::ABOUT_INFER)
+        .after_help(help::AFTER_INFER);
+    with_arguments(alloc, command, INFER)
+}
+
+fn import_command<'a>(alloc: Global) -> Result<Command<'a>, AllocError> {
+    let command = Command::new(alloc, "import")
+        .about(help::ABOUT_IMPORT)
+        .after_help(help::AFTER_IMPORT);
+    with_arguments(alloc, command, IMPORT)
+}
+
+fn export_command<'a>(alloc: Global) -> Result<Command<'a>, AllocError> {
+    let command = Command::new(alloc, "export")
+        .about(help::ABOUT_EXPORT)
+        .after_help(help::AFTER_EXPORT);
+    with_arguments(alloc, command, EXPORT)
+}
+
+fn raise_command<'a>(alloc: Global) -> Result<Command<'a>, AllocError> {
+    let command = Command::new(alloc, "raise")
+        .about(help::ABOUT_RAISE)
+        .after_help(help::AFTER_RAISE);
+    with_arguments(alloc, command, RAISE)
+}
+
+fn blank_command<'a>(alloc: Global) -> Result<Command<'a>, AllocError> {
+    let command = Command::new(alloc, "blank").about(help::ABOUT_BLANK);
+    with_arguments(alloc, command, BLANK)
 }
 
 /// The command with further arguments.

@@ -1,5 +1,5 @@
 //! What the command line of `infer` asks for.
-use crate::command_line::{Request, keeping_of};
+use crate::command_line::keeping_of;
 use crate::profiles;
 use clap::ArgMatches;
 use sftp_files::Keeping;
@@ -29,11 +29,11 @@ pub struct InferOptions<'a> {
     pub passes: Option<u64>,
 }
 
-/// The request of the command line, if it names the transcript.
-pub(crate) fn request_of<'a>(given: &ArgMatches<'a>) -> Option<Request<'a>> {
-    Some(Request::Infer(InferOptions {
+/// The options that the command line gives, if it names the files.
+pub(crate) fn options_of<'a>(given: &ArgMatches<'a>) -> Option<InferOptions<'a>> {
+    Some(InferOptions {
         transcript: given.get_str("transcript")?,
-        tree: given.get_str("tree"),
+        tree: Some(given.get_str("tree")?),
         best: given.get_str("best"),
         out: given.get_str("out"),
         keeping: keeping_of(given),
@@ -45,5 +45,5 @@ pub(crate) fn request_of<'a>(given: &ArgMatches<'a>) -> Option<Request<'a>> {
         home: given.get_str("home"),
         is_raised: given.get_str("limits").unwrap_or("fit") == "raised",
         passes: given.get_one("passes"),
-    }))
+    })
 }
