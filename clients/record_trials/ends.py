@@ -8,8 +8,8 @@ import time
 import sftp3
 from record_trials.steps import (INIT, STUB, close, ended, errors, gone, open_session, receive, request, stubs)
 
-# How long, in seconds, is waited for what takes a recorder one, however busy the machine is; what does not end, does not
-# end by then either.
+# How long, in seconds, is waited for what takes a recorder one, however busy the machine is; what does not end, does
+# not end by then either.
 SOON = 100
 
 

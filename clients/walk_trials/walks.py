@@ -90,7 +90,7 @@ def limit():
 
 
 def run(words, cwd, **options):
-    """The status of a command of the repository, and what it printed on both streams. There is no status if it hangs."""
+    """The status of a command of the repository, and what it printed on both streams; no status if it hangs."""
     try:
         done = subprocess.run(words, cwd=cwd, stdin=subprocess.DEVNULL, stdout=subprocess.PIPE,
                               stderr=subprocess.STDOUT, timeout=HUNG, check=False, **options)
