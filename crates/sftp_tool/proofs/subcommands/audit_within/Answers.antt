@@ -1,5 +1,5 @@
 -- What bounds the transcript has its bytes, and a run that ends for lack of memory gives no verdict.
-use Rattle.std.proofs.Common.{List, ℕ, Option, Result, IfOk, sym, subst, ap}
+use Rattle.std.proofs.Common.{List, ℕ, Option, Result, IfOk, sym, subst}
 use Rattle.sftp_files.specs.declared.messages.Ending.{Ending}
 use Rattle.sftp_files.specs.declared.messages.Failure.{Failure}
 use Rattle.sftp_tool.specs.Verdicts.{IsVerdictAsked}
@@ -15,5 +15,5 @@ returns-clause-verdict g c = λ tree is.
       | in_default-2 w ↦ subst (Holds known) (sym w.result-is) tt
       | in_default w ↦ subst (Holds known) (sym w.result-is)
           (subst (λ (it : Option (List ℕ)). Holds it c.judge_as_asked.result)
-          (ap g.F.Read.remaining c.new-bounded.ensures) (c.judge_as_asked.ensures.verdict tree is))
+          c.in_ok-bounded.ensures (c.judge_as_asked.ensures.verdict tree is))
     ]
