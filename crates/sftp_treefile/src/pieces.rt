@@ -1,7 +1,8 @@
 //! What a reader of tree files takes from its input, piece by piece: heads, paths and kinds.
-ghost use Rattle.std.specs.Prelude.{◌≡◌, ◌<◌, ◌≤◌, ℕ, List, Bool, ◌∷◌, length};
+ghost use Rattle.std.specs.Prelude.{◌≡◌, ◌+◌, ◌<◌, ◌≤◌, ℕ, List, Bool, ◌∷◌, length, max};
 ghost use Rattle.std.specs.Prelude.{IfOk, IfErr, IfSome, IfNone, OnOk, IsTrue};
 ghost use Rattle.std.specs.Prelude.{false};
+ghost use Rattle.std.specs.Vec.{vec_capacity};
 ghost use Rattle.sftp_packets.specs.Spelling.{uint32, string};
 ghost use Rattle.sftp_treefile.specs.TreeFile.{place_of, timed_text, are_bytes, letter_for, file_letter};
 ghost use Rattle.sftp_treefile.specs.TreeFileParts.{Reads, ReadsNone, IsAt, Follows, IsLast, IsHead, IsKnownIn};
@@ -21,7 +22,7 @@ use crate::times::Times;
 use sftp_path::Place;
 use sftp_streams::Source;
 use sftp_wire::{ByteString, take_number};
-use std::alloc::Global;
+use std::alloc::{AllocError, Global};
 
 /// The bytes of an opening, after which the home's length is.
 const OPENING_LENGTH: usize = 8;
@@ -29,7 +30,8 @@ const OPENING_LENGTH: usize = 8;
 /// The bytes of a letter, after which the length of a target is.
 const LETTER: usize = 1;
 
-/// How much memory the bytes of a file get before they are there, at most. Longer ones get more as they come.
+/// How much memory the bytes of a file get before they are there, at most. Longer ones get more as they come, each time
+/// as much as is there, and never more than they take.
 const AT_ONCE: usize = 67_108_864;
 
 /// Takes the head.
@@ -208,6 +210,22 @@ pub(crate) fn settle<R: Source>(
     overlong(input, entry, end)
 }
 
+/// Gives the bytes memory for so many more, of those that are missing. If that takes more memory, it is for as many as
+/// they are, or for all that are missing if these are fewer.
+fn make_room(bytes: &mut Vec<u8>, count: usize, missing: usize) -> Result<(), AllocError>
+    requires { count ≤ missing }
+    ensures same { bytes.new.items ≡ bytes.old.items }
+    ensures room { OnOk result (length bytes.old.items + count ≤ vec_capacity bytes.new) }
+    ensures within { vec_capacity bytes.new ≤ max (vec_capacity bytes.old) (length bytes.old.items + missing) }
+    ensures twice { vec_capacity bytes.new
+        ≤ max (vec_capacity bytes.old) (length bytes.old.items + max (length bytes.old.items) count) }
+{
+    if bytes.capacity() - bytes.len() < count {
+        bytes.reserve_exact(bytes.len().max(count).min(missing))?;
+    }
+    Ok(())
+}
+
 /// Takes bytes, at least one and at most so many, and appends them.
 fn take_some<R: Source>(
     input: &mut Input<R>,
@@ -223,6 +241,7 @@ fn take_some<R: Source>(
     hold_some(input, entry)?;
     let held = input.held();
     let count = held.len().min(missing);
+    make_room(bytes, count, missing)?;
     bytes.extend_from_slice(&held[..count])?;
     input.take(count);
     Ok(())
