@@ -1,6 +1,6 @@
 """Faults of servers in names: lost and doubled ones in listings, changed ones, and paths that are not found."""
 import sftp3
-from probing.faulty import Fault, Listings, Statuses, status
+from probing.faulty import FAILED, Fault, Listings, Statuses, status
 
 
 class name_lost_by_count(Listings):
