@@ -155,7 +155,8 @@ def environment(steps, room):
         ran = subprocess.run([SERVE[0], "--program", str(program), "--tree", "t"], cwd=room.folder, env=given,
                              stdin=subprocess.DEVNULL, capture_output=True, text=True, timeout=SOON)
         steps.check(f"GLIBC_TUNABLES, {name}: what the server gets",
-                    ran.returncode == 0 and ran.stdout == repr(sorted(given.items())), f"{ran.returncode}: {ran.stdout}")
+                    ran.returncode == 0 and ran.stdout == repr(sorted(given.items())),
+                    f"{ran.returncode}: {ran.stdout}")
 
 
 TRIALS = (log, names, logs_that_cannot_be_opened, logs_of_others, full_log, usage, files_named_twice, passed_on,
