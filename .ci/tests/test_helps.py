@@ -9,7 +9,7 @@ from pathlib import Path
 TOP = Path(__file__).resolve().parents[2]
 
 # Seconds in which a script has to say what it is for, however busy the machine is.
-LONG = 120
+LONG = 1800
 
 
 def scripts() -> list[Path]:
