@@ -143,20 +143,19 @@ def passed_on(steps, room):
 
 
 def environment(steps, room):
-    """The server has the environment of the script, and is told to take large pages unless that says otherwise."""
+    """The server has the environment of the script, and nothing else."""
     if IS_PLAIN:
         return
     program = room.folder / "program"
     program.write_text("#!/usr/bin/python3 -IS\nimport os\nos.write(1, repr(sorted(os.environ.items())).encode())\n")
     program.chmod(0o755)
-    for name, given, wanted in (("none", {}, "glibc.malloc.hugetlb=1"),
-                                ("one of the user", {"GLIBC_TUNABLES": "glibc.malloc.check=3"}, "glibc.malloc.check=3"),
-                                ("an empty one", {"GLIBC_TUNABLES": ""}, "")):
+    for name, given in (("none", {}), ("one of the user", {"GLIBC_TUNABLES": "glibc.malloc.hugetlb=1"}),
+                        ("an empty one", {"GLIBC_TUNABLES": ""})):
         given = {"PATH": os.environ["PATH"], "LC_ALL": "C.UTF-8", **given}
         ran = subprocess.run([SERVE[0], "--program", str(program), "--tree", "t"], cwd=room.folder, env=given,
                              stdin=subprocess.DEVNULL, capture_output=True, text=True, timeout=SOON)
-        found = sorted({**given, "GLIBC_TUNABLES": wanted}.items())
-        steps.check(f"GLIBC_TUNABLES, {name}: what the server gets", ran.returncode == 0 and ran.stdout == repr(found),
+        wanted = repr(sorted(given.items()))
+        steps.check(f"GLIBC_TUNABLES, {name}: what the server gets", ran.returncode == 0 and ran.stdout == wanted,
                     f"{ran.returncode}: {ran.stdout}")
 
 

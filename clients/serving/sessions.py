@@ -19,10 +19,6 @@ except ImportError:
 NOT_SAVED = 3
 NOT_RUN, NOT_FOUND = 126, 127
 
-# What the server's C library is told, unless the environment tells it something else: to ask for large pages where it
-# takes much memory. A file that grows then takes less time, as docs/TREE.md has it. The server starts no process.
-LARGE_PAGES = {"GLIBC_TUNABLES": "glibc.malloc.hugetlb=1"}
-
 ENDING = (signals.SIGTERM, signals.SIGHUP, signals.SIGINT)
 BROKEN = select.POLLERR | select.POLLHUP | select.POLLNVAL
 
@@ -124,9 +120,8 @@ class Session:
             actions.append((os.POSIX_SPAWN_DUP2, self.input.server_end, 0))
         if self.lines:
             actions.append((os.POSIX_SPAWN_DUP2, self.lines.theirs, 2))
-        environment = {**LARGE_PAGES, **os.environ}
         try:
-            process = os.posix_spawnp(words[0], words, environment, file_actions=actions, setsid=True, setsigmask=())
+            process = os.posix_spawnp(words[0], words, os.environ, file_actions=actions, setsid=True, setsigmask=())
         except (FileNotFoundError, NotADirectoryError) as error:
             raise NotStarted(f"cannot run {words[0]}: {error.strerror}", NOT_FOUND) from None
         except (OSError, ValueError) as error:
