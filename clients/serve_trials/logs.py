@@ -154,8 +154,8 @@ def environment(steps, room):
         given = {"PATH": os.environ["PATH"], "LC_ALL": "C.UTF-8", **given}
         ran = subprocess.run([SERVE[0], "--program", str(program), "--tree", "t"], cwd=room.folder, env=given,
                              stdin=subprocess.DEVNULL, capture_output=True, text=True, timeout=SOON)
-        steps.check(f"GLIBC_TUNABLES, {name}: what the server gets",
-                    ran.returncode == 0 and ran.stdout == repr(sorted(given.items())),
+        wanted = repr(sorted(given.items()))
+        steps.check(f"GLIBC_TUNABLES, {name}: what the server gets", ran.returncode == 0 and ran.stdout == wanted,
                     f"{ran.returncode}: {ran.stdout}")
 
 
