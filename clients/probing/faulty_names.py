@@ -190,7 +190,7 @@ class Links(Fault):
         self.links = set()
 
     def ask(self, asked):
-        if asked.name == "SYMLINK":
+        if asked.name == "SYMLINK" or asked.name == "RENAME" and asked.fields[0] in self.links:
             self.links.add(asked.fields[1])
         return self.of_link(asked) if self.meant(asked) else [asked]
 

@@ -390,8 +390,9 @@ def following_links(p):
     moved = p.blank(b"link")
     yield p.ask("RENAME", to_file, moved)
     yield from download(p, moved, 200)
-    yield p.ask("REMOVE", p.random.choice([moved, to_top]))
-    yield p.ask("LSTAT", to_top)
+    for link in p.random.sample([moved, to_top], 2):
+        yield p.ask("REMOVE", link)
+        yield p.ask("LSTAT", to_top)
     yield from download(p, file, 200)
     yield from listing(p, top, 1)
 
