@@ -225,7 +225,10 @@ impl<'a> World<'a> {
         len: u64,
     ) -> Result<u64, Stop> {
         match first_set(part(self.session, piece.from, len)) {
-            None => Ok(len),
+            None => {
+                self.tell_least(at, offset.saturating_add(len))?;
+                Ok(len)
+            }
             Some((place, byte)) => {
                 if self.revive(at)? && self.can_show(at, offset) {
                     return Ok(0);

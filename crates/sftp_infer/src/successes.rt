@@ -9,6 +9,21 @@ use crate::pieces::Piece;
 use crate::world::World;
 use sftp_wire::{Answer, Ask, Attrs, ByteString, Names, status};
 
+/// Where the reply to LIMITS has the most bytes that one READ gives, and the most open handles, 8 bytes each.
+const MOST_READ: usize = 8;
+
+const MOST_HANDLES: usize = 24;
+
+/// The number of 8 bytes at a place, the highest first.
+fn number_at(bytes: &[u8], place: usize) -> u64 {
+    let end = place.saturating_add(8);
+    let mut number: u64 = 0;
+    for byte in bytes.get(place..end).unwrap_or(&[]) {
+        number = number.saturating_mul(256).saturating_add(u64::from(*byte));
+    }
+    number
+}
+
 /// Whether a request follows a last link, or goes by a handle.
 fn follows(ask: &Ask) -> bool {
     match ask {
@@ -44,7 +59,18 @@ impl<'a> World<'a> {
             Answer::Data(bytes) => self.take_data(exchange.ask, bytes, exchange.answer_end),
             Answer::Name(names) => self.take_names(exchange.ask, names),
             Answer::Attrs(attrs) => self.take_attrs(exchange.ask, attrs),
-            Answer::Extended(_) => Ok(()),
+            Answer::Extended(bytes) => {
+                self.take_limits(exchange.ask, bytes.as_slice());
+                Ok(())
+            }
+        }
+    }
+
+    /// LIMITS told how many bytes one READ gives, and how many handles may be open.
+    fn take_limits(&mut self, ask: &Ask, bytes: &[u8]) {
+        if let Ask::Limits = ask {
+            self.most_read = self.most_read.max(number_at(bytes, MOST_READ));
+            self.most_handles = self.most_handles.max(number_at(bytes, MOST_HANDLES));
         }
     }
 
