@@ -122,7 +122,7 @@ def keep_in_spool(field, name):
 
 def night(field, name):
     given = argparse.Namespace(records=field.path("spool"), number=0, state=name, user="root", audit=["--cut"],
-                               memory=1 << 28, folders=[field.path("live")])
+                               memory=1 << 28, night_seconds=60, folders=[field.path("live")])
     before = os.getcwd()
     try:
         os.close(Night(given).held)
