@@ -60,6 +60,7 @@ impl Ways {
     }
 
     /// What a path leads to, if that is kept.
+    #[inline(always)]
     pub(crate) fn find(&self, path: &[u8]) -> Option<&Led> {
         let hash = hash_of(path);
         for step in 0..TRIES {
@@ -205,11 +206,20 @@ fn filled(slots: Vec<Option<Way>>, count: usize) -> Vec<Option<Way>> {
     slots
 }
 
-/// A hash of a path: of its words of eight bytes, and of the bytes behind them.
+/// A hash of a path: of its words of eight bytes, and of its last eight bytes, or of its bytes if it has fewer.
 fn hash_of(path: &[u8]) -> u64 {
-    let (words, rest) = path.as_chunks::<8>();
-    let mut hash = hash_of_words(words);
-    for byte in rest {
+    match path.last_chunk::<8>() {
+        Some(last) => {
+            let (words, _) = path.as_chunks::<8>();
+            mixed(hash_of_words(words), u64::from_le_bytes(*last))
+        }
+        None => hash_of_bytes(path),
+    }
+}
+
+fn hash_of_bytes(bytes: &[u8]) -> u64 {
+    let mut hash: u64 = 0;
+    for byte in bytes {
         hash = mixed(hash, u64::from(*byte));
     }
     hash
@@ -233,9 +243,15 @@ fn are_alike(one: &[u8], other: &[u8]) -> bool {
     if one.len() != other.len() {
         return false;
     }
-    let (words, rest) = one.as_chunks::<8>();
-    let (other_words, other_rest) = other.as_chunks::<8>();
-    words_are_alike(words, other_words) && bytes_are_alike(rest, other_rest)
+    match (one.last_chunk::<8>(), other.last_chunk::<8>()) {
+        (Some(last), Some(other_last)) => {
+            let (words, _) = one.as_chunks::<8>();
+            let (others, _) = other.as_chunks::<8>();
+            u64::from_le_bytes(*last) == u64::from_le_bytes(*other_last)
+                && words_are_alike(words, others)
+        }
+        _ => bytes_are_alike(one, other),
+    }
 }
 
 fn words_are_alike(words: &[[u8; 8]], others: &[[u8; 8]]) -> bool {
