@@ -235,7 +235,8 @@ fn hash_of_words(words: &[[u8; 8]]) -> u64 {
 
 fn mixed(hash: u64, more: u64) -> u64 {
     let product = (hash ^ more).wrapping_mul(0x9e37_79b9_7f4a_7c15);
-    product ^ (product >> 32)
+    // The highest bits depend on all bytes of a word, and a slot on the lowest.
+    product ^ (product >> 48)
 }
 
 /// Whether two paths are the same. Compared by words, since that takes a fifth of what `==` does.
