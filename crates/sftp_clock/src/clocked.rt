@@ -88,6 +88,16 @@ impl<C: Moments + Drop, T: HandleTable> Answerer<T> for Clocked<C> {
     }
 }
 
+/// Whether a request asks for attributes alone.
+fn shows_attributes(ask: &Ask) -> bool {
+    match ask {
+        Ask::Stat { .. } => true,
+        Ask::Lstat { .. } => true,
+        Ask::Fstat { .. } => true,
+        _ => false,
+    }
+}
+
 /// Whether what a request does to times is found before it is done: paths may lead elsewhere behind it.
 fn is_found_before(ask: &Ask) -> bool {
     match ask {
@@ -125,13 +135,16 @@ impl<C: Moments + Drop> Clocked<C> {
         ensures spelled { HasSpelling (reply_packet reply.old) → HasSpelling (reply_packet reply.new) }
     {
         match ask {
-            Ask::Stat { .. } => self.show(session, ask, reply),
-            Ask::Lstat { .. } => self.show(session, ask, reply),
-            Ask::Fstat { .. } => self.show(session, ask, reply),
             Ask::Readdir { handle } => {
                 self.show_names(session.tree().allocator(), handle.as_slice(), reply)
             }
-            _ => self.note(session, ask, &reply.answer),
+            _ => {
+                if shows_attributes(ask) {
+                    self.show(session, ask, reply);
+                } else {
+                    self.note(session, ask, &reply.answer);
+                }
+            }
         }
     }
 }

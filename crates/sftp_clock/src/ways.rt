@@ -206,8 +206,14 @@ fn filled(slots: Vec<Option<Way>>, count: usize) -> Vec<Option<Way>> {
     slots
 }
 
-/// A hash of a path: of its words of eight bytes, and of its last eight bytes, or of its bytes if it has fewer.
+/// A hash of a path. Its length comes last: the last byte of a word reaches the low bits only when another number is
+/// mixed in.
 fn hash_of(path: &[u8]) -> u64 {
+    mixed(hash_of_text(path), path.len() as u64)
+}
+
+/// A hash of a path's words of eight bytes, and of its last eight bytes, or of its bytes if it has fewer.
+fn hash_of_text(path: &[u8]) -> u64 {
     match path.last_chunk::<8>() {
         Some(last) => {
             let (words, _) = path.as_chunks::<8>();
