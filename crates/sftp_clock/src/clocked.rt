@@ -1,8 +1,7 @@
 //! The answerer that puts times into the session's own replies.
-ghost use Rattle.std.specs.Prelude.{◌≡◌, IfOk, OnErr};
+ghost use Rattle.std.specs.Prelude.{◌≡◌};
 ghost use Rattle.sftp_packets.specs.declared.packets.Packet.TheVariants.{Reply as reply_packet};
 ghost use Rattle.sftp_packets.specs.Packets.{HasSpelling};
-ghost use Rattle.sftp_handles.specs.Allowed.{Allowed};
 ghost use Rattle.sftp_vary.specs.Bare.{bare};
 
 use crate::listings::{OpenListings, times_in};
@@ -10,13 +9,14 @@ use crate::places::Spot;
 use crate::replies::{show_times, with_times_of_names};
 use crate::tables::TimeTable;
 use crate::times::{Moments, Times};
-use crate::touches::{Change, Given, Touch, has, touch_of};
+use crate::touches::{Change, Given, Touch, changes_names, has, touch_of};
 use sftp_handles::{HandleTable, Session};
 use sftp_server::Answerer;
 use sftp_tree::{FileNo, NoMemory, Tree};
 use sftp_wire::status::OK;
-use sftp_wire::{Answer, Ask, Attrs, ByteString, OpenFlags, Reply, Request};
+use sftp_wire::{Answer, Ask, Attrs, ByteString, Names, OpenFlags, Reply, Request};
 use std::alloc::Global;
+use std::mem;
 
 /// The bits of permissions that say the type, and what they say of a link (POSIX, `sys/stat.h`).
 const TYPE_BITS: u32 = 0o170000;
@@ -40,6 +40,8 @@ pub struct Clocked<C: Drop> {
     clock: C,
     table: TimeTable,
     listings: OpenListings,
+    /// What the request that is being done does to times, if that was found before.
+    touch: Touch,
 }
 
 impl<C: Moments + Drop> Clocked<C> {
@@ -52,6 +54,7 @@ impl<C: Moments + Drop> Clocked<C> {
             clock,
             table,
             listings: OpenListings::new(alloc),
+            touch: Touch::Nothing,
         }
     }
 
@@ -61,17 +64,26 @@ impl<C: Moments + Drop> Clocked<C> {
             clock: _,
             table,
             listings: _,
+            touch: _,
         } = self;
         table
     }
 }
 
 impl<C: Moments + Drop, T: HandleTable> Answerer<T> for Clocked<C> {
+    // Inlined, since else each reply is copied once more.
+    #[inline(always)]
     fn answer(&mut self, session: &mut Session<T>, request: &Request) -> Result<Reply, NoMemory> {
-        if shows_attributes(&request.ask) {
-            self.answer_shown(session, request)
-        } else {
-            self.answer_noted(session, request)
+        if is_found_before(&request.ask) {
+            self.find_touch(session, &request.ask)?;
+        }
+        match session.answer(request) {
+            Ok(reply) => {
+                let mut reply = reply;
+                self.time(session, &request.ask, &mut reply);
+                Ok(reply)
+            }
+            Err(error) => Err(error),
         }
     }
 }
@@ -86,63 +98,54 @@ fn shows_attributes(ask: &Ask) -> bool {
     }
 }
 
-// Two functions, so that a request that shows attributes does not pay for the values of the others.
+/// Whether what a request does to times is found before it is done: paths may lead elsewhere behind it.
+fn is_found_before(ask: &Ask) -> bool {
+    match ask {
+        Ask::Open { pflags, .. } => {
+            has(*pflags, OpenFlags::CREAT) || has(*pflags, OpenFlags::TRUNC)
+        }
+        Ask::Fsetstat { .. } => true,
+        Ask::Setstat { .. } => true,
+        _ => changes_names(ask),
+    }
+}
+
+// Functions of their own, so that no request pays for the values of others.
 impl<C: Moments + Drop> Clocked<C> {
-    /// Answers a request that shows attributes.
-    fn answer_shown<T: HandleTable>(
-        &mut self,
-        session: &mut Session<T>,
-        request: &Request,
-    ) -> Result<Reply, NoMemory>
-        ensures allowed { IfOk result (λ reply. Allowed session.old request.now reply session.new) }
-        ensures spelled { IfOk result (λ reply. HasSpelling (reply_packet reply)) }
-        ensures err { OnErr result (session.new ≡ session.old) }
-    {
-        match session.answer(request) {
-            Ok(reply) => {
-                let mut reply = reply;
-                self.show(session, &request.ask, &mut reply);
-                Ok(reply)
-            }
-            Err(error) => Err(error),
-        }
-    }
-
-    /// Answers any other request, and notes what it did to times.
+    /// Finds what a request does to times.
+    ///
+    /// # Errors
+    ///
+    /// `NoMemory` if memory runs out.
     #[inline(never)]
-    fn answer_noted<T: HandleTable>(
-        &mut self,
-        session: &mut Session<T>,
-        request: &Request,
-    ) -> Result<Reply, NoMemory>
-        ensures allowed { IfOk result (λ reply. Allowed session.old request.now reply session.new) }
-        ensures spelled { IfOk result (λ reply. HasSpelling (reply_packet reply)) }
-        ensures err { OnErr result (session.new ≡ session.old) }
-    {
-        let touch = touch_of(&mut self.table, session, &request.ask)?;
-        match session.answer(request) {
-            Ok(reply) => Ok(self.timed(session, &request.ask, &touch, reply)),
-            Err(error) => Err(error),
-        }
-    }
-
-    /// The reply to a request that was done or refused, whose names have times. What it did to times is noted.
-    fn timed<T: HandleTable>(
+    fn find_touch<T: HandleTable>(
         &mut self,
         session: &Session<T>,
         ask: &Ask,
-        touch: &Touch,
-        reply: Reply,
-    ) -> Reply
-        ensures same_id { result.id ≡ reply.id }
-        ensures same { bare result.answer ≡ bare reply.answer }
-        ensures spelled { HasSpelling (reply_packet reply) → HasSpelling (reply_packet result) }
+    ) -> Result<(), NoMemory> {
+        self.touch = touch_of(&mut self.table, session, ask)?;
+        Ok(())
+    }
+
+    /// Puts times into the reply to a request that was done or refused, or notes what the request did to times.
+    #[inline(never)]
+    fn time<T: HandleTable>(&mut self, session: &Session<T>, ask: &Ask, reply: &mut Reply)
+        ensures same_id { reply.new.id ≡ reply.old.id }
+        ensures same { bare reply.new.answer ≡ bare reply.old.answer }
+        ensures spelled { HasSpelling (reply_packet reply.old) → HasSpelling (reply_packet reply.new) }
     {
         match ask {
-            Ask::Readdir { handle } => return self.named(handle.as_slice(), reply),
-            _ => self.note(session, ask, touch, &reply.answer),
+            Ask::Readdir { handle } => {
+                self.show_names(session.tree().allocator(), handle.as_slice(), reply)
+            }
+            _ => {
+                if shows_attributes(ask) {
+                    self.show(session, ask, reply);
+                } else {
+                    self.note(session, ask, &reply.answer);
+                }
+            }
         }
-        reply
     }
 }
 
@@ -179,6 +182,7 @@ impl<C: Moments + Drop> Clocked<C> {
     }
 
     /// The times of that to which a path leads, which has these attributes.
+    #[inline(never)]
     fn of_end(&mut self, tree: &Tree, path: &[u8], attrs: &Attrs) -> Option<Times> {
         if shows_link(attrs) {
             self.table.of_link(tree, path)
@@ -188,12 +192,26 @@ impl<C: Moments + Drop> Clocked<C> {
     }
 
     /// The times of the file that is open under the handle of a request.
+    #[inline(never)]
     fn of_open<T: HandleTable>(&mut self, session: &Session<T>, ask: &Ask) -> Option<Times> {
         if !self.table.is_touched() {
             return Some(self.table.start());
         }
         let number = session.touch(ask).file()?;
         Some(self.table.of_open(number))
+    }
+
+    /// Gives the reply to READDIR the times of the names.
+    #[inline(never)]
+    fn show_names(&mut self, alloc: Global, handle: &[u8], reply: &mut Reply)
+        ensures same_id { reply.new.id ≡ reply.old.id }
+        ensures same { bare reply.new.answer ≡ bare reply.old.answer }
+        ensures spelled { HasSpelling (reply_packet reply.old) → HasSpelling (reply_packet reply.new) }
+    {
+        let none = Names::new(Vec::new(alloc));
+        let answer = Answer::Name(none);
+        let taken = mem::replace(reply, Reply { id: 0, answer });
+        *reply = self.named(handle, taken);
     }
 
     /// The reply to READDIR, with the times of the names.
@@ -212,30 +230,31 @@ impl<C: Moments + Drop> Clocked<C> {
 // What is noted of requests that were done.
 impl<C: Moments + Drop> Clocked<C> {
     /// Notes what a request did to times, if it was done.
-    fn note<T: HandleTable>(
-        &mut self,
-        session: &Session<T>,
-        ask: &Ask,
-        touch: &Touch,
-        answer: &Answer,
-    ) {
+    fn note<T: HandleTable>(&mut self, session: &Session<T>, ask: &Ask, answer: &Answer) {
         match answer {
-            Answer::Handle(handle) => self.note_opened(session, ask, touch, handle.as_slice()),
-            Answer::Status { code, .. } if *code == OK => self.note_done(session, ask, touch),
+            Answer::Handle(handle) => self.note_opened(session, ask, handle.as_slice()),
+            Answer::Status { code, .. } if *code == OK => self.note_done(session, ask),
             _ => {}
         }
     }
 
     /// Notes what a request did to times that opened something under a handle.
-    fn note_opened<T: HandleTable>(
-        &mut self,
-        session: &Session<T>,
-        ask: &Ask,
-        touch: &Touch,
-        handle: &[u8],
-    ) {
-        match (ask, touch) {
-            (Ask::Opendir { path }, _) => self.list(session, path.as_slice(), handle),
+    fn note_opened<T: HandleTable>(&mut self, session: &Session<T>, ask: &Ask, handle: &[u8]) {
+        match ask {
+            Ask::Opendir { path } => self.list(session, path.as_slice(), handle),
+            _ => {
+                if is_found_before(ask) {
+                    self.note_open(session, ask, handle);
+                }
+            }
+        }
+    }
+
+    /// Notes what an OPEN did to times that may have made a file, or truncated one.
+    #[inline(never)]
+    fn note_open<T: HandleTable>(&mut self, session: &Session<T>, ask: &Ask, handle: &[u8]) {
+        let touch = self.touch;
+        match (ask, &touch) {
             (
                 Ask::Open {
                     path,
@@ -256,6 +275,7 @@ impl<C: Moments + Drop> Clocked<C> {
     }
 
     /// A directory was opened: the times of its names are kept, if there is memory for them.
+    #[inline(never)]
     fn list<T: HandleTable>(&mut self, session: &Session<T>, path: &[u8], handle: &[u8]) {
         if !self.table.is_touched() {
             let start = self.table.start();
@@ -297,16 +317,29 @@ impl<C: Moments + Drop> Clocked<C> {
     }
 
     /// Notes what a request did to times that was done.
-    fn note_done<T: HandleTable>(&mut self, session: &Session<T>, ask: &Ask, touch: &Touch) {
-        match (ask, touch) {
-            (Ask::Write { bytes, .. }, _) => self.note_written(session, ask, bytes),
-            (Ask::Close { handle }, _) => self.listings.close(handle.as_slice()),
+    fn note_done<T: HandleTable>(&mut self, session: &Session<T>, ask: &Ask) {
+        match ask {
+            Ask::Write { bytes, .. } => self.note_written(session, ask, bytes),
+            Ask::Close { handle } => self.listings.close(handle.as_slice()),
+            _ => {
+                if is_found_before(ask) {
+                    self.note_found(session.tree(), ask);
+                }
+            }
+        }
+    }
+
+    /// Notes what a request did to times, as it was found before.
+    #[inline(never)]
+    fn note_found(&mut self, tree: &Tree, ask: &Ask) {
+        let touch = self.touch;
+        match (ask, &touch) {
             (Ask::Setstat { path, attrs }, Touch::Nothing) => {
-                self.note_set(session.tree(), path.as_slice(), attrs.times)
+                self.note_set(tree, path.as_slice(), attrs.times)
             }
             (_, Touch::Nothing) => {}
             (_, Touch::Open(_)) => {}
-            (_, touch) => self.note_change(session.tree(), ask, touch),
+            (_, touch) => self.note_change(tree, ask, touch),
         }
     }
 

@@ -128,6 +128,7 @@ impl TimeTable {
     }
 
     /// The times of the file or directory that a path leads to; `None` if memory runs out.
+    #[inline(always)]
     pub(crate) fn of_path(&mut self, tree: &Tree, path: &[u8]) -> Option<Times> {
         if !self.is_touched {
             return Some(self.start);

@@ -55,6 +55,20 @@ pub(crate) fn touch_of<T: HandleTable>(
     }
 }
 
+/// Whether a request changes names.
+pub(crate) fn changes_names(ask: &Ask) -> bool {
+    match ask {
+        Ask::Mkdir { .. } => true,
+        Ask::Symlink { .. } => true,
+        Ask::Remove { .. } => true,
+        Ask::Rmdir { .. } => true,
+        Ask::Hardlink { .. } => true,
+        Ask::Rename { .. } => true,
+        Ask::PosixRename { .. } => true,
+        _ => false,
+    }
+}
+
 /// What a request that changes names does to times.
 fn touch_at(table: &mut TimeTable, tree: &Tree, ask: &Ask) -> Result<Touch, NoMemory> {
     match ask {

@@ -60,6 +60,7 @@ impl Ways {
     }
 
     /// What a path leads to, if that is kept.
+    #[inline(always)]
     pub(crate) fn find(&self, path: &[u8]) -> Option<&Led> {
         let hash = hash_of(path);
         for step in 0..TRIES {
@@ -205,11 +206,26 @@ fn filled(slots: Vec<Option<Way>>, count: usize) -> Vec<Option<Way>> {
     slots
 }
 
-/// A hash of a path: of its words of eight bytes, and of the bytes behind them.
+/// A hash of a path. Its length comes last: the last byte of a word reaches the low bits only when another number is
+/// mixed in.
 fn hash_of(path: &[u8]) -> u64 {
-    let (words, rest) = path.as_chunks::<8>();
-    let mut hash = hash_of_words(words);
-    for byte in rest {
+    mixed(hash_of_text(path), path.len() as u64)
+}
+
+/// A hash of a path's words of eight bytes, and of its last eight bytes, or of its bytes if it has fewer.
+fn hash_of_text(path: &[u8]) -> u64 {
+    match path.last_chunk::<8>() {
+        Some(last) => {
+            let (words, _) = path.as_chunks::<8>();
+            mixed(hash_of_words(words), u64::from_le_bytes(*last))
+        }
+        None => hash_of_bytes(path),
+    }
+}
+
+fn hash_of_bytes(bytes: &[u8]) -> u64 {
+    let mut hash: u64 = 0;
+    for byte in bytes {
         hash = mixed(hash, u64::from(*byte));
     }
     hash
@@ -225,7 +241,8 @@ fn hash_of_words(words: &[[u8; 8]]) -> u64 {
 
 fn mixed(hash: u64, more: u64) -> u64 {
     let product = (hash ^ more).wrapping_mul(0x9e37_79b9_7f4a_7c15);
-    product ^ (product >> 32)
+    // The highest bits depend on all bytes of a word, and a slot on the lowest.
+    product ^ (product >> 48)
 }
 
 /// Whether two paths are the same. Compared by words, since that takes a fifth of what `==` does.
@@ -233,9 +250,15 @@ fn are_alike(one: &[u8], other: &[u8]) -> bool {
     if one.len() != other.len() {
         return false;
     }
-    let (words, rest) = one.as_chunks::<8>();
-    let (other_words, other_rest) = other.as_chunks::<8>();
-    words_are_alike(words, other_words) && bytes_are_alike(rest, other_rest)
+    match (one.last_chunk::<8>(), other.last_chunk::<8>()) {
+        (Some(last), Some(other_last)) => {
+            let (words, _) = one.as_chunks::<8>();
+            let (others, _) = other.as_chunks::<8>();
+            u64::from_le_bytes(*last) == u64::from_le_bytes(*other_last)
+                && words_are_alike(words, others)
+        }
+        _ => bytes_are_alike(one, other),
+    }
 }
 
 fn words_are_alike(words: &[[u8; 8]], others: &[[u8; 8]]) -> bool {

@@ -1,8 +1,0 @@
--- The session's reply is allowed, and this one says the same but for what is free.
-use Rattle.sftp_vary.proofs.BareReplies.{still-allowed}
-use Rattle.sftp_clock.proofs.clocked.Clocked.answer_shown.Goals as goal
-
-pub returns-in-Ok-clause-allowed : goal.returns-in-Ok-clause-allowed
-returns-in-Ok-clause-allowed g c =
-    still-allowed c.args.session.now c.args.request.now c.in-Ok.reply c.show.new.reply c.answer.new.self
-    c.in-Ok.ensures.allowed c.show.ensures.same_id c.show.ensures.same
