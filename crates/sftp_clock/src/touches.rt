@@ -31,7 +31,7 @@ pub(crate) enum Touch {
     File(FileNo, Change),
     /// It makes or removes what stands at a name, or gives a file this name.
     At(Spot),
-    /// It moves what stands at the first name to the second, and removes what stands there.
+    /// It moves what stands at the first name to the second, and so removes what the second named.
     Move(Spot, Spot),
     /// It may make a file: if the tree has more entries than these.
     Open(u32),

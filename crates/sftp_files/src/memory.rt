@@ -93,8 +93,8 @@ fn data_bytes(sizes: &mut File) -> Option<u64> {
     Some(pages.saturating_mul(PAGE))
 }
 
-/// The records of a transcript, which fail to be read once the process has more memory than it may. The memory is looked
-/// at each time that those since then may have taken the room that there was; the last one of them may take more.
+/// The records of a transcript, which fail to be read once the process has more memory than it may. The memory is
+/// looked at each time that those since then may have taken the room that there was; the last one of them may take more.
 #[derive(Drop)]
 pub struct BoundedRecords<'m, R> {
     inner: BufReader<R>,

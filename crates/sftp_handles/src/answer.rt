@@ -26,6 +26,7 @@ impl<T: HandleTable> Session<T> {
     /// # Errors
     ///
     /// `NoMemory` if memory runs out; the session is unchanged.
+    #[inline(always)]
     pub fn answer(&mut self, request: &Request) -> Result<Reply, NoMemory>
         ensures allowed { IfOk result (λ reply. Allowed self.old request.now reply self.new) }
         ensures spelled { IfOk result (λ reply. HasSpelling (reply_packet reply)) }

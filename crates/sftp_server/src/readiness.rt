@@ -196,6 +196,7 @@ impl Readiness {
 
     /// Looks again at the requests that may have become ready because the one at this position is done. `file` is the
     /// one whose length it may have changed.
+    #[inline(always)]
     pub(crate) fn refresh<T: HandleTable>(
         &mut self,
         session: &Session<T>,
