@@ -11,7 +11,7 @@ use Rattle.sftp_text.specs.Formats.{Format, after, ◌then◌, word, mark, Reads
 use Rattle.sftp_text.specs.Digits.{number, octal}
 use Rattle.sftp_text.specs.Digits.{string_text, long_string_text}
 use Rattle.sftp_text.specs.declared.trees.entries.Letter.{Letter}
-use Rattle.sftp_text.specs.Trees.{owner_text, timed_owner, plain_root, letter_of_root, word_of_root, is_timed_root}
+use Rattle.sftp_text.specs.Trees.{owner_text, timed_owner, root_line, letter_of_root, word_of_root, is_timed_root}
 use Rattle.sftp_text.specs.Trees.{root_with, lettered_root, root_text, letter_of, content_text, with_content, owned_text, other_text}
 use Rattle.sftp_text.specs.Trees.{head_text, kind_text, entry_of, first_of, kind_behind, show_kind, begins_wide}
 use Rattle.sftp_text.specs.Trees.{read_kind, entry_text, entry_line, first_lines, show_tree, bytes_and, entries_read}
@@ -98,11 +98,6 @@ timed_owner-exact true B space =
     (owner_text-exact SpaceFront (λ l s. s))
     (spaced_then [] (word (codes " ") then number) B refl (spaced_number [] B space refl))
 
-plain_root-exact : IsExact plain_root IsSaid IsEnd
-plain_root-exact =
-    IsExact-weaken _ _ IsSaid IsEnd IsEnd (λ l b. ap is_blank b.parts) (λ l e. e)
-    (behind_word (codes "D \"/\"") owner_text SpaceFront IsEnd refl (owner_text-exact IsEnd end-space))
-
 -- the letter of a root is first in its line, and tells whether there are times
 root_begins : (has_times : Bool) (l : List ℕ) → Behind (word_of_root has_times) SpaceFront l
     → IsSaid l × (is_timed_root l ≡ has_times)
@@ -113,13 +108,17 @@ root_printable : (has_times : Bool) → IsTrue (list_all is_printable (word_of_r
 root_printable false = refl
 root_printable true = refl
 
+root_line-exact : (has_times : Bool) → IsExact (root_line has_times) (Behind (word_of_root has_times) SpaceFront) IsEnd
+root_line-exact has_times =
+    behind_word (word_of_root has_times) (timed_owner has_times) SpaceFront IsEnd (root_printable has_times)
+    (timed_owner-exact has_times IsEnd end-space)
+
 root_with-exact : (has_times : Bool) → IsExact (root_with has_times) (λ l. IsSaid l × (is_timed_root l ≡ has_times)) IsEnd
 root_with-exact has_times =
     let w : List ℕ = word_of_root has_times in
-    let said = behind_word w (timed_owner has_times) SpaceFront IsEnd (root_printable has_times) (timed_owner-exact has_times IsEnd end-space) in
     IsExact-weaken (root_with has_times) (Behind w SpaceFront) _ IsEnd IsEnd (root_begins has_times) (λ l e. e)
-    (then-exact (mark (letter_of_root has_times ∷ [])) (word w then timed_owner has_times) (Behind w SpaceFront) (Behind w SpaceFront) IsEnd
-    (mark-exact (letter_of_root has_times ∷ []) (Behind w SpaceFront)) said)
+    (then-exact (mark (letter_of_root has_times ∷ [])) (root_line has_times) (Behind w SpaceFront) (Behind w SpaceFront) IsEnd
+    (mark-exact (letter_of_root has_times ∷ []) (Behind w SpaceFront)) (root_line-exact has_times))
 
 lettered_root-exact : IsExact lettered_root IsSaid IsEnd
 lettered_root-exact = record {
@@ -139,7 +138,9 @@ lettered_root-exact = record {
 
 root_text-exact : (wide : Bool) → IsExact (root_text wide) IsSaid IsEnd
 unfolding root_text
-root_text-exact false = plain_root-exact
+root_text-exact false =
+    IsExact-weaken (root_line false) (Behind (word_of_root false) SpaceFront) IsSaid IsEnd IsEnd
+    (λ l b. (root_begins false l b).0) (λ l e. e) (root_line-exact false)
 root_text-exact true = lettered_root-exact
 
 -- ---- entries

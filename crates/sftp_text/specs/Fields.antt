@@ -42,14 +42,17 @@ pub record Part : Type 0 where
 abbrev pub part : ℕ → List ℕ → Format → Part
 part flag label format = record { flag = flag; label = label; format = format }
 
-unfoldable pub attribute_parts : List Part
-attribute_parts =
-    part 0x00000001 (codes " size=") long
-    ∷ part 0x00000002 (codes " owner=") two_numbers
-    ∷ part 0x00000004 (codes " permissions=") octal
+-- those behind size and owner
+abbrev pub later_parts : List Part
+later_parts =
+    part 0x00000004 (codes " permissions=") octal
     ∷ part 0x00000008 (codes " times=") two_numbers
     ∷ part 0x80000000 (codes " extended=") counted_pairs
     ∷ []
+
+unfoldable pub attribute_parts : List Part
+attribute_parts =
+    part 0x00000001 (codes " size=") long ∷ part 0x00000002 (codes " owner=") two_numbers ∷ later_parts
 
 -- an attribute with its label, if its flag is set
 abbrev pub show_part : Part → ℕ → Step

@@ -1,5 +1,5 @@
 -- Texts of several lines: how they are cut into lines, and what the code that reads them does.
-use Rattle.std.specs.Prelude.{◌≡◌, ◌≢◌, ◌==◌, ℕ, List, [], length, if◌then◌else◌, Option, Some, None, Result, Ok, Err}
+use Rattle.std.specs.Prelude.{◌≡◌, ◌==◌, ℕ, List, [], length, if◌then◌else◌, Option, Some, None, Result, Ok, Err}
 use Rattle.std.specs.Prelude.{option_and_then, ◌∷◌, ◌++◌, take, drop, flat_map}
 use Rattle.sftp_packets.specs.declared.packets.Side.{Side}
 use Rattle.sftp_text.specs.declared.errors.Stop.{Stop}
@@ -39,6 +39,11 @@ GivesRecord (Ok side) bytes read = read ≡ Some (side, bytes)
 GivesRecord (Err faults.NoMemory) bytes read = Unit {0}
 GivesRecord (Err (faults.Unread column expected)) bytes read = read ≡ None
 
+-- why a file has no text where a step stops
+abbrev pub show_fault : Stop → ShowFault
+show_fault stops.NoMemory = shows.NoMemory
+show_fault (stops.Unfit expected) = shows.Unfit
+
 -- what is done and what is left are as the step says, unless memory runs out
 abbrev pub ShowsAs : Result (Unit {0}) ShowFault → List ℕ → List ℕ → Option (List ℕ × List ℕ) → Type 0
 ShowsAs (Ok x) done left step = step ≡ Some (done, left)
@@ -56,12 +61,6 @@ abbrev pub ShowsWhole : Result (Unit {0}) ShowFault → List ℕ → Option (Lis
 ShowsWhole (Ok x) done step = step ≡ Some (done, [])
 ShowsWhole (Err shows.NoMemory) done step = Unit {0}
 ShowsWhole (Err shows.Unfit) done step = whole step ≡ None
-
--- nothing is left of a line, or the fault says that its end was expected
-abbrev pub EndsAt : Result (Unit {0}) Fault → List ℕ → Type 0
-EndsAt (Ok x) rest = rest ≡ []
-EndsAt (Err faults.NoMemory) rest = ⊥
-EndsAt (Err (faults.Unread column expected)) rest = rest ≢ []
 
 -- ==== Where a line stops being one.
 

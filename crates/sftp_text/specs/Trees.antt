@@ -93,10 +93,6 @@ abbrev pub timed_owner : Bool → Format
 timed_owner false = owner_text
 timed_owner true = owner_text then word (codes " ") then number then word (codes " ") then number
 
--- the root of a tree file without times
-abbrev pub plain_root : Format
-plain_root = word (codes "D \"/\"") then owner_text
-
 -- the letter of a root with times or without
 abbrev pub letter_of_root : Bool → ℕ
 letter_of_root false = 68
@@ -107,6 +103,10 @@ abbrev pub word_of_root : Bool → List ℕ
 word_of_root false = codes "D \"/\""
 word_of_root true = codes "d \"/\""
 
+-- the line of a root with times or without
+abbrev pub root_line : Bool → Format
+root_line has_times = word (word_of_root has_times) then timed_owner has_times
+
 -- whether the root in front has times, by its letter
 abbrev pub is_timed_root : List ℕ → Bool
 is_timed_root [] = false
@@ -114,8 +114,7 @@ is_timed_root (c ∷ rest) = c == 100
 
 -- the root by its letter, which is in the line and in the bytes
 abbrev pub root_with : Bool → Format
-root_with has_times =
-    mark (letter_of_root has_times ∷ []) then word (word_of_root has_times) then timed_owner has_times
+root_with has_times = mark (letter_of_root has_times ∷ []) then root_line has_times
 
 -- the root of a tree file after the third opening
 abbrev pub lettered_root : Format
@@ -124,9 +123,9 @@ lettered_root = record {
   read = λ bytes text. (root_with (is_timed_root text)).read bytes text;
 }
 
--- the root
+-- the root, which has its letter and may have times after the third opening alone
 unfoldable pub root_text : Bool → Format
-root_text false = plain_root
+root_text false = root_line false
 root_text true = lettered_root
 
 -- what a letter says of the entry of a directory or of a file; small letters and `G` only after the third opening

@@ -1,8 +1,7 @@
 //! Attributes (draft, section 5): each field that there is, with its label, in the order of the bytes.
-ghost use Rattle.std.specs.Prelude.{◌≡◌, [], ◌∷◌, ◌≤◌, codes, IfOk};
-ghost use Rattle.sftp_text.specs.Digits.{octal};
+ghost use Rattle.std.specs.Prelude.{◌≡◌, ◌≤◌, IfOk};
 ghost use Rattle.sftp_text.specs.Fields.{two_numbers, counted_pairs, part, show_part, show_parts, read_parts};
-ghost use Rattle.sftp_text.specs.Fields.{attribute_parts};
+ghost use Rattle.sftp_text.specs.Fields.{attribute_parts, later_parts};
 ghost use Rattle.sftp_text.specs.Fields as fields;
 ghost use Rattle.sftp_text.specs.Trees.{Moves, Counts, value_text};
 
@@ -78,8 +77,7 @@ fn put_part(
 /// Shows the permissions, the times and the extended attributes.
 fn put_later_parts(flags: u32, bytes: &mut &[u8], text: &mut Vec<u8>) -> Result<(), Stop>
     ensures { Moves result text.new.items bytes.new.now
-        (show_parts (part 0x00000004 (codes " permissions=") octal ∷ part 0x00000008 (codes " times=") two_numbers
-        ∷ part 0x80000000 (codes " extended=") counted_pairs ∷ []) flags text.old.items bytes.old.now) }
+        (show_parts later_parts flags text.old.items bytes.old.now) }
 {
     put_part(
         PERMISSIONS,
@@ -158,9 +156,7 @@ fn read_part(
 
 /// Reads the permissions, the times and the extended attributes. Returns their flags.
 fn read_later_parts(line: &mut &[u8], bytes: &mut Vec<u8>) -> Result<u32, Stop>
-    ensures found { Counts result bytes.new.items line.new.now
-        (read_parts (part 0x00000004 (codes " permissions=") octal ∷ part 0x00000008 (codes " times=") two_numbers
-        ∷ part 0x80000000 (codes " extended=") counted_pairs ∷ []) bytes.old.items line.old.now) }
+    ensures found { Counts result bytes.new.items line.new.now (read_parts later_parts bytes.old.items line.old.now) }
     ensures small { IfOk result (λ flags. flags ≤ 0x8000000c) }
 {
     let permissions = read_part(PERMISSIONS, b" permissions=", Value::Octal, line, bytes)?;

@@ -148,6 +148,19 @@ impl From<TryGetError> for Stop {
     }
 }
 
+impl From<Stop> for ShowFault {
+    ghost use Rattle.sftp_text.specs.Texts.{show_fault};
+
+    ghost from_gives = { λ stop e. e ≡ show_fault stop };
+
+    fn from(stop: Stop) -> ShowFault {
+        match stop {
+            Stop::NoMemory => ShowFault::NoMemory,
+            Stop::Unfit(_) => ShowFault::Unfit,
+        }
+    }
+}
+
 impl From<AllocError> for ShowFault {
     ghost use Rattle.sftp_text.specs.declared.errors.ShowFault.TheVariants.{NoMemory as no_memory};
 

@@ -1,7 +1,7 @@
 //! Pairs, and names of a directory (draft, sections 4, 5 and 7). A loop over items goes round at most as often as its
 //! list has items, or as there are bytes left, since each item takes some.
-ghost use Rattle.std.specs.Prelude.{◌≡◌, ℕ, List, [], ◌∷◌, codes, length, option_and_then};
-ghost use Rattle.sftp_text.specs.Formats.{Format, begins_with, show_list, show_each, read_each, numbered};
+ghost use Rattle.std.specs.Prelude.{◌≡◌, [], ◌∷◌, codes, length, option_and_then};
+ghost use Rattle.sftp_text.specs.Formats.{Format, begins_with, show_list, show_each, read_each};
 ghost use Rattle.sftp_text.specs.Formats.{◌then◌, word, ahead, listed, front_uint32};
 ghost use Rattle.sftp_text.specs.Formats as formats;
 ghost use Rattle.sftp_text.specs.Fields.{pair, pairs, name_item, message, two_texts};
@@ -9,7 +9,7 @@ ghost use Rattle.sftp_text.specs.Trees.{Moves, Counts};
 
 use crate::attributes::{put_attributes, read_attributes};
 use crate::errors::{Expected, Stop};
-use crate::quoted::{append_numbered, put_string, read_string};
+use crate::quoted::{append_counted, put_string, read_string};
 use crate::words::{read_label, read_word};
 use bytes::Buf;
 
@@ -212,18 +212,6 @@ fn read_list<I: Item>(
     read_more::<I>(separator, line, bytes)
 }
 
-/// Appends items after their number.
-fn append_items(count: usize, items: &[u8], bytes: &mut Vec<u8>) -> Result<(), Stop>
-    ensures { (left : List ℕ) → Moves result bytes.new.items left
-        (numbered bytes.old.items (count, (items.now, left))) }
-{
-    let Ok(number) = u32::try_from(count) else {
-        return Err(Stop::Unfit(Expected::Fewer));
-    };
-    append_numbered(number, items, bytes)?;
-    Ok(())
-}
-
 /// Reads items with a separator between as their count and the items. `first` begins each item.
 pub(crate) fn read_counted<I: Item>(
     first: u8,
@@ -236,7 +224,7 @@ pub(crate) fn read_counted<I: Item>(
 {
     let mut items = Vec::new(*bytes.allocator());
     let count = read_list::<I>(first, separator, line, &mut items)?;
-    append_items(count, items.as_slice(), bytes)
+    append_counted(count, items.as_slice(), bytes)
 }
 
 /// Shows two texts, each after a space.

@@ -1,11 +1,11 @@
 //! Texts in quotes: bytes 0x20 to 0x7e but `"` and `\` stand for themselves, `\x` and two hexadecimal digits for any
 //! byte.
-ghost use Rattle.std.specs.Prelude.{◌≡◌, ◌++◌, None, Some, OnOk, MatchOption, ℕ, List, length};
+ghost use Rattle.std.specs.Prelude.{◌≡◌, ◌++◌, None, Some, OnOk, MatchOption, ℕ, List};
 ghost use Rattle.std.specs.Int.{w32, to_be_bytes};
 ghost use Rattle.std.specs.List.{flat_map};
 ghost use Rattle.sftp_text.specs.Digits as text;
 ghost use Rattle.sftp_text.specs.Digits.{byte_text, quoted, rest_text, unquoted, Plain, text_in, string_text};
-ghost use Rattle.sftp_text.specs.Digits.{long_string_text};
+ghost use Rattle.sftp_text.specs.Digits.{counted_text, long_string_text};
 ghost use Rattle.sftp_text.specs.Formats.{numbered};
 ghost use Rattle.sftp_text.specs.Trees.{Moves, character_in, escape_in};
 
@@ -52,18 +52,25 @@ pub(crate) fn put_quoted(bytes: &[u8], text: &mut Vec<u8>) -> Result<(), AllocEr
     Ok(())
 }
 
+/// Shows so many bytes from the front as a text in quotes.
+fn put_piece(length: usize, bytes: &mut &[u8], text: &mut Vec<u8>) -> Result<(), Stop>
+    ensures { Moves result text.new.items bytes.new.now (counted_text.show length text.old.items bytes.old.now) }
+{
+    let Some((piece, rest)) = bytes.split_at_checked(length) else {
+        return Err(Stop::Unfit(Expected::Text));
+    };
+    put_quoted(piece, text)?;
+    *bytes = rest;
+    Ok(())
+}
+
 /// Shows a string as a text in quotes.
 #[tactic(auto, unfolding(crate::specs::Digits::string_text))]
 pub(crate) fn put_string(bytes: &mut &[u8], text: &mut Vec<u8>) -> Result<(), Stop>
     ensures { Moves result text.new.items bytes.new.now (string_text.show text.old.items bytes.old.now) }
 {
     let length = bytes.try_get_u32()?;
-    let Some((string, rest)) = bytes.split_at_checked(length as usize) else {
-        return Err(Stop::Unfit(Expected::Text));
-    };
-    put_quoted(string, text)?;
-    *bytes = rest;
-    Ok(())
+    put_piece(length as usize, bytes, text)
 }
 
 /// Shows a long string, whose length is a uint64, as a text in quotes.
@@ -72,12 +79,7 @@ pub(crate) fn put_long_string(bytes: &mut &[u8], text: &mut Vec<u8>) -> Result<(
     ensures { Moves result text.new.items bytes.new.now (long_string_text.show text.old.items bytes.old.now) }
 {
     let length = bytes.try_get_u64()?;
-    let Some((string, rest)) = bytes.split_at_checked(length as usize) else {
-        return Err(Stop::Unfit(Expected::Text));
-    };
-    put_quoted(string, text)?;
-    *bytes = rest;
-    Ok(())
+    put_piece(length as usize, bytes, text)
 }
 
 /// Shows all the bytes that are left as a text in quotes.
@@ -164,15 +166,15 @@ pub(crate) fn append_numbered(
     bytes.extend_from_slice(piece)
 }
 
-/// Appends a string: the number of its bytes, and the bytes.
-pub(crate) fn append_string(string: &[u8], bytes: &mut Vec<u8>) -> Result<(), Stop>
+/// Appends the number of bytes or items, and then their bytes.
+pub(crate) fn append_counted(count: usize, piece: &[u8], bytes: &mut Vec<u8>) -> Result<(), Stop>
     ensures { (left : List ℕ) → Moves result bytes.new.items left
-        (numbered bytes.old.items (length string.now, (string.now, left))) }
+        (numbered bytes.old.items (count, (piece.now, left))) }
 {
-    let Ok(length) = u32::try_from(string.len()) else {
+    let Ok(number) = u32::try_from(count) else {
         return Err(Stop::Unfit(Expected::Fewer));
     };
-    append_numbered(length, string, bytes)?;
+    append_numbered(number, piece, bytes)?;
     Ok(())
 }
 
@@ -183,7 +185,7 @@ pub(crate) fn read_string(line: &mut &[u8], bytes: &mut Vec<u8>) -> Result<(), S
 {
     let mut string = Vec::new(*bytes.allocator());
     read_quoted(line, &mut string)?;
-    append_string(string.as_slice(), bytes)
+    append_counted(string.len(), string.as_slice(), bytes)
 }
 
 /// Reads a text in quotes as a long string: the number of its bytes as a uint64, and the bytes.

@@ -21,8 +21,8 @@ use bytes::Buf;
 use sftp_wire::{Layout, Side, layout_of};
 use std::alloc::AllocError;
 
-/// How a line names a side.
-fn letter(side: Side) -> u8
+/// How lines and transcripts name a side.
+pub(crate) fn letter(side: Side) -> u8
     ensures { result ≡ side_letter side }
 {
     match side {

@@ -7,7 +7,7 @@ ghost use Rattle.sftp_text.specs.Texts.{Shows, lines_onto, next_record, fed_line
 
 use crate::errors::{Fault, ShowFault, TextFault};
 use crate::lines::{is_blank, take_line};
-use crate::records::{put_record, read_record, side_of};
+use crate::records::{letter, put_record, read_record, side_of};
 use crate::words::after_word;
 use bytes::Buf;
 use sftp_wire::Side;
@@ -86,7 +86,7 @@ fn put_records(bytes: &[u8], text: &mut Vec<u8>) -> Result<(), ShowFault>
 pub fn put_transcript(bytes: &[u8], text: &mut Vec<u8>) -> Result<(), ShowFault>
     ensures { Shows result text.new.items (lines_onto text.old.items (records_of bytes.now)) }
 {
-    let Some(rest) = after_word(b"SFTPTR01", bytes) else {
+    let Some(rest) = after_word(OPENING, bytes) else {
         return Err(ShowFault::Unfit);
     };
     put_records(rest, text)
@@ -96,11 +96,7 @@ pub fn put_transcript(bytes: &[u8], text: &mut Vec<u8>) -> Result<(), ShowFault>
 fn append_record(side: Side, packet: &[u8], bytes: &mut Vec<u8>) -> Result<(), AllocError>
     ensures { OnOk result (bytes.new.items ≡ bytes.old.items ++ side_letter side ∷ packet.now) }
 {
-    let letter = match side {
-        Side::Client => b'C',
-        Side::Server => b'S',
-    };
-    bytes.push(letter)?;
+    bytes.push(letter(side))?;
     bytes.extend_from_slice(packet)
 }
 

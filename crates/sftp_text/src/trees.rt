@@ -1,8 +1,8 @@
 //! Tree files as text: a line for the head, one for the root, and one an entry.
-ghost use Rattle.std.specs.Prelude.{◌≡◌, [], OnOk, Some};
+ghost use Rattle.std.specs.Prelude.{◌≡◌, ℕ, List, [], OnOk, Option, Some};
 ghost use Rattle.sftp_text.specs.Formats.{repeat_to_end};
 ghost use Rattle.sftp_text.specs.Lines.{whole};
-ghost use Rattle.sftp_text.specs.Texts.{ShowsAs, ShowsWhole, ReadsAs, EndsAt, GivesLine, GivesText, onto, form_of};
+ghost use Rattle.sftp_text.specs.Texts.{ShowsAs, ShowsWhole, ReadsAs, GivesLine, GivesText, onto, form_of};
 ghost use Rattle.sftp_text.specs.Texts.{due_after, lines_from};
 ghost use Rattle.sftp_text.specs.Trees.{Moves, entry_line, first_lines};
 ghost use Rattle.sftp_text.specs.Trees as trees;
@@ -31,11 +31,8 @@ use crate::words::read_end;
 pub fn put_head(bytes: &mut &[u8], text: &mut Vec<u8>) -> Result<(), ShowFault>
     ensures { ShowsAs result text.new.items bytes.new.now (trees.head_text.show text.old.items bytes.old.now) }
 {
-    match put_head_parts(bytes, text) {
-        Ok(()) => Ok(()),
-        Err(Stop::NoMemory) => Err(ShowFault::NoMemory),
-        Err(Stop::Unfit(_)) => Err(ShowFault::Unfit),
-    }
+    put_head_parts(bytes, text)?;
+    Ok(())
 }
 
 /// Takes what is said of the root from the front of the bytes, and appends its line without a line feed: `D "/" 0 0
@@ -48,11 +45,8 @@ pub fn put_root(is_wide: bool, bytes: &mut &[u8], text: &mut Vec<u8>) -> Result<
     ensures { ShowsAs result text.new.items bytes.new.now
         ((trees.root_text is_wide).show text.old.items bytes.old.now) }
 {
-    match put_root_parts(is_wide, bytes, text) {
-        Ok(()) => Ok(()),
-        Err(Stop::NoMemory) => Err(ShowFault::NoMemory),
-        Err(Stop::Unfit(_)) => Err(ShowFault::Unfit),
-    }
+    put_root_parts(is_wide, bytes, text)?;
+    Ok(())
 }
 
 /// Takes an entry from the front of the bytes, and appends its line without a line feed. It may have times, or a file
@@ -65,11 +59,8 @@ pub fn put_entry(is_wide: bool, bytes: &mut &[u8], text: &mut Vec<u8>) -> Result
     ensures { ShowsAs result text.new.items bytes.new.now
         ((trees.entry_text is_wide).show text.old.items bytes.old.now) }
 {
-    match put_entry_parts(is_wide, bytes, text) {
-        Ok(()) => Ok(()),
-        Err(Stop::NoMemory) => Err(ShowFault::NoMemory),
-        Err(Stop::Unfit(_)) => Err(ShowFault::Unfit),
-    }
+    put_entry_parts(is_wide, bytes, text)?;
+    Ok(())
 }
 
 /// Shows an entry and a line feed.
@@ -129,24 +120,21 @@ pub fn put_tree(bytes: &[u8], text: &mut Vec<u8>) -> Result<(), ShowFault>
     ensures { ShowsWhole result text.new.items (trees.show_tree text.old.items bytes.now) }
 {
     let mut rest = bytes;
-    match put_lines(&mut rest, text) {
-        Ok(()) => match read_end(rest) {
-            Ok(()) => Ok(()),
-            Err(_) => Err(ShowFault::Unfit),
-        },
-        Err(Stop::NoMemory) => Err(ShowFault::NoMemory),
-        Err(Stop::Unfit(_)) => Err(ShowFault::Unfit),
-    }
+    put_lines(&mut rest, text)?;
+    read_end(rest)?;
+    Ok(())
 }
 
-/// Succeeds where nothing is left of a line.
-fn ended(line: &[u8], rest: &[u8]) -> Result<(), Fault>
-    ensures { EndsAt result rest.now }
+/// What comes of a line that was read up to `rest`, of which nothing may be left.
+fn ended(read: Result<(), Stop>, line: &[u8], rest: &[u8]) -> Result<(), Fault>
+    ensures { (bytes : List ℕ) (step : Option (List ℕ × List ℕ)) → Moves read bytes rest.now step
+        → ReadsAs result bytes step }
 {
-    if rest.is_empty() {
-        return Ok(());
+    match read {
+        Ok(()) if rest.is_empty() => Ok(()),
+        Ok(()) => Err(Stop::Unfit(Expected::End).in_line(line.len(), rest.len())),
+        Err(stop) => Err(stop.in_line(line.len(), rest.len())),
     }
-    Err(Stop::Unfit(Expected::End).in_line(line.len(), rest.len()))
 }
 
 /// Reads a line of a head, and appends its bytes: the opening, the home, the user, the group, the limits if there are
@@ -161,10 +149,8 @@ pub fn read_head(line: &[u8], bytes: &mut Vec<u8>) -> Result<(), Fault>
     ensures { ReadsAs result bytes.new.items (trees.head_text.read bytes.old.items line.now) }
 {
     let mut rest = line;
-    match read_head_parts(&mut rest, bytes) {
-        Ok(()) => ended(line, rest),
-        Err(stop) => Err(stop.in_line(line.len(), rest.len())),
-    }
+    let read = read_head_parts(&mut rest, bytes);
+    ended(read, line, rest)
 }
 
 /// Reads the line of the root, and appends its bytes.
@@ -176,10 +162,8 @@ pub fn read_root(is_wide: bool, line: &[u8], bytes: &mut Vec<u8>) -> Result<(), 
     ensures { ReadsAs result bytes.new.items ((trees.root_text is_wide).read bytes.old.items line.now) }
 {
     let mut rest = line;
-    match read_root_parts(is_wide, &mut rest, bytes) {
-        Ok(()) => ended(line, rest),
-        Err(stop) => Err(stop.in_line(line.len(), rest.len())),
-    }
+    let read = read_root_parts(is_wide, &mut rest, bytes);
+    ended(read, line, rest)
 }
 
 /// Reads the line of an entry, and appends its bytes.
@@ -191,10 +175,8 @@ pub fn read_entry(is_wide: bool, line: &[u8], bytes: &mut Vec<u8>) -> Result<(),
     ensures { ReadsAs result bytes.new.items ((trees.entry_text is_wide).read bytes.old.items line.now) }
 {
     let mut rest = line;
-    match read_entry_parts(is_wide, &mut rest, bytes) {
-        Ok(()) => ended(line, rest),
-        Err(stop) => Err(stop.in_line(line.len(), rest.len())),
-    }
+    let read = read_entry_parts(is_wide, &mut rest, bytes);
+    ended(read, line, rest)
 }
 
 /// Reads a line in the form that is due, and appends its bytes.
@@ -273,17 +255,14 @@ fn any_root(is_wide: bool) -> Expected {
 fn complete(due: Due, line: u64) -> Result<(), TextFault>
     ensures { GivesText result [] (lines_from due []) }
 {
-    match due {
-        Due::Head => Err(TextFault::Unread {
-            line,
-            column: 1,
-            expected: Expected::Head,
-        }),
-        Due::Root(is_wide) => Err(TextFault::Unread {
-            line,
-            column: 1,
-            expected: any_root(is_wide),
-        }),
-        Due::Entry(_) => Ok(()),
-    }
+    let expected = match due {
+        Due::Head => Expected::Head,
+        Due::Root(is_wide) => any_root(is_wide),
+        Due::Entry(_) => return Ok(()),
+    };
+    Err(TextFault::Unread {
+        line,
+        column: 1,
+        expected,
+    })
 }

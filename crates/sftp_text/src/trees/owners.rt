@@ -9,7 +9,7 @@ use crate::words::read_word;
 
 /// Shows an owner: user and group in decimal, permissions in octal, each after a space.
 #[tactic(auto, unfolding(crate::specs::Trees::owner_text))]
-pub(super) fn put_owner(bytes: &mut &[u8], text: &mut Vec<u8>) -> Result<(), Stop>
+fn put_owner(bytes: &mut &[u8], text: &mut Vec<u8>) -> Result<(), Stop>
     ensures { Moves result text.new.items bytes.new.now (trees.owner_text.show text.old.items bytes.old.now) }
 {
     put_two_labelled(b" ", b" ", bytes, text)?;
@@ -18,7 +18,7 @@ pub(super) fn put_owner(bytes: &mut &[u8], text: &mut Vec<u8>) -> Result<(), Sto
 }
 
 #[tactic(auto, unfolding(crate::specs::Trees::owner_text))]
-pub(super) fn read_owner(line: &mut &[u8], bytes: &mut Vec<u8>) -> Result<(), Stop>
+fn read_owner(line: &mut &[u8], bytes: &mut Vec<u8>) -> Result<(), Stop>
     ensures { Moves result bytes.new.items line.new.now (trees.owner_text.read bytes.old.items line.old.now) }
 {
     read_two_labelled(b" ", b" ", Expected::Space, line, bytes)?;

@@ -4,23 +4,8 @@ ghost use Rattle.sftp_text.specs.Trees.{Moves};
 ghost use Rattle.sftp_text.specs.Trees as trees;
 
 use crate::errors::{Expected, Stop};
-use crate::trees::owners::{put_owner, put_timed_owner, read_owner, read_timed_owner};
+use crate::trees::owners::{put_timed_owner, read_timed_owner};
 use crate::words::read_word;
-
-/// Shows the root of a tree file without times, as `D "/" 0 0 0755`.
-fn put_plain_root(bytes: &mut &[u8], text: &mut Vec<u8>) -> Result<(), Stop>
-    ensures { Moves result text.new.items bytes.new.now (trees.plain_root.show text.old.items bytes.old.now) }
-{
-    text.extend_from_slice(b"D \"/\"")?;
-    put_owner(bytes, text)
-}
-
-fn read_plain_root(line: &mut &[u8], bytes: &mut Vec<u8>) -> Result<(), Stop>
-    ensures { Moves result bytes.new.items line.new.now (trees.plain_root.read bytes.old.items line.old.now) }
-{
-    read_word(b"D \"/\"", Expected::Root, line)?;
-    read_owner(line, bytes)
-}
 
 /// Whether the root in front has times, by its letter.
 fn is_timed_root(front: &[u8]) -> bool
@@ -46,14 +31,35 @@ fn word_of_root(has_times: bool) -> &'static [u8]
     if has_times { b"d \"/\"" } else { b"D \"/\"" }
 }
 
+/// Shows the line of a root, as `d "/" 0 0 0755 1 2` with times, and as `D "/" 0 0 0755` without.
+fn put_root_line(has_times: bool, bytes: &mut &[u8], text: &mut Vec<u8>) -> Result<(), Stop>
+    ensures { Moves result text.new.items bytes.new.now
+        ((trees.root_line has_times).show text.old.items bytes.old.now) }
+{
+    text.extend_from_slice(word_of_root(has_times))?;
+    put_timed_owner(has_times, bytes, text)
+}
+
+fn read_root_line(
+    has_times: bool,
+    expected: Expected,
+    line: &mut &[u8],
+    bytes: &mut Vec<u8>,
+) -> Result<(), Stop>
+    ensures { Moves result bytes.new.items line.new.now
+        ((trees.root_line has_times).read bytes.old.items line.old.now) }
+{
+    read_word(word_of_root(has_times), expected, line)?;
+    read_timed_owner(has_times, line, bytes)
+}
+
 /// Shows the root with times or without, whose letter is in its bytes.
 fn put_root_with(has_times: bool, bytes: &mut &[u8], text: &mut Vec<u8>) -> Result<(), Stop>
     ensures { Moves result text.new.items bytes.new.now
         ((trees.root_with has_times).show text.old.items bytes.old.now) }
 {
     read_word(&[letter_of_root(has_times)], Expected::Root, bytes)?;
-    text.extend_from_slice(word_of_root(has_times))?;
-    put_timed_owner(has_times, bytes, text)
+    put_root_line(has_times, bytes, text)
 }
 
 fn read_root_with(has_times: bool, line: &mut &[u8], bytes: &mut Vec<u8>) -> Result<(), Stop>
@@ -61,11 +67,10 @@ fn read_root_with(has_times: bool, line: &mut &[u8], bytes: &mut Vec<u8>) -> Res
         ((trees.root_with has_times).read bytes.old.items line.old.now) }
 {
     bytes.push(letter_of_root(has_times))?;
-    read_word(word_of_root(has_times), Expected::AnyRoot, line)?;
-    read_timed_owner(has_times, line, bytes)
+    read_root_line(has_times, Expected::AnyRoot, line, bytes)
 }
 
-/// Shows the root of a tree file after the third opening, as `d "/" 0 0 0755 1 2`.
+/// Shows the root of a tree file after the third opening.
 fn put_lettered_root(bytes: &mut &[u8], text: &mut Vec<u8>) -> Result<(), Stop>
     ensures { Moves result text.new.items bytes.new.now (trees.lettered_root.show text.old.items bytes.old.now) }
 {
@@ -90,7 +95,7 @@ pub(super) fn put_root_parts(
     if is_wide {
         put_lettered_root(bytes, text)
     } else {
-        put_plain_root(bytes, text)
+        put_root_line(false, bytes, text)
     }
 }
 
@@ -105,6 +110,6 @@ pub(super) fn read_root_parts(
     if is_wide {
         read_lettered_root(line, bytes)
     } else {
-        read_plain_root(line, bytes)
+        read_root_line(false, Expected::Root, line, bytes)
     }
 }
