@@ -197,8 +197,16 @@ impl fmt::Display for Otherwise<'_> {
             What::Unlisted => f.write_str("the listing ends without it"),
             What::Entries => f.write_str("it was removed as an empty directory"),
             What::Place => put_text("it leads to", self.0, f),
-            What::Refused(_) => f.write_str("a refusal for which that is no reason"),
+            What::Refused(_) => f.write_str(unexplained(self.0.told)),
         }
+    }
+}
+
+/// The words for a reply that no pass explains. Where an earlier record told something, it is a refusal.
+fn unexplained(told: u64) -> &'static str {
+    match told {
+        0 => "a reply that nothing explains",
+        _ => "a refusal for which that is no reason",
     }
 }
 
