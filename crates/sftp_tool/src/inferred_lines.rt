@@ -73,6 +73,23 @@ pub(crate) fn put_refusal<'a, O: Write>(
     )
 }
 
+/// Says how a session that was cut can be judged as far as it goes.
+pub(crate) fn put_way<E: Write>(refusal: Refusal, errors: &mut E) {
+    if let Refusal::Unanswered { record } = refusal {
+        let before = record.saturating_sub(1);
+        let _ = write_flushed(
+            errors,
+            format_args!(
+                "To judge what is before: sftpv3 show --full --data all FILE | head -n {before} | sftpv3 make BEFORE\n"
+            ),
+        );
+        let _ = write_flushed(
+            errors,
+            "then: sftpv3 infer --transcript BEFORE TREE && sftpv3 audit --cut --tree TREE --transcript FILE\n",
+        );
+    }
+}
+
 /// Says why the tree of what a session tells would be larger than it may.
 pub(crate) fn put_excess<E: Write>(excess: Excess, errors: &mut E) {
     let _ = match excess {
