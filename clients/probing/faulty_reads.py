@@ -67,6 +67,24 @@ class read_ends_at_block(Reads):
         return None if self.lengths.get(self.path(asked)) == 32 * KIB and offset >= 16 * KIB else data
 
 
+class read_ends_below_renamed(Reads):
+    """A READ through a handle finds the end once a directory on the path that it was opened by got another name."""
+
+    def __init__(self):
+        super().__init__()
+        self.moved = set()
+
+    def ask(self, asked):
+        if asked.name in ("RENAME", "POSIX-RENAME"):
+            self.moved |= {opener.number for opener in list(self.opened.values())
+                           if opener.fields[0].startswith(asked.fields[0] + b"/")}
+        return [asked]
+
+    def shown(self, asked, _offset, data):
+        opener = self.opened.get(asked.handle())
+        return None if opener is not None and opener.number in self.moved else data
+
+
 class read_behind_end(Reads):
     """A READ at an offset from 1,000 on that is behind the end gives a byte of 0."""
 

@@ -90,6 +90,15 @@ class permissions_lost(Fault):
         return [asked]
 
 
+class permissions_lost_with_times(Fault):
+    """FSETSTAT of permissions together with times sets the times alone."""
+
+    def ask(self, asked):
+        if asked.name == "FSETSTAT" and "times" in asked.fields[1]:
+            asked.fields[1].pop("permissions", None)
+        return [asked]
+
+
 class permissions_after_replacing(Fault):
     """What posix-rename puts in the place of a file gets the permissions 0666."""
 

@@ -277,6 +277,21 @@ class replaced_keeps_old(Fault):
         return [asked]
 
 
+class replaced_by_itself_is_removed(Fault):
+    """posix-rename of a name made by hardlink to the name of the same file removes the old name."""
+
+    def __init__(self):
+        super().__init__()
+        self.pairs = set()
+
+    def ask(self, asked):
+        if asked.name == "HARDLINK":
+            self.pairs.add(tuple(reversed(asked.fields)))
+        if asked.name == "POSIX-RENAME" and tuple(asked.fields) in self.pairs:
+            return [sftp3.Request(asked.number, "REMOVE", asked.fields[:1])]
+        return [asked]
+
+
 class renamed_loses_tail(Fault):
     """A file of more than 262,144 bytes is cut there when it gets another name."""
 

@@ -1,6 +1,8 @@
 """The command line of the probe, and its exit statuses."""
 import argparse
+import itertools
 import os
+import re
 import stat
 import textwrap
 
@@ -23,13 +25,33 @@ class Wrong(Exception):
 SKIPPED = refusals.CAUSES | set(sftp3.REQUESTS) | set(features.FEATURES)
 
 
+class Seeds:
+    """Seeds, which may be more than there is memory for."""
+
+    def __init__(self, ranges):
+        self.ranges = ranges
+
+    def __len__(self):
+        return sum(map(len, self.ranges))
+
+    def __iter__(self):
+        return itertools.chain.from_iterable(self.ranges)
+
+
+# Seeds on the command line: one, or the first and the last of several.
+SEEDS = re.compile(r"([0-9]{1,15})(?:-([0-9]{1,15}))?")
+
+
 def seeds(text):
-    """The numbers of `A-B`, or of `A`: at least one."""
-    first, _, last = text.partition("-")
-    numbers = range(int(first), int(last or first) + 1)
-    if not numbers:
+    """The numbers of `A-B`, of `A`, or of several of these with commas between: at least one of each."""
+    parts = [SEEDS.fullmatch(part) for part in text.split(",")]
+    if not all(parts):
+        raise argparse.ArgumentTypeError(f"{text!r} is no seed, such as 6, no range of them, such as 1-50, and no "
+                                         "list of these with commas between")
+    found = Seeds([range(int(part[1]), int(part[2] or part[1]) + 1) for part in parts])
+    if not all(found.ranges):
         raise argparse.ArgumentTypeError(f"there is no seed in {text}")
-    return numbers
+    return found
 
 
 def positive(text):
@@ -113,7 +135,8 @@ def parser(about):
 
 def add_of_plans(add):
     add("--tree", metavar="FILE", help="the tree file to start from (else one of the probe's own)")
-    add("--seeds", metavar="A-B", type=seeds, default=seeds("1-50"), help="the seeds to play (1-50)")
+    add("--seeds", metavar="A-B,...", type=seeds, default=seeds("1-50"),
+        help="the seeds to play: ranges, and single ones (1-50)")
     add("--requests", metavar="N", type=positive, default=60, help="requests of small scenes in a session (60)")
     add("--in-flight", metavar="K", type=flying,
         help=f"the most requests without a reply ({ONE} for odd seeds, {MANY} for even)")

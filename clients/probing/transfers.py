@@ -18,6 +18,9 @@ EDGES = (0, 1, 32 * KIB - 1, 32 * KIB, 32 * KIB + 1)
 MIDDLE = (150_000, 262_144, 300_000, 300_001, 327_680, 333_333)
 LARGE = (1_048_576, 1_200_001, 1_600_000, 2_097_153, 3_300_000)
 
+# What clients set at the end of an upload: `put -p` the third.
+SET_BY_PUT = ({"permissions": 0o640}, {"times": (1, 2)}, {"permissions": 0o600, "times": (1, 2)})
+
 # The most bytes that are asked for in larger blocks than one READ gives: a server that gives them gives them often.
 MOST_LONG_READ = 400_000
 
@@ -49,7 +52,7 @@ def upload(p, path, content, flags=WRITE | CREAT | TRUNC):
     for offset, count in blocks(p, content.size, block_of(p, content.size)):
         yield p.ask("WRITE", step.opened(), offset, content.at(offset, count))
     if p.random.random() < 0.3:
-        yield p.ask("FSETSTAT", step.opened(), p.random.choice([{"permissions": 0o640}, {"times": (1, 2)}]))
+        yield p.ask("FSETSTAT", step.opened(), p.random.choice(SET_BY_PUT))
     if p.random.random() < 0.6:
         yield p.ask("FSTAT", step.opened())
     if p.random.random() < 0.3:
@@ -167,6 +170,17 @@ def replacing_upload(p):
             yield p.ask("RENAME", part, path)
         yield p.ask("LSTAT", part)
         yield from download(p, path, size)
+    yield from replacing_itself(p, path)
+
+
+def replacing_itself(p, path):
+    """A posix-rename of one name of a file to another: both stay."""
+    other = p.blank(b"text.other")
+    yield p.ask("HARDLINK", path, other)
+    yield p.ask("POSIX-RENAME", other, path)
+    yield p.ask("LSTAT", other)
+    yield p.ask("LSTAT", path)
+    yield p.ask("REMOVE", other)
 
 
 def renaming_open(p):
@@ -439,7 +453,11 @@ def deep(p):
     yield p.ask("STAT", top + below + b"/../" + below.split(b"/")[-1] + b"/file")
     yield from listing(p, top + below, 1)
     yield from listing(p, top + below[:40], 1)
+    reading = p.ask("OPEN", top + below + b"/file", READ, {})
+    yield reading
     yield p.ask("RENAME", top, new)
+    yield from read_all(p, reading.opened(), content.size)
+    yield p.ask("CLOSE", reading.opened())
     yield p.ask("STAT", top + below + b"/file")
     yield from download(p, new + below + b"/file", content.size)
     yield p.ask("RENAME", new + below + b"/file", new + b"/up")

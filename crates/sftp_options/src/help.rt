@@ -87,7 +87,11 @@ This is no proof that there is none. With --explain, standard error has both rec
 the second one answers, how many passes were tried, and how to look closer. A pass begins anew with what an earlier one
 learned. --best writes the tree that came furthest: 'audit --keep-going' with it says what else is wrong.
 
-A session that ended early is refused: 'record N: Unanswered' names the first request that has no reply.
+A session that ended early is refused: 'record N: Unanswered' names the first request that has no reply. To judge what
+comes before it, make a transcript of those records, here of N-1 = 6, infer a tree from it, and audit with that:
+
+  sftpv3 show --full --data all FILE | head -n 6 | sftpv3 make BEFORE
+  sftpv3 infer --transcript BEFORE TREE && sftpv3 audit --cut --tree TREE --transcript FILE
 
 The transcript is in memory, and so are the files that the session has, which are made of its bytes: up to twice the
 transcript together, and 1 KB for each place. With --out, the tree file of the end comes on top. A file of which the

@@ -73,6 +73,23 @@ pub(crate) fn put_refusal<'a, O: Write>(
     )
 }
 
+/// Says how a session that was cut can be judged as far as it goes.
+pub(crate) fn put_way<E: Write>(refusal: Refusal, errors: &mut E) {
+    if let Refusal::Unanswered { record } = refusal {
+        let before = record.saturating_sub(1);
+        let _ = write_flushed(
+            errors,
+            format_args!(
+                "To judge what is before: sftpv3 show --full --data all FILE | head -n {before} | sftpv3 make BEFORE\n"
+            ),
+        );
+        let _ = write_flushed(
+            errors,
+            "then: sftpv3 infer --transcript BEFORE TREE && sftpv3 audit --cut --tree TREE --transcript FILE\n",
+        );
+    }
+}
+
 /// Says why the tree of what a session tells would be larger than it may.
 pub(crate) fn put_excess<E: Write>(excess: Excess, errors: &mut E) {
     let _ = match excess {
@@ -197,8 +214,16 @@ impl fmt::Display for Otherwise<'_> {
             What::Unlisted => f.write_str("the listing ends without it"),
             What::Entries => f.write_str("it was removed as an empty directory"),
             What::Place => put_text("it leads to", self.0, f),
-            What::Refused(_) => f.write_str("a refusal for which that is no reason"),
+            What::Refused(_) => f.write_str(unexplained(self.0.told)),
         }
+    }
+}
+
+/// The words for a reply that no pass explains. Where an earlier record told something, it is a refusal.
+fn unexplained(told: u64) -> &'static str {
+    match told {
+        0 => "a reply that nothing explains",
+        _ => "a refusal for which that is no reason",
     }
 }
 

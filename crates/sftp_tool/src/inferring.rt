@@ -5,7 +5,7 @@ ghost use Rattle.sftp_tool.specs.Verdicts.{IsAuditStatus};
 
 use crate::inferences::{Found, Inferred, Judging, find};
 use crate::inferred_lines::{
-    put_assumed, put_clash, put_excess, put_exchange, put_refusal, put_spent,
+    put_assumed, put_clash, put_excess, put_exchange, put_refusal, put_spent, put_way,
 };
 use crate::subcommands;
 use crate::verdict_objects::{print_inferred, print_untold};
@@ -23,7 +23,7 @@ pub(crate) const UNKNOWN: &str = "unknown";
 
 /// Why some options cannot stand beside a tree that nobody knows.
 const NEEDS_TREE: &str =
-    "--cut, --keep-going and --most cannot be used with '--tree unknown': infer a tree first";
+    "--cut, --keep-going and --most cannot be used with '--tree unknown': infer a tree first (see infer --help)";
 
 /// Why no tree is written.
 const TRANSCRIPT_LOST: &str = "the tree would be written into the file of '--transcript'";
@@ -195,6 +195,7 @@ fn report<'a, R: System, O: Write, E: Write>(
                     errors,
                 );
             }
+            put_way(refusal, errors);
             Ok(Ending::Refused)
         }
         Found::TooLarge(excess) => exceed(options, excess, output, errors),
