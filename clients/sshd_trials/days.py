@@ -1,6 +1,6 @@
 """Sessions of a day, as users have them. Those of ORDINARY are audited together, one from the end of the other; those
 of ALONE each by itself, and the ones that a program without some word in its help cannot follow are passed by there.
-What docs/USING.md says that no audit follows is in BEYOND: it has to be refused, by a verdict with these words.
+What docs/OPERATORS.md says that no audit follows is in BEYOND: it has to be refused, by a verdict with these words.
 
 Audits that read along, by the lines of that page, have sessions of an honest server, and of one that lies; here are the
 limits of a process that docs/SECURITY.md gives, too: whether a session under sshd has them."""

@@ -1,10 +1,10 @@
-"""The lines of docs/USING.md, and of docs/SECURITY.md, that an operator types, as they are there."""
+"""The lines of docs/OPERATORS.md, and of docs/SECURITY.md, that an operator types, as they are there."""
 import re
 import subprocess
 
 from record_trials.steps import TOP
 
-PAGE = TOP / "docs/USING.md"
+PAGE = TOP / "docs/OPERATORS.md"
 SECURITY = TOP / "docs/SECURITY.md"
 
 

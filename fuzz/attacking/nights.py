@@ -278,7 +278,7 @@ def a_name_reads_like_a_verdict(field):
 @attack()
 def a_log_of_the_nights_is_every_users(field):
     """What the documents say to keep what a night prints makes a log that only root reads."""
-    for place in ("docs/USING.md", "packaging/sftpv3-nightly.cron"):
+    for place in ("docs/OPERATORS.md", "packaging/sftpv3-nightly.cron"):
         with open(os.path.join(TOP, place), encoding="utf-8") as file:
             text = file.read()
         log, = set(re.findall(r">>(/var/log/\S+) 2>&1", text))

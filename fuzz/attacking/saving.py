@@ -166,7 +166,7 @@ def an_archive_makes_a_program_of_root(field):
         content = file.read()
     field.put("end.tree", put(Tree([Entry(b"/id", FILE, content, permissions=0o4755)])))
     archive, recipes = field.run("export", "end.tree").stdout, []
-    for document in ("README.md", "docs/USING.md"):
+    for document in ("README.md", "docs/USING.md", "docs/OPERATORS.md"):
         with open(os.path.join(TOP, document), encoding="utf-8") as file:
             said = re.findall(r"export \S+ \| tar -C result (-x.*)", file.read())
         for place, options in enumerate(said):
