@@ -69,6 +69,11 @@ class Fault(planted.Bug):
         self.own += 1
         return sftp3.Request(self.own, name, list(fields))
 
+    def opener_number(self, asked):
+        """The number of the request that opened the handle of a request, or None."""
+        opener = self.opened.get(asked.handle())
+        return opener and opener.number
+
     def path(self, asked):
         """The path that the handle of a request was opened by."""
         opened = self.opened.get(asked.handle())
@@ -214,3 +219,38 @@ class Statuses(Fault):
 
     def code(self, _asked, code):
         return code
+
+
+class InFlight(Fault):
+    """Knows how many requests are unanswered."""
+
+    def __init__(self):
+        super().__init__()
+        self.asked_so_far = self.answered = 0
+
+    def requests(self, packets):
+        self.asked_so_far += len(packets)
+        return super().requests(packets)
+
+    def answer(self, asked, reply):
+        self.answered += 1
+        return self.answer_in_flight(asked, reply, self.asked_so_far - self.answered + 1)
+
+    def answer_in_flight(self, _asked, reply, _count):
+        return [reply]
+
+
+class Overtaking(Fault):
+    """Does a request before the one that came just before it."""
+
+    def requests(self, packets):
+        packets, place = list(packets), 1
+        while place < len(packets):
+            if self.overtakes(*map(sftp3.decode, packets[place - 1:place + 1])):
+                packets[place - 1], packets[place] = packets[place], packets[place - 1]
+                place += 1
+            place += 1
+        return super().requests(packets)
+
+    def overtakes(self, _first, _second):
+        return False

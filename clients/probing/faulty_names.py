@@ -157,10 +157,10 @@ class empty_listing_fails(Fault):
     def answer(self, asked, reply):
         if asked.name != "READDIR":
             return [reply]
-        opener = self.opened.get(asked.handle())
+        number = self.opener_number(asked)
         if reply[4] == sftp3.NAME:
-            self.full.add(opener)
-        fails = opener not in self.full and sftp3.Reply(reply).code == sftp3.EOF
+            self.full.add(number)
+        fails = number not in self.full and sftp3.Reply(reply).code == sftp3.EOF
         return [status(reply, b"\0\0\0\4") if fails else reply]
 
 

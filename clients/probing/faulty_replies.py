@@ -1,6 +1,6 @@
 """Faults of servers in attributes, codes and handles, and those that only requests in flight together show."""
 import sftp3
-from probing.faulty import FAILED, Attributes, Fault, Statuses, data_of, status, with_data
+from probing.faulty import FAILED, Attributes, Fault, InFlight, Overtaking, Statuses, data_of, status, with_data
 
 
 class size_wraps(Attributes):
@@ -43,7 +43,7 @@ class fstat_stale(Attributes):
         self.first = {}
 
     def seen(self, asked, given):
-        return given if asked.name != "FSTAT" else self.first.setdefault(self.opened.get(asked.handle()), given)
+        return given if asked.name != "FSTAT" else self.first.setdefault(self.opener_number(asked), given)
 
 
 class fstat_by_old_path(Fault):
@@ -265,41 +265,6 @@ class closed_handle_works(Fault):
     def answer(self, asked, reply):
         closed = asked.name == "READ" and asked.handle() not in self.opened and reply[4] == sftp3.STATUS
         return [status(reply, b"\0\0\0\1") if closed else reply]
-
-
-class InFlight(Fault):
-    """Knows how many requests are unanswered."""
-
-    def __init__(self):
-        super().__init__()
-        self.asked_so_far = self.answered = 0
-
-    def requests(self, packets):
-        self.asked_so_far += len(packets)
-        return super().requests(packets)
-
-    def answer(self, asked, reply):
-        self.answered += 1
-        return self.answer_in_flight(asked, reply, self.asked_so_far - self.answered + 1)
-
-    def answer_in_flight(self, _asked, reply, _count):
-        return [reply]
-
-
-class Overtaking(Fault):
-    """Does a request before the one that came just before it."""
-
-    def requests(self, packets):
-        packets, place = list(packets), 1
-        while place < len(packets):
-            if self.overtakes(*map(sftp3.decode, packets[place - 1:place + 1])):
-                packets[place - 1], packets[place] = packets[place], packets[place - 1]
-                place += 1
-            place += 1
-        return super().requests(packets)
-
-    def overtakes(self, _first, _second):
-        return False
 
 
 class read_overtakes_write(Overtaking):

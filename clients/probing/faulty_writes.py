@@ -28,9 +28,9 @@ class write_lost_by_count(Writes):
         self.counts = {}
 
     def loses(self, asked, _offset, _data):
-        opener = self.opened.get(asked.handle())
-        self.counts[opener] = self.counts.get(opener, 0) + 1
-        return self.counts[opener] == 16
+        number = self.opener_number(asked)
+        self.counts[number] = self.counts.get(number, 0) + 1
+        return self.counts[number] == 16
 
 
 class write_lost_at_end(Writes):

@@ -25,6 +25,7 @@ FEATURES = {
     "rename-over": "RENAME to a place that is taken",
     "moved-listing": "what moves a directory that is open, or takes its path away",
     "removed-name": "what takes a name out of a directory that is open",
+    "removed-open": "RMDIR of a directory that is open",
     "realpath-ring": "REALPATH of links that lead round in a ring",
     "transfers": "uploads and downloads in blocks, and what follows them on the same files",
     "crowds": "directories of up to 5,000 names that the session makes",
@@ -140,7 +141,13 @@ def of_move(planner, step, *_paths):
     return found
 
 
+def of_rmdir(planner, step, path):
+    entry = planner.model.at(planner.model.walk(path, False))
+    is_open = entry and entry.kind == DIRECTORY and any(opened.entry is entry for opened in planner.opened.values())
+    return of_move(planner, step, path) | ({"removed-open"} if is_open else set())
+
+
 TESTS = {
     "OPEN": of_open, "READ": of_read, "WRITE": of_write, "SETSTAT": of_size, "FSETSTAT": of_size,
-    "REALPATH": of_realpath, "RENAME": of_rename, "POSIX-RENAME": of_move, "REMOVE": of_move, "RMDIR": of_move,
+    "REALPATH": of_realpath, "RENAME": of_rename, "POSIX-RENAME": of_move, "REMOVE": of_move, "RMDIR": of_rmdir,
 }

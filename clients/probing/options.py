@@ -15,8 +15,9 @@ from recording.ways import Way, named_twice, names, text_of
 # server, the command of --reset or the program could not be started; no difference was found, and not all was played.
 ACCEPTED, DIFFERENCES, BAD_USAGE, NOT_STARTED, NOT_FINISHED = range(5)
 
-# By default, sessions of odd seeds have this many requests in flight, and those of even seeds that many.
-ONE, MANY = 1, 16
+# By default, sessions of odd seeds have this many requests in flight, those of even seeds that many, and those of each
+# tenth seed as many as OpenSSH's sftp.
+ONE, MANY, MOST = 1, 16, 64
 
 class Wrong(Exception):
     """A file or folder of the command line cannot be used."""
@@ -108,8 +109,9 @@ def in_flight(given, number):
     """The most requests in flight in the session of a seed, or in this one of those that play a recorded session."""
     if given.in_flight:
         return given.in_flight
-    alone = number == 1 if given.session else number % 2 == 1
-    return ONE if alone else MANY
+    if given.session:
+        return ONE if number == 1 else MANY
+    return ONE if number % 2 == 1 else MOST if number % 10 == 0 else MANY
 
 
 def times(given):
@@ -139,7 +141,7 @@ def add_of_plans(add):
         help="the seeds to play: ranges, and single ones (1-50)")
     add("--requests", metavar="N", type=positive, default=60, help="requests of small scenes in a session (60)")
     add("--in-flight", metavar="K", type=flying,
-        help=f"the most requests without a reply ({ONE} for odd seeds, {MANY} for even)")
+        help=f"the most requests without a reply ({ONE} for odd seeds, {MANY} for even ones, {MOST} for each tenth)")
     add("--skip", metavar="NAME,...", type=names_among(SKIPPED), default=[], help="what to leave out of the plans")
     add("--also", metavar="NAME,...", type=names_among(features.BEYOND), default=[],
         help="what to plan besides: large, long-target, for which a server has room, and the tree may not")

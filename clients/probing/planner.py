@@ -13,7 +13,7 @@ import itertools
 import random
 
 import sftp3
-from probing import features, refusals, scenes, transfers
+from probing import features, meetings, refusals, scenes, transfers
 from probing.transfers import listing
 from probing.model import DIRECTORY, FILE, LINK, Model, apply
 from probing.plans import Handle, Step
@@ -96,6 +96,16 @@ PERIODS = [
     ("many-handles", transfers.many_handles, 7, 5),
     ("crowds", transfers.crowd_of(1000), 11, 6),
     ("crowds", transfers.crowd_of(5000), 25, 12),
+    ("transfers", meetings.appending_together, 5, 0),
+    ("transfers", meetings.remaking, 5, 4),
+    ("transfers", meetings.leaving, 5, 3),
+    ("transfers", meetings.setting_open, 7, 2),
+    ("transfers", meetings.cutting_between, 7, 0),
+    ("unusual-names", meetings.clearing, 5, 2),
+    ("many-handles", meetings.listing_together, 7, 3),
+    ("crowds", meetings.listing_often, 11, 8),
+    ("links", meetings.chaining_links, 7, 6),
+    ("deep", meetings.long_paths, 7, 1),
 ]
 
 
@@ -246,9 +256,13 @@ class Planner:
         return self.random.choice([0, size, size, min(self.offset(), size)])
 
 
+# Where ids begin with each tenth seed: they are no numbers of 31 bits.
+LARGE_IDS = 2 ** 31
+
+
 def plan(seed, tree, count, skip=()):
     """The steps of a session: so many of small scenes, besides those of large ones and of the end."""
-    numbers = itertools.count(1)
+    numbers = itertools.count(LARGE_IDS if seed % 10 == 5 else 1)
     small, large = Planner(seed, tree, skip, numbers), Planner(f"large {seed}", tree, skip, numbers)
     between, steps = large.large(large_scenes(seed, large.random)), []
     for step in small.small(count):

@@ -199,14 +199,16 @@ def renaming_open(p):
     yield p.ask("WRITE", step.opened(), 32 * KIB, content.at(32 * KIB, 32 * KIB))
     yield p.ask("WRITE", step.opened(), 50, content.at(7, 3000))
     yield p.ask("FSETSTAT", step.opened(), {"permissions": 0o640})
+    yield p.ask("FSETSTAT", step.opened(), {"size": 70_000})
+    yield p.ask("FSYNC", step.opened())
     yield p.ask("FSTAT", step.opened())
-    yield from read_all(p, step.opened(), 64 * KIB)
+    yield from read_all(p, step.opened(), 70_000)
     if reading:
         yield p.ask("FSTAT", reading.opened())
         yield from read_all(p, reading.opened(), 50_000)
         yield p.ask("CLOSE", reading.opened())
     yield p.ask("CLOSE", step.opened())
-    yield from download(p, new, 64 * KIB)
+    yield from download(p, new, 70_000)
 
 
 def rewriting(p):
