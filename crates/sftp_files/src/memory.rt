@@ -94,7 +94,8 @@ fn data_bytes(sizes: &mut File) -> Option<u64> {
 }
 
 /// The records of a transcript, which fail to be read once the process has more memory than it may. The memory is
-/// looked at each time that those since then may have taken the room that there was; the last one of them may take more.
+/// looked at each time that those since then may have taken the room that there was; the last one of them may take
+/// more.
 #[derive(Drop)]
 pub struct BoundedRecords<'m, R> {
     inner: BufReader<R>,

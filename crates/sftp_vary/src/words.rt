@@ -98,7 +98,7 @@ pub(crate) fn limit_met<T: HandleTable>(
     let limits = tree.tree_limits();
     match ask {
         Ask::Write { .. } | Ask::Setstat { .. } | Ask::Fsetstat { .. } => {
-            Ok(limit_of_bytes(limits, ask))
+            Ok(limit_of_bytes(limits, asked_size(session, ask)))
         }
         Ask::Open { .. } | Ask::Opendir { .. } => {
             let causes = tree.causes(ask)?;
@@ -113,23 +113,41 @@ pub(crate) fn limit_met<T: HandleTable>(
     }
 }
 
-/// The limit that keeps bytes out of a file: that on all files, if there is one and the request asks for no more than
-/// one file may have, or else that on each file.
-fn limit_of_bytes(limits: TreeLimits, ask: &Ask) -> Limit {
+/// The limit that keeps bytes out of a file that would have so many: that on all files, if there is one and these are
+/// no more than one file may have, or else that on each file.
+fn limit_of_bytes(limits: TreeLimits, size: u64) -> Limit {
     let is_set = limits.total_bytes < most_limits().total_bytes;
-    if is_set && asked_size(ask) <= limits.file_bytes {
+    if is_set && size <= limits.file_bytes {
         Limit::AllBytes(limits.total_bytes)
     } else {
         Limit::FileBytes(limits.file_bytes)
     }
 }
 
-/// How many bytes a request gives a file, at least.
-fn asked_size(ask: &Ask) -> u64 {
+/// How many bytes a request gives a file, at least. A WRITE without a span appends, so its bytes come after the file's.
+fn asked_size<T: HandleTable>(session: &Session<T>, ask: &Ask) -> u64 {
     match ask {
-        Ask::Write { offset, bytes, .. } => { offset.saturating_add(bytes.as_slice().len() as u64) }
+        Ask::Write {
+            handle,
+            offset,
+            bytes,
+        } => {
+            let start = match session.span(ask) {
+                Some(_) => *offset,
+                None => open_size(session, handle.as_slice()),
+            };
+            start.saturating_add(bytes.as_slice().len() as u64)
+        }
         Ask::Setstat { attrs, .. } | Ask::Fsetstat { attrs, .. } => attrs.size.unwrap_or(0),
         _ => 0,
+    }
+}
+
+/// How many bytes the file of a handle has.
+fn open_size<T: HandleTable>(session: &Session<T>, handle: &[u8]) -> u64 {
+    match session.stat_open(handle) {
+        Ok(attrs) => attrs.size.unwrap_or(0),
+        Err(_) => 0,
     }
 }
 
