@@ -63,14 +63,13 @@ fn down<'a>(
         if is_dot(component) || is_dot_dot(component) {
             return Ok(None);
         }
+        let is_last = left.is_empty();
         match child_at(alloc, dir, component)? {
             Some(Child::Dir(inner)) => dir = inner,
-            Some(Child::File(number)) if left.is_empty() => return Ok(Some(Some(Seen::File(
-                *number,
+            Some(Child::File(number)) if is_last => return Ok(Some(Some(Seen::File(*number)))),
+            Some(Child::Link(target)) if is_last && !follow => return Ok(Some(Some(Seen::Link(
+                target.as_slice(),
             )))),
-            Some(Child::Link(target)) if left.is_empty() && !follow => return Ok(Some(Some(
-                Seen::Link(target.as_slice()),
-            ))),
             Some(Child::File(_)) => return Ok(None),
             Some(Child::Link(_)) => return Ok(None),
             None => return Ok(Some(None)),

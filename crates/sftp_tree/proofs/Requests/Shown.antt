@@ -3,7 +3,7 @@ use Rattle.sftp_tree.proofs.Imports.{◌≡◌, ◌&&◌, not, Bool, true, false
 use Rattle.sftp_tree.proofs.Imports.{Result, Ok, Err, IsTrue, Place, Node, Cause, NoEntry, NoRoom, Tree, fits, node_at}
 use Rattle.sftp_tree.proofs.Imports.{CauseSet, is_none, when, no_causes, reached, IsFree, stat_ask}
 use Rattle.sftp_tree.specs.PlaceCauses.{joined, needing_causes}
-use Rattle.sftp_tree.specs.Requests.{led, new_led, causes, plain_of, with_room}
+use Rattle.sftp_tree.specs.Requests.{led, causes, plain_of, with_room}
 use Rattle.sftp_tree.specs.Plans.{Finds}
 use Rattle.sftp_packets.specs.declared.requests.Ask.TheVariants as asks
 use Rattle.sftp_tree.proofs.CauseLaws.{causes-are, plain-holds}
@@ -37,7 +37,8 @@ absent : (t : Tree) (path : List ℕ) (end : Result Place Cause) → Finds t.nam
     → plain_of t (asks.Stat path) (Some end) None NoEntry ≡ true
 unfolding joined when no_causes
 absent t path (Ok place) free = ap (λ o. shows o NoEntry) free
-absent t path (Err cause) (none, is) = ap (λ c. when no_causes c true NoEntry) is
+absent t path (Err cause) (none, is) =
+    ap (λ c. joined (joined (joined no_causes (when no_causes c true)) no_causes) no_causes NoEntry) is
 
 pub stat-absent : (t : Tree) (follow : Bool) (path : List ℕ) → Finds t.names None (reached t follow path)
     → IsTrue (causes t (stat_ask follow path) NoEntry)

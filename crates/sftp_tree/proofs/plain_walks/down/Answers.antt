@@ -1,8 +1,8 @@
-use Rattle.sftp_tree.proofs.Imports.{◌≡◌, ◌∙◌, sym, ap, list_all, and_parts, is_step, is_name, length, IsTrue, arith}
+use Rattle.sftp_tree.proofs.Imports.{◌∙◌, sym, ap, list_all, and_parts, is_step, length, arith}
 use Rattle.sftp_tree.proofs.Imports.{subst, IfOk, err_from_is_err_and}
 use Rattle.std.specs.Option.{IfSome}
 use Rattle.sftp_tree.specs.Plans.{GoesDown}
-use Rattle.sftp_tree.specs.WalkRules.{IsPlain}
+use Rattle.sftp_tree.specs.declared.entries.directories.Child.TheVariants as children
 use Rattle.sftp_tree.proofs.Walks.{plain-is_name}
 use Rattle.sftp_tree.proofs.Walks.Plain.{at-start, descend, down-here, down-file, down-link, down-none, none-left}
 use Rattle.sftp_tree.proofs.plain_walks.down.Goals as goal
@@ -10,15 +10,12 @@ use Rattle.sftp_tree.proofs.plain_walks.down.Goals as goal
 pub descent-init : goal.descent-init
 descent-init c = at-start c.args.top.now c.args.steps.left c.requires
 
-plain : (c : goal.Else-is_dot_dot) → IsPlain c.in-Some.component.now
-plain c = (sym c.is_dot.ensures ∙ c.if-is_dot.false, sym c.is_dot_dot.ensures ∙ c.if-is_dot_dot.false)
-
 pub child_at-requires : goal.child_at-requires
 child_at-requires c =
     let name = c.in-Some.component.now in
     let step = (and_parts (is_step name) (list_all is_step c.next_step.new.steps.left)
     (ap (list_all is_step) (sym c.in-Some.ensures) ∙ c.descent.invariant.steps)).0 in
-    plain-is_name name step (plain c)
+    plain-is_name name step (sym c.is_dot.ensures ∙ c.if-is_dot.false, sym c.is_dot_dot.ensures ∙ c.if-is_dot_dot.false)
 
 pub descent-smaller : goal.descent-smaller
 descent-smaller c = omega (arith, ap length c.in-Some.ensures)
@@ -36,7 +33,7 @@ returns-in-Some-File c =
     down-file c.args.top.now c.args.follow c.args.steps.left c.descent.dir.now c.descent.left.left
     c.in-Some.component.now c.next_step.new.steps.left c.in_ok-inner.field-0 c.in-Some-File.field-0
     c.in-Some-File.number c.descent.invariant c.in-Some.ensures
-    (none-left c.next_step.new.steps.left (sym c.is_empty.ensures ∙ c.if-is_empty.true))
+    (none-left c.next_step.new.steps.left (sym c.is_empty-is_last.ensures ∙ c.if-is_last.true))
     (sym c.is_dot.ensures ∙ c.if-is_dot.false, sym c.is_dot_dot.ensures ∙ c.if-is_dot_dot.false)
     c.in_ok-inner.ensures.below c.in-Some-File.is c.in-Some-File.field-0-is
 
@@ -44,10 +41,10 @@ pub returns-in-Some-Link : goal.returns-in-Some-Link
 returns-in-Some-Link c =
     down-link c.args.top.now c.args.follow c.args.steps.left c.descent.dir.now c.descent.left.left
     c.in-Some.component.now c.next_step.new.steps.left c.in_ok-inner.field-0 c.in-Some-Link.field-0
-    c.in-Some-Link.target c.descent.invariant c.in-Some.ensures
-    (none-left c.next_step.new.steps.left (sym c.is_empty-2.ensures ∙ c.if-is_empty-2.true)) c.if-not-follow.true
+    c.as_slice.result c.descent.invariant c.in-Some.ensures
+    (none-left c.next_step.new.steps.left (sym c.is_empty-is_last.ensures ∙ c.if-is_last-2.true)) c.if-not-follow.true
     (sym c.is_dot.ensures ∙ c.if-is_dot.false, sym c.is_dot_dot.ensures ∙ c.if-is_dot_dot.false)
-    c.in_ok-inner.ensures.below c.in-Some-Link.is c.in-Some-Link.field-0-is
+    c.in_ok-inner.ensures.below c.in-Some-Link.is (c.in-Some-Link.field-0-is ∙ ap children.Link (sym c.as_slice.ensures))
 
 pub returns-in-None : goal.returns-in-None
 returns-in-None c =

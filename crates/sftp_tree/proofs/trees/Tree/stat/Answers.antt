@@ -1,4 +1,4 @@
-use Rattle.sftp_tree.proofs.Imports.{◌≡◌, sym, ap, ◌∙◌, refl, subst, Option, Some, None, Bool, Ok, List, ℕ, Tree}
+use Rattle.sftp_tree.proofs.Imports.{◌≡◌, ap, ◌∙◌, refl, subst, Option, Some, Bool, Ok, List, ℕ, Tree}
 use Rattle.sftp_tree.proofs.Imports.{Node, Place, IsKept, stat_ask, node_at, node_seen, reached}
 use Rattle.std.specs.Option.{IfSome}
 use Rattle.sftp_tree.specs.declared.entries.seen.Seen.{Seen}
