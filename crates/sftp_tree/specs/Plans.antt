@@ -1,6 +1,6 @@
 -- The plans of requests, as the code has them, and when each can be carried out.
 use Rattle.std.specs.Prelude.{Option, Some, None, Result, Ok, Err, IfOk, IfSome, ◌≡◌, false, IsTrue, ℕ, Bool, List, []}
-use Rattle.sftp_path.specs.Place.{Name, Place, parent, are_names, components}
+use Rattle.sftp_path.specs.Place.{Name, Place, parent, are_names}
 use Rattle.sftp_tree.specs.Walk.{walk, reached}
 use Rattle.sftp_tree.specs.declared.entries.seen.Seen.{Seen}
 use Rattle.sftp_tree.specs.declared.nodes.Node.{Node}
@@ -8,6 +8,7 @@ use Rattle.sftp_tree.specs.Tree.{Tree, Names, IsKept, IsNode, IsContent, fits, n
 use Rattle.sftp_tree.specs.Tree.{is_taken, is_directory, has_entries, trim}
 use Rattle.std.specs.Option.{option_map}
 use Rattle.sftp_tree.specs.declared.causes.Cause.{Cause}
+use Rattle.sftp_tree.specs.declared.causes.Cause.TheVariants.{NoEntry}
 use Rattle.sftp_tree.specs.declared.found.Found.{Found}
 use Rattle.sftp_tree.specs.Nesting.{node_seen}
 use Rattle.sftp_tree.specs.Nesting.{IsLentAt}
@@ -59,16 +60,19 @@ EndIsThere names end = IfOk end (IsThere names)
 abbrev pub NewEndIsThere : Names → Option (Result Found Cause) → Type 0
 NewEndIsThere names new = IfSome new (EndIsThere names)
 
--- components lead down from a directory, over directories alone, to what stands there
-pub record GoesDown (names : Names) (steps : List Name) (end : Option Seen) : Type 0 where
-  pub walked : (follow : Bool) (left : ℕ) → walk names follow left [] steps ≡ Ok steps
-  pub lent : IsLentAt names steps end
+-- a walk finds this node, or that there is none: where it ends, or on the way
+abbrev pub Finds : Names → Option Node → Result Place Cause → Type 0
+Finds names node (Ok place) = node_at names place ≡ node
+Finds names node (Err cause) = (node ≡ None) × (cause ≡ NoEntry)
+
+-- components lead down from a directory, over directories alone, to what stands there, or to nothing
+abbrev pub GoesDown : Names → Bool → List Name → Option Seen → Type 0
+GoesDown names follow steps end = (left : ℕ) → Finds names (option_map node_seen end) (walk names follow left [] steps)
 
 -- and so does an absolute path from the root
-pub record LeadsDown (t : Tree) (path : List ℕ) (end : Option Seen) : Type 0 where
+pub record LeadsDown (t : Tree) (follow : Bool) (path : List ℕ) (end : Option Seen) : Type 0 where
   pub kept : IsKept t
-  pub leads : (follow : Bool) → reached t follow path ≡ Ok (components path)
-  pub lent : IsLentAt t.names (components path) end
+  pub finds : Finds t.names (option_map node_seen end) (reached t follow path)
 
 -- ==== Where the paths of a request lead, as the code has it.
 

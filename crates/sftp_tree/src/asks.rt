@@ -629,7 +629,7 @@ impl Tree {
         ensures refused { IfErr result (λ refused. IsRefusal self.now (stat_ask follow path.now) refused) }
         ensures kept { OnOk result (tree.IsKept self.now) }
     {
-        match self.plain_end(path) {
+        match self.plain_end(path, follow) {
             Ok(Some(Some(node))) => Ok(self.shown(&node)),
             Ok(Some(None)) => Err(Refused::Cause(Cause::NoEntry)),
             Ok(None) => self.stat_anywhere(path, follow),

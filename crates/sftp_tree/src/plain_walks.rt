@@ -1,5 +1,5 @@
 //! Walks of plain paths (draft, section 6.2): absolute ones that go down over directories alone, and not over `.`, `..`
-//! or a link. Most paths are plain, and where no place is asked for, their walk keeps none.
+//! or a link that is followed. Most paths are plain, and where no place is asked for, their walk keeps none.
 ghost use Rattle.std.specs.Prelude.{◌≡◌, [], ◌∷◌, IfOk, IfSome, IsTrue, MatchOption, option_copied};
 ghost use Rattle.std.specs.List.{list_all};
 ghost use Rattle.sftp_path.specs.Place.{Place, is_name, is_step};
@@ -42,8 +42,8 @@ fn next_step<'a>(steps: &mut Parts<'a>) -> Option<&'a [u8]>
     steps.next()
 }
 
-/// What stands where components lead down from a directory: a directory, a file, or nothing yet; `None` if they do not
-/// lead down.
+/// What stands where components lead down from a directory: a directory, a file, a link that is not followed, or
+/// nothing, be it at the last component or on the way; `None` if they do not lead down.
 ///
 /// # Errors
 ///
@@ -52,9 +52,10 @@ fn down<'a>(
     alloc: Global,
     top: &'a Dir,
     steps: Parts<'_>,
+    follow: bool,
 ) -> Result<Option<Option<Seen<'a>>>, NoMemory>
     requires { IsTrue (list_all is_step steps.left) }
-    ensures { IfOk result (λ found. IfSome found (GoesDown top.now steps.entry.left)) }
+    ensures { IfOk result (λ found. IfSome found (GoesDown top.now follow steps.entry.left)) }
 {
     let mut dir = top;
     let mut left = steps;
@@ -62,29 +63,34 @@ fn down<'a>(
         if is_dot(component) || is_dot_dot(component) {
             return Ok(None);
         }
+        let is_last = left.is_empty();
         match child_at(alloc, dir, component)? {
             Some(Child::Dir(inner)) => dir = inner,
-            Some(Child::File(number)) if left.is_empty() => return Ok(Some(Some(Seen::File(
-                *number,
+            Some(Child::File(number)) if is_last => return Ok(Some(Some(Seen::File(*number)))),
+            Some(Child::Link(target)) if is_last && !follow => return Ok(Some(Some(Seen::Link(
+                target.as_slice(),
             )))),
-            None if left.is_empty() => return Ok(Some(None)),
             Some(Child::File(_)) => return Ok(None),
             Some(Child::Link(_)) => return Ok(None),
-            None => return Ok(None),
+            None => return Ok(Some(None)),
         }
     }
     Ok(Some(Some(Seen::Dir(dir.owner(), dir))))
 }
 
 impl Tree {
-    /// What stands at the end of a plain path: a directory, a file, or nothing yet; `None` if the path is not plain, or
-    /// leads nowhere.
+    /// What stands at the end of a plain path: a directory, a file, a link that is not followed, or nothing, which may
+    /// be missing on the way; `None` if the path is not plain, or goes on behind a file.
     ///
     /// # Errors
     ///
     /// `NoMemory` if memory runs out.
-    pub(crate) fn plain_end(&self, path: &[u8]) -> Result<Option<Option<Seen<'_>>>, NoMemory>
-        ensures { IfOk result (λ found. IfSome found (LeadsDown self.now path.now)) }
+    pub(crate) fn plain_end(
+        &self,
+        path: &[u8],
+        follow: bool,
+    ) -> Result<Option<Option<Seen<'_>>>, NoMemory>
+        ensures { IfOk result (λ found. IfSome found (LeadsDown self.now follow path.now)) }
     {
         let Ok(steps) = components(path) else {
             return Ok(None);
@@ -96,6 +102,7 @@ impl Tree {
             self.home().allocator(),
             self.names().root_directory(),
             steps,
+            follow,
         )
     }
 }

@@ -1,20 +1,20 @@
 -- Walks that go down over directories alone.
-use Rattle.sftp_tree.proofs.Imports.{◌≡◌, ℕ, Bool, true, List, [], ◌∷◌, ◌++◌, refl, sym, ap, subst, ◌∙◌, append-nil}
-use Rattle.sftp_tree.proofs.Imports.{◌==◌, length, arith, ne_eqb, false≢true}
+use Rattle.sftp_tree.proofs.Imports.{◌≡◌, ℕ, Bool, true, false, List, [], ◌∷◌, ◌++◌, refl, sym, ap, subst, ◌∙◌}
+use Rattle.sftp_tree.proofs.Imports.{append-nil, ◌==◌, length, arith, ne_eqb, false≢true}
 use Rattle.sftp_tree.proofs.Imports.{append_assoc, Option, Some, None, Ok, IsTrue, option_copied, Bor, Name, Place}
-use Rattle.sftp_tree.proofs.Imports.{list_all, is_step, and_parts, Names, node_at, IsAt, IsLentAt, branch_of, Child}
-use Rattle.sftp_tree.proofs.Imports.{walk, Owner, Node, is_directory, option_map, node_seen, ends, met, is_last, IsBranch}
+use Rattle.sftp_tree.proofs.Imports.{list_all, is_step, and_parts, Names, node_at, IsAt, branch_of, Child, Cause}
+use Rattle.sftp_tree.proofs.Imports.{walk, Owner, Node, is_directory, option_map, node_seen, met, is_last, IsBranch}
 use Rattle.sftp_tree.proofs.Imports.{Result, Err, IfOk, Tree, IsKept, is_good_path, is_absolute, components}
 use Rattle.sftp_tree.proofs.Imports.{link_limit, if◌then◌else◌}
 use Rattle.std.specs.Option.{IfSome}
 use Rattle.sftp_tree.specs.declared.nodes.Node.TheVariants as nodes
 use Rattle.sftp_tree.specs.declared.entries.directories.Child.TheVariants as children
 use Rattle.sftp_tree.specs.declared.entries.seen.Seen.{Seen}
-use Rattle.sftp_tree.specs.declared.entries.seen.Seen.TheVariants.{Dir, File}
+use Rattle.sftp_tree.specs.declared.entries.seen.Seen.TheVariants.{Dir, File, Link}
 use Rattle.sftp_tree.specs.WalkRules.{IsPlain}
-use Rattle.sftp_tree.specs.Plans.{GoesDown, LeadsDown}
+use Rattle.sftp_tree.specs.Plans.{Finds, GoesDown, LeadsDown}
 use Rattle.sftp_tree.proofs.Walks.{walk_on, walk-nil, walk-cons, meets-plain, reached-good}
-use Rattle.sftp_tree.proofs.Walks.Trails.{found-branch, lent-directory, lent-file, lent-nothing}
+use Rattle.sftp_tree.proofs.Walks.Trails.{found-branch, lent-directory, lent-file, lent-link, lent-nothing}
 
 -- where such a walk over these steps stands, and the steps that are left
 pub record Descends (names : Names) (whole : List Name) (dir : Names) (left : List Name) : Type 0 where
@@ -75,57 +75,70 @@ descend names whole dir inner left name rest found child so_far first plain belo
     }
 
 -- no step is left
-pub down-here : (names : Names) (whole left : List Name) (owner : Owner) (dir : Bor Names)
+pub down-here : (names : Names) (follow : Bool) (whole left : List Name) (owner : Owner) (dir : Bor Names)
     → Descends names whole dir.now left → left ≡ [] → node_at dir.now [] ≡ Some (nodes.Dir owner)
-    → GoesDown names whole (Some (Dir owner dir))
-down-here names whole left owner dir so_far none owned =
+    → GoesDown names follow whole (Some (Dir owner dir))
+down-here names follow whole left owner dir so_far none owned links =
     let at = so_far.at in
-    let is : whole ≡ at = so_far.split ∙ ap (λ l. at ++ l) none ∙ append-nil at in
-    record {
-      walked = λ follow links. so_far.walked follow links ∙ ap (walk names follow links at) none
-          ∙ walk-nil names follow links at ∙ ap Ok (sym is);
-      lent = subst (λ place. IsLentAt names place (Some (Dir owner dir))) (sym is)
-          (lent-directory names at owner dir so_far.is owned);
-    }
+    subst (Finds names (Some (nodes.Dir owner))) (sym (so_far.walked follow links
+    ∙ ap (walk names follow links at) none ∙ walk-nil names follow links at))
+    (sym (lent-directory names at owner dir so_far.is owned).node)
 
--- the last step ends at what stands there
-end-here : (names : Names) (whole : List Name) (dir : Names) (left : List Name) (name : Name) (node : Option Node)
-    (lent : Option Seen) (so_far : Descends names whole dir left) → left ≡ name ∷ [] → IsPlain name
-    → IsLentAt names (so_far.at ++ name ∷ []) lent → option_map node_seen lent ≡ node
-    → ((follow : Bool) → met node (so_far.at ++ name ∷ []) true follow ≡ ends (so_far.at ++ name ∷ []))
-    → GoesDown names whole lent
-end-here names whole dir left name node lent so_far last plain there seen meets =
+-- what a walk finds at a name where something else than a directory stands, or nothing
+found-here : (names : Names) (follow : Bool) (whole : List Name) (dir : Names) (left : List Name) (name : Name)
+    (rest : List Name) (node : Option Node) (links : ℕ) (so_far : Descends names whole dir left) → left ≡ name ∷ rest
+    → IsPlain name → node_at names (so_far.at ++ name ∷ []) ≡ node
+    → Finds names node
+    (walk_on names follow links so_far.at rest (met node (so_far.at ++ name ∷ []) (is_last rest) follow))
+    → Finds names node (walk names follow links [] whole)
+found-here names follow whole dir left name rest node links so_far first plain there finds =
     let at = so_far.at in
-    let is : whole ≡ at ++ name ∷ [] = so_far.split ∙ ap (λ l. at ++ l) last in
-    record {
-      walked = λ follow links. so_far.walked follow links ∙ ap (walk names follow links at) last
-          ∙ walk-cons names follow links at name []
-          ∙ ap (walk_on names follow links at [])
-          (meets-plain names follow at name true node plain (sym there.node ∙ seen) ∙ meets follow) ∙ ap Ok (sym is);
-      lent = subst (λ place. IsLentAt names place lent) (sym is) there;
-    }
+    subst (Finds names node) (sym (so_far.walked follow links ∙ ap (walk names follow links at) first
+    ∙ walk-cons names follow links at name rest ∙ ap (walk_on names follow links at rest)
+    (meets-plain names follow at name (is_last rest) node plain there))) finds
 
 -- a file
-pub down-file : (names : Names) (whole : List Name) (dir : Names) (left : List Name) (name : Name) (rest : List Name)
-    (found : Option (Bor Child)) (child : Bor Child) (number : ℕ) → Descends names whole dir left
+pub down-file : (names : Names) (follow : Bool) (whole : List Name) (dir : Names) (left : List Name) (name : Name)
+    (rest : List Name) (found : Option (Bor Child)) (child : Bor Child) (number : ℕ) → Descends names whole dir left
     → left ≡ name ∷ rest → rest ≡ [] → IsPlain name
     → ((more : Place) → node_at dir (name ∷ more) ≡ node_at (branch_of (option_copied found)) more)
-    → found ≡ Some child → child.now ≡ children.File number → GoesDown names whole (Some (File number))
-down-file names whole dir left name rest found child number so_far first none plain below some is =
+    → found ≡ Some child → child.now ≡ children.File number → GoesDown names follow whole (Some (File number))
+down-file names follow whole dir left name rest found child number so_far first none plain below some is links =
     let there = below-name names dir (branch_of (option_copied found)) so_far.at name so_far.is below in
-    end-here names whole dir left name (Some (nodes.File number)) (Some (File number)) so_far
-    (first ∙ ap (λ r. name ∷ r) none) plain
-    (lent-file names (so_far.at ++ name ∷ []) found child number there some is) refl (λ follow. refl)
+    let node = sym (lent-file names (so_far.at ++ name ∷ []) found child number there some is).node in
+    found-here names follow whole dir left name [] (Some (nodes.File number)) links so_far
+    (first ∙ ap (λ r. name ∷ r) none) plain node node
 
--- nothing yet
-pub down-free : (names : Names) (whole : List Name) (dir : Names) (left : List Name) (name : Name) (rest : List Name)
-    (found : Option (Bor Child)) → Descends names whole dir left → left ≡ name ∷ rest → rest ≡ [] → IsPlain name
+-- a link that is not followed
+pub down-link : (names : Names) (follow : Bool) (whole : List Name) (dir : Names) (left : List Name) (name : Name)
+    (rest : List Name) (found : Option (Bor Child)) (child : Bor Child) (target : Bor (List ℕ))
+    → Descends names whole dir left → left ≡ name ∷ rest → rest ≡ [] → follow ≡ false → IsPlain name
     → ((more : Place) → node_at dir (name ∷ more) ≡ node_at (branch_of (option_copied found)) more)
-    → found ≡ None → GoesDown names whole None
-down-free names whole dir left name rest found so_far first none plain below free =
+    → found ≡ Some child → child.now ≡ children.Link target.now → GoesDown names follow whole (Some (Link target))
+down-link names follow whole dir left name rest found child target so_far first none unfollowed plain below some is =
     let there = below-name names dir (branch_of (option_copied found)) so_far.at name so_far.is below in
-    end-here names whole dir left name None None so_far (first ∙ ap (λ r. name ∷ r) none) plain
-    (lent-nothing names (so_far.at ++ name ∷ []) found there free) refl (λ follow. refl)
+    let node = sym (lent-link names (so_far.at ++ name ∷ []) found child target there some is).node in
+    subst (λ f. GoesDown names f whole (Some (Link target))) (sym unfollowed) (λ links.
+    found-here names false whole dir left name [] (Some (nodes.Link target.now)) links so_far
+    (first ∙ ap (λ r. name ∷ r) none) plain node node)
+
+-- nothing, with steps left or with none
+finds-none : (names : Names) (follow : Bool) (links : ℕ) (at place : Place) (rest : List Name)
+    → node_at names place ≡ None
+    → Finds names None (walk_on names follow links at rest (met None place (is_last rest) follow))
+finds-none names follow links at place [] free = free
+finds-none names follow links at place (next ∷ rest) free = (refl, refl)
+
+pub down-none : (names : Names) (follow : Bool) (whole : List Name) (dir : Names) (left : List Name) (name : Name)
+    (rest : List Name) (found : Option (Bor Child)) → Descends names whole dir left → left ≡ name ∷ rest
+    → IsPlain name → ((more : Place) → node_at dir (name ∷ more) ≡ node_at (branch_of (option_copied found)) more)
+    → found ≡ None → GoesDown names follow whole None
+down-none names follow whole dir left name rest found so_far first plain below free links =
+    let at = so_far.at in
+    let there = below-name names dir (branch_of (option_copied found)) at name so_far.is below in
+    let node = sym (lent-nothing names (at ++ name ∷ []) found there free).node in
+    found-here names follow whole dir left name rest None links so_far first plain node
+    (finds-none names follow links at (at ++ name ∷ []) rest node)
 
 pub none-left : (steps : List Name) → (length steps == 0) ≡ true → steps ≡ []
 none-left [] is = refl
@@ -139,18 +152,23 @@ weaker P Q holds (Ok (Some a)) p = holds a p
 weaker P Q holds (Ok None) p = tt
 weaker P Q holds (Err e) p = tt
 
-pub path-down : {E : Type 0} (t : Tree) (path : List ℕ) (names : Names) (steps : List Name)
+pub path-down : {E : Type 0} (t : Tree) (follow : Bool) (path : List ℕ) (names : Names) (steps : List Name)
     (r : Result (Option (Option Seen)) E) → IsKept t → is_good_path path ≡ true → is_absolute path ≡ true
-    → names ≡ t.names → steps ≡ components path → IfOk r (λ found. IfSome found (GoesDown names steps))
-    → IfOk r (λ found. IfSome found (LeadsDown t path))
-path-down t path names steps r kept good absolute top all down =
-    weaker (GoesDown names steps) (LeadsDown t path) (λ end goes.
-    let here : GoesDown t.names (components path) end =
-    subst (λ n. GoesDown n (components path) end) top (subst (λ l. GoesDown names l end) all goes) in
+    → names ≡ t.names → steps ≡ components path → IfOk r (λ found. IfSome found (GoesDown names follow steps))
+    → IfOk r (λ found. IfSome found (LeadsDown t follow path))
+path-down t follow path names steps r kept good absolute top all down =
+    weaker (GoesDown names follow steps) (LeadsDown t follow path) (λ end goes.
+    let here : GoesDown t.names follow (components path) end =
+    subst (λ n. GoesDown n follow (components path) end) top (subst (λ l. GoesDown names follow l end) all goes) in
     record {
       kept = kept;
-      leads = λ follow. reached-good t follow path good
-          ∙ ap (λ b. walk t.names follow link_limit [] (if b then components path else t.home ++ components path)) absolute
-          ∙ here.walked follow link_limit;
-      lent = here.lent;
+      finds = subst (Finds t.names (option_map node_seen end)) (sym (reached-good t follow path good
+          ∙ ap (λ b. walk t.names follow link_limit [] (if b then components path else t.home ++ components path))
+          absolute)) (here link_limit);
     }) r down
+
+-- where the node is that a walk finds
+pub found-place : (names : Names) (node : Node) (end : Result Place Cause) → Finds names (Some node) end
+    → (place : Place) × ((end ≡ Ok place) × (node_at names place ≡ Some node))
+found-place names node (Ok place) there = (place, (refl, there))
+found-place names node (Err cause) (some, is) = absurd cc
