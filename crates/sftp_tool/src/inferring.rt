@@ -154,7 +154,11 @@ fn infer_from<'a, R: System, O: Write, E: Write>(
     };
     let found = find(how, session, &mut search);
     let ending = match found {
-        Ok(found) => report(rt, options, session, &search, found, output, errors),
+        Ok(found) => {
+            let ending = report(rt, options, session, &search, &found, output, errors);
+            drop(found);
+            ending
+        }
         Err(_) => Err(Failure::OutOfMemory),
     };
     drop(search);
@@ -167,40 +171,45 @@ fn report<'a, R: System, O: Write, E: Write>(
     options: &InferOptions<'a>,
     session: &[u8],
     search: &Search<'_>,
-    found: Found<'_>,
+    found: &Found<'_>,
     output: &mut O,
     errors: &mut E,
 ) -> Result<Ending, Failure<'a>>
     ensures { IsAuditStatus result }
 {
     match found {
-        Found::Inferred(inferred) => {
-            let ending = accept(rt, options, &inferred, output, errors);
-            drop(inferred);
-            ending
-        }
-        Found::Malformed(error) => Err(Failure::of_transcript(error, options.transcript)),
+        Found::Inferred(inferred) => accept(rt, options, inferred, output, errors),
+        Found::Malformed(error) => Err(Failure::of_transcript(*error, options.transcript)),
         Found::OutOfMemory => Err(Failure::OutOfMemory),
         Found::Refused(refusal) => {
-            if options.is_json {
-                return print_untold(refusal_record(refusal), 0, output);
-            }
-            put_refusal(refusal, output)?;
-            if options.explains {
-                put_exchange(
-                    rt.alloc(),
-                    session,
-                    "found",
-                    refusal_record(refusal),
-                    errors,
-                );
-            }
-            Ok(Ending::Refused)
+            report_unpaired(rt.alloc(), options, session, *refusal, output, errors)
         }
-        Found::TooLarge(excess) => exceed(options, excess, output, errors),
+        Found::TooLarge(excess) => exceed(options, *excess, output, errors),
         Found::Nothing => refuse(rt, options, session, search, output, errors),
         Found::Unfit(_) => refuse(rt, options, session, search, output, errors),
     }
+}
+
+/// Says that the records of a session do not pair off, and shows where if that is asked for.
+fn report_unpaired<'a, O: Write, E: Write>(
+    alloc: Global,
+    options: &InferOptions<'a>,
+    session: &[u8],
+    refusal: sftp_audit::Refusal,
+    output: &mut O,
+    errors: &mut E,
+) -> Result<Ending, Failure<'a>>
+    ensures { IsAuditStatus result }
+{
+    let record = refusal_record(refusal);
+    if options.is_json {
+        return print_untold(record, 0, output);
+    }
+    let printed = put_refusal(refusal, output);
+    if options.explains && printed.is_ok() {
+        put_exchange(alloc, session, "found", record, errors);
+    }
+    printed
 }
 
 /// Says that the tree of what a session tells would be larger than it may be, or than any tree is.

@@ -212,7 +212,9 @@ fn put_undue(
     let answer = Answer::Name(Names::new(only));
     let due = judge.due(ask, &answer);
     drop(answer);
-    if due?.is_none() {
+    let is_due = is_there(&due);
+    drop(due);
+    if !is_due? {
         undue.push(copy_of(item)?)?;
     }
     Ok(())
@@ -352,5 +354,19 @@ fn is_removed(judge: &Judge, handle: &ByteString) -> Result<bool, NoMemory> {
     let stat = judge.standing(&ask, &answer);
     drop(answer);
     drop(ask);
-    Ok(stat?.is_none())
+    let stands = is_there(&stat);
+    drop(stat);
+    Ok(!stands?)
+}
+
+/// Whether something was found, unless memory ran out.
+///
+/// # Errors
+///
+/// `NoMemory` if memory runs out.
+pub(crate) fn is_there<T>(found: &Result<Option<T>, NoMemory>) -> Result<bool, NoMemory> {
+    match found {
+        Ok(found) => Ok(found.is_some()),
+        Err(error) => Err(*error),
+    }
 }
