@@ -275,12 +275,6 @@ enum Halt {
     Ended(End),
 }
 
-impl From<End> for Halt {
-    fn from(end: End) -> Halt {
-        Halt::Ended(end)
-    }
-}
-
 impl From<AuditError> for Halt {
     fn from(error: AuditError) -> Halt {
         match error {

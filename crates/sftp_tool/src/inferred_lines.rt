@@ -225,8 +225,10 @@ pub(crate) fn put_clash<E: Write>(
         let _ = write_flushed(errors, format_args!("found: {otherwise}\n"));
     }
     let passes = search.passes();
-    let _ = write_flushed(errors, format_args!("tried: {passes} passes\n"));
-    let _ = write_flushed(errors, "This is no proof that there is no tree.\n");
+    let _ = write_flushed(
+        errors,
+        format_args!("tried: {passes} passes\nThis is no proof that there is no tree.\n"),
+    );
     if let Some(clash) = search.clash() {
         put_hint(clash, errors);
     }

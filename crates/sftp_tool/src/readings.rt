@@ -245,19 +245,25 @@ pub(crate) fn content_of(profile: Profile, ask: &Ask) -> Option<&'static str> {
     }
 }
 
-/// What the reply to the extension of this name may have (PROFILES.md, `extensions`).
+/// What the replies to extensions may have, by their names (PROFILES.md, `extensions`).
+const CONTENTS: [(&str, &str); 6] = [
+    ("limits@openssh.com", "EXTENDED_REPLY of length 32"),
+    ("statvfs@openssh.com", "EXTENDED_REPLY of length 88"),
+    ("fstatvfs@openssh.com", "EXTENDED_REPLY of length 88"),
+    (
+        "users-groups-by-id@openssh.com",
+        "EXTENDED_REPLY of any length",
+    ),
+    ("expand-path@openssh.com", "NAME with one name"),
+    ("home-directory", "NAME with one name"),
+];
+
+/// What the reply to the extension of this name may have.
 fn content_by(name: &[u8]) -> Option<&'static str> {
-    if name == b"limits@openssh.com".as_slice() {
-        return Some("EXTENDED_REPLY of length 32");
-    }
-    if name == b"statvfs@openssh.com".as_slice() || name == b"fstatvfs@openssh.com".as_slice() {
-        return Some("EXTENDED_REPLY of length 88");
-    }
-    if name == b"users-groups-by-id@openssh.com".as_slice() {
-        return Some("EXTENDED_REPLY of any length");
-    }
-    if name == b"expand-path@openssh.com".as_slice() || name == b"home-directory".as_slice() {
-        return Some("NAME with one name");
+    for (known, content) in CONTENTS.as_slice() {
+        if name == known.as_bytes() {
+            return Some(*content);
+        }
     }
     None
 }
